@@ -1,0 +1,2 @@
+pub mod ContactId
+pub mod Setups

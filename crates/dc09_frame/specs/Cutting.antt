@@ -1,0 +1,41 @@
+-- What a cutter keeps of the stream that it was fed so far.
+use Rattle.std.specs.Prelude.{◌≡◌, ℕ, ◌==◌, ◌||◌, ◌++◌, List, [], ◌∷◌, Bool, if◌then◌else◌, Option, Some, None, nat_lt, length, MatchOption}
+use Rattle.std.specs.List.{list_any}
+use Rattle.dc09_frame.specs.declared.cut.Cut.{Cut}
+use Rattle.dc09_frame.specs.declared.cut.Cut.TheVariants.{Whole}
+use Rattle.dc09_frame.specs.Pieces.{pieces}
+use Rattle.dc09_frame.specs.Frames.{cut, body_of}
+
+-- a line feed or a carriage return
+abbrev pub is_end : ℕ → Bool
+is_end b = (b == 10) || (b == 13)
+
+-- the piece that the stream leaves open: what follows a line feed behind which neither stands again
+abbrev pub open_piece : List ℕ → Option (List ℕ)
+open_piece [] = None
+open_piece (x ∷ xs) = if x == 10 then (if list_any is_end xs then open_piece xs else Some xs) else open_piece xs
+
+-- what is kept of it: nothing outside of pieces, its bytes while they may still be a frame's, and otherwise only that it is too long
+pub data Kept : Type 0 where
+  Outside : Kept
+  Within : (piece : List ℕ) → Kept
+  Beyond : Kept
+
+abbrev pub kept_of : Option (List ℕ) → Kept
+kept_of None = Outside
+kept_of (Some piece) = if nat_lt 4103 (length piece) then Beyond else Within piece
+
+-- what is kept, and the body of the piece that was cut last, where it was whole
+pub record CutterValue : Type 0 where
+  pub kept : Kept
+  pub body : List ℕ
+
+-- the cutter was fed this stream
+abbrev pub WasFed : List ℕ → CutterValue → Type 0
+WasFed stream c = c.kept ≡ kept_of (open_piece stream)
+
+-- After the stream the cutter took these bytes: they end no piece, or their last byte ends just one, of which it told the cut.
+pub record Feeds (stream taken : List ℕ) (told : Option Cut) (c : CutterValue) : Type 0 where
+  pub fed : WasFed (stream ++ taken) c
+  pub pieces : MatchOption told (pieces (stream ++ taken) ≡ pieces stream) (λ t.
+      (piece : List ℕ) × (pieces (stream ++ taken) ≡ pieces stream ++ piece ∷ []) × (cut piece ≡ t) × (t ≡ Whole → c.body ≡ body_of piece))

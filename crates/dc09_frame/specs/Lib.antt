@@ -1,0 +1,6 @@
+pub mod Polynomial
+pub mod Check
+pub mod Pieces
+pub mod Frames
+pub mod Headers
+pub mod Cutting
