@@ -1,0 +1,31 @@
+use Rattle.std.proofs.Common.{◌≡◌, ℕ, List, [], ◌∷◌, Bool, true, false, cond, refl, ap, ◌∙◌}
+use Rattle.arc_data.specs.declared.event.Event.{Event}
+use Rattle.centre_rules.specs.Summary.{Summary}
+use Rattle.centre_rules.specs.Marks.{Mark, force}
+use Rattle.centre_rules.specs.History.{Entry, is_recorded, recorded, last, marks, marks_of, onto}
+use Rattle.centre_rules.specs.Answers.{answer_over, repeat_of}
+use Rattle.centre_rules.proofs.law_repeats.Goals as goal
+
+marks_step : (e : Entry) (h : List Entry) (b : Bool) → is_recorded e.reply ≡ b → marks h ≡ marks (recorded h) → marks (e ∷ h) ≡ marks (recorded (e ∷ h))
+marks_step e h true is same = rw (is, is) (ap (onto (marks_of e.event e.at)) same)
+marks_step e h false is same = rw is same
+
+marks_same : (h : List Entry) → marks h ≡ marks (recorded h)
+marks_same [] = refl
+marks_same (e ∷ h) = marks_step e h (is_recorded e.reply) refl (marks_same h)
+
+last_step : (s : Summary) (e : Entry) (h : List Entry) (b : Bool) → is_recorded e.reply ≡ b → last s h ≡ last s (recorded h) → last s (e ∷ h) ≡ last s (recorded (e ∷ h))
+last_step s e h true is same = rw (is, is) refl
+last_step s e h false is same = rw is same
+
+last_same : (s : Summary) (h : List Entry) → last s h ≡ last s (recorded h)
+last_same s [] = refl
+last_same s (e ∷ h) = last_step s e h (is_recorded e.reply) refl (last_same s h)
+
+pub returns : goal.returns
+returns c s h = record {
+  last = last_same s h;
+  force = ap (force s) (marks_same h);
+  repeats = λ m at. ap (λ (ms : List Mark). repeat_of s ms m at) (marks_same h);
+  answers = λ e at. ap (λ (ms : List Mark). answer_over s ms e at) (marks_same h);
+}

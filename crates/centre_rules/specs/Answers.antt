@@ -1,0 +1,81 @@
+-- What the centre answers to an event after a history.
+use Rattle.std.specs.Prelude.{◌≡◌, ◌≤◌, ◌+◌, ◌==◌, ◌&&◌, ℕ, List, [], ◌∷◌, Bool, true, false, Option, Some, None, is_ok, nat_le, take}
+use Rattle.std.specs.List.{find}
+use Rattle.std.specs.Option.{option_map}
+use Rattle.std.specs.Str.{bytes_eq}
+use Rattle.arc_data.specs.WellFormed.{IsWellFormed}
+use Rattle.arc_data.specs.declared.event.Event.{Event}
+use Rattle.arc_data.specs.declared.event.Event.TheVariants.{Adopt, Start, Message as Sent}
+use Rattle.arc_data.specs.declared.event.Message.{Message}
+use Rattle.arc_data.specs.declared.event.Reply.{Reply}
+use Rattle.arc_data.specs.declared.event.Reply.TheVariants.{Adopted, Started, Taken, Repeat, Unknown}
+use Rattle.arc_data.specs.declared.event.Token.{Token}
+use Rattle.arc_data.specs.declared.event.Token.TheVariants.{SiaDcs, AdmCid}
+use Rattle.alarm_rules.specs.Setups.{Setup, setup_of, has_account}
+use Rattle.centre_rules.specs.Summary.{Summary, Past}
+use Rattle.centre_rules.specs.Marks.{Mark, force, messages}
+use Rattle.centre_rules.specs.History.{Entry, last, marks, IsMoment}
+
+-- before the first Adopt every account is lacking
+abbrev pub knows_account : Option Setup → List ℕ → Bool
+knows_account None account = false
+knows_account (Some setup) account = has_account setup account
+
+-- Repeats.
+
+abbrev pub same_token : Token → Token → Bool
+same_token SiaDcs SiaDcs = true
+same_token AdmCid AdmCid = true
+same_token SiaDcs AdmCid = false
+same_token AdmCid SiaDcs = false
+
+abbrev pub same_option : Option (List ℕ) → Option (List ℕ) → Bool
+same_option None None = true
+same_option (Some a) (Some b) = bytes_eq a b
+same_option None (Some b) = false
+same_option (Some a) None = false
+
+-- they agree in `R` field, `L` field, sequence, token and content
+abbrev pub same_message : Message → Message → Bool
+same_message a b = same_option a.receiver b.receiver && bytes_eq a.line b.line && (a.seq == b.seq) && same_token a.token b.token && bytes_eq a.content b.content
+
+-- the recorded message makes this one, at this moment, a repeat: they agree, and it is at most 300 seconds older
+abbrev pub repeats : Message → ℕ → Past → Bool
+repeats m at p = same_message p.message m && nat_le at (p.at + 300)
+
+-- the last 32 recorded messages of an account, the newest first
+abbrev pub recent : Summary → List Mark → List ℕ → List Past
+recent s ms account = take 32 (messages s ms account)
+
+-- the moment of the newest of them that makes the message a repeat
+abbrev pub repeat_of : Summary → List Mark → Message → ℕ → Option ℕ
+repeat_of s ms m at = option_map (λ p. p.at) (find (repeats m at) (recent s ms m.account))
+
+abbrev pub taken_or : Option ℕ → Reply
+taken_or None = Taken
+taken_or (Some first) = Repeat first
+
+abbrev pub if_known : Bool → Reply → Reply
+if_known true reply = reply
+if_known false reply = Unknown
+
+-- the reply to an event at a moment
+abbrev pub answer_over : Summary → List Mark → Event → ℕ → Reply
+answer_over s ms (Adopt text) at = if_known (is_ok (setup_of text)) Adopted
+answer_over s ms Start at = Started
+answer_over s ms (Sent m) at = if_known (knows_account (force s ms) m.account) (taken_or (repeat_of s ms m at))
+
+abbrev pub answer : Summary → List Entry → Event → ℕ → Reply
+answer s h e at = answer_over s (marks h) e at
+
+-- what each entry of a legal history is, after the entries before it: its event is well formed, its reply is the answer,
+-- and its moment is at least that of the last recorded entry
+pub record IsNext (s : Summary) (h : List Entry) (e : Entry) : Type 0 where
+  pub event : IsWellFormed e.event
+  pub reply : e.reply ≡ answer s h e.event e.at
+  pub late : last s h ≤ e.at
+  pub moment : IsMoment e.at
+
+abbrev pub IsLegal : Summary → List Entry → Type 0
+IsLegal s [] = Unit {0}
+IsLegal s (e ∷ h) = IsNext s h e × IsLegal s h
