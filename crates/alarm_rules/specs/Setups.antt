@@ -86,3 +86,11 @@ account_of setup number = find (has_number number) setup.accounts
 
 abbrev pub has_account : Setup → List ℕ → Bool
 has_account setup number = is_some (account_of setup number)
+
+-- the setup of a text, without accounts where the text is none
+abbrev pub meaning_or : Result Setup SetupFault → Setup
+meaning_or (Ok setup) = setup
+meaning_or (Err fault) = record { accounts = [] }
+
+abbrev pub meaning : List ℕ → Setup
+meaning text = meaning_or (setup_of text)

@@ -1,0 +1,42 @@
+-- What an entry makes of a state.
+use Rattle.std.specs.Prelude.{not}
+use Rattle.std.proofs.Common.{◌≡◌, ◌≤◌, ◌+◌, ◌∷◌, ℕ, List, [], Bool, true, false, cond, refl, ◌∙◌, ap, subst}
+use Rattle.arc_data.specs.declared.event.Event.{Event}
+use Rattle.arc_data.specs.declared.event.Event.TheVariants.{Adopt, Start, Message as Sent}
+use Rattle.centre_rules.specs.Marks.{text}
+use Rattle.centre_rules.specs.History.{Entry, is_recorded, marks_of, onto}
+use Rattle.centre_rules.specs.Answers.{answer_over}
+use Rattle.centre_rules.specs.State.{State, StandsFor, Plan, IsSound, Grows, entry_of}
+use Rattle.centre_rules.specs.Summary.{Summary}
+use Rattle.centre_rules.proofs.Grown.{grown}
+use Rattle.centre_core.specs.Kept.{Records}
+use Rattle.centre_core.specs.Runs.{IsSubmitted}
+
+-- a recorded one, from the state in which it is counted already
+pub recorded_grows : (s0 s t : State) (e : Entry) → is_recorded e.reply ≡ true → s.entries ≡ s0.entries + 1 → s.sum ≡ s0.sum → Records s t e.event e.at → Grows s0 t e
+recorded_grows s0 s t e q counted sum r = record {
+  entries = r.entries ∙ counted;
+  recorded = rw q (r.recorded ∙ ap (λ (x : Summary). x.recorded + 1) sum);
+  last = rw q r.last;
+  same = rw (q, ← sum) r.same;
+}
+
+text_by : (b : Bool) (s : Summary) (event : Event) (at : ℕ) → IsSubmitted event → text s (cond b (onto (marks_of event at) []) []) ≡ s.text
+text_by false s event at sent = refl
+text_by true s (Adopt t) at sent = absurd sent
+text_by true s Start at sent = refl
+text_by true s (Sent m) at sent = refl
+
+-- neither an Adopt nor a Start: the setup in force stays
+pub text_stays : (s t : State) (e : Entry) → IsSubmitted e.event → Grows s t e → t.sum.text ≡ s.sum.text
+text_stays s t e sent g = g.same.text ∙ text_by (is_recorded e.reply) s.sum e.event e.at sent
+
+-- what was worked out over a state, and made there, is the next entry
+pub applied : (b : Summary) (p : Plan) (s t : State) (h : List Entry) (caller : ℕ) → IsSound p → p.of ≡ s → Grows s t (entry_of caller p) → StandsFor b s h → StandsFor b t (entry_of caller p ∷ h)
+applied b p s t h caller sound of g w =
+    grown b s t h (entry_of caller p) w g sound.event (sound.answer ∙ ap (λ (x : State). answer_over x.sum [] p.event p.at) of)
+    (subst (λ (x : State). x.sum.last ≤ p.at) of sound.late) sound.moment
+
+pub not_quiet : (b q : Bool) → q ≡ not b → q ≡ false → b ≡ true
+not_quiet true q e f = refl
+not_quiet false q e f = absurd (cc)

@@ -1,0 +1,14 @@
+//! The centre of one thread: it takes events, answers each as the whole history so far demands, and keeps what later
+//! answers need. A hall is where a session submits its events; here it is a centre kept in memory.
+#![tactic(auto)]
+
+mod centre;
+mod hall;
+mod ready;
+mod repeats;
+
+pub use accounts::Setup;
+pub use arc_data::{Blob, Event, Memory, Message, Reply, Token};
+pub use centre::Centre;
+pub use hall::{RamHall, Stop};
+pub use ready::{Done, Ready};

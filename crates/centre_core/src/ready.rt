@@ -1,0 +1,75 @@
+// What has been worked out for an event, before anything changes.
+ghost use Rattle.std.specs.Prelude.{◌≡◌, not};
+ghost use Rattle.centre_rules.specs.History.{is_recorded};
+
+use crate::centre::Centre;
+use accounts::Setup;
+use arc_data::{Event, Reply};
+use centre_rules::is_recorded;
+use std::marker::Model;
+use std::snapshot::Snapshot;
+
+/// The answer to an event, worked out over one state of one centre. It must be spent: applied to that centre, or discarded.
+pub struct Ready {
+    pub(crate) event: Event,
+    pub(crate) at: u64,
+    pub(crate) reply: Reply,
+    // The setup of an Adopt's text, read already.
+    pub(crate) setup: Option<Setup>,
+    pub(crate) of: Snapshot<Centre>,
+}
+
+impl Model for Ready {
+    ghost use Rattle.centre_rules.specs.State.{Plan, IsSound};
+    ghost use Rattle.centre_core.specs.Kept.{IsReady};
+
+    ghost Value = { Plan };
+
+    ghost view = { λ r. record { event = r.event; at = r.at; reply = r.reply; of = r.of.value } };
+
+    ghost invariant = { λ r. IsReady (record { event = r.event; at = r.at; reply = r.reply; of = r.of.value }) r.setup };
+}
+
+impl Ready {
+    /// Whether the entry will be quiet: it will change nothing, and is not recorded.
+    pub fn quiet(&self) -> bool
+        ensures { result ≡ not (is_recorded self.now.reply) }
+    {
+        !is_recorded(&self.reply)
+    }
+
+    /// The moment of the entry, in seconds since 1970.
+    pub fn at(&self) -> u64
+        ensures { result ≡ self.now.at }
+    {
+        self.at
+    }
+
+    /// The event that was handed in.
+    pub fn event(&self) -> &Event
+        ensures { result.now ≡ self.now.event }
+    {
+        &self.event
+    }
+
+    /// Gives the answer up. The centre stays as it was.
+    pub fn discard(self) {
+        let Ready {
+            event: _,
+            at: _,
+            reply: _,
+            setup: _,
+            of: _,
+        } = self;
+    }
+}
+
+/// What a caller is told of its entry.
+#[derive(Clone, Copy, Debug, PartialEq, Eq)]
+pub struct Done {
+    /// The number of the caller, 0 where there is one thread.
+    pub caller: u64,
+    /// The moment of the entry, in seconds since 1970.
+    pub at: u64,
+    pub reply: Reply,
+}
