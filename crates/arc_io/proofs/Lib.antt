@@ -1,0 +1,4 @@
+pub mod EmptyStruct
+pub mod FrontOfList
+pub mod KnownMore
+pub mod ListLemmas

@@ -1,0 +1,87 @@
+ghost use Rattle.std.specs.Prelude.{◌≡◌, ◌+◌, ◌++◌, [], ◌<◌, ◌≤◌, vec_len, drop, take, length, min};
+
+use super::is_listed;
+use crate::{Ends, Failed, Source};
+
+/// Bytes in memory, read call by call. The calls of `read` are numbered from 1, those that fail
+/// included; a number stays at the last value of `u64`.
+#[derive(Drop)]
+pub struct MemSource {
+    bytes: Vec<u8>,
+    at: usize,
+    failing: Vec<u64>,
+    calls: u64,
+    faults: u64,
+    ghost within: { at ≤ vec_len bytes },
+}
+
+impl MemSource {
+    ghost use Rattle.arc_io.specs.Memory.{source_left, source_failing, source_calls, source_faults};
+
+    /// A source of these bytes. Its calls of the numbers in `failing` fail, and no others do.
+    pub fn new(bytes: Vec<u8>, failing: Vec<u64>) -> Self
+        ensures left { source_left result ≡ bytes.items }
+        ensures failing { source_failing result ≡ failing.items }
+        ensures calls { source_calls result ≡ 0 }
+        ensures faults { source_faults result ≡ 0 }
+    {
+        MemSource {
+            bytes,
+            at: 0,
+            failing,
+            calls: 0,
+            faults: 0,
+        }
+    }
+}
+
+impl Ends for MemSource {
+    ghost use Rattle.std.specs.Prelude.{Some};
+    ghost use Rattle.arc_io.specs.Memory.{source_left, source_faults};
+
+    ghost left = { λ s. Some (source_left s) };
+
+    ghost read_faults = { source_faults };
+}
+
+impl Source for MemSource {
+    ghost use Rattle.std.specs.Prelude.{Some};
+    ghost use Rattle.std.specs.Io.{ReadsAtMost};
+    ghost use Rattle.arc_io.specs.Causes.{HasCause};
+    ghost use Rattle.arc_io.specs.Told.{GivesNext};
+    ghost use Rattle.arc_io.specs.Memory.{source_left, source_faults, SourceRead};
+
+    /// Gives as many bytes as are left and have room, in each call that does not fail.
+    fn read(&mut self, buf: &mut [u8]) -> Result<usize, Failed>
+        ensures bound { ReadsAtMost result buf.new }
+        ensures bytes { GivesNext (Some (source_left self.old)) (Some (source_left self.new)) result buf.new }
+        ensures cause { HasCause (source_faults self.old) (source_faults self.new) result }
+        ensures exact { SourceRead self.old self.new result buf.old buf.new }
+    {
+        self.calls = self.calls.saturating_add(1);
+        if is_listed(&self.failing, self.calls) {
+            self.faults = self.faults.saturating_add(1);
+            return Err(Failed);
+        }
+        let count = read_from(&self.bytes, self.at, buf);
+        self.at += count;
+        Ok(count)
+    }
+
+    fn read_faults(&self) -> u64 {
+        self.faults
+    }
+}
+
+// Reads the bytes from a place on, and answers how many.
+fn read_from(bytes: &[u8], at: usize, buf: &mut [u8]) -> usize
+    requires { at ≤ length bytes.now }
+    ensures within { at + result ≤ length bytes.now }
+    ensures count { result ≡ min (length buf.new) (length (drop at bytes.now)) }
+    ensures given { drop at bytes.now ≡ take result buf.new ++ drop (at + result) bytes.now }
+{
+    let rest = &bytes[at..];
+    let count = rest.len().min(buf.len());
+    buf[..count].copy_from_slice(&rest[..count]);
+    count
+}
