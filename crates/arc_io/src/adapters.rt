@@ -1,0 +1,10 @@
+//! The adapters over the machine. They tell nothing of content, and are trusted beyond their counts.
+mod clock;
+mod file;
+mod noise;
+mod standard;
+
+pub use clock::RealClock;
+pub use file::FileSource;
+pub use noise::RealNoise;
+pub use standard::StdPort;

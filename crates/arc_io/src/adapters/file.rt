@@ -1,0 +1,67 @@
+ghost use Rattle.std.specs.Io.{ReadsAtMost};
+
+use crate::{Ends, Failed, Source};
+use std::fs;
+use std::io;
+use std::io::Read;
+use std::rt::Files;
+
+/// A file, which is opened at the first read. A file that is missing, or can't be opened or read, is a
+/// read fault of each call that meets it.
+#[derive(Drop)]
+pub struct FileSource<'a, R: Files> {
+    rt: R,
+    path: &'a str,
+    file: Option<R::File>,
+    faults: u64,
+}
+
+impl<'a, R: Files> FileSource<'a, R> {
+    /// The file of this path. Nothing is opened yet.
+    pub fn new(rt: R, path: &'a str) -> Self {
+        FileSource {
+            rt,
+            path,
+            file: None,
+            faults: 0,
+        }
+    }
+}
+
+impl<'a, R: Files> Ends for FileSource<'a, R> {
+    ghost read_faults = { λ s. s.faults };
+}
+
+impl<'a, R: Files> Source for FileSource<'a, R> {
+    fn read(&mut self, buf: &mut [u8]) -> Result<usize, Failed> {
+        match read_opened(&self.rt, self.path, &mut self.file, buf) {
+            Ok(count) => Ok(count),
+            Err(_) => {
+                self.faults = self.faults.saturating_add(1);
+                Err(Failed)
+            }
+        }
+    }
+
+    fn read_faults(&self) -> u64 {
+        self.faults
+    }
+}
+
+// Reads the file's next bytes, and opens it first where it is not open yet.
+fn read_opened<R: Files>(
+    rt: &R,
+    path: &str,
+    file: &mut Option<R::File>,
+    buf: &mut [u8],
+) -> io::Result<usize>
+    ensures { ReadsAtMost result buf.new }
+{
+    if let Some(opened) = file {
+        return opened.read(buf);
+    }
+    let mut opened = fs::open(rt, path)?;
+    let outcome = opened.read(buf);
+    *file = Some(opened);
+    outcome
+}

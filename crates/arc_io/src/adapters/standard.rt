@@ -1,0 +1,101 @@
+ghost use Rattle.std.specs.Prelude.{◌≡◌, [], IfOk};
+ghost use Rattle.std.specs.Io.{WritesAtMost};
+
+use super::{RealClock, RealNoise};
+use crate::{Clock, Ends, Failed, Noise, Port, Sink, Source};
+use std::io;
+use std::io::{Read, Write};
+use std::random::RandomSource;
+use std::time;
+
+/// A port over a reader and a writer of std, as the process's own standard input and output, with the
+/// machine's clock and random source. A write is passed on at once: it is flushed before the call ends.
+/// An error of the reader, of the writer or of the flush is a fault, and so is a piece of which nothing is taken.
+#[derive(Drop)]
+pub struct StdPort<I: Read, O: Write, R: time::Clock + RandomSource> {
+    input: I,
+    output: O,
+    clock: RealClock<R>,
+    noise: RealNoise<R>,
+    read_faults: u64,
+    write_faults: u64,
+}
+
+impl<I: Read, O: Write, R: time::Clock + RandomSource> StdPort<I, O, R> {
+    /// A port over these four.
+    pub fn new(input: I, output: O, clock: RealClock<R>, noise: RealNoise<R>) -> Self {
+        StdPort {
+            input,
+            output,
+            clock,
+            noise,
+            read_faults: 0,
+            write_faults: 0,
+        }
+    }
+}
+
+impl<I: Read, O: Write, R: time::Clock + RandomSource> Ends for StdPort<I, O, R> {
+    ghost read_faults = { λ p. p.read_faults };
+
+    ghost write_faults = { λ p. p.write_faults };
+}
+
+impl<I: Read, O: Write, R: time::Clock + RandomSource> Source for StdPort<I, O, R> {
+    fn read(&mut self, buf: &mut [u8]) -> Result<usize, Failed> {
+        match self.input.read(buf) {
+            Ok(count) => Ok(count),
+            Err(_) => {
+                self.read_faults = self.read_faults.saturating_add(1);
+                Err(Failed)
+            }
+        }
+    }
+
+    fn read_faults(&self) -> u64 {
+        self.read_faults
+    }
+}
+
+impl<I: Read, O: Write, R: time::Clock + RandomSource> Sink for StdPort<I, O, R> {
+    fn write(&mut self, bytes: &[u8]) -> Result<usize, Failed> {
+        match pass_on(&mut self.output, bytes) {
+            Ok(count) => Ok(count),
+            Err(_) => {
+                self.write_faults = self.write_faults.saturating_add(1);
+                Err(Failed)
+            }
+        }
+    }
+
+    fn write_faults(&self) -> u64 {
+        self.write_faults
+    }
+}
+
+impl<I: Read, O: Write, R: time::Clock + RandomSource> Clock for StdPort<I, O, R> {
+    fn now(&mut self) -> u64 {
+        self.clock.now()
+    }
+}
+
+impl<I: Read, O: Write, R: time::Clock + RandomSource> Noise for StdPort<I, O, R> {
+    fn ten(&mut self) -> [u8; 10] {
+        self.noise.ten()
+    }
+}
+
+impl<I: Read, O: Write, R: time::Clock + RandomSource> Port for StdPort<I, O, R> {}
+
+// Writes some of the bytes, and flushes. It is an error to take nothing of some.
+fn pass_on(output: &mut impl Write, bytes: &[u8]) -> io::Result<usize>
+    ensures bound { WritesAtMost result bytes.now }
+    ensures some { IfOk result (λ count. count ≡ 0 → bytes.now ≡ []) }
+{
+    let count = output.write(bytes)?;
+    if count == 0 && !bytes.is_empty() {
+        return Err(io::ErrorKind::WriteZero.into());
+    }
+    output.flush()?;
+    Ok(count)
+}
