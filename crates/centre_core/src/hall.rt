@@ -1,5 +1,5 @@
 // Where a session submits its events: here a centre that is kept in memory.
-ghost use Rattle.std.specs.Prelude.{◌≡◌, ◌<◌, ◌^◌, List, ℕ, Some, IfOk, OnErr};
+ghost use Rattle.std.specs.Prelude.{◌≡◌, ◌<◌, ◌≤◌, ◌+◌, ◌^◌, List, ℕ, Some, IfOk, OnErr};
 ghost use Rattle.arc_data.specs.WellFormed.{IsWellFormed};
 ghost use Rattle.centre_rules.specs.Summary.{Summary, nothing};
 ghost use Rattle.centre_rules.specs.History.{Entry, IsMoment};
@@ -65,6 +65,7 @@ impl RamHall {
         ensures caller { IfOk result (λ d. d.caller ≡ 0) }
         ensures stop { OnErr result ((b : Summary) (h : List Entry) → StandsFor b self.old h → StandsFor b self.new h) }
         ensures text { self.new.sum.text ≡ self.old.sum.text }
+        ensures entries { self.new.entries ≤ self.old.entries + 1 }
     {
         match self.centre.prepare(alloc, event, clock) {
             Ok(ready) => Ok(self.centre.apply(ready)),

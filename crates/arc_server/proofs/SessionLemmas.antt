@@ -1,0 +1,177 @@
+-- How sessions begin, and how they go on.
+use Rattle.std.proofs.Common.{◌≡◌, ◌≤◌, suc, ◌+◌, ◌-◌, ◌∷◌, ◌++◌, ℕ, List, [], map, take, length, Option, Some, None, refl, sym, ◌∙◌, ap, subst, append_assoc, append-nil, length-append, arith}
+use Rattle.std.specs.Prelude.{reverse}
+use Rattle.std.specs.List.{flat_map, AllByRecursion}
+use Rattle.std.specs.Option.{option_to_list}
+use Rattle.std.proofs.lemmas.List.{reverse-append, map-append, length-map}
+use Rattle.std.proofs.lemmas.Grind.{flat_map-append}
+use Rattle.std.specs.Io.KnownBytes.{append_known}
+use Rattle.arc_io.proofs.KnownMore.{known_both}
+use Rattle.alarm_rules.specs.Setups.{Setup}
+use Rattle.centre_rules.specs.Summary.{Summary}
+use Rattle.centre_rules.specs.History.{Entry, Extends}
+use Rattle.centre_rules.specs.State.{State, StandsFor}
+use Rattle.dc09_message.specs.Verdicts.{verdict_of}
+use Rattle.dc09_message.specs.declared.verdict.Verdict.{Verdict}
+use Rattle.dc09_message.specs.declared.verdict.Verdict.TheVariants.{Silence, NotBuilt, Duh, Numbered}
+use Rattle.arc_server.specs.Sessions.{IsSession, IsEnd}
+use Rattle.arc_server.specs.Turns.{Turn, IsTurn, IsAnswered, StandsIn, Serves, entries_of, text_of}
+use Rattle.arc_server.specs.declared.session.SessionEnd.{SessionEnd}
+use Rattle.arc_server.specs.declared.session.SessionEnd.TheVariants.{AllAnswered, WriteFault, Memory, NotBuilt as FormNotBuilt}
+
+pub known_none : (known : Option (List ℕ)) → append_known known [] ≡ known
+known_none None = refl
+known_none (Some xs) = ap Some (append-nil xs)
+
+-- A turn that is right in a history is right in what goes on from it.
+
+pub extends_trans : (h x y : List Entry) → Extends h x → Extends x y → Extends h y
+extends_trans h x y a b = (b.0 ++ a.0, b.1 ∙ ap (λ l. b.0 ++ l) a.1 ∙ sym (append_assoc b.0 a.0 h))
+
+stands_later : (b : Summary) (x y : List Entry) (reading : ℕ) (e : Entry) → Extends x y → StandsIn b x reading e → StandsIn b y reading e
+stands_later b x y reading e more s = record { before = s.before; extends = extends_trans (e ∷ s.before) x y s.extends more; at = s.at }
+
+answered_later : (b : Summary) (x y : List Entry) (t : Turn) (v : Verdict) → Extends x y → IsAnswered b x t v → IsAnswered b y t v
+answered_later b x y t Silence more turn = turn
+answered_later b x y t NotBuilt more turn = turn
+answered_later b x y t (Duh h why) more turn = turn
+answered_later b x y t (Numbered h m) more turn = (turn.0, turn.1, turn.2, stands_later b x y t.reading turn.0 more turn.3, turn.4)
+
+turns_later : (b : Summary) (setup : Setup) (x y : List Entry) (ts us : List Turn) → Extends x y → AllByRecursion (IsTurn b setup x) ts → AllByRecursion (IsTurn b setup y) us → AllByRecursion (IsTurn b setup y) (ts ++ us)
+turns_later b setup x y [] us more all last = last
+turns_later b setup x y (t ∷ ts) us more all last = (answered_later b x y t (verdict_of setup t.body) more all.0, turns_later b setup x y ts us more all.1 last)
+
+serves_more : (b : Summary) (setup : Setup) (h x y : List Entry) (ts us : List Turn) → Serves b setup h x ts → Serves b setup x y us → Serves b setup h y (ts ++ us)
+serves_more b setup h x y ts us first next = record {
+  added =
+      next.added ∙ ap (λ (l : List Entry). reverse (entries_of us) ++ l) first.added ∙ sym (append_assoc (reverse (entries_of us)) (reverse (entries_of ts)) h)
+      ∙ ap (λ (l : List Entry). l ++ h) (sym (reverse-append (entries_of ts) (entries_of us)) ∙ ap reverse (sym (flat_map-append (λ (t : Turn). option_to_list t.entry) ts us)));
+  each = turns_later b setup x y ts us (reverse (entries_of us), next.added) first.each next.each;
+}
+
+pub text-append : (ts us : List Turn) → text_of (ts ++ us) ≡ text_of ts ++ text_of us
+text-append ts us = flat_map-append (λ (t : Turn). t.reply) ts us
+
+-- an end of the later part, of the whole
+abbrev pub behind : ℕ → SessionEnd → SessionEnd
+behind n AllAnswered = AllAnswered
+behind n WriteFault = WriteFault
+behind n Memory = Memory
+behind n (FormNotBuilt after) = FormNotBuilt (n + after)
+
+take_behind : (xs ys : List ℕ) (n : ℕ) → xs ++ take n ys ≡ take (length xs + n) (xs ++ ys)
+take_behind [] ys n = ap (λ k. take k ys) (omega arith)
+take_behind (x ∷ xs) ys n =
+    let more : suc (length xs + n) ≡ suc (length xs) + n = omega arith in
+    ap (λ (l : List ℕ). x ∷ l) (take_behind xs ys n) ∙ ap (λ k. take k (x ∷ (xs ++ ys))) more
+
+ends_more : (end : SessionEnd) (setup : Setup) (ts us : List Turn) (n : ℕ) (written extra : List ℕ) (left : List (List ℕ)) → n ≡ length ts → IsEnd end setup us written extra left → IsEnd (behind n end) setup (ts ++ us) (text_of ts ++ written) extra left
+ends_more AllAnswered setup ts us n written extra left is e = (ap (λ (l : List ℕ). text_of ts ++ l) e.0 ∙ sym (text-append ts us), e.1, e.2)
+ends_more WriteFault setup ts us n written extra left is e = (
+  length (text_of ts) + e.0,
+  rw text-append (omega (arith, length-append (text_of ts) (text_of us), e.1)),
+  ap (λ (l : List ℕ). text_of ts ++ l) e.2 ∙ take_behind (text_of ts) (text_of us) e.0 ∙ ap (take (length (text_of ts) + e.0)) (sym (text-append ts us)),
+  e.3,
+)
+ends_more Memory setup ts us n written extra left is e = (e.0, e.1, e.2, e.3, ap (λ (l : List ℕ). text_of ts ++ l) e.4 ∙ sym (text-append ts us), e.5)
+ends_more (FormNotBuilt after) setup ts us n written extra left is e = (
+  e.0, e.1, e.2, e.3,
+  ap (λ (l : List ℕ). text_of ts ++ l) e.4 ∙ sym (text-append ts us),
+  e.5, e.6,
+  omega (arith, length-append ts us, is, e.7),
+)
+
+-- A session that answered all, and then a session over what follows.
+pub session_more : (end : SessionEnd) (b : Summary) (setup : Setup) (xs ys : List (List ℕ)) (h : List Entry) (mid new : State) (w0 w1 w2 r0 r1 r2 : Option (List ℕ)) (n : ℕ) → n ≡ length xs
+    → IsSession AllAnswered b setup xs h mid w0 w1 r0 r1 → ((x : List Entry) → StandsFor b mid x → IsSession end b setup ys x new w1 w2 r1 r2) → IsSession (behind n end) b setup (xs ++ ys) h new w0 w2 r0 r2
+session_more end b setup xs ys h mid new w0 w1 w2 r0 r1 r2 n is first then =
+    let next = then first.history first.stands in
+    let readings : List Turn → List ℕ = λ ts. map (λ t. t.reading) ts in
+    let bodies : List Turn → List (List ℕ) = λ ts. map (λ t. t.body) ts in
+    let whole : xs ≡ bodies first.turns = first.taken ∙ ap (λ (l : List (List ℕ)). bodies first.turns ++ l) first.ended.2 ∙ append-nil (bodies first.turns) in
+    record {
+      turns = first.turns ++ next.turns;
+      history = next.history;
+      text = text_of first.turns ++ next.text;
+      extra = next.extra;
+      left = next.left;
+      taken =
+          ap (λ (l : List (List ℕ)). l ++ ys) whole ∙ ap (λ (l : List (List ℕ)). bodies first.turns ++ l) next.taken
+          ∙ sym (append_assoc (bodies first.turns) (bodies next.turns) next.left)
+          ∙ ap (λ (l : List (List ℕ)). l ++ next.left) (sym (map-append (λ (t : Turn). t.body) first.turns next.turns));
+      serves = serves_more b setup h first.history next.history first.turns next.turns first.serves next.serves;
+      stands = next.stands;
+      wrote = next.wrote ∙ ap (λ (o : Option (List ℕ)). append_known o next.text) (first.wrote ∙ ap (append_known w0) first.ended.0) ∙ known_both w0 (text_of first.turns) next.text;
+      clock =
+          next.clock ∙ ap (λ (o : Option (List ℕ)). append_known o (readings next.turns ++ next.extra)) (first.clock ∙ ap (λ (l : List ℕ). append_known r0 (readings first.turns ++ l)) first.ended.1 ∙ ap (append_known r0) (append-nil (readings first.turns)))
+          ∙ known_both r0 (readings first.turns) (readings next.turns ++ next.extra)
+          ∙ ap (append_known r0) (sym (append_assoc (readings first.turns) (readings next.turns) next.extra) ∙ ap (λ (l : List ℕ). l ++ next.extra) (sym (map-append (λ (t : Turn). t.reading) first.turns next.turns)));
+      ended = ends_more end setup first.turns next.turns n next.text next.extra next.left (is ∙ ap length whole ∙ length-map (λ (t : Turn). t.body) first.turns) next.ended;
+    }
+
+-- A session over nothing.
+pub session_none : (b : Summary) (setup : Setup) (h : List Entry) (state : State) (w r : Option (List ℕ)) → StandsFor b state h → IsSession AllAnswered b setup [] h state w w r r
+session_none b setup h state w r s = record {
+  turns = [];
+  history = h;
+  text = [];
+  extra = [];
+  left = [];
+  taken = refl;
+  serves = record { added = refl; each = tt };
+  stands = s;
+  wrote = sym (known_none w);
+  clock = sym (known_none r);
+  ended = (refl, refl, refl);
+}
+
+-- A session over one whole piece, which was answered.
+pub session_one : (b : Summary) (setup : Setup) (h x : List Entry) (t : Turn) (new : State) (w w' r r' : Option (List ℕ)) → x ≡ reverse (entries_of (t ∷ [])) ++ h → IsTurn b setup x t → StandsFor b new x
+    → w' ≡ append_known w t.reply → r' ≡ append_known r (t.reading ∷ []) → IsSession AllAnswered b setup (t.body ∷ []) h new w w' r r'
+session_one b setup h x t new w w' r r' added turn s wrote clock = record {
+  turns = t ∷ [];
+  history = x;
+  text = t.reply;
+  extra = [];
+  left = [];
+  taken = refl;
+  serves = record { added = added; each = (turn, tt) };
+  stands = s;
+  wrote = wrote;
+  clock = clock;
+  ended = (sym (append-nil t.reply), refl, refl);
+}
+
+-- The same, of which a write failed.
+pub session_cut : (b : Summary) (setup : Setup) (h x : List Entry) (t : Turn) (new : State) (n : ℕ) (w w' r r' : Option (List ℕ)) → x ≡ reverse (entries_of (t ∷ [])) ++ h → IsTurn b setup x t → StandsFor b new x
+    → n ≤ length t.reply → w' ≡ append_known w (take n t.reply) → r' ≡ append_known r (t.reading ∷ []) → IsSession WriteFault b setup (t.body ∷ []) h new w w' r r'
+session_cut b setup h x t new n w w' r r' added turn s few wrote clock = record {
+  turns = t ∷ [];
+  history = x;
+  text = take n t.reply;
+  extra = [];
+  left = [];
+  taken = refl;
+  serves = record { added = added; each = (turn, tt) };
+  stands = s;
+  wrote = wrote;
+  clock = clock;
+  ended = (n, rw append-nil few, rw append-nil refl, refl);
+}
+
+-- A whole piece that was not answered.
+pub session_unanswered : (end : SessionEnd) (b : Summary) (setup : Setup) (h : List Entry) (body : List ℕ) (reading : ℕ) (new : State) (w w' r r' : Option (List ℕ)) → StandsFor b new h
+    → IsEnd end setup [] [] (reading ∷ []) (body ∷ []) → w' ≡ w → r' ≡ append_known r (reading ∷ []) → IsSession end b setup (body ∷ []) h new w w' r r'
+session_unanswered end b setup h body reading new w w' r r' s ended wrote clock = record {
+  turns = [];
+  history = h;
+  text = [];
+  extra = reading ∷ [];
+  left = body ∷ [];
+  taken = refl;
+  serves = record { added = refl; each = tt };
+  stands = s;
+  wrote = wrote ∙ sym (known_none w);
+  clock = clock;
+  ended = ended;
+}

@@ -1,0 +1,102 @@
+-- What a run of the command `line` did, by its status.
+use Rattle.std.specs.Prelude.{◌≡◌, ◌≤◌, ◌⊎◌, ℕ, List, [], ◌∷◌, Option, Some, None, Err, IsOk, length}
+use Rattle.std.specs.Io.KnownBytes.{append_known, prepend_known, IsAtEnd}
+use Rattle.arc_io.specs.Causes.{Rose}
+use Rattle.alarm_rules.specs.Setups.{setup_of, meaning}
+use Rattle.centre_core.specs.Runs.{begun}
+use Rattle.centre_rules.specs.Summary.{nothing}
+use Rattle.centre_rules.specs.State.{State, StandsFor}
+use Rattle.dc09_frame.specs.Frames.{bodies}
+use Rattle.arc_server.specs.Sessions.{IsSession}
+use Rattle.arc_server.specs.declared.session.SessionEnd.{SessionEnd}
+use Rattle.arc_server.specs.declared.session.SessionEnd.TheVariants.{AllAnswered, WriteFault as NotWritten, Memory as SessionMemory, NotBuilt as FormNotBuilt}
+use Rattle.arc_server.specs.declared.status.Status.{Status}
+use Rattle.arc_server.specs.declared.status.Status.TheVariants.{Done, Usage, SetupBad, ReadFault, WriteFault, Memory, NotBuilt}
+use Rattle.arc_server.specs.declared.status.Which.{Which}
+use Rattle.arc_server.specs.declared.status.Which.TheVariants.{Setup, Input}
+
+-- What is told of the setup's source at one moment: its bytes left, and how often a read of it failed.
+pub record SetupSeen : Type 0 where
+  pub left : Option (List ℕ)
+  pub faults : ℕ
+
+-- What is told of the port at one moment: its bytes left, its bytes written, its readings, its noise, and how often a read
+-- and a write of it failed.
+pub record PortSeen : Type 0 where
+  pub left : Option (List ℕ)
+  pub read_faults : ℕ
+  pub written : Option (List ℕ)
+  pub write_faults : ℕ
+  pub readings : Option (List ℕ)
+  pub noise : Option (List ℕ)
+
+-- the port after one more reading
+abbrev pub after_reading : ℕ → PortSeen → PortSeen
+after_reading clock p = record p { readings = append_known p.readings (clock ∷ []) }
+
+-- This text was read of the setup's source: all of it, unless it has more than 4,194,304 bytes.
+pub record ReadsText (q q' : SetupSeen) (text : List ℕ) : Type 0 where
+  pub taken : q.left ≡ prepend_known text q'.left
+  pub whole : length text ≤ 4194304 → IsAtEnd q'.left
+
+-- the count has its stated values at entry and at the end, and rose between them
+pub record HasRisen (first second entry end : ℕ) : Type 0 where
+  pub before : first ≡ entry
+  pub now : second ≡ end
+  pub rose : Rose first second
+
+-- All bytes of the line were read, at most 65,536, and served to this end, from the beginning of the run on: an Adopt of the
+-- setup's text and a Start.
+pub record ServesLine (end : SessionEnd) (text : List ℕ) (clock : ℕ) (p p' : PortSeen) (state : State) : Type 0 where
+  pub input : List ℕ
+  pub taken : p.left ≡ prepend_known input p'.left
+  pub all : IsAtEnd p'.left
+  pub size : length input ≤ 65536
+  pub session : IsSession end nothing (meaning text) (bodies input) (begun text clock) state p.written p'.written p.readings p'.readings
+
+-- the run began, and nothing of the line was served
+pub record ServesNothing (text : List ℕ) (clock : ℕ) (p p' : PortSeen) (state : State) : Type 0 where
+  pub stands : StandsFor nothing state (begun text clock)
+  pub written : p'.written ≡ p.written
+  pub readings : p'.readings ≡ p.readings
+
+-- 65,537 bytes were read of the line, and nothing of it was served
+pub record IsTooLong (text : List ℕ) (clock : ℕ) (p p' : PortSeen) (state : State) : Type 0 where
+  pub input : List ℕ
+  pub taken : p.left ≡ prepend_known input p'.left
+  pub size : length input ≡ 65537
+  pub nothing : ServesNothing text clock p p' state
+
+-- What a status shows where a run began, at this reading of the clock: a centre in this state is handed back.
+abbrev pub IsServed : Status → List ℕ → ℕ → PortSeen → PortSeen → State → Type 0
+IsServed Done text clock p p' state = ServesLine AllAnswered text clock p p' state
+IsServed Usage text clock p p' state = ⊥
+IsServed (SetupBad fault) text clock p p' state = ⊥
+IsServed (ReadFault Setup before now) text clock p p' state = ⊥
+IsServed (ReadFault Input before now) text clock p p' state = HasRisen before now p.read_faults p'.read_faults × ServesNothing text clock p p' state
+IsServed (WriteFault before now) text clock p p' state = HasRisen before now p.write_faults p'.write_faults × ServesLine NotWritten text clock p p' state
+IsServed Memory text clock p p' state = ServesNothing text clock p p' state ⊎ ServesLine SessionMemory text clock p p' state
+IsServed (NotBuilt after) text clock p p' state = ((after ≡ 0) × IsTooLong text clock p p' state) ⊎ ServesLine (FormNotBuilt after) text clock p p' state
+
+-- What a status shows where the setup was not read or is none.
+abbrev pub IsSetupEnd : Status → SetupSeen → SetupSeen → Type 0
+IsSetupEnd Memory q q' = Unit {0}
+IsSetupEnd (SetupBad fault) q q' = (text : List ℕ) × ReadsText q q' text × (setup_of text ≡ Err fault)
+IsSetupEnd (ReadFault Setup before now) q q' = HasRisen before now q.faults q'.faults
+IsSetupEnd (ReadFault Input before now) q q' = ⊥
+IsSetupEnd Done q q' = ⊥
+IsSetupEnd Usage q q' = ⊥
+IsSetupEnd (WriteFault before now) q q' = ⊥
+IsSetupEnd (NotBuilt after) q q' = ⊥
+
+-- What a status shows where no run began: the words were at fault and nothing was touched, memory was wanted, or the setup was
+-- not read or is none, and the port was not touched.
+abbrev pub EndsEarly : Status → SetupSeen → SetupSeen → PortSeen → PortSeen → Type 0
+EndsEarly Usage q q' p p' = (q' ≡ q) × (p' ≡ p)
+EndsEarly Memory q q' p p' = Unit {0}
+EndsEarly status q q' p p' = IsSetupEnd status q q' × (p' ≡ p)
+
+-- What a run did: no centre was made, or a setup was read, a run began at the first reading, and its centre is handed back.
+abbrev pub IsRun : Status → SetupSeen → SetupSeen → PortSeen → PortSeen → Option State → Type 0
+IsRun status q q' p p' None = EndsEarly status q q' p p'
+IsRun status q q' p p' (Some state) = (text : List ℕ) × (clock : ℕ) × ReadsText q q' text × IsOk (setup_of text) × IsServed status text clock (after_reading clock p) p' state

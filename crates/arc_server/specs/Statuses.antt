@@ -1,0 +1,41 @@
+-- Numbers and texts of the statuses.
+use Rattle.std.specs.Prelude.{ℕ, ◌++◌, List, [], codes, decimal}
+use Rattle.arc_data.specs.declared.setup_fault.SetupFault.{SetupFault}
+use Rattle.arc_data.specs.declared.setup_fault.SetupFault.TheVariants.{TooLarge, BadLine, TwoSame, Memory as NoMemory}
+use Rattle.arc_server.specs.declared.status.Status.{Status}
+use Rattle.arc_server.specs.declared.status.Status.TheVariants.{Done, Usage, SetupBad, ReadFault, WriteFault, Memory, NotBuilt}
+use Rattle.arc_server.specs.declared.status.Which.{Which}
+use Rattle.arc_server.specs.declared.status.Which.TheVariants.{Setup, Input}
+
+-- what a program's run ends with
+abbrev pub number_of : Status → ℕ
+number_of Done = 0
+number_of Usage = 1
+number_of (SetupBad fault) = 2
+number_of (ReadFault input before now) = 3
+number_of (WriteFault before now) = 4
+number_of Memory = 10
+number_of (NotBuilt after) = 13
+
+abbrev pub at_line : ℕ → List ℕ
+at_line line = codes "setup: line " ++ decimal line
+
+abbrev pub setup_text : SetupFault → List ℕ
+setup_text TooLarge = codes "setup: too large\n"
+setup_text (BadLine line kind) = at_line line ++ codes ": not a setup line\n"
+setup_text (TwoSame line first) = at_line line ++ codes ": same as line " ++ decimal first ++ codes "\n"
+setup_text NoMemory = codes "out of memory\n"
+
+abbrev pub read_text : Which → List ℕ
+read_text Setup = codes "read fault on setup\n"
+read_text Input = codes "read fault on input\n"
+
+-- the line that it writes on standard error, or nothing
+unfoldable pub text_of_status : Status → List ℕ
+text_of_status Done = []
+text_of_status Usage = codes "usage: line | desk | script | report | drill N | serve LINES DESKS SESSIONS\n"
+text_of_status (SetupBad fault) = setup_text fault
+text_of_status (ReadFault input before now) = read_text input
+text_of_status (WriteFault before now) = codes "write fault\n"
+text_of_status Memory = codes "out of memory\n"
+text_of_status (NotBuilt after) = codes "not built yet\n"

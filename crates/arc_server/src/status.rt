@@ -1,0 +1,118 @@
+// How a run ended.
+ghost use Rattle.std.specs.Prelude.{◌≡◌, OnOk};
+ghost use Rattle.std.specs.Io.KnownBytes.{append_known};
+ghost use Rattle.arc_io.specs.Causes.{HasCause};
+ghost use Rattle.arc_server.specs.Statuses.{number_of, text_of_status, setup_text, at_line};
+
+use arc_data::SetupFault;
+use arc_io::{Failed, Sink, put};
+use itoa::Buffer;
+
+/// The input of a run that could not be read.
+#[derive(Clone, Copy, Debug, PartialEq, Eq)]
+pub enum Which {
+    /// The setup text.
+    Setup,
+    /// The bytes of the line.
+    Input,
+}
+
+/// How a run ended, with the numbers that show its cause. Counts are those of faults at the run's entry and at its end.
+#[derive(Clone, Copy, Debug, PartialEq, Eq)]
+pub enum Status {
+    /// The input was read to its end, and all of it answered.
+    Done,
+    /// The words are none of the forms. Nothing was touched.
+    Usage,
+    /// The setup text is no setup. The fault is not want of memory.
+    SetupBad(SetupFault),
+    /// A read failed.
+    ReadFault { input: Which, before: u64, now: u64 },
+    /// A write failed.
+    WriteFault { before: u64, now: u64 },
+    /// Want of memory.
+    Memory,
+    /// The input has more than 65,536 bytes, or a frame in it is of a form that is not built yet, after so many whole frames.
+    NotBuilt { after: u64 },
+}
+
+impl Status {
+    /// The number that the program ends with.
+    pub fn number(&self) -> u8
+        ensures { result ≡ number_of self.now }
+    {
+        match self {
+            Status::Done => 0,
+            Status::Usage => 1,
+            Status::SetupBad(_) => 2,
+            Status::ReadFault { .. } => 3,
+            Status::WriteFault { .. } => 4,
+            Status::Memory => 10,
+            Status::NotBuilt { .. } => 13,
+        }
+    }
+
+    /// Writes the text of the status: one line with LF, and nothing for Done. Failed comes only where the sink failed.
+    pub fn text<K: Sink>(&self, out: &mut K) -> Result<(), Failed>
+        ensures all { OnOk result (K.written out.new ≡ append_known (K.written out.old) (text_of_status self.now)) }
+        ensures cause { HasCause (K.write_faults out.old) (K.write_faults out.new) result }
+    {
+        match self {
+            Status::Done => Ok(()),
+            Status::Usage => put(
+                out,
+                b"usage: line | desk | script | report | drill N | serve LINES DESKS SESSIONS\n",
+            ),
+            Status::SetupBad(fault) => put_setup(out, fault),
+            Status::ReadFault {
+                input: Which::Setup,
+                ..
+            } => put(out, b"read fault on setup\n"),
+            Status::ReadFault {
+                input: Which::Input,
+                ..
+            } => put(out, b"read fault on input\n"),
+            Status::WriteFault { .. } => put(out, b"write fault\n"),
+            Status::Memory => put(out, b"out of memory\n"),
+            Status::NotBuilt { .. } => put(out, b"not built yet\n"),
+        }
+    }
+}
+
+// The line that tells what is wrong with the setup.
+fn put_setup<K: Sink>(out: &mut K, fault: &SetupFault) -> Result<(), Failed>
+    ensures all { OnOk result (K.written out.new ≡ append_known (K.written out.old) (setup_text fault.now)) }
+    ensures cause { HasCause (K.write_faults out.old) (K.write_faults out.new) result }
+{
+    match fault {
+        SetupFault::TooLarge => put(out, b"setup: too large\n"),
+        SetupFault::BadLine { line, .. } => {
+            put_line(out, *line)?;
+            put(out, b": not a setup line\n")
+        }
+        SetupFault::TwoSame { line, first } => {
+            put_line(out, *line)?;
+            put(out, b": same as line ")?;
+            put_number(out, *first)?;
+            put(out, b"\n")
+        }
+        SetupFault::Memory => put(out, b"out of memory\n"),
+    }
+}
+
+// The front of such a line, up to the line's number.
+fn put_line<K: Sink>(out: &mut K, line: u64) -> Result<(), Failed>
+    ensures all { OnOk result (K.written out.new ≡ append_known (K.written out.old) (at_line line)) }
+    ensures cause { HasCause (K.write_faults out.old) (K.write_faults out.new) result }
+{
+    put(out, b"setup: line ")?;
+    put_number(out, line)
+}
+
+fn put_number<K: Sink>(out: &mut K, number: u64) -> Result<(), Failed>
+    ensures all { OnOk result (K.written out.new ≡ append_known (K.written out.old) (decimal number)) }
+    ensures cause { HasCause (K.write_faults out.old) (K.write_faults out.new) result }
+{
+    let mut buffer = Buffer::new();
+    put(out, buffer.format(number).as_bytes())
+}
