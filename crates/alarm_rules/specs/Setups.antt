@@ -1,7 +1,8 @@
 -- What a setup text means.
 use Rattle.std.specs.Prelude.{ℕ, ◌==◌, ◌&&◌, List, [], ◌∷◌, ◌++◌, Bool, true, false, if◌then◌else◌, Option, Some, None, is_some, Result, Ok, Err, nat_lt, nat_eq, length, drop, codes}
-use Rattle.std.specs.List.{find, filter_map, enumerate_from, starts_with}
+use Rattle.std.specs.List.{find, filter_map, enumerate_from, position, starts_with}
 use Rattle.std.specs.Option.{option_map}
+use Rattle.std.specs.Result.{result_unwrap_or}
 use Rattle.std.specs.Str.{bytes_eq}
 use Rattle.std.specs.Str.Lines.{lines}
 use Rattle.arc_data.specs.Digits.{capitals, is_account}
@@ -33,7 +34,7 @@ abbrev pub declared_account : List ℕ → Option Account
 declared_account line = if starts_with nat_eq line (codes "account ") && is_account (drop 8 line) then Some (record { number = capitals (drop 8 line) }) else None
 
 abbrev pub has_number : List ℕ → Account → Bool
-has_number number account = bytes_eq account.number number
+has_number number account = bytes_eq number account.number
 
 -- the line declares this account
 abbrev pub declares : List ℕ → ℕ × List ℕ → Bool
@@ -87,10 +88,10 @@ account_of setup number = find (has_number number) setup.accounts
 abbrev pub has_account : Setup → List ℕ → Bool
 has_account setup number = is_some (account_of setup number)
 
--- the setup of a text, without accounts where the text is none
-abbrev pub meaning_or : Result Setup SetupFault → Setup
-meaning_or (Ok setup) = setup
-meaning_or (Err fault) = record { accounts = [] }
+-- where the account stands among the accounts of the setup, counted from 0
+abbrev pub place_of : Setup → List ℕ → Option ℕ
+place_of setup number = position (has_number number) setup.accounts
 
+-- the setup of a text; a text that is no setup has no accounts
 abbrev pub meaning : List ℕ → Setup
-meaning text = meaning_or (setup_of text)
+meaning text = result_unwrap_or (setup_of text) (record { accounts = [] })

@@ -1,0 +1,11 @@
+//! The setup of a station: the text that says which accounts it has, read once and then asked by account.
+#![tactic(auto)]
+
+mod account;
+mod account_table;
+mod lines;
+mod reading;
+mod setup;
+
+pub use account::Account;
+pub use setup::Setup;

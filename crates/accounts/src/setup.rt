@@ -1,0 +1,99 @@
+// A setup: its text and what the text means.
+ghost use Rattle.std.specs.Prelude.{◌≡◌, ◌≤◌, ◌<◌, ◌⊎◌, length, slice_get, Err, IfErr, IfOk, IsOk, OnOk, Some};
+ghost use Rattle.alarm_rules.specs.Setups.{setup_of, meaning, place_of, has_account};
+ghost use Rattle.accounts.specs.Accounts.{defined};
+
+use crate::account::Account;
+use crate::account_table::AccountTable;
+use crate::reading::read_accounts;
+use arc_data::{Blob, Memory, SetupFault, Txt};
+use std::alloc::Global;
+use std::marker::Model;
+
+/// The most bytes of a setup text.
+const TEXT_LIMIT: usize = 4_194_304;
+
+/// The setup of a station. Contracts see it as its text, which is a setup text of at most 4,194,304 bytes.
+#[derive(Drop)]
+pub struct Setup {
+    text: Blob,
+    table: AccountTable,
+}
+
+impl Model for Setup {
+    ghost use Rattle.std.specs.Prelude.{ℕ, List};
+    ghost use Rattle.accounts.specs.Declarations.{IsReadFrom};
+
+    ghost Value = { List ℕ };
+
+    ghost view = { λ s. s.text };
+
+    ghost invariant = { λ s. IsReadFrom s.text s.table };
+}
+
+impl Setup {
+    /// The setup that a text means. The fault is exactly that of the text, or want of memory.
+    pub fn read(alloc: Global, text: &[u8]) -> Result<Setup, SetupFault>
+        ensures ok { IfOk result (λ setup. setup ≡ text.now) }
+        ensures valid { OnOk result (IsOk (setup_of text.now)) }
+        ensures fault { IfErr result (λ fault. (fault ≡ SetupFault.Memory) ⊎ (setup_of text.now ≡ Err fault)) }
+    {
+        if text.len() > TEXT_LIMIT {
+            return Err(SetupFault::TooLarge);
+        }
+        let table = read_accounts(alloc, text)?;
+        match Blob::of(alloc, text) {
+            Ok(text) => Ok(Setup { text, table }),
+            Err(_) => Err(SetupFault::Memory),
+        }
+    }
+
+    /// Its text.
+    pub fn text(&self) -> &[u8]
+        ensures value { result.now ≡ self.now }
+        ensures valid { IsOk (setup_of result.now) }
+        ensures size { length result.now ≤ 4194304 }
+    {
+        self.text.bytes()
+    }
+
+    /// A copy of it.
+    pub fn copy(&self, alloc: Global) -> Result<Setup, Memory>
+        ensures { IfOk result (λ setup. setup ≡ self.now) }
+    {
+        let text = Blob::of(alloc, self.text.bytes())?;
+        match self.table.copy() {
+            Ok(table) => Ok(Setup { text, table }),
+            Err(_) => Err(Memory),
+        }
+    }
+
+    /// How many accounts it has.
+    pub fn count(&self) -> usize
+        ensures { result ≡ length (meaning self.now).accounts }
+    {
+        self.table.count()
+    }
+
+    /// The place of an account, in the order of the lines, from 0. The account is given in capitals.
+    pub fn place(&self, account: &Txt) -> Option<usize>
+        ensures { result ≡ place_of (meaning self.now) account.now }
+    {
+        self.table.place(account)
+    }
+
+    /// Whether it has an account, which is given in capitals.
+    pub fn knows(&self, account: &Txt) -> bool
+        ensures { result ≡ has_account (meaning self.now) account.now }
+    {
+        self.table.line_of(account).is_some()
+    }
+
+    /// The account at a place below the count.
+    pub fn account(&self, place: usize) -> &Account
+        requires { place < length (meaning self.now).accounts }
+        ensures { slice_get (meaning self.now).accounts place ≡ Some (defined result.now) }
+    {
+        &self.table.at(place).account
+    }
+}
