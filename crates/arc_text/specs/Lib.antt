@@ -1,0 +1,2 @@
+pub mod Words
+pub use Rattle.arc_data.specs.Digits
