@@ -62,7 +62,7 @@ bodies stream = map body_of (filter is_whole (pieces stream))
 -- A frame is cut as the one piece of its body, whatever follows it, and what follows is cut as it is alone.
 pub record IsCutAgain (body : List ℕ) : Type 0 where
   pub whole : cut (piece_of body) ≡ Whole
-  pub body : body_of (piece_of body) ≡ body
+  pub again : body_of (piece_of body) ≡ body
   pub first : (rest : List ℕ) → pieces (frame_of body ++ rest) ≡ piece_of body ∷ pieces rest
 
 -- every body's frame

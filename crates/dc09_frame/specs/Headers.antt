@@ -1,5 +1,5 @@
 -- The header of a body (DC-09, the message's fields).
-use Rattle.std.specs.Prelude.{◌≡◌, ℕ, ◌-◌, ◌+◌, ◌==◌, ◌&&◌, ◌||◌, ◌++◌, List, [], ◌∷◌, Bool, true, false, if◌then◌else◌, Option, Some, None, option_and_then, length, drop, codes}
+use Rattle.std.specs.Prelude.{◌≡◌, ℕ, ◌-◌, ◌==◌, ◌||◌, ◌++◌, List, [], ◌∷◌, Bool, true, false, if◌then◌else◌, Option, Some, None, length, drop, codes}
 use Rattle.std.specs.List.{take_while}
 use Rattle.arc_data.specs.Digits.{is_between, is_digit, is_hex, is_run}
 use Rattle.arc_data.specs.WellFormed.{is_receiver}

@@ -4,3 +4,5 @@ pub mod Pieces
 pub mod Frames
 pub mod Headers
 pub mod Cutting
+pub use Rattle.arc_data.specs.Digits
+pub use Rattle.arc_data.specs.WellFormed

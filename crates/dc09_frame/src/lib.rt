@@ -1,2 +1,15 @@
 //! Frames of ANSI/SIA DC-09: the check, the cuts of a stream, the header of a body, and the replies that echo one.
 #![tactic(auto)]
+
+mod checksum;
+mod cut;
+mod header;
+mod laws;
+
+pub use checksum::check;
+pub use cut::Cut;
+pub use header::{Echo, Header};
+pub use laws::law_check_divides;
+
+#[cfg(test)]
+mod tests;
