@@ -4,5 +4,6 @@ pub mod Pieces
 pub mod Frames
 pub mod Headers
 pub mod Cutting
+pub mod Reading
 pub use Rattle.arc_data.specs.Digits
 pub use Rattle.arc_data.specs.WellFormed

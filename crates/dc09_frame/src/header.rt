@@ -1,4 +1,8 @@
 // The header of a body.
+ghost use Rattle.std.specs.Prelude.{◌≡◌, ◌++◌, ℕ, List, length, Some, IfSome};
+ghost use Rattle.dc09_frame.specs.Headers.{header_at, header_bytes, IsHeader, IsReadFrom};
+
+use crate::reading::header_at;
 use arc_text::Txt;
 
 /// The header of a body: what stands before the first block. The digits stand as they came, in either case.
@@ -25,4 +29,17 @@ pub enum Echo {
     Ack,
     /// The message could not be taken.
     Duh,
+}
+
+impl Header {
+    /// The header that begins a body, and how many bytes it has. None exactly where none does.
+    pub fn read(body: &[u8]) -> Option<(Header, usize)>
+        ensures exact { result ≡ header_at body.now }
+        // What is read is spelled so.
+        ensures found { IfSome result (λ r. IsReadFrom body.now r.0 r.1) }
+        // What is spelled so is read, whatever follows.
+        ensures only { (h : Header) (rest : List ℕ) → IsHeader h → body.now ≡ header_bytes h ++ rest → result ≡ Some (h, length (header_bytes h)) }
+    {
+        header_at(body)
+    }
 }

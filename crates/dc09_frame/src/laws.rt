@@ -1,8 +1,19 @@
 // What holds of every body, header and frame.
 ghost use Rattle.dc09_frame.specs.Check.{CheckDivides};
+ghost use Rattle.dc09_frame.specs.Headers.{ReadIsSpelled, SpelledIsRead};
 
 /// The check is the remainder of a division: the bits times x^16 are a multiple of the polynomial, and the rest of 16
 /// places that the check spells.
 pub fn law_check_divides()
     ensures { CheckDivides }
+{}
+
+/// A header that is read is spelled so at the front of its body, and its fields are in their ranges.
+pub fn law_read_is_spelled()
+    ensures { ReadIsSpelled }
+{}
+
+/// A header that is spelled is read again, whatever follows it.
+pub fn law_spelled_is_read()
+    ensures { SpelledIsRead }
 {}

@@ -5,11 +5,12 @@ mod checksum;
 mod cut;
 mod header;
 mod laws;
+mod reading;
 
 pub use checksum::check;
 pub use cut::Cut;
 pub use header::{Echo, Header};
-pub use laws::law_check_divides;
+pub use laws::{law_check_divides, law_read_is_spelled, law_spelled_is_read};
 
 #[cfg(test)]
 mod tests;
