@@ -12,8 +12,8 @@ use Rattle.centre_rules.specs.Summary.{Summary}
 use Rattle.centre_rules.specs.History.{Entry, Extends}
 use Rattle.centre_rules.specs.State.{State, StandsFor}
 use Rattle.dc09_message.specs.Verdicts.{verdict_of}
-use Rattle.dc09_message.specs.declared.verdict.Verdict.{Verdict}
-use Rattle.dc09_message.specs.declared.verdict.Verdict.TheVariants.{Silence, NotBuilt, Duh, Numbered}
+use Rattle.dc09_message.specs.declared.outcome.Verdict.{Verdict}
+use Rattle.dc09_message.specs.declared.outcome.Verdict.TheVariants.{Silence, NotBuilt, Duh, Numbered}
 use Rattle.arc_server.specs.Sessions.{IsSession, IsEnd}
 use Rattle.arc_server.specs.Turns.{Turn, IsTurn, IsAnswered, StandsIn, Serves, entries_of, text_of}
 use Rattle.arc_server.specs.declared.session.SessionEnd.{SessionEnd}

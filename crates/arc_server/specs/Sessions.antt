@@ -6,7 +6,7 @@ use Rattle.centre_rules.specs.Summary.{Summary}
 use Rattle.centre_rules.specs.History.{Entry}
 use Rattle.centre_rules.specs.State.{State, StandsFor}
 use Rattle.dc09_message.specs.Verdicts.{verdict_of}
-use Rattle.dc09_message.specs.declared.verdict.Verdict.TheVariants.{NotBuilt}
+use Rattle.dc09_message.specs.declared.outcome.Verdict.TheVariants.{NotBuilt}
 use Rattle.arc_server.specs.Turns.{Turn, Serves, text_of}
 use Rattle.arc_server.specs.declared.session.SessionEnd.{SessionEnd}
 use Rattle.arc_server.specs.declared.session.SessionEnd.TheVariants.{AllAnswered, WriteFault, Memory, NotBuilt as FormNotBuilt}

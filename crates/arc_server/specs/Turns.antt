@@ -10,8 +10,8 @@ use Rattle.dc09_frame.specs.Frames.{frame_of}
 use Rattle.dc09_frame.specs.Headers.{echo_body}
 use Rattle.dc09_frame.specs.declared.header.Echo.TheVariants.{Ack, Duh as DuhWord}
 use Rattle.dc09_message.specs.Verdicts.{verdict_of}
-use Rattle.dc09_message.specs.declared.verdict.Verdict.{Verdict}
-use Rattle.dc09_message.specs.declared.verdict.Verdict.TheVariants.{Silence, NotBuilt, Duh, Numbered}
+use Rattle.dc09_message.specs.declared.outcome.Verdict.{Verdict}
+use Rattle.dc09_message.specs.declared.outcome.Verdict.TheVariants.{Silence, NotBuilt, Duh, Numbered}
 
 -- one whole piece: its body, the reading of the clock that it took, its entry where it has one, and the reply
 pub record Turn : Type 0 where

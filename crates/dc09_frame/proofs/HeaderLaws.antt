@@ -12,23 +12,23 @@ use Rattle.dc09_frame.specs.Headers.{◌>>=◌, is_token_byte, IsHeader, star, r
 
 -- Steps that did not fail.
 
-bind_some : {A B : Type 0} (o : Option A) (f : A → Option B) (y : B) → (o >>= f) ≡ Some y → (x : A) × (o ≡ Some x) × (f x ≡ Some y)
+pub bind_some : {A B : Type 0} (o : Option A) (f : A → Option B) (y : B) → (o >>= f) ≡ Some y → (x : A) × (o ≡ Some x) × (f x ≡ Some y)
 bind_some None f y e = absurd cc
 bind_some (Some x) f y e = (x, refl, e)
 
-some_if : {A : Type 0} (t : Bool) (y x : A) → cond t (Some y) None ≡ Some x → (t ≡ true) × (y ≡ x)
+pub some_if : {A : Type 0} (t : Bool) (y x : A) → cond t (Some y) None ≡ Some x → (t ≡ true) × (y ≡ x)
 some_if true y x e = (refl, cc)
 some_if false y x e = absurd cc
 
 abbrev found : {A : Type 0} → A → Option A
 found x = Some x
 
-some_is : {A : Type 0} (x y : A) → found x ≡ found y → x ≡ y
+pub some_is : {A : Type 0} (x y : A) → found x ≡ found y → x ≡ y
 some_is x y e = cc
 
 -- One byte.
 
-after_byte_takes : (b : ℕ) (xs rest : List ℕ) → after_byte b xs ≡ Some rest → xs ≡ b ∷ rest
+pub after_byte_takes : (b : ℕ) (xs rest : List ℕ) → after_byte b xs ≡ Some rest → xs ≡ b ∷ rest
 after_byte_takes b [] rest e = absurd cc
 after_byte_takes b (x ∷ xs) rest e =
     let g = some_if (eqb x b) xs rest e in
@@ -45,7 +45,7 @@ all_front : (test : ℕ → Bool) (xs : List ℕ) → list_all test (take_while 
 all_front test [] = refl
 all_front test (x ∷ xs) = rw take_while-cons (all_front_step test x (take_while test xs) (test x) refl (all_front test xs))
 
-run_takes : (test : ℕ → Bool) (low high : ℕ) (xs : List ℕ) (x : List ℕ × List ℕ) → run_at test low high xs ≡ Some x → (xs ≡ x.0 ++ x.1) × (is_run test low high x.0 ≡ true)
+pub run_takes : (test : ℕ → Bool) (low high : ℕ) (xs : List ℕ) (x : List ℕ × List ℕ) → run_at test low high xs ≡ Some x → (xs ≡ x.0 ++ x.1) × (is_run test low high x.0 ≡ true)
 unfolding run_at
 run_takes test low high xs x e =
     let run : List ℕ = take_while test xs in
@@ -63,7 +63,7 @@ drop_front : (text rest : List ℕ) → drop (length text) (text ++ rest) ≡ re
 drop_front [] rest = refl
 drop_front (x ∷ text) rest = drop_front text rest
 
-run_again : (test : ℕ → Bool) (low high : ℕ) (text : List ℕ) (y : ℕ) (ys : List ℕ) → is_run test low high text ≡ true → test y ≡ false → run_at test low high (text ++ y ∷ ys) ≡ Some (text, y ∷ ys)
+pub run_again : (test : ℕ → Bool) (low high : ℕ) (text : List ℕ) (y : ℕ) (ys : List ℕ) → is_run test low high text ≡ true → test y ≡ false → run_at test low high (text ++ y ∷ ys) ≡ Some (text, y ∷ ys)
 unfolding run_at
 run_again test low high text y ys run stops =
     let h = and_parts (is_between low high (length text)) (list_all test text) run in

@@ -10,6 +10,7 @@ mod reading;
 pub use checksum::check;
 pub use cut::Cut;
 pub use header::{Echo, Header};
+pub use reading::{Alphabet, after_byte, run_at};
 pub use laws::{law_check_divides, law_read_is_spelled, law_spelled_is_read};
 
 #[cfg(test)]

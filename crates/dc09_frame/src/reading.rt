@@ -8,11 +8,14 @@ ghost use Rattle.arc_data.specs.Digits.{is_digit, is_hex};
 use crate::header::Header;
 use arc_text::Txt;
 
-// Which bytes a run may have.
+/// Which bytes a run may have.
 #[derive(Clone, Copy)]
-enum Alphabet {
+pub enum Alphabet {
+    /// `A` to `Z`, `0` to `9` and `-`.
     Token,
+    /// `0` to `9`.
     Decimal,
+    /// `0` to `9`, `A` to `F` and `a` to `f`.
     Hexadecimal,
 }
 
@@ -28,8 +31,8 @@ impl Alphabet {
     }
 }
 
-// What follows this byte.
-fn after_byte(byte: u8, bytes: &[u8]) -> Option<&[u8]>
+/// What follows this byte, where the bytes begin with it.
+pub fn after_byte(byte: u8, bytes: &[u8]) -> Option<&[u8]>
     ensures value { Gives (λ rest. rest.now) result (after_byte byte bytes.now) }
     ensures shorter { IfSome result (λ rest. length rest.now ≤ length bytes.now) }
 {
@@ -64,9 +67,9 @@ fn run_length(alphabet: Alphabet, bytes: &[u8]) -> usize
     bytes.len()
 }
 
-// The longest run of bytes of the alphabet, where it has between so many and so many bytes.
+/// The longest run of bytes of the alphabet at the front, where it has between so many and so many bytes, and what follows it.
 #[tactic(auto, unfolding(crate::specs::Headers::run_at))]
-fn run_at(alphabet: Alphabet, low: usize, high: usize, bytes: &[u8]) -> Option<(&[u8], &[u8])>
+pub fn run_at(alphabet: Alphabet, low: usize, high: usize, bytes: &[u8]) -> Option<(&[u8], &[u8])>
     ensures value { Gives (λ x. (x.0.now, x.1.now)) result (run_at (test_of alphabet) low high bytes.now) }
     ensures least { IfSome result (λ x. low ≤ length x.0.now) }
     ensures most { IfSome result (λ x. length x.0.now ≤ high) }

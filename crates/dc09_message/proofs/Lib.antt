@@ -1,1 +1,3 @@
-
+pub mod DigitLemmas
+pub mod GoodVerdicts
+pub mod BlockLaws

@@ -10,9 +10,9 @@ use Rattle.alarm_rules.specs.Setups.{Setup, has_account}
 use Rattle.dc09_frame.specs.Headers.{header_at, IsHeader}
 use Rattle.dc09_frame.specs.declared.header.Header.{Header}
 use Rattle.dc09_message.specs.Blocks.{block_at}
-use Rattle.dc09_message.specs.declared.verdict.Verdict.{Verdict}
-use Rattle.dc09_message.specs.declared.verdict.Verdict.TheVariants.{Silence, NotBuilt, Duh, Numbered}
-use Rattle.dc09_message.specs.declared.verdict.Why.TheVariants.{UnknownAccount, BadBlocks}
+use Rattle.dc09_message.specs.declared.outcome.Verdict.{Verdict}
+use Rattle.dc09_message.specs.declared.outcome.Verdict.TheVariants.{Silence, NotBuilt, Duh, Numbered}
+use Rattle.dc09_message.specs.declared.outcome.Why.TheVariants.{UnknownAccount, BadBlocks}
 
 -- a plain message without an `R` field, of Contact ID data
 abbrev pub is_built : Header → Bool

@@ -2,6 +2,11 @@
 //! the message that it brings.
 #![tactic(auto)]
 
-mod verdict;
+mod blocks;
+mod reading;
+mod laws;
+mod outcome;
 
-pub use verdict::{Verdict, Why};
+pub use reading::verdict;
+pub use laws::{law_block_is_spelled, law_spelled_block_is_read, law_verdicts_are_good};
+pub use outcome::{Verdict, Why};
