@@ -27,6 +27,10 @@ pub record IsBody (body : List ℕ) : Type 0 where
 abbrev pub piece_of : List ℕ → List ℕ
 piece_of body = four_digits (check_of body) ++ four_digits (length body) ++ body
 
+-- what stands before a body in its frame: the line feed, the check and the length
+abbrev pub head_of : ℕ → ℕ → List ℕ
+head_of sum size = 10 ∷ four_digits sum ++ four_digits size
+
 -- the frame of a body
 unfoldable pub frame_of : List ℕ → List ℕ
 frame_of body = 10 ∷ piece_of body ++ 13 ∷ []

@@ -1,5 +1,6 @@
 // What holds of every body, header and frame.
 ghost use Rattle.dc09_frame.specs.Check.{CheckDivides};
+ghost use Rattle.dc09_frame.specs.Frames.{FramesAreCutAgain};
 ghost use Rattle.dc09_frame.specs.Headers.{ReadIsSpelled, SpelledIsRead};
 
 /// The check is the remainder of a division: the bits times x^16 are a multiple of the polynomial, and the rest of 16
@@ -16,4 +17,9 @@ pub fn law_read_is_spelled()
 /// A header that is spelled is read again, whatever follows it.
 pub fn law_spelled_is_read()
     ensures { SpelledIsRead }
+{}
+
+/// The frame of a body is cut as the one whole piece of that body, whatever follows it.
+pub fn law_frames_are_cut_again()
+    ensures { FramesAreCutAgain }
 {}

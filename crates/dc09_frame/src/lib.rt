@@ -3,15 +3,21 @@
 
 mod checksum;
 mod cut;
+mod echo;
+mod frame_buf;
 mod header;
 mod laws;
 mod reading;
 
 pub use checksum::check;
 pub use cut::Cut;
+pub use echo::{write_echo, write_frame};
+pub use frame_buf::FrameBuf;
 pub use header::{Echo, Header};
+pub use laws::{
+    law_check_divides, law_frames_are_cut_again, law_read_is_spelled, law_spelled_is_read,
+};
 pub use reading::{Alphabet, after_byte, run_at};
-pub use laws::{law_check_divides, law_read_is_spelled, law_spelled_is_read};
 
 #[cfg(test)]
 mod tests;

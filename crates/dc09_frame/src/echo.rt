@@ -1,0 +1,66 @@
+// The frames that a receiver writes.
+ghost use Rattle.std.specs.Prelude.{◌≡◌, ◌≤◌, ◌+◌, [], ◌∷◌, ◌++◌, length};
+ghost use Rattle.dc09_frame.specs.Frames.{frame_of, IsBody};
+ghost use Rattle.dc09_frame.specs.Headers.{IsHeader, word_of, receiver_field, fields, echo_body};
+
+use crate::frame_buf::FrameBuf;
+use crate::header::{Echo, Header};
+use arc_text::Txt;
+
+/// Makes `out` the frame of a body.
+pub fn write_frame(body: &[u8], out: &mut FrameBuf)
+    requires { IsBody body.now }
+    ensures { out.new ≡ frame_of body.now }
+{
+    out.begin_frame();
+    out.append(body);
+    out.end_frame();
+}
+
+/// Makes `out` the frame of a reply that echoes a header: its word, the header's sequence, `R` field, `L` field and
+/// account byte for byte, and an empty block.
+pub fn write_echo(word: Echo, header: &Header, out: &mut FrameBuf)
+    requires { IsHeader header.now }
+    ensures frame { out.new ≡ frame_of (echo_body word header.now) }
+    ensures body { IsBody (echo_body word header.now) }
+{
+    out.begin_frame();
+    out.append(quoted_word_of(word));
+    append_fields(header, out);
+    out.append(b"[]");
+    out.end_frame();
+}
+
+// The word of a reply in double quotes.
+fn quoted_word_of(word: Echo) -> &'static [u8]
+    ensures { result.now ≡ 34 ∷ word_of word ++ 34 ∷ [] }
+{
+    match word {
+        Echo::Ack => b"\"ACK\"",
+        Echo::Duh => b"\"DUH\"",
+    }
+}
+
+// Puts the sequence, the `R` field, the `L` field and the account behind what stands there, as they came.
+fn append_fields(header: &Header, out: &mut FrameBuf)
+    requires { length out.old ≤ 4000 }
+    ensures { out.new ≡ out.old ++ fields header.now }
+{
+    out.append(&header.seq);
+    append_receiver(&header.receiver, out);
+    out.append(b"L");
+    out.append(header.line.bytes());
+    out.append(b"#");
+    out.append(header.account.bytes());
+}
+
+fn append_receiver(receiver: &Option<Txt>, out: &mut FrameBuf)
+    requires { length out.old ≤ 4004 }
+    ensures value { out.new ≡ out.old ++ receiver_field receiver.now }
+    ensures room { length out.new ≤ length out.old + 33 }
+{
+    if let Some(digits) = receiver {
+        out.append(b"R");
+        out.append(digits.bytes());
+    }
+}
