@@ -8,4 +8,5 @@ mod reading;
 mod setup;
 
 pub use account::Account;
+pub use arc_data::{LineKind, SetupFault};
 pub use setup::Setup;

@@ -1,7 +1,7 @@
 // Reading the lines of a setup text.
 ghost use Rattle.std.specs.Prelude.{◌≡◌, ◌≤◌, ◌⊎◌, ◌++◌, [], ◌∷◌, length, None, Some, IfOk, IfErr, OnOk, List, ℕ};
 ghost use Rattle.alarm_rules.specs.Setups.{numbered_lines, first_fault, fault_at, is_skipped};
-ghost use Rattle.accounts.specs.Declarations.{declarations};
+ghost use Rattle.accounts.specs.Declarations.{declarations, HasFault, TakesUp};
 
 use crate::account::declared_account;
 use crate::account_table::AccountTable;
@@ -32,9 +32,9 @@ pub(crate) fn read_accounts(alloc: Global, text: &[u8]) -> Result<AccountTable, 
 
 /// Takes up the declaration of a line, or says what is wrong with it. The table has those of the lines before it.
 fn take_line(table: &mut AccountTable, number: u64, line: &[u8]) -> Result<(), SetupFault>
-    ensures faultless { OnOk result ((earlier : List (ℕ × List ℕ)) → table.old ≡ declarations earlier → fault_at earlier (number, line.now) ≡ None) }
-    ensures taken { OnOk result ((earlier : List (ℕ × List ℕ)) → table.old ≡ declarations earlier → table.new ≡ declarations (earlier ++ (number, line.now) ∷ [])) }
-    ensures fault { IfErr result (λ fault. (fault ≡ SetupFault.Memory) ⊎ ((earlier : List (ℕ × List ℕ)) → table.old ≡ declarations earlier → fault_at earlier (number, line.now) ≡ Some fault)) }
+    ensures faultless { OnOk result (HasFault table.old (number, line.now) None) }
+    ensures taken { OnOk result (TakesUp table.old (number, line.now) table.new) }
+    ensures fault { IfErr result (λ fault. (fault ≡ SetupFault.Memory) ⊎ HasFault table.old (number, line.now) (Some fault)) }
 {
     let bad_form = SetupFault::BadLine {
         line: number,
