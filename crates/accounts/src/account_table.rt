@@ -1,5 +1,5 @@
 // The accounts that a text declares, by number and by place.
-ghost use Rattle.std.specs.Prelude.{◌≡◌, ◌<◌, ◌++◌, [], ◌∷◌, length, slice_get, None, Some, IfOk, IfErr, OnOk, OnErr};
+ghost use Rattle.std.specs.Prelude.{◌≡◌, ◌<◌, ◌++◌, [], ◌∷◌, length, slice_get, None, Some, IfOk, IfSome, OnOk};
 ghost use Rattle.std.specs.List.{position};
 ghost use Rattle.std.specs.Option.{option_map, option_copied};
 ghost use Rattle.accounts.specs.Declarations.{declares_number, find_number};
@@ -55,7 +55,8 @@ impl AccountTable {
 
     /// The place of the account with this number.
     pub(crate) fn place(&self, number: &Txt) -> Option<usize>
-        ensures { result ≡ position (declares_number number.now) self.now }
+        ensures place { result ≡ position (declares_number number.now) self.now }
+        ensures within { IfSome result (λ place. place < length self.now) }
     {
         self.by_number.get_index_of(number)
     }

@@ -1,5 +1,5 @@
 // A setup: its text and what the text means.
-ghost use Rattle.std.specs.Prelude.{◌≡◌, ◌≤◌, ◌<◌, ◌⊎◌, length, slice_get, Err, IfErr, IfOk, IsOk, OnOk, Some};
+ghost use Rattle.std.specs.Prelude.{◌≡◌, ◌≤◌, ◌<◌, ◌⊎◌, length, slice_get, Err, IfErr, IfOk, IfSome, IsOk, OnOk, Some};
 ghost use Rattle.alarm_rules.specs.Setups.{setup_of, meaning, place_of, has_account};
 ghost use Rattle.accounts.specs.Accounts.{defined};
 
@@ -9,6 +9,9 @@ use crate::reading::read_accounts;
 use arc_data::{Blob, Memory, SetupFault, Txt};
 use std::alloc::Global;
 use std::marker::Model;
+
+#[cfg(test)]
+mod tests;
 
 /// The most bytes of a setup text.
 const TEXT_LIMIT: usize = 4_194_304;
@@ -77,7 +80,8 @@ impl Setup {
 
     /// The place of an account, in the order of the lines, from 0. The account is given in capitals.
     pub fn place(&self, account: &Txt) -> Option<usize>
-        ensures { result ≡ place_of (meaning self.now) account.now }
+        ensures place { result ≡ place_of (meaning self.now) account.now }
+        ensures within { IfSome result (λ place. place < length (meaning self.now).accounts) }
     {
         self.table.place(account)
     }

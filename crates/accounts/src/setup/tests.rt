@@ -1,0 +1,176 @@
+use super::*;
+use arc_data::LineKind;
+use std::alloc::AllocError;
+use std::test::Fail;
+
+// How many accounts the text has, or its fault.
+fn outcome(alloc: Global, text: &[u8]) -> Result<usize, SetupFault> {
+    let setup = Setup::read(alloc, text)?;
+    Ok(setup.count())
+}
+
+fn bad(line: u64) -> Result<usize, SetupFault> {
+    Err(SetupFault::BadLine {
+        line,
+        kind: LineKind::Form,
+    })
+}
+
+fn same(line: u64, first: u64) -> Result<usize, SetupFault> {
+    Err(SetupFault::TwoSame { line, first })
+}
+
+// A remark of so many bytes, and what ends it.
+fn remark(alloc: Global, length: usize, end: &[u8]) -> Result<Vec<u8>, AllocError> {
+    let mut text = vec![in alloc; b'#'; length]?;
+    text.extend_from_slice(end)?;
+    Ok(text)
+}
+
+// A first line, and then remarks of 1,023 bytes and a line feed, until the text has so many bytes.
+fn large_text(alloc: Global, first: &[u8], length: usize) -> Result<Vec<u8>, AllocError> {
+    let mut text = first.to_vec(alloc)?;
+    for place in first.len()..length {
+        text.push(if place % 1024 == 1023 { b'\n' } else { b'#' })?;
+    }
+    Ok(text)
+}
+
+// The numbers of the accounts of a setup text, each with a space before it.
+fn numbers(alloc: Global, setup: &Setup) -> Result<Vec<u8>, AllocError> {
+    let mut all = Vec::new(alloc);
+    for place in 0..setup.count() {
+        all.push(b' ')?;
+        all.extend_from_slice(setup.account(place).number.bytes())?;
+    }
+    Ok(all)
+}
+
+#[test]
+fn texts_of_setups(rt: HostRuntime) -> Result<(), Fail> {
+    for (text, want) in [
+        ("", ""),
+        ("\n\n# a remark\n#\r\n\r\n#account 1234", ""),
+        ("account 1234", " 1234"),
+        ("account 1234\n", " 1234"),
+        ("account 1234\r\n", " 1234"),
+        ("account a9f\n", " A9F"),
+        ("account 0123456789abcdeF\n", " 0123456789ABCDEF"),
+        ("account bbb\n# next\n\naccount AAA", " BBB AAA"),
+        ("account 123\naccount 0123\n", " 123 0123"),
+    ] {
+        let setup = Setup::read(rt.alloc(), text.as_bytes()).expect(&rt, "a setup");
+        let all = numbers(rt.alloc(), &setup)?;
+        assert_eq!(rt; all.as_slice(), want.as_bytes(), "{text:?}");
+    }
+    Ok(())
+}
+
+#[test]
+fn places_of_numbers(rt: HostRuntime) -> Result<(), Fail> {
+    let text = b"account abc\n\naccount 0DE";
+    let setup = Setup::read(rt.alloc(), text).expect(&rt, "a setup");
+    for (number, place) in [
+        ("ABC", Some(0)),
+        ("0DE", Some(1)),
+        ("abc", None),
+        ("DE", None),
+        ("ABCD", None),
+        ("", None),
+    ] {
+        let number = Txt::of(number.as_bytes()).ok_or("a long number")?;
+        assert_eq!(rt; setup.place(&number), place);
+        assert_eq!(rt; setup.knows(&number), place.is_some());
+    }
+    Ok(())
+}
+
+#[test]
+fn faults_of_lines(rt: HostRuntime) {
+    for (text, want) in [
+        ("account 1234\r", bad(1)),
+        ("\r", bad(1)),
+        ("account 1234\r\r\n", bad(1)),
+        ("account 12\n", bad(1)),
+        ("account 12345678901234567\n", bad(1)),
+        ("account 12g4\n", bad(1)),
+        ("account  1234\n", bad(1)),
+        ("account 1234 \n", bad(1)),
+        (" account 1234\n", bad(1)),
+        ("Account 1234\n", bad(1)),
+        ("account\n", bad(1)),
+        ("account \n", bad(1)),
+        ("account\t1234\n", bad(1)),
+        ("account1234\n", bad(1)),
+        ("account 1234 key 00\n", bad(1)),
+        (" # no remark\n", bad(1)),
+        (" \n", bad(1)),
+        ("# one\n\nhours 1234\n", bad(3)),
+        ("account 1234\n\nx\ny\n", bad(3)),
+        ("account 1234\n\nx\naccount 1234\n", bad(3)),
+        ("account 1234\naccount 1234\nx\n", same(2, 1)),
+        ("account 1234\naccount 1234", same(2, 1)),
+        ("# a\naccount 123\n\n# b\naccount 123\n", same(5, 2)),
+        ("account abc\naccount 123\naccount ABC\n", same(3, 1)),
+        ("account ABC\r\naccount 123\r\naccount aBc\r\n", same(3, 1)),
+    ] {
+        assert_eq!(rt; outcome(rt.alloc(), text.as_bytes()), want, "{text:?}");
+    }
+}
+
+#[test]
+fn lines_of_1024_bytes(rt: HostRuntime) -> Result<(), Fail> {
+    for (length, end, want) in [
+        (1024, "", Ok(0)),
+        (1024, "\n", Ok(0)),
+        (1024, "\r\n", Ok(0)),
+        (1024, "\r", bad(1)),
+        (1025, "", bad(1)),
+        (1025, "\n", bad(1)),
+        (1025, "\r\n", bad(1)),
+        (1025, "\nx\n", bad(1)),
+        (1024, "\naccount 123\naccount 123\n", same(3, 2)),
+    ] {
+        let text = remark(rt.alloc(), length, end.as_bytes())?;
+        assert_eq!(rt;
+            outcome(rt.alloc(), &text),
+            want,
+            "{length} bytes and {end:?}"
+        );
+    }
+    Ok(())
+}
+
+#[test]
+fn texts_of_4194304_bytes(rt: HostRuntime) -> Result<(), Fail> {
+    for (first, length, want) in [
+        ("", 4_194_304, Ok(0)),
+        ("", 4_194_305, Err(SetupFault::TooLarge)),
+        ("account 123\n", 4_194_304, Ok(1)),
+        ("account 123\n", 4_194_305, Err(SetupFault::TooLarge)),
+        ("x\n", 4_194_304, bad(1)),
+        ("x\n", 4_194_305, Err(SetupFault::TooLarge)),
+    ] {
+        let text = large_text(rt.alloc(), first.as_bytes(), length)?;
+        assert_eq!(rt;
+            outcome(rt.alloc(), &text),
+            want,
+            "{length} bytes after {first:?}"
+        );
+    }
+    Ok(())
+}
+
+#[test]
+fn copies(rt: HostRuntime) -> Result<(), Fail> {
+    let text = b"# one\r\naccount a12\naccount B34".as_slice();
+    let setup = Setup::read(rt.alloc(), text).expect(&rt, "a setup");
+    let copy = setup.copy(rt.alloc()).expect(&rt, "a copy");
+    for setup in [&setup, &copy] {
+        assert_eq!(rt; setup.text(), text);
+        assert_eq!(rt; setup.count(), 2);
+        let number = Txt::of(b"B34").ok_or("a long number")?;
+        assert_eq!(rt; setup.place(&number), Some(1));
+    }
+    Ok(())
+}
