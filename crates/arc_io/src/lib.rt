@@ -4,6 +4,8 @@
 mod adapters;
 mod count;
 mod memory;
+#[cfg(test)]
+mod tests;
 mod traits;
 mod whole;
 

@@ -1,10 +1,9 @@
 ghost use Rattle.std.specs.Io.{ReadsAtMost};
 
 use crate::{Ends, Failed, Source};
-use std::fs;
-use std::io;
 use std::io::Read;
 use std::rt::Files;
+use std::{fs, io};
 
 /// A file, which is opened at the first read. A file that is missing, or can't be opened or read, is a
 /// read fault of each call that meets it.

@@ -3,10 +3,9 @@ ghost use Rattle.std.specs.Io.{WritesAtMost};
 
 use super::{RealClock, RealNoise};
 use crate::{Clock, Ends, Failed, Noise, Port, Sink, Source};
-use std::io;
 use std::io::{Read, Write};
 use std::random::RandomSource;
-use std::time;
+use std::{io, time};
 
 /// A port over a reader and a writer of std, as the process's own standard input and output, with the
 /// machine's clock and random source. A write is passed on at once: it is flushed before the call ends.

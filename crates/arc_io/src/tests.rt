@@ -1,0 +1,4 @@
+// What no clause says: that calls succeed, and examples with values worked out by hand.
+mod adapters;
+mod memory;
+mod whole;
