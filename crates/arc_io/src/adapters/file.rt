@@ -1,3 +1,4 @@
+ghost use Rattle.std.specs.Prelude.{◌≡◌};
 ghost use Rattle.std.specs.Io.{ReadsAtMost};
 
 use crate::{Ends, Failed, Source};
@@ -17,7 +18,9 @@ pub struct FileSource<'a, R: Files> {
 
 impl<'a, R: Files> FileSource<'a, R> {
     /// The file of this path. Nothing is opened yet.
-    pub fn new(rt: R, path: &'a str) -> Self {
+    pub fn new(rt: R, path: &'a str) -> Self
+        ensures { ⟦<FileSource<'a, R> as Ends>⟧.read_faults result ≡ 0 }
+    {
         FileSource {
             rt,
             path,

@@ -22,7 +22,10 @@ pub struct StdPort<I: Read, O: Write, R: time::Clock + RandomSource> {
 
 impl<I: Read, O: Write, R: time::Clock + RandomSource> StdPort<I, O, R> {
     /// A port over these four.
-    pub fn new(input: I, output: O, clock: RealClock<R>, noise: RealNoise<R>) -> Self {
+    pub fn new(input: I, output: O, clock: RealClock<R>, noise: RealNoise<R>) -> Self
+        ensures read_faults { ⟦<StdPort<I, O, R> as Ends>⟧.read_faults result ≡ 0 }
+        ensures write_faults { ⟦<StdPort<I, O, R> as Ends>⟧.write_faults result ≡ 0 }
+    {
         StdPort {
             input,
             output,
