@@ -1,7 +1,9 @@
-ghost use Rattle.std.specs.Prelude.{◌<◌, IfSome};
+ghost use Rattle.std.specs.Prelude.{◌≡◌, ◌<◌, ◌≤◌, IfOk, OnErr};
+ghost use Rattle.arc_io.specs.Seconds.{seconds_of};
 
 use crate::{Clock, Ends};
-use std::time;
+use std::time::Duration;
+use std::{io, time};
 
 /// The machine's clock, in seconds since 1970. Where it fails or is out of range, the last reading is
 /// given again, at first 0.
@@ -23,17 +25,21 @@ impl<R: time::Clock> Ends for RealClock<R> {}
 
 impl<R: time::Clock> Clock for RealClock<R> {
     fn now(&mut self) -> u64 {
-        if let Some(reading) = seconds_now(&self.rt) {
-            self.last = reading;
-        }
+        self.last = reading_after(self.rt.since_1970(), self.last);
         self.last
     }
 }
 
-// The machine's time, where it has one in range.
-fn seconds_now(rt: &impl time::Clock) -> Option<u64>
-    ensures { IfSome result (λ reading. reading < 253_402_300_800) }
+// The seconds that the machine answered, where they are in range, and else the last reading.
+fn reading_after(answer: io::Result<Duration>, last: u64) -> u64
+    requires { last < 253_402_300_800 }
+    ensures bound { result < 253_402_300_800 }
+    ensures fresh { IfOk answer (λ since. seconds_of since < 253_402_300_800 → result ≡ seconds_of since) }
+    ensures late { IfOk answer (λ since. 253_402_300_800 ≤ seconds_of since → result ≡ last) }
+    ensures failed { OnErr answer (result ≡ last) }
 {
-    let since = rt.since_1970().ok()?;
-    Some(since.as_secs()).filter(|&reading| reading < 253_402_300_800)
+    match answer {
+        Ok(since) if since.as_secs() < 253_402_300_800 => since.as_secs(),
+        _ => last,
+    }
 }

@@ -1,6 +1,7 @@
 // The adapters, over streams and a machine of the test's own, and over a real file.
 use crate::{
-    Clock, Failed, FileSource, Noise, RealClock, RealNoise, Sink, Source, StdPort, put, read_all,
+    Clock, Failed, FileSource, Noise, ReadEnd, RealClock, RealNoise, Sink, Source, StdPort, put,
+    read_all,
 };
 use std::cell::Cell;
 use std::random::RandomSource;
@@ -131,9 +132,8 @@ fn a_write_is_passed_on_or_a_fault(rt: HostRuntime) {
             RealClock::new(rt),
             RealNoise::new(rt),
         );
-        assert_eq!(rt; port.write(b"hello"), some, "takes {takes}");
-        assert_eq!(rt; port.write(b""), none, "takes {takes}");
-        assert_eq!(rt; port.write_faults(), faults, "takes {takes}");
+        let got = (port.write(b"hello"), port.write(b""), port.write_faults());
+        assert_eq!(rt; got, (some, none, faults), "takes {takes}");
     }
 }
 
@@ -158,6 +158,24 @@ impl io::Read for Shaky {
 }
 
 #[test]
+fn a_failed_read_is_a_fault(rt: HostRuntime) {
+    let output = Weak {
+        takes: 1,
+        flushes: true,
+    };
+    let input = Shaky { fails: false };
+    let mut port = StdPort::new(input, output, RealClock::new(rt), RealNoise::new(rt));
+    let mut buf = [0; 2];
+    let got = [
+        port.read(&mut buf),
+        port.read(&mut buf),
+        port.read(&mut buf),
+    ];
+    assert_eq!(rt; got, [Ok(1), Err(Failed), Ok(1)]);
+    assert_eq!(rt; (buf, port.read_faults()), ([b'x', 0], 1));
+}
+
+#[test]
 fn a_port_over_streams(rt: HostRuntime) -> Result<(), Fail> {
     let input: &[u8] = b"hello";
     let mut output = [0; 8];
@@ -168,52 +186,50 @@ fn a_port_over_streams(rt: HostRuntime) -> Result<(), Fail> {
         RealNoise::new(machine_of([0; 4], true)),
     );
     let bytes = read_all(rt.alloc(), &mut port, 100)?;
+    let writes = (put(&mut port, b"world"), put(&mut port, b"more"));
+    let rest = (port.now(), port.now(), port.ten());
+    let faults = (port.read_faults(), port.write_faults());
     assert_eq!(rt; bytes.as_slice(), b"hello".as_slice());
-    assert_eq!(rt; put(&mut port, b"world"), Ok(()));
-    assert_eq!(rt; put(&mut port, b"more"), Err(Failed));
-    assert_eq!(rt; (port.now(), port.now(), port.ten()), (5, 6, [7; 10]));
-    assert_eq!(rt; (port.read_faults(), port.write_faults()), (0, 1));
+    assert_eq!(rt;
+        (writes, rest, faults),
+        ((Ok(()), Err(Failed)), (5, 6, [7; 10]), (0, 1))
+    );
     let _ = port;
     assert_eq!(rt; output, *b"worldmor");
-
-    let mut shaky = StdPort::new(
-        Shaky { fails: false },
-        Weak {
-            takes: 1,
-            flushes: true,
-        },
-        RealClock::new(rt),
-        RealNoise::new(rt),
-    );
-    let mut buf = [0; 2];
-    assert_eq!(rt; shaky.read(&mut buf), Ok(1));
-    assert_eq!(rt; shaky.read(&mut buf), Err(Failed));
-    assert_eq!(rt; shaky.read(&mut buf), Ok(1));
-    assert_eq!(rt; (buf, shaky.read_faults()), ([b'x', 0], 1));
     Ok(())
+}
+
+// A name for a file in the folder for temporary ones, which no other run of the tests uses.
+fn temporary_path(rt: &HostRuntime) -> Result<String, Fail> {
+    let number = std::process::id(rt.process());
+    let folder = env::temp_dir(rt)?;
+    let folder = folder.to_str().ok_or("a folder whose name is no text")?;
+    Ok(format!(in rt.alloc(); "{folder}/arc_io_file_source_{number}")?)
 }
 
 #[test]
 fn a_file_is_opened_at_its_first_read(rt: HostRuntime) -> Result<(), Fail> {
-    let number = std::process::id(rt.process());
-    let name = format!(in rt.alloc(); "arc_io_file_source_{number}")?;
-    let path = env::temp_dir(&rt)?.join(rt.alloc(), name.as_str())?;
-    let path = path.to_str().ok_or("a name that is no text")?;
-    let mut file = FileSource::new(rt, path);
-    let mut buf = [0; 4];
-    assert_eq!(rt; file.read(&mut buf), Err(Failed));
-    assert_eq!(rt; file.read(&mut buf), Err(Failed));
-    fs::write(&rt, path, b"setup text".as_slice())?;
-    assert_eq!(rt; file.read(&mut buf), Ok(4));
-    assert_eq!(rt; buf, *b"setu");
+    let path = temporary_path(&rt)?;
+    let mut file = FileSource::new(rt, path.as_str());
+    let missing = read_all(rt.alloc(), &mut file, 4).err();
+    fs::write(&rt, path.as_str(), b"setup text".as_slice())?;
+    let begun = read_all(rt.alloc(), &mut file, 4)?;
     let rest = read_all(rt.alloc(), &mut file, 100)?;
-    fs::remove_file(&rt, path)?;
+    fs::remove_file(&rt, path.as_str())?;
+    assert_eq!(rt; (missing, file.read_faults()), (Some(ReadEnd::Failed), 1));
+    assert_eq!(rt; begun.as_slice(), b"setu".as_slice());
     assert_eq!(rt; rest.as_slice(), b"p text".as_slice());
-    assert_eq!(rt; file.read_faults(), 2);
-
-    // A folder can be opened, and not be read.
-    let mut folder = FileSource::new(rt, "/");
-    assert_eq!(rt; folder.read(&mut buf), Err(Failed));
-    assert_eq!(rt; folder.read_faults(), 1);
     Ok(())
+}
+
+#[test]
+fn a_folder_can_be_opened_and_not_read(rt: HostRuntime) {
+    let mut folder = FileSource::new(rt, "/");
+    let mut buf = [0; 4];
+    let got = (
+        folder.read(&mut buf),
+        folder.read(&mut buf),
+        folder.read_faults(),
+    );
+    assert_eq!(rt; got, (Err(Failed), Err(Failed), 2));
 }

@@ -95,9 +95,8 @@ fn takes_all_but_at_failing_calls(rt: HostRuntime) -> Result<(), Fail> {
     for (failing, want, bytes, faults) in cases {
         let mut sink = MemSink::new(rt.alloc(), failing.to_vec(rt.alloc())?);
         let answers = [sink.write(b"ab"), sink.write(b""), sink.write(b"cde")];
-        assert_eq!(rt; answers, want, "at {failing:?}");
-        assert_eq!(rt; sink.bytes(), bytes, "at {failing:?}");
-        assert_eq!(rt; sink.write_faults(), faults, "at {failing:?}");
+        let got = (answers, sink.bytes(), sink.write_faults());
+        assert_eq!(rt; got, (want, bytes, faults), "at {failing:?}");
     }
     Ok(())
 }
@@ -158,10 +157,19 @@ fn a_port_is_its_four_parts(rt: HostRuntime) -> Result<(), Fail> {
         clock: ListClock::new([7, 8].to_vec(rt.alloc())?),
         noise: ListNoise::new([*b"0123456789"].to_vec(rt.alloc())?),
     };
-    assert_eq!(rt; one_of_each(&mut port), Ok((7, *b"0123456789")));
-    assert_eq!(rt; one_of_each(&mut port), Err(Failed));
-    assert_eq!(rt; one_of_each(&mut port), Err(Failed));
-    assert_eq!(rt; one_of_each(&mut port), Ok((8, [0; 10])));
+    let got = [
+        one_of_each(&mut port),
+        one_of_each(&mut port),
+        one_of_each(&mut port),
+        one_of_each(&mut port),
+    ];
+    let want = [
+        Ok((7, *b"0123456789")),
+        Err(Failed),
+        Err(Failed),
+        Ok((8, [0; 10])),
+    ];
+    assert_eq!(rt; got, want);
     assert_eq!(rt; (port.read_faults(), port.write_faults()), (1, 1));
     assert_eq!(rt; port.sink.bytes(), b"hello".as_slice());
     Ok(())

@@ -33,15 +33,13 @@ fn reads_to_the_end_or_the_limit(rt: HostRuntime) -> Result<(), Fail> {
     for (len, limit, read, left) in cases {
         let input = counting(rt.alloc(), len)?;
         let mut source = MemSource::new(input.clone()?, Vec::new(rt.alloc()));
-        let bytes = read_all(rt.alloc(), &mut source, limit)?;
-        assert_eq!(rt; bytes.len(), read, "{len} bytes, limit {limit}");
+        let mut bytes = read_all(rt.alloc(), &mut source, limit)?;
         let rest = read_all(rt.alloc(), &mut source, usize::MAX)?;
-        assert_eq!(rt; rest.len(), left, "{len} bytes, limit {limit}");
-        let mut all = bytes;
-        all.extend_from_slice(&rest)?;
-        assert_eq!(rt;
-            all.as_slice(),
-            input.as_slice(),
+        let lengths = (bytes.len(), rest.len());
+        assert_eq!(rt; lengths, (read, left), "{len} bytes, limit {limit}");
+        bytes.extend_from_slice(&rest)?;
+        assert!(rt;
+            bytes.as_slice() == input.as_slice(),
             "{len} bytes, limit {limit}"
         );
     }
@@ -54,11 +52,10 @@ fn a_failed_read_ends_the_reading(rt: HostRuntime) -> Result<(), Fail> {
     for (failing, left) in [(1, 10_000), (2, 5_904), (3, 1_808), (4, 0)] {
         let failing = [failing].to_vec(rt.alloc())?;
         let mut source = MemSource::new(counting(rt.alloc(), 10_000)?, failing);
-        let outcome = read_all(rt.alloc(), &mut source, usize::MAX);
-        assert_eq!(rt; outcome.err(), Some(ReadEnd::Failed), "with {left} left");
-        assert_eq!(rt; source.read_faults(), 1, "with {left} left");
+        let outcome = read_all(rt.alloc(), &mut source, usize::MAX).err();
         let rest = read_all(rt.alloc(), &mut source, usize::MAX)?;
-        assert_eq!(rt; rest.len(), left);
+        let got = (outcome, source.read_faults(), rest.len());
+        assert_eq!(rt; got, (Some(ReadEnd::Failed), 1, left));
     }
     Ok(())
 }
@@ -110,14 +107,10 @@ fn puts_all_byte_by_byte(rt: HostRuntime) -> Result<(), Fail> {
             fails_at,
             faults: 0,
         };
-        assert_eq!(rt; put(&mut sink, b"hello"), answer, "fails at {fails_at}");
+        let got = (put(&mut sink, b"hello"), sink.calls, sink.write_faults());
+        let faults = u64::from(answer.is_err());
+        assert_eq!(rt; got, (answer, calls, faults), "fails at {fails_at}");
         assert_eq!(rt; sink.bytes.as_slice(), bytes, "fails at {fails_at}");
-        assert_eq!(rt; sink.calls, calls, "fails at {fails_at}");
-        assert_eq!(rt;
-            sink.write_faults(),
-            u64::from(answer.is_err()),
-            "fails at {fails_at}"
-        );
     }
     Ok(())
 }
