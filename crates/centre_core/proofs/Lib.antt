@@ -1,3 +1,4 @@
 pub mod Scans
 pub mod RowLemmas
 pub mod Applied
+pub mod Begun

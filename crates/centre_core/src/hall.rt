@@ -45,7 +45,8 @@ impl RamHall {
         requires { IsMoment clock }
         ensures { IfOk result (λ hall. StandsFor nothing hall (begun setup clock)) }
     {
-        let text = Blob::of(alloc, setup.text())?;
+        let text = setup.text();
+        let text = Blob::of(alloc, text)?;
         let mut centre = Centre::empty(alloc);
         let adopt = centre.prepare(alloc, Event::Adopt { text }, clock)?;
         let _ = centre.apply(adopt);
