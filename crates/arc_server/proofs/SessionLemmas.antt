@@ -3,18 +3,18 @@ use Rattle.std.proofs.Common.{◌≡◌, ◌≤◌, suc, ◌+◌, ◌-◌, ◌�
 use Rattle.std.specs.Prelude.{reverse}
 use Rattle.std.specs.List.{flat_map, AllByRecursion}
 use Rattle.std.specs.Option.{option_to_list}
-use Rattle.std.proofs.lemmas.List.{reverse-append, map-append, length-map}
+use Rattle.std.proofs.lemmas.List.{reverse-append, map-append}
 use Rattle.std.proofs.lemmas.Grind.{flat_map-append}
 use Rattle.std.specs.Io.KnownBytes.{append_known}
 use Rattle.arc_io.proofs.KnownMore.{known_both}
-use Rattle.alarm_rules.specs.Setups.{Setup}
+use Rattle.alarm_rules.specs.Setups.{Setup, meaning}
 use Rattle.centre_rules.specs.Summary.{Summary}
 use Rattle.centre_rules.specs.History.{Entry, Extends}
 use Rattle.centre_rules.specs.State.{State, StandsFor}
 use Rattle.dc09_message.specs.Verdicts.{verdict_of}
 use Rattle.dc09_message.specs.declared.outcome.Verdict.{Verdict}
 use Rattle.dc09_message.specs.declared.outcome.Verdict.TheVariants.{Silence, NotBuilt, Duh, Numbered}
-use Rattle.arc_server.specs.Sessions.{IsSession, IsEnd}
+use Rattle.arc_server.specs.Sessions.{IsSession, IsEnd, Echoes}
 use Rattle.arc_server.specs.Turns.{Turn, IsTurn, IsAnswered, StandsIn, Serves, entries_of, text_of}
 use Rattle.arc_server.specs.declared.session.SessionEnd.{SessionEnd}
 use Rattle.arc_server.specs.declared.session.SessionEnd.TheVariants.{AllAnswered, WriteFault, Memory, NotBuilt as FormNotBuilt}
@@ -81,6 +81,10 @@ ends_more (FormNotBuilt after) setup ts us n written extra left is e = (
   omega (arith, length-append ts us, is, e.7),
 )
 
+pub length-bodies : (ts : List Turn) → length (map (λ (t : Turn). t.body) ts) ≡ length ts
+length-bodies [] = refl
+length-bodies (t ∷ ts) = ap suc (length-bodies ts)
+
 -- A session that answered all, and then a session over what follows.
 pub session_more : (end : SessionEnd) (b : Summary) (setup : Setup) (xs ys : List (List ℕ)) (h : List Entry) (mid new : State) (w0 w1 w2 r0 r1 r2 : Option (List ℕ)) (n : ℕ) → n ≡ length xs
     → IsSession AllAnswered b setup xs h mid w0 w1 r0 r1 → ((x : List Entry) → StandsFor b mid x → IsSession end b setup ys x new w1 w2 r1 r2) → IsSession (behind n end) b setup (xs ++ ys) h new w0 w2 r0 r2
@@ -106,7 +110,7 @@ session_more end b setup xs ys h mid new w0 w1 w2 r0 r1 r2 n is first then =
           next.clock ∙ ap (λ (o : Option (List ℕ)). append_known o (readings next.turns ++ next.extra)) (first.clock ∙ ap (λ (l : List ℕ). append_known r0 (readings first.turns ++ l)) first.ended.1 ∙ ap (append_known r0) (append-nil (readings first.turns)))
           ∙ known_both r0 (readings first.turns) (readings next.turns ++ next.extra)
           ∙ ap (append_known r0) (sym (append_assoc (readings first.turns) (readings next.turns) next.extra) ∙ ap (λ (l : List ℕ). l ++ next.extra) (sym (map-append (λ (t : Turn). t.reading) first.turns next.turns)));
-      ended = ends_more end setup first.turns next.turns n next.text next.extra next.left (is ∙ ap length whole ∙ length-map (λ (t : Turn). t.body) first.turns) next.ended;
+      ended = ends_more end setup first.turns next.turns n next.text next.extra next.left (is ∙ ap length whole ∙ length-bodies first.turns) next.ended;
     }
 
 -- A session over nothing.
@@ -175,3 +179,17 @@ session_unanswered end b setup h body reading new w w' r r' s ended wrote clock 
   clock = clock;
   ended = ended;
 }
+
+-- A session over one whole piece, whose reply was written or cut off.
+pub session_echoed : (end : SessionEnd) (b : Summary) (setup : Setup) (h x : List Entry) (t : Turn) (new : State) (w w' r r' : Option (List ℕ)) → x ≡ reverse (entries_of (t ∷ [])) ++ h → IsTurn b setup x t → StandsFor b new x
+    → Echoes end w w' t.reply → r' ≡ append_known r (t.reading ∷ []) → IsSession end b setup (t.body ∷ []) h new w w' r r'
+session_echoed AllAnswered b setup h x t new w w' r r' added turn s echoes clock = session_one b setup h x t new w w' r r' added turn s echoes clock
+session_echoed WriteFault b setup h x t new w w' r r' added turn s echoes clock = session_cut b setup h x t new echoes.0 w w' r r' added turn s echoes.1 echoes.2 clock
+session_echoed Memory b setup h x t new w w' r r' added turn s echoes clock = absurd echoes
+session_echoed (FormNotBuilt after) b setup h x t new w w' r r' added turn s echoes clock = absurd echoes
+
+-- a verdict under the setup in force
+pub verdict_is : (text kept body : List ℕ) (force : Option (List ℕ)) (told v : Verdict) → Some kept ≡ force → force ≡ Some text → told ≡ verdict_of (meaning kept) body → told ≡ v → verdict_of (meaning text) body ≡ v
+verdict_is text kept body force told v kept_is text_is exact is =
+    let same : kept ≡ text = cc in
+    ap (λ (t : List ℕ). verdict_of (meaning t) body) (sym same) ∙ sym exact ∙ is

@@ -4,4 +4,4 @@ pub use Rattle.dc09_message.specs.Verdicts
 pub mod Turns
 pub mod Sessions
 pub mod Statuses
-pub mod Runs
+pub mod LineRuns

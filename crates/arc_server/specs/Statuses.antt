@@ -12,7 +12,7 @@ abbrev pub number_of : Status → ℕ
 number_of Done = 0
 number_of Usage = 1
 number_of (SetupBad fault) = 2
-number_of (ReadFault input before now) = 3
+number_of (ReadFault which before now) = 3
 number_of (WriteFault before now) = 4
 number_of Memory = 10
 number_of (NotBuilt after) = 13
@@ -20,10 +20,16 @@ number_of (NotBuilt after) = 13
 abbrev pub at_line : ℕ → List ℕ
 at_line line = codes "setup: line " ++ decimal line
 
+abbrev pub bad_line_text : ℕ → List ℕ
+bad_line_text line = at_line line ++ codes ": not a setup line\n"
+
+abbrev pub two_same_text : ℕ → ℕ → List ℕ
+two_same_text line first = at_line line ++ codes ": same as line " ++ decimal first ++ codes "\n"
+
 abbrev pub setup_text : SetupFault → List ℕ
 setup_text TooLarge = codes "setup: too large\n"
-setup_text (BadLine line kind) = at_line line ++ codes ": not a setup line\n"
-setup_text (TwoSame line first) = at_line line ++ codes ": same as line " ++ decimal first ++ codes "\n"
+setup_text (BadLine line kind) = bad_line_text line
+setup_text (TwoSame line first) = two_same_text line first
 setup_text NoMemory = codes "out of memory\n"
 
 abbrev pub read_text : Which → List ℕ
@@ -35,7 +41,7 @@ unfoldable pub text_of_status : Status → List ℕ
 text_of_status Done = []
 text_of_status Usage = codes "usage: line | desk | script | report | drill N | serve LINES DESKS SESSIONS\n"
 text_of_status (SetupBad fault) = setup_text fault
-text_of_status (ReadFault input before now) = read_text input
+text_of_status (ReadFault which before now) = read_text which
 text_of_status (WriteFault before now) = codes "write fault\n"
 text_of_status Memory = codes "out of memory\n"
 text_of_status (NotBuilt after) = codes "not built yet\n"

@@ -8,5 +8,4 @@ mod status;
 
 fn main() {
     let _ = Status::Done.number();
-    let _ = session::SessionEnd::AllAnswered;
 }

@@ -1,8 +1,8 @@
 // How a run ended.
-ghost use Rattle.std.specs.Prelude.{◌≡◌, OnOk};
+ghost use Rattle.std.specs.Prelude.{◌≡◌, OnOk, decimal};
 ghost use Rattle.std.specs.Io.KnownBytes.{append_known};
 ghost use Rattle.arc_io.specs.Causes.{HasCause};
-ghost use Rattle.arc_server.specs.Statuses.{number_of, text_of_status, setup_text, at_line};
+ghost use Rattle.arc_server.specs.Statuses.{number_of, text_of_status, setup_text, bad_line_text, two_same_text, at_line};
 
 use arc_data::SetupFault;
 use arc_io::{Failed, Sink, put};
@@ -53,6 +53,7 @@ impl Status {
     }
 
     /// Writes the text of the status: one line with LF, and nothing for Done. Failed comes only where the sink failed.
+    #[tactic(auto, using(crate::proofs::SessionLemmas::known_none), unfolding(crate::specs::Statuses::text_of_status))]
     pub fn text<K: Sink>(&self, out: &mut K) -> Result<(), Failed>
         ensures all { OnOk result (K.written out.new ≡ append_known (K.written out.old) (text_of_status self.now)) }
         ensures cause { HasCause (K.write_faults out.old) (K.write_faults out.new) result }
@@ -63,7 +64,7 @@ impl Status {
                 out,
                 b"usage: line | desk | script | report | drill N | serve LINES DESKS SESSIONS\n",
             ),
-            Status::SetupBad(fault) => put_setup(out, fault),
+            Status::SetupBad(fault) => put_setup(out, *fault),
             Status::ReadFault {
                 input: Which::Setup,
                 ..
@@ -80,26 +81,39 @@ impl Status {
 }
 
 // The line that tells what is wrong with the setup.
-fn put_setup<K: Sink>(out: &mut K, fault: &SetupFault) -> Result<(), Failed>
-    ensures all { OnOk result (K.written out.new ≡ append_known (K.written out.old) (setup_text fault.now)) }
+fn put_setup<K: Sink>(out: &mut K, fault: SetupFault) -> Result<(), Failed>
+    ensures all { OnOk result (K.written out.new ≡ append_known (K.written out.old) (setup_text fault)) }
     ensures cause { HasCause (K.write_faults out.old) (K.write_faults out.new) result }
 {
     match fault {
         SetupFault::TooLarge => put(out, b"setup: too large\n"),
-        SetupFault::BadLine { line, .. } => {
-            put_line(out, *line)?;
-            put(out, b": not a setup line\n")
-        }
-        SetupFault::TwoSame { line, first } => {
-            put_line(out, *line)?;
-            put(out, b": same as line ")?;
-            put_number(out, *first)?;
-            put(out, b"\n")
-        }
+        SetupFault::BadLine { line, .. } => put_bad_line(out, line),
+        SetupFault::TwoSame { line, first } => put_two_same(out, line, first),
         SetupFault::Memory => put(out, b"out of memory\n"),
     }
 }
 
+#[tactic(auto, using(arc_io::proofs::KnownMore::known_both))]
+fn put_bad_line<K: Sink>(out: &mut K, line: u64) -> Result<(), Failed>
+    ensures all { OnOk result (K.written out.new ≡ append_known (K.written out.old) (bad_line_text line)) }
+    ensures cause { HasCause (K.write_faults out.old) (K.write_faults out.new) result }
+{
+    put_line(out, line)?;
+    put(out, b": not a setup line\n")
+}
+
+#[tactic(auto, using(arc_io::proofs::KnownMore::known_both))]
+fn put_two_same<K: Sink>(out: &mut K, line: u64, first: u64) -> Result<(), Failed>
+    ensures all { OnOk result (K.written out.new ≡ append_known (K.written out.old) (two_same_text line first)) }
+    ensures cause { HasCause (K.write_faults out.old) (K.write_faults out.new) result }
+{
+    put_line(out, line)?;
+    put(out, b": same as line ")?;
+    put_number(out, first)?;
+    put(out, b"\n")
+}
+
+#[tactic(auto, using(arc_io::proofs::KnownMore::known_both))]
 // The front of such a line, up to the line's number.
 fn put_line<K: Sink>(out: &mut K, line: u64) -> Result<(), Failed>
     ensures all { OnOk result (K.written out.new ≡ append_known (K.written out.old) (at_line line)) }
