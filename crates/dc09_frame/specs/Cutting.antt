@@ -34,8 +34,15 @@ pub record CutterValue : Type 0 where
 abbrev pub WasFed : List ℕ → CutterValue → Type 0
 WasFed stream c = c.kept ≡ kept_of (open_piece stream)
 
+-- The last of these bytes, a carriage return, ends this piece, and those before it end none.
+pub record Ends (stream taken piece : List ℕ) : Type 0 where
+  pub front : List ℕ
+  pub last : taken ≡ front ++ 13 ∷ []
+  pub none : pieces (stream ++ front) ≡ pieces stream
+  pub one : pieces (stream ++ taken) ≡ pieces stream ++ piece ∷ []
+
 -- After the stream the cutter took these bytes: they end no piece, or their last byte ends just one, of which it told the cut.
 pub record Feeds (stream taken : List ℕ) (told : Option Cut) (c : CutterValue) : Type 0 where
   pub fed : WasFed (stream ++ taken) c
-  pub pieces : MatchOption told (pieces (stream ++ taken) ≡ pieces stream) (λ t.
-      (piece : List ℕ) × (pieces (stream ++ taken) ≡ pieces stream ++ piece ∷ []) × (cut piece ≡ t) × (t ≡ Whole → c.body ≡ body_of piece))
+  pub told_of : MatchOption told (pieces (stream ++ taken) ≡ pieces stream) (λ t.
+      (piece : List ℕ) × Ends stream taken piece × (cut piece ≡ t) × (t ≡ Whole → c.body ≡ body_of piece))

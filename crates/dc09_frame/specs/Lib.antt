@@ -5,5 +5,6 @@ pub mod Frames
 pub mod Headers
 pub mod Cutting
 pub mod Reading
+pub mod Holding
 pub use Rattle.arc_data.specs.Digits
 pub use Rattle.arc_data.specs.WellFormed

@@ -3,6 +3,7 @@
 
 mod checksum;
 mod cut;
+mod cutter;
 mod echo;
 mod frame_buf;
 mod header;
@@ -11,6 +12,7 @@ mod reading;
 
 pub use checksum::check;
 pub use cut::Cut;
+pub use cutter::Cutter;
 pub use echo::{write_echo, write_frame};
 pub use frame_buf::FrameBuf;
 pub use header::{Echo, Header};
