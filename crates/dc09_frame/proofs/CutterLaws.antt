@@ -84,7 +84,7 @@ returned_outside stream c told is =
     let none : open_piece stream ≡ None = is_outside (open_piece stream) (sym outside ∙ is) in
     record {
       fed = rw (open_piece-append_return stream) outside;
-      told_of = pieces-append_return stream ∙ ap (λ o. pieces stream ++ option_to_list o) none ∙ append-nil (pieces stream);
+      pieces = pieces-append_return stream ∙ ap (λ o. pieces stream ++ option_to_list o) none ∙ append-nil (pieces stream);
     }
 
 cut_long : (p : List ℕ) → 4103 < length p → cut p ≡ TooLong
@@ -105,7 +105,7 @@ returned stream bytes Open len told cuts is =
     let o = is_within (open_piece stream) (take len bytes) is in
     record {
       fed = rw (open_piece-append_return stream) refl;
-      told_of = (take len bytes, ended stream (take len bytes) o, cc, λ whole. refl);
+      pieces = (take len bytes, ended stream (take len bytes) o, cc, λ whole. refl);
     }
 returned stream bytes Overlong len told cuts is =
     let long = is_beyond (open_piece stream) is in
@@ -113,7 +113,7 @@ returned stream bytes Overlong len told cuts is =
     let answered : told ≡ TooLong = cc in
     record {
       fed = rw (open_piece-append_return stream) refl;
-      told_of = (long.0, ended stream long.0 long.1, too_long ∙ sym answered, λ whole. absurd (let no_whole = sym answered ∙ whole in cc));
+      pieces = (long.0, ended stream long.0 long.1, too_long ∙ sym answered, λ whole. absurd (let no_whole = sym answered ∙ whole in cc));
     }
 
 -- How far a run goes.
@@ -199,31 +199,31 @@ took_feed before now after piece taken t lt is opens = record {
 pub took_return : (before now after : CutterValue) (piece : List ℕ) (taken : ℕ) → Took before piece taken now → taken < length piece → get_or piece taken 0 ≡ 13 → ((stream : List ℕ) → WasFed stream now → Feeds stream (13 ∷ []) None after) → Took before piece (taken + 1) after
 took_return before now after piece taken t lt is closes = record {
   fed = λ stream was. rw (one_more stream piece taken 13 lt is) (closes (stream ++ take taken piece) (t.fed stream was)).fed;
-  none = λ stream was. ap pieces (one_more stream piece taken 13 lt is) ∙ (closes (stream ++ take taken piece) (t.fed stream was)).told_of ∙ t.none stream was;
+  none = λ stream was. ap pieces (one_more stream piece taken 13 lt is) ∙ (closes (stream ++ take taken piece) (t.fed stream was)).pieces ∙ t.none stream was;
 }
 
 -- the answers
 
 pub answers_none : (before now : CutterValue) (piece : List ℕ) (taken : ℕ) → Took before piece taken now → (stream : List ℕ) → WasFed stream before → Feeds stream (take taken piece) None now
-answers_none before now piece taken t stream was = record { fed = t.fed stream was; told_of = t.none stream was }
+answers_none before now piece taken t stream was = record { fed = t.fed stream was; pieces = t.none stream was }
 
 pub answers_cut : (before now after : CutterValue) (piece : List ℕ) (taken : ℕ) (told : Cut) → Took before piece taken now → taken < length piece → get_or piece taken 0 ≡ 13 → ((stream : List ℕ) → WasFed stream now → Feeds stream (13 ∷ []) (Some told) after) → (stream : List ℕ) → WasFed stream before → Feeds stream (take (taken + 1) piece) (Some told) after
 answers_cut before now after piece taken told t lt is closes stream was =
     let begun : List ℕ = stream ++ take taken piece in
     let closed = closes begun (t.fed stream was) in
     let whole : stream ++ take (taken + 1) piece ≡ begun ++ 13 ∷ [] = one_more stream piece taken 13 lt is in
-    let ends = closed.told_of.1 in
+    let ends = closed.pieces.1 in
     record {
       fed = rw whole closed.fed;
-      told_of = (
-        closed.told_of.0,
+      pieces = (
+        closed.pieces.0,
         record {
           front = take taken piece ++ ends.front;
           last = take_more piece taken 0 lt ∙ ap (λ x. take taken piece ++ x ∷ []) is ∙ ap (λ l. take taken piece ++ l) ends.last ∙ sym (append_assoc (take taken piece) ends.front (13 ∷ []));
           none = ap pieces (sym (append_assoc stream (take taken piece) ends.front)) ∙ ends.none ∙ t.none stream was;
-          one = ap pieces whole ∙ ends.one ∙ ap (λ l. l ++ closed.told_of.0 ∷ []) (t.none stream was);
+          one = ap pieces whole ∙ ends.one ∙ ap (λ l. l ++ closed.pieces.0 ∷ []) (t.none stream was);
         },
-        closed.told_of.2,
-        closed.told_of.3,
+        closed.pieces.2,
+        closed.pieces.3,
       );
     }

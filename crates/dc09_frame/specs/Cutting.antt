@@ -2,9 +2,9 @@
 use Rattle.std.specs.Prelude.{◌≡◌, ℕ, ◌==◌, ◌||◌, ◌++◌, List, [], ◌∷◌, Bool, if◌then◌else◌, Option, Some, None, nat_lt, length, MatchOption}
 use Rattle.std.specs.List.{list_any}
 use Rattle.dc09_frame.specs.declared.cut.Cut.{Cut}
-use Rattle.dc09_frame.specs.declared.cut.Cut.TheVariants.{Whole}
+use Rattle.dc09_frame.specs.declared.cut.Cut.TheVariants.{Whole, BadCheck, BadLength, TooLong}
 use Rattle.dc09_frame.specs.Pieces.{pieces}
-use Rattle.dc09_frame.specs.Frames.{cut, body_of}
+use Rattle.dc09_frame.specs.Frames.{IsBody, cut, body_of, bodies}
 
 -- a line feed or a carriage return
 abbrev pub is_end : ℕ → Bool
@@ -44,5 +44,21 @@ pub record Ends (stream taken piece : List ℕ) : Type 0 where
 -- After the stream the cutter took these bytes: they end no piece, or their last byte ends just one, of which it told the cut.
 pub record Feeds (stream taken : List ℕ) (told : Option Cut) (c : CutterValue) : Type 0 where
   pub fed : WasFed (stream ++ taken) c
-  pub told_of : MatchOption told (pieces (stream ++ taken) ≡ pieces stream) (λ t.
+  pub pieces : MatchOption told (pieces (stream ++ taken) ≡ pieces stream) (λ t.
       (piece : List ℕ) × Ends stream taken piece × (cut piece ≡ t) × (t ≡ Whole → c.body ≡ body_of piece))
+
+-- the body that a cut tells of, where the piece was whole
+abbrev pub body_told : Option Cut → CutterValue → List (List ℕ)
+body_told None c = []
+body_told (Some Whole) c = c.body ∷ []
+body_told (Some BadCheck) c = []
+body_told (Some BadLength) c = []
+body_told (Some TooLong) c = []
+
+-- What was taken adds just the body that was told to the bodies of the stream, and that is a body.
+pub record AddsBody (stream taken : List ℕ) (told : Option Cut) (c : CutterValue) : Type 0 where
+  pub added : bodies (stream ++ taken) ≡ bodies stream ++ body_told told c
+  pub is_body : told ≡ Some Whole → IsBody c.body
+
+abbrev pub BodiesAreFed : Type 0
+BodiesAreFed = (stream taken : List ℕ) (told : Option Cut) (c : CutterValue) → Feeds stream taken told c → AddsBody stream taken told c

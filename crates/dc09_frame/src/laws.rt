@@ -1,5 +1,6 @@
 // What holds of every body, header and frame.
 ghost use Rattle.dc09_frame.specs.Check.{CheckDivides};
+ghost use Rattle.dc09_frame.specs.Cutting.{BodiesAreFed};
 ghost use Rattle.dc09_frame.specs.Frames.{FramesAreCutAgain};
 ghost use Rattle.dc09_frame.specs.Headers.{ReadIsSpelled, SpelledIsRead};
 
@@ -22,4 +23,9 @@ pub fn law_spelled_is_read()
 /// The frame of a body is cut as the one whole piece of that body, whatever follows it.
 pub fn law_frames_are_cut_again()
     ensures { FramesAreCutAgain }
+{}
+
+/// What a cutter took adds just the body that it told of to the bodies of the stream, and what it tells of is a body.
+pub fn law_bodies_are_fed()
+    ensures { BodiesAreFed }
 {}

@@ -17,7 +17,8 @@ pub use echo::{write_echo, write_frame};
 pub use frame_buf::FrameBuf;
 pub use header::{Echo, Header};
 pub use laws::{
-    law_check_divides, law_frames_are_cut_again, law_read_is_spelled, law_spelled_is_read,
+    law_bodies_are_fed, law_check_divides, law_frames_are_cut_again, law_read_is_spelled,
+    law_spelled_is_read,
 };
 pub use reading::{Alphabet, after_byte, run_at};
 
