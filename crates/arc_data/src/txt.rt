@@ -1,5 +1,5 @@
 // A short text in a fixed field.
-ghost use Rattle.std.specs.Prelude.{◌≡◌, ◌≤◌, ◌↔◌, [], length, IfSome, IsSome, IsTrue};
+ghost use Rattle.std.specs.Prelude.{◌≡◌, ◌≤◌, ◌↔◌, [], length, IfSome, IsSome, codes};
 ghost use Rattle.arc_data.specs.Digits.{capitals};
 
 use std::hash::{Hash, Hasher};
@@ -70,6 +70,15 @@ impl Txt {
             bytes: [0; 32],
             len: 0,
         }
+    }
+
+    /// The text `?`, which stands for an argument that is too long for a text.
+    pub fn question() -> Txt
+        ensures { result ≡ codes "?" }
+    {
+        let mut bytes = [0; 32];
+        bytes[0] = b'?';
+        Txt { bytes, len: 1 }
     }
 
     /// The text of these bytes. None exactly where there are more than 32.

@@ -1,1 +1,3 @@
 pub mod SessionLemmas
+pub mod FeedLemmas
+pub mod OneWord

@@ -1,7 +1,7 @@
 -- How sessions begin, and how they go on.
-use Rattle.std.proofs.Common.{◌≡◌, ◌≤◌, suc, ◌+◌, ◌-◌, ◌∷◌, ◌++◌, ℕ, List, [], map, take, length, Option, Some, None, refl, sym, ◌∙◌, ap, subst, append_assoc, append-nil, length-append, arith}
+use Rattle.std.proofs.Common.{◌≡◌, ◌≤◌, suc, ◌+◌, ◌∷◌, ◌++◌, ℕ, List, [], map, take, length, Option, Some, None, refl, sym, ◌∙◌, ap, append_assoc, append-nil, length-append, arith}
 use Rattle.std.specs.Prelude.{reverse}
-use Rattle.std.specs.List.{flat_map, AllByRecursion}
+use Rattle.std.specs.List.{AllByRecursion}
 use Rattle.std.specs.Option.{option_to_list}
 use Rattle.std.proofs.lemmas.List.{reverse-append, map-append}
 use Rattle.std.proofs.lemmas.Grind.{flat_map-append}
@@ -193,3 +193,32 @@ pub verdict_is : (text kept body : List ℕ) (force : Option (List ℕ)) (told v
 verdict_is text kept body force told v kept_is text_is exact is =
     let same : kept ≡ text = cc in
     ap (λ (t : List ℕ). verdict_of (meaning t) body) (sym same) ∙ sym exact ∙ is
+
+-- A session that ended early, over more whole pieces: it left them too.
+
+abbrev pub IsEarly : SessionEnd → Type 0
+IsEarly AllAnswered = ⊥
+IsEarly WriteFault = Unit {0}
+IsEarly Memory = Unit {0}
+IsEarly (FormNotBuilt after) = Unit {0}
+
+ends_wider : (end : SessionEnd) (setup : Setup) (ts : List Turn) (written extra : List ℕ) (left more : List (List ℕ)) → IsEarly end → IsEnd end setup ts written extra left → IsEnd end setup ts written extra (left ++ more)
+ends_wider AllAnswered setup ts written extra left more early e = absurd early
+ends_wider WriteFault setup ts written extra left more early e = e
+ends_wider Memory setup ts written extra left more early e = (e.0, e.1 ++ more, e.2, ap (λ (l : List (List ℕ)). l ++ more) e.3, e.4, e.5)
+ends_wider (FormNotBuilt after) setup ts written extra left more early e = (e.0, e.1 ++ more, e.2, ap (λ (l : List (List ℕ)). l ++ more) e.3, e.4, e.5, e.6, e.7)
+
+pub session_wider : (end : SessionEnd) (b : Summary) (setup : Setup) (xs more : List (List ℕ)) (h : List Entry) (new : State) (w w' r r' : Option (List ℕ)) → IsEarly end → IsSession end b setup xs h new w w' r r' → IsSession end b setup (xs ++ more) h new w w' r r'
+session_wider end b setup xs more h new w w' r r' early s = record {
+  turns = s.turns;
+  history = s.history;
+  text = s.text;
+  extra = s.extra;
+  left = s.left ++ more;
+  taken = ap (λ (l : List (List ℕ)). l ++ more) s.taken ∙ append_assoc (map (λ (t : Turn). t.body) s.turns) s.left more;
+  serves = s.serves;
+  stands = s.stands;
+  wrote = s.wrote;
+  clock = s.clock;
+  ended = ends_wider end setup s.turns s.text s.extra s.left more early s.ended;
+}

@@ -12,7 +12,6 @@ use Rattle.arc_server.specs.declared.session.SessionEnd.{SessionEnd}
 use Rattle.arc_server.specs.declared.session.SessionEnd.TheVariants.{AllAnswered, WriteFault as NotWritten, Memory as SessionMemory, NotBuilt as FormNotBuilt}
 use Rattle.arc_server.specs.declared.status.Status.{Status}
 use Rattle.arc_server.specs.declared.status.Status.TheVariants.{Done, Usage, SetupBad, ReadFault, WriteFault, Memory, NotBuilt}
-use Rattle.arc_server.specs.declared.status.Which.{Which}
 use Rattle.arc_server.specs.declared.status.Which.TheVariants.{Setup, Input}
 
 -- What is told of the setup's source at one moment: its bytes left, and how often a read of it failed.

@@ -1,11 +1,46 @@
-//! The alarm receiving centre.
+//! The alarm receiving centre. `arc line` reads the setup from `setup.txt` in the working folder and serves one line on
+//! its standard input and output.
 #![tactic(auto)]
 
+use arc_data::Txt;
+use arc_io::{FileSource, RealClock, RealNoise, StdPort};
+use run::{Outside, run};
 use status::Status;
+use std::env::Env;
+use std::io::Write;
+use std::process::ExitCode;
+use std::{env, io};
 
+mod run;
 mod session;
 mod status;
 
-fn main() {
-    let _ = Status::Done.number();
+// The arguments as short texts. One that is longer than 32 bytes stands as `?`, which no form has.
+fn words<R: Env + AllocGlobal>(rt: &R) -> io::Result<Vec<Txt>> {
+    let mut words = Vec::new(rt.alloc());
+    for argument in env::args(rt)?.skip(1) {
+        let word = match Txt::of(argument.as_bytes()) {
+            Some(word) => word,
+            None => Txt::question(),
+        };
+        words.push(word)?;
+    }
+    Ok(words)
+}
+
+fn main(rt: HostRuntime) -> ExitCode {
+    let status = match words(&rt) {
+        Ok(words) => serve(&rt, &words),
+        Err(_) => Status::Memory,
+    };
+    let mut errors = StdPort::new(io::empty(), rt.stderr(), RealClock::new(&rt), RealNoise::new(&rt));
+    let _ = status.text(&mut errors);
+    ExitCode::from(status.number())
+}
+
+// Runs over the real setup file and the real standard streams.
+fn serve(rt: &HostRuntime, words: &[Txt]) -> Status {
+    let port = StdPort::new(rt.reader(), io::writer(rt), RealClock::new(rt), RealNoise::new(rt));
+    let setup = FileSource::new(rt, "setup.txt");
+    run(rt, rt.alloc(), words, Outside { setup, port }).status
 }

@@ -1,13 +1,10 @@
-use Rattle.std.proofs.Common.{◌≡◌, ◌∷◌, [], ℕ, List, Option, Some, None, refl, sym, ◌∙◌, ap, subst}
-use Rattle.std.specs.Io.KnownBytes.{append_known}
+use Rattle.std.proofs.Common.{◌∷◌, [], ℕ, List, Option, Some, None, refl, sym, ◌∙◌, subst}
 use Rattle.arc_data.specs.declared.event.Event.TheVariants.{Message as Sent}
 use Rattle.alarm_rules.specs.Setups.{meaning}
 use Rattle.centre_rules.specs.History.{Entry}
 use Rattle.dc09_frame.specs.Frames.{frame_of}
 use Rattle.dc09_frame.specs.Headers.{echo_body}
 use Rattle.dc09_frame.specs.declared.header.Echo.TheVariants.{Ack, Duh as DuhWord}
-use Rattle.dc09_message.specs.Verdicts.{verdict_of}
-use Rattle.dc09_message.specs.declared.outcome.Verdict.{Verdict}
 use Rattle.dc09_message.specs.declared.outcome.Verdict.TheVariants.{Silence, NotBuilt, Duh, Numbered}
 use Rattle.arc_server.specs.Sessions.{Echoes}
 use Rattle.arc_server.specs.Turns.{Turn, IsAnswered}

@@ -1,0 +1,172 @@
+// The top call.
+ghost use Rattle.std.specs.Prelude.{◌≡◌, ◌≢◌, ◌↔◌, ◌∷◌, [], List, ℕ, Some, IsTrue, IsOk, IfOk, IfErr, codes};
+ghost use Rattle.alarm_rules.specs.Setups.{setup_of};
+ghost use Rattle.centre_rules.specs.Summary.{nothing};
+ghost use Rattle.centre_rules.specs.State.{StandsFor};
+ghost use Rattle.centre_core.specs.Runs.{begun};
+ghost use Rattle.arc_server.specs.LineRuns.{IsRun, IsServed, IsSetupEnd, ReadsText};
+
+use crate::session::{SessionEnd, serve};
+use crate::status::{Status, Which};
+use arc_data::{SetupFault, Txt};
+use arc_io::{Port, ReadEnd, Source, read_all};
+use centre_core::{Centre, RamHall, Setup};
+use std::alloc::Global;
+
+/// How many bytes of a setup text are read at most: one more than a setup may have.
+const SETUP_READ: usize = 4_194_305;
+
+/// How many bytes of a line are read at most: one more than are served.
+const LINE_READ: usize = 65_537;
+
+/// What a run is handed: the source of the setup text, and the port of the line.
+#[derive(Drop)]
+pub struct Outside<S, P> {
+    pub setup: S,
+    pub port: P,
+}
+
+/// What a run hands back: its status, all that it was handed, and the centre, where one was made.
+#[derive(Drop)]
+pub struct Ended<S, P> {
+    pub status: Status,
+    pub outside: Outside<S, P>,
+    pub centre: Option<Centre>,
+}
+
+/// Does what the words say. The one form of them that is built is `line`: the setup is read, and one line session is served
+/// on the port.
+pub fn run<R, S: Source, P: Port>(
+    _rt: &R,
+    alloc: Global,
+    words: &[Txt],
+    outside: Outside<S, P>,
+) -> Ended<S, P>
+    ensures usage { (result.status ≡ Status.Usage) ↔ (words.now ≢ codes "line" ∷ []) }
+    ensures untouched { result.status ≡ Status.Usage → result.outside ≡ outside }
+    ensures line { IsRun result.status
+        (record { left = S.left outside.setup; faults = S.read_faults outside.setup })
+        (record { left = S.left result.outside.setup; faults = S.read_faults result.outside.setup })
+        (record { left = P.left outside.port; read_faults = P.read_faults outside.port; written = P.written outside.port;
+            write_faults = P.write_faults outside.port; readings = P.readings outside.port; noise = P.noise outside.port })
+        (record { left = P.left result.outside.port; read_faults = P.read_faults result.outside.port; written = P.written result.outside.port;
+            write_faults = P.write_faults result.outside.port; readings = P.readings result.outside.port; noise = P.noise result.outside.port })
+        result.centre }
+{
+    if !is_line(words) {
+        return Ended {
+            status: Status::Usage,
+            outside,
+            centre: None,
+        };
+    }
+    let Outside {
+        mut setup,
+        mut port,
+    } = outside;
+    let (status, centre) = line(alloc, &mut setup, &mut port);
+    Ended {
+        status,
+        outside: Outside { setup, port },
+        centre,
+    }
+}
+
+// The words are the one word `line`.
+fn is_line(words: &[Txt]) -> bool
+    ensures { IsTrue result ↔ (words.now ≡ codes "line" ∷ []) }
+{
+    let [word] = words else { return false };
+    word.bytes() == b"line".as_slice()
+}
+
+// Reads the setup, begins a run, and serves the line.
+fn line<S: Source, P: Port>(
+    alloc: Global,
+    source: &mut S,
+    port: &mut P,
+) -> (Status, Option<Centre>)
+    ensures usage { result.0 ≢ Status.Usage }
+    ensures line { IsRun result.0
+        (record { left = S.left source.old; faults = S.read_faults source.old })
+        (record { left = S.left source.new; faults = S.read_faults source.new })
+        (record { left = P.left port.old; read_faults = P.read_faults port.old; written = P.written port.old;
+            write_faults = P.write_faults port.old; readings = P.readings port.old; noise = P.noise port.old })
+        (record { left = P.left port.new; read_faults = P.read_faults port.new; written = P.written port.new;
+            write_faults = P.write_faults port.new; readings = P.readings port.new; noise = P.noise port.new })
+        result.1 }
+{
+    let setup = match read_setup(alloc, source) {
+        Ok(setup) => setup,
+        Err(status) => return (status, None),
+    };
+    let clock = port.now();
+    let Ok(mut hall) = RamHall::new(alloc, setup, clock) else {
+        return (Status::Memory, None);
+    };
+    let status = serve_input(alloc, &mut hall, port);
+    (status, Some(hall.into_centre()))
+}
+
+// Reads the setup text, and what it means. An error is the status that it makes.
+fn read_setup<S: Source>(alloc: Global, source: &mut S) -> Result<Setup, Status>
+    ensures read { IfOk result (λ setup. ReadsText
+        (record { left = S.left source.old; faults = S.read_faults source.old })
+        (record { left = S.left source.new; faults = S.read_faults source.new }) setup × IsOk (setup_of setup)) }
+    ensures refused { IfErr result (λ status. IsSetupEnd status
+        (record { left = S.left source.old; faults = S.read_faults source.old })
+        (record { left = S.left source.new; faults = S.read_faults source.new })) }
+{
+    let before = source.read_faults();
+    match read_all(alloc, source, SETUP_READ) {
+        Err(ReadEnd::Memory) => Err(Status::Memory),
+        Err(ReadEnd::Failed) => Err(Status::ReadFault {
+            input: Which::Setup,
+            before,
+            now: source.read_faults(),
+        }),
+        Ok(text) => match Setup::read(alloc, &text) {
+            Ok(setup) => Ok(setup),
+            Err(SetupFault::Memory) => Err(Status::Memory),
+            Err(fault) => Err(Status::SetupBad(fault)),
+        },
+    }
+}
+
+// Reads the line's bytes, and serves them. The status is the end that this makes.
+fn serve_input<P: Port>(alloc: Global, hall: &mut RamHall, port: &mut P) -> Status
+    requires { hall.old.entries ≡ 2 }
+    ensures begun { result ≢ Status.Usage }
+    ensures served { (text : List ℕ) (clock : ℕ) → StandsFor nothing hall.old (begun text clock) → hall.old.sum.text ≡ Some text →
+        IsServed result text clock
+        (record { left = P.left port.old; read_faults = P.read_faults port.old; written = P.written port.old;
+            write_faults = P.write_faults port.old; readings = P.readings port.old; noise = P.noise port.old })
+        (record { left = P.left port.new; read_faults = P.read_faults port.new; written = P.written port.new;
+            write_faults = P.write_faults port.new; readings = P.readings port.new; noise = P.noise port.new }) hall.new }
+{
+    let reads = port.read_faults();
+    let writes = port.write_faults();
+    let input = match read_all(alloc, port, LINE_READ) {
+        Ok(input) => input,
+        Err(ReadEnd::Memory) => return Status::Memory,
+        Err(ReadEnd::Failed) => {
+            return Status::ReadFault {
+                input: Which::Input,
+                before: reads,
+                now: port.read_faults(),
+            };
+        }
+    };
+    if input.len() == LINE_READ {
+        return Status::NotBuilt { after: 0 };
+    }
+    match serve(alloc, hall, port, &input) {
+        SessionEnd::AllAnswered => Status::Done,
+        SessionEnd::WriteFault => Status::WriteFault {
+            before: writes,
+            now: port.write_faults(),
+        },
+        SessionEnd::Memory => Status::Memory,
+        SessionEnd::NotBuilt { after } => Status::NotBuilt { after },
+    }
+}
