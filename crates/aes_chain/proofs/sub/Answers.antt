@@ -1,0 +1,5 @@
+use Rattle.aes_chain.proofs.Boxes.{S_BOX-is}
+use Rattle.aes_chain.proofs.sub.Goals as goal
+
+pub returns : goal.returns
+returns c = S_BOX-is c.args.b c.ranges.b.fits

@@ -1,0 +1,28 @@
+-- How the program keeps states and round keys: columns as numbers of 32 bits, with row 0 as the lowest
+-- byte.
+use Rattle.std.specs.Prelude.{◌≡◌, ℕ, zero, suc, ◌+◌, ◌-◌, ◌*◌, ◌≤◌, ◌<◌, ◌==◌, ◌&&◌, nat_lt, List, [], ◌∷◌, take, slice_index, if◌then◌else◌}
+use Rattle.std.specs.Int.{w32, byte_at, to_le_bytes}
+use Rattle.std.specs.List.{flat_map}
+use Rattle.aes_chain.specs.State.{state, inv_mix_columns}
+use Rattle.aes_chain.specs.Schedule.{round_count, round_key}
+use Rattle.aes_chain.specs.Laws.{IsKey}
+
+-- the state whose columns are the words from place i on
+unfoldable pub state_at : List ℕ → ℕ → List ℕ
+state_at words i = state (λ r c. byte_at r (slice_index words (i + c)))
+
+-- the bytes of the first n words
+abbrev pub bytes_of : List ℕ → ℕ → List ℕ
+bytes_of words n = flat_map (to_le_bytes w32) (take n words)
+
+-- the round keys of the equivalent inverse cipher: InvMixColumns of those between the first and the
+-- last (5.3.5)
+unfoldable pub inv_key : ℕ → (ℕ → List ℕ) → ℕ → List ℕ
+inv_key nr keys i = if nat_lt 0 i && nat_lt i nr then inv_mix_columns (keys i) else keys i
+
+-- the words are the round keys of the key, and the inverse words those of the equivalent inverse cipher
+pub record IsExpanded (key words inverse_words : List ℕ) (rounds : ℕ) : Type 0 where
+  pub is_key : IsKey key
+  pub round_count_is : rounds ≡ round_count key
+  pub forward : (i : ℕ) → i ≤ rounds → state_at words (4 * i) ≡ round_key key i
+  pub backward : (i : ℕ) → i ≤ rounds → state_at inverse_words (4 * i) ≡ inv_key rounds (round_key key) i
