@@ -4,3 +4,6 @@ pub mod Sums
 pub mod States
 pub mod Mixing
 pub mod Steps
+pub mod Inverse
+pub mod Keys
+pub mod Chaining

@@ -250,7 +250,7 @@ times_1-lt : (b : ℕ) → b < 256 → times 1 b < 256
 unfolding times product remainder
 times_1-lt b h = let e : times 1 b ≡ times 1 b % 256 = same_at (times 1) (λ b. times 1 b % 256) refl b h in omega (arith, e)
 
-times_2-lt : (b : ℕ) → b < 256 → times 2 b < 256
+pub times_2-lt : (b : ℕ) → b < 256 → times 2 b < 256
 unfolding times product remainder
 times_2-lt b h = let e : times 2 b ≡ times 2 b % 256 = same_at (times 2) (λ b. times 2 b % 256) refl b h in omega (arith, e)
 
