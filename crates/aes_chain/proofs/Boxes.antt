@@ -6,6 +6,7 @@ use Rattle.std.proofs.lemmas.List.{get_or-map}
 use Rattle.std.proofs.lemmas.List.FromFn.{get_or-map-range_with_len}
 use Rattle.aes_chain.specs.Field.{times, product, remainder, inverse, inverse_below, byte_of_sums, affine, s_box, inv_affine, inv_s_box}
 use Rattle.aes_chain.specs.State.{mix_matrix, inv_mix_matrix}
+use Rattle.aes_chain.specs.Words.{products}
 use Rattle.aes_chain.specs.declared.tables.TheConstants.{S_BOX, INV_S_BOX, MIX_0, MIX_1, MIX_2, MIX_3, INV_MIX_0, INV_MIX_1, INV_MIX_2, INV_MIX_3}
 
 S_BOX-map : S_BOX ≡ map s_box (range_with_len 0 256)
@@ -21,12 +22,6 @@ INV_S_BOX-map = refl
 
 pub INV_S_BOX-is : (b : ℕ) → b < 256 → slice_index INV_S_BOX b ≡ inv_s_box b
 INV_S_BOX-is b h = ap (λ (t : List ℕ). get_or t b 0) INV_S_BOX-map ∙ get_or-map-range_with_len inv_s_box 0 256 b b 0 h (omega arith)
-
--- the products of b and column k of a matrix
-abbrev pub products : List ℕ → ℕ → ℕ → List ℕ
-products m k b =
-    times (slice_index m k) b ∷ times (slice_index m (4 + k)) b ∷ times (slice_index m (8 + k)) b
-    ∷ times (slice_index m (12 + k)) b ∷ []
 
 -- a table whose entries are, as words, the products of the entries of a box
 from_box : (t box : List ℕ) (f g : ℕ → List ℕ) (h : ℕ → ℕ) → map f t ≡ map g box → length t ≡ 256 → length box ≡ 256

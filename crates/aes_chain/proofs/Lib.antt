@@ -7,3 +7,4 @@ pub mod Steps
 pub mod Inverse
 pub mod Keys
 pub mod Chaining
+pub mod Columns

@@ -1,14 +1,13 @@
-//! AES.
+//! The block cipher AES (FIPS 197) for keys of 16, 24 and 32 bytes, and its chain: the cipher block
+//! chaining of whole blocks, with sixteen zero bytes as the first vector.
+//!
+//! [`Key::new`] expands a key once. [`encrypt_block`] and [`decrypt_block`] work on one block in place,
+//! [`chain_encrypt`] and [`chain_decrypt`] on a text of whole blocks. None of them takes memory. Their
+//! contracts cite the definitions of `specs/`, which are the standard's, and the laws say that each of
+//! encryption and decryption undoes the other.
+//!
+//! A [`Key`] has neither `Debug` nor `Display`, so nothing prints it.
 #![tactic(auto)]
 
+mod block;
 mod tables;
-
-ghost use Rattle.std.specs.Prelude.{◌≡◌, ◌<◌, length, slice_index};
-ghost use Rattle.aes_chain.specs.Field.{s_box};
-use crate::tables::S_BOX;
-
-fn sub(b: u8) -> u8
-    ensures { result ≡ s_box b }
-{
-    S_BOX[b as usize]
-}

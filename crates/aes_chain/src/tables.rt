@@ -1,8 +1,84 @@
 // The tables of the S-box and of MixColumns. Each is tied to its definition by computation over all
-// its entries (proofs/Boxes.antt).
+// its entries (proofs/Tables.antt).
+
+ghost use Rattle.std.specs.Prelude.{◌≡◌};
+ghost use Rattle.std.specs.Int.{to_le_bytes, w32};
+ghost use Rattle.aes_chain.specs.Field.{inv_s_box, s_box};
+ghost use Rattle.aes_chain.specs.State.{inv_mix_matrix, mix_matrix};
+ghost use Rattle.aes_chain.specs.Words.{products};
+
+#[inline(always)]
+pub(crate) fn s_box(b: u8) -> u8
+    ensures { result ≡ s_box b }
+{
+    S_BOX[b as usize]
+}
+
+#[inline(always)]
+pub(crate) fn inv_s_box(b: u8) -> u8
+    ensures { result ≡ inv_s_box b }
+{
+    INV_S_BOX[b as usize]
+}
+
+#[inline(always)]
+pub(crate) fn mix_0(b: u8) -> u32
+    ensures { to_le_bytes w32 result ≡ products mix_matrix 0 (s_box b) }
+{
+    MIX_0[b as usize]
+}
+
+#[inline(always)]
+pub(crate) fn mix_1(b: u8) -> u32
+    ensures { to_le_bytes w32 result ≡ products mix_matrix 1 (s_box b) }
+{
+    MIX_1[b as usize]
+}
+
+#[inline(always)]
+pub(crate) fn mix_2(b: u8) -> u32
+    ensures { to_le_bytes w32 result ≡ products mix_matrix 2 (s_box b) }
+{
+    MIX_2[b as usize]
+}
+
+#[inline(always)]
+pub(crate) fn mix_3(b: u8) -> u32
+    ensures { to_le_bytes w32 result ≡ products mix_matrix 3 (s_box b) }
+{
+    MIX_3[b as usize]
+}
+
+#[inline(always)]
+pub(crate) fn inv_mix_0(b: u8) -> u32
+    ensures { to_le_bytes w32 result ≡ products inv_mix_matrix 0 (inv_s_box b) }
+{
+    INV_MIX_0[b as usize]
+}
+
+#[inline(always)]
+pub(crate) fn inv_mix_1(b: u8) -> u32
+    ensures { to_le_bytes w32 result ≡ products inv_mix_matrix 1 (inv_s_box b) }
+{
+    INV_MIX_1[b as usize]
+}
+
+#[inline(always)]
+pub(crate) fn inv_mix_2(b: u8) -> u32
+    ensures { to_le_bytes w32 result ≡ products inv_mix_matrix 2 (inv_s_box b) }
+{
+    INV_MIX_2[b as usize]
+}
+
+#[inline(always)]
+pub(crate) fn inv_mix_3(b: u8) -> u32
+    ensures { to_le_bytes w32 result ≡ products inv_mix_matrix 3 (inv_s_box b) }
+{
+    INV_MIX_3[b as usize]
+}
 
 // The S-box (FIPS 197, 5.1.1).
-pub(crate) const S_BOX: [u8; 256] = [
+const S_BOX: [u8; 256] = [
     0x63, 0x7c, 0x77, 0x7b, 0xf2, 0x6b, 0x6f, 0xc5, 0x30, 0x01, 0x67, 0x2b,
     0xfe, 0xd7, 0xab, 0x76, 0xca, 0x82, 0xc9, 0x7d, 0xfa, 0x59, 0x47, 0xf0,
     0xad, 0xd4, 0xa2, 0xaf, 0x9c, 0xa4, 0x72, 0xc0, 0xb7, 0xfd, 0x93, 0x26,
@@ -28,7 +104,7 @@ pub(crate) const S_BOX: [u8; 256] = [
 ];
 
 // The inverse S-box (FIPS 197, 5.3.2).
-pub(crate) const INV_S_BOX: [u8; 256] = [
+const INV_S_BOX: [u8; 256] = [
     0x52, 0x09, 0x6a, 0xd5, 0x30, 0x36, 0xa5, 0x38, 0xbf, 0x40, 0xa3, 0x9e,
     0x81, 0xf3, 0xd7, 0xfb, 0x7c, 0xe3, 0x39, 0x82, 0x9b, 0x2f, 0xff, 0x87,
     0x34, 0x8e, 0x43, 0x44, 0xc4, 0xde, 0xe9, 0xcb, 0x54, 0x7b, 0x94, 0x32,
@@ -54,7 +130,7 @@ pub(crate) const INV_S_BOX: [u8; 256] = [
 ];
 
 // What a byte in row 0 adds to its column by the S-box and MixColumns, lowest byte in row 0.
-pub(crate) const MIX_0: [u32; 256] = [
+const MIX_0: [u32; 256] = [
     0xa563_63c6, 0x847c_7cf8, 0x9977_77ee, 0x8d7b_7bf6, 0x0df2_f2ff, 0xbd6b_6bd6, 0xb16f_6fde, 0x54c5_c591,
     0x5030_3060, 0x0301_0102, 0xa967_67ce, 0x7d2b_2b56, 0x19fe_fee7, 0x62d7_d7b5, 0xe6ab_ab4d, 0x9a76_76ec,
     0x45ca_ca8f, 0x9d82_821f, 0x40c9_c989, 0x877d_7dfa, 0x15fa_faef, 0xeb59_59b2, 0xc947_478e, 0x0bf0_f0fb,
@@ -90,7 +166,7 @@ pub(crate) const MIX_0: [u32; 256] = [
 ];
 
 // What a byte in row 1 adds to its column by the S-box and MixColumns, lowest byte in row 0.
-pub(crate) const MIX_1: [u32; 256] = [
+const MIX_1: [u32; 256] = [
     0x6363_c6a5, 0x7c7c_f884, 0x7777_ee99, 0x7b7b_f68d, 0xf2f2_ff0d, 0x6b6b_d6bd, 0x6f6f_deb1, 0xc5c5_9154,
     0x3030_6050, 0x0101_0203, 0x6767_cea9, 0x2b2b_567d, 0xfefe_e719, 0xd7d7_b562, 0xabab_4de6, 0x7676_ec9a,
     0xcaca_8f45, 0x8282_1f9d, 0xc9c9_8940, 0x7d7d_fa87, 0xfafa_ef15, 0x5959_b2eb, 0x4747_8ec9, 0xf0f0_fb0b,
@@ -126,7 +202,7 @@ pub(crate) const MIX_1: [u32; 256] = [
 ];
 
 // What a byte in row 2 adds to its column by the S-box and MixColumns, lowest byte in row 0.
-pub(crate) const MIX_2: [u32; 256] = [
+const MIX_2: [u32; 256] = [
     0x63c6_a563, 0x7cf8_847c, 0x77ee_9977, 0x7bf6_8d7b, 0xf2ff_0df2, 0x6bd6_bd6b, 0x6fde_b16f, 0xc591_54c5,
     0x3060_5030, 0x0102_0301, 0x67ce_a967, 0x2b56_7d2b, 0xfee7_19fe, 0xd7b5_62d7, 0xab4d_e6ab, 0x76ec_9a76,
     0xca8f_45ca, 0x821f_9d82, 0xc989_40c9, 0x7dfa_877d, 0xfaef_15fa, 0x59b2_eb59, 0x478e_c947, 0xf0fb_0bf0,
@@ -162,7 +238,7 @@ pub(crate) const MIX_2: [u32; 256] = [
 ];
 
 // What a byte in row 3 adds to its column by the S-box and MixColumns, lowest byte in row 0.
-pub(crate) const MIX_3: [u32; 256] = [
+const MIX_3: [u32; 256] = [
     0xc6a5_6363, 0xf884_7c7c, 0xee99_7777, 0xf68d_7b7b, 0xff0d_f2f2, 0xd6bd_6b6b, 0xdeb1_6f6f, 0x9154_c5c5,
     0x6050_3030, 0x0203_0101, 0xcea9_6767, 0x567d_2b2b, 0xe719_fefe, 0xb562_d7d7, 0x4de6_abab, 0xec9a_7676,
     0x8f45_caca, 0x1f9d_8282, 0x8940_c9c9, 0xfa87_7d7d, 0xef15_fafa, 0xb2eb_5959, 0x8ec9_4747, 0xfb0b_f0f0,
@@ -198,7 +274,7 @@ pub(crate) const MIX_3: [u32; 256] = [
 ];
 
 // What a byte in row 0 adds to its column by the inverse S-box and InvMixColumns.
-pub(crate) const INV_MIX_0: [u32; 256] = [
+const INV_MIX_0: [u32; 256] = [
     0x50a7_f451, 0x5365_417e, 0xc3a4_171a, 0x965e_273a, 0xcb6b_ab3b, 0xf145_9d1f, 0xab58_faac, 0x9303_e34b,
     0x55fa_3020, 0xf66d_76ad, 0x9176_cc88, 0x254c_02f5, 0xfcd7_e54f, 0xd7cb_2ac5, 0x8044_3526, 0x8fa3_62b5,
     0x495a_b1de, 0x671b_ba25, 0x980e_ea45, 0xe1c0_fe5d, 0x0275_2fc3, 0x12f0_4c81, 0xa397_468d, 0xc6f9_d36b,
@@ -234,7 +310,7 @@ pub(crate) const INV_MIX_0: [u32; 256] = [
 ];
 
 // What a byte in row 1 adds to its column by the inverse S-box and InvMixColumns.
-pub(crate) const INV_MIX_1: [u32; 256] = [
+const INV_MIX_1: [u32; 256] = [
     0xa7f4_5150, 0x6541_7e53, 0xa417_1ac3, 0x5e27_3a96, 0x6bab_3bcb, 0x459d_1ff1, 0x58fa_acab, 0x03e3_4b93,
     0xfa30_2055, 0x6d76_adf6, 0x76cc_8891, 0x4c02_f525, 0xd7e5_4ffc, 0xcb2a_c5d7, 0x4435_2680, 0xa362_b58f,
     0x5ab1_de49, 0x1bba_2567, 0x0eea_4598, 0xc0fe_5de1, 0x752f_c302, 0xf04c_8112, 0x9746_8da3, 0xf9d3_6bc6,
@@ -270,7 +346,7 @@ pub(crate) const INV_MIX_1: [u32; 256] = [
 ];
 
 // What a byte in row 2 adds to its column by the inverse S-box and InvMixColumns.
-pub(crate) const INV_MIX_2: [u32; 256] = [
+const INV_MIX_2: [u32; 256] = [
     0xf451_50a7, 0x417e_5365, 0x171a_c3a4, 0x273a_965e, 0xab3b_cb6b, 0x9d1f_f145, 0xfaac_ab58, 0xe34b_9303,
     0x3020_55fa, 0x76ad_f66d, 0xcc88_9176, 0x02f5_254c, 0xe54f_fcd7, 0x2ac5_d7cb, 0x3526_8044, 0x62b5_8fa3,
     0xb1de_495a, 0xba25_671b, 0xea45_980e, 0xfe5d_e1c0, 0x2fc3_0275, 0x4c81_12f0, 0x468d_a397, 0xd36b_c6f9,
@@ -306,7 +382,7 @@ pub(crate) const INV_MIX_2: [u32; 256] = [
 ];
 
 // What a byte in row 3 adds to its column by the inverse S-box and InvMixColumns.
-pub(crate) const INV_MIX_3: [u32; 256] = [
+const INV_MIX_3: [u32; 256] = [
     0x5150_a7f4, 0x7e53_6541, 0x1ac3_a417, 0x3a96_5e27, 0x3bcb_6bab, 0x1ff1_459d, 0xacab_58fa, 0x4b93_03e3,
     0x2055_fa30, 0xadf6_6d76, 0x8891_76cc, 0xf525_4c02, 0x4ffc_d7e5, 0xc5d7_cb2a, 0x2680_4435, 0xb58f_a362,
     0xde49_5ab1, 0x2567_1bba, 0x4598_0eea, 0x5de1_c0fe, 0xc302_752f, 0x8112_f04c, 0x8da3_9746, 0x6bc6_f9d3,

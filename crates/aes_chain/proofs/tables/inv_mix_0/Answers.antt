@@ -1,0 +1,5 @@
+use Rattle.aes_chain.proofs.Boxes.{INV_MIX_0-is}
+use Rattle.aes_chain.proofs.tables.inv_mix_0.Goals as goal
+
+pub returns : goal.returns
+returns c = INV_MIX_0-is c.args.b c.ranges.b.fits

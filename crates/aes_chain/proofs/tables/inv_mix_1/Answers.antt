@@ -1,0 +1,5 @@
+use Rattle.aes_chain.proofs.Boxes.{INV_MIX_1-is}
+use Rattle.aes_chain.proofs.tables.inv_mix_1.Goals as goal
+
+pub returns : goal.returns
+returns c = INV_MIX_1-is c.args.b c.ranges.b.fits
