@@ -71,18 +71,22 @@ key_words-bytes key h (suc n) =
       (key_words-bytes key h n)
       (AreBytes_four _ _ _ _ (byte_lt key h (4 * n)) (byte_lt key h (4 * n + 1)) (byte_lt key h (4 * n + 2)) (byte_lt key h (4 * n + 3)))
 
-expanded-bytes : (key : List ℕ) → AreBytes key → (nk n : ℕ) → AreWords (expanded key nk n)
+expanded-bytes : (nk : ℕ) (ws : List (List ℕ)) → AreWords ws → (n : ℕ) → AreWords (expanded nk ws n)
 unfolding expanded
-expanded-bytes key h nk zero = key_words-bytes key h nk
-expanded-bytes key h nk (suc n) =
-    let before = expanded-bytes key h nk n in
-    All-push (λ w. AreBytes w) (expanded key nk n) (next_word nk (expanded key nk n) (nk + n)) before
-      (next_word-bytes nk (expanded key nk n) (nk + n) before)
+expanded-bytes nk ws h zero = h
+expanded-bytes nk ws h (suc n) =
+    let before = expanded-bytes nk ws h n in
+    All-push (λ w. AreBytes w) (expanded nk ws n) (next_word nk (expanded nk ws n) (nk + n)) before
+      (next_word-bytes nk (expanded nk ws n) (nk + n) before)
+
+key_expansion-bytes : (key : List ℕ) → AreBytes key → AreWords (key_expansion key)
+unfolding key_expansion
+key_expansion-bytes key h =
+    expanded-bytes (key_len key) (key_words key (key_len key)) (key_words-bytes key h (key_len key)) (3 * key_len key + 28)
 
 pub round_key-bytes : (key : List ℕ) → AreBytes key → (i : ℕ) → AreBytes (round_key key i)
-unfolding round_key key_expansion
+unfolding round_key
 round_key-bytes key h i =
-    let all = expanded-bytes key h (key_len key) (3 * key_len key + 28) in
-    let at : (r c : ℕ) → slice_index (word_in (expanded key (key_len key) (3 * key_len key + 28)) (4 * i + c)) r < 256 =
-    λ r c. byte_lt _ (word_in-bytes (expanded key (key_len key) (3 * key_len key + 28)) all (4 * i + c)) r in
-    AreBytes_rows (λ r c. slice_index (word_in (expanded key (key_len key) (3 * key_len key + 28)) (4 * i + c)) r) (at 0) (at 1) (at 2) (at 3)
+    let at : (r c : ℕ) → slice_index (word_in (key_expansion key) (4 * i + c)) r < 256 =
+    λ r c. byte_lt (word_in (key_expansion key) (4 * i + c)) (word_in-bytes (key_expansion key) (key_expansion-bytes key h) (4 * i + c)) r in
+    AreBytes_rows (λ r c. slice_index (word_in (key_expansion key) (4 * i + c)) r) (at 0) (at 1) (at 2) (at 3)

@@ -8,3 +8,4 @@ pub mod Inverse
 pub mod Keys
 pub mod Chaining
 pub mod Columns
+pub mod Rounds

@@ -49,10 +49,10 @@ key_words key (suc n) =
     ++ (slice_index key (4 * n) ∷ slice_index key (4 * n + 1) ∷ slice_index key (4 * n + 2)
       ∷ slice_index key (4 * n + 3) ∷ []) ∷ []
 
--- the words of a key of nk words, and n more
-unfoldable pub expanded : List ℕ → ℕ → ℕ → List (List ℕ)
-expanded key nk zero = key_words key nk
-expanded key nk (suc n) = expanded key nk n ++ next_word nk (expanded key nk n) (nk + n) ∷ []
+-- the words ws of a key of nk words, and n more
+unfoldable pub expanded : ℕ → List (List ℕ) → ℕ → List (List ℕ)
+expanded nk ws zero = ws
+expanded nk ws (suc n) = expanded nk ws n ++ next_word nk (expanded nk ws n) (nk + n) ∷ []
 
 -- how many words a key has, Nk
 abbrev pub key_len : List ℕ → ℕ
@@ -64,7 +64,7 @@ round_count key = key_len key + 6
 
 -- all 4 (Nr + 1) words, of which a key has Nk, and 3 Nk + 28 follow
 unfoldable pub key_expansion : List ℕ → List (List ℕ)
-key_expansion key = expanded key (key_len key) (3 * key_len key + 28)
+key_expansion key = expanded (key_len key) (key_words key (key_len key)) (3 * key_len key + 28)
 
 -- the round key of round i, as a state: word 4i + c is its column c
 unfoldable pub round_key : List ℕ → ℕ → List ℕ

@@ -1,8 +1,8 @@
 -- How the program keeps states and round keys: columns as numbers of 32 bits, with row 0 as the lowest
 -- byte.
-use Rattle.std.specs.Prelude.{◌≡◌, ℕ, zero, suc, ◌+◌, ◌-◌, ◌*◌, ◌≤◌, ◌<◌, ◌==◌, ◌&&◌, nat_lt, List, [], ◌∷◌, take, slice_index, if◌then◌else◌}
+use Rattle.std.specs.Prelude.{◌≡◌, ℕ, zero, suc, ◌+◌, ◌-◌, ◌*◌, ◌≤◌, ◌<◌, ◌==◌, ◌&&◌, nat_lt, List, [], ◌∷◌, map, take, slice_index, if◌then◌else◌}
 use Rattle.std.specs.Int.{w32, byte_at, to_le_bytes}
-use Rattle.std.specs.List.{flat_map}
+use Rattle.std.specs.List.{concat}
 use Rattle.aes_chain.specs.Field.{times}
 use Rattle.aes_chain.specs.State.{state, inv_sub_bytes, inv_shift_rows, row_times, inv_mix_columns, added}
 use Rattle.aes_chain.specs.Schedule.{round_count, round_key}
@@ -26,9 +26,13 @@ products m k b =
     times (slice_index m k) b ∷ times (slice_index m (4 + k)) b ∷ times (slice_index m (8 + k)) b
     ∷ times (slice_index m (12 + k)) b ∷ []
 
+-- the first n words, as lists of four bytes
+abbrev pub words_of : List ℕ → ℕ → List (List ℕ)
+words_of words n = map (to_le_bytes w32) (take n words)
+
 -- the bytes of the first n words
 abbrev pub bytes_of : List ℕ → ℕ → List ℕ
-bytes_of words n = flat_map (to_le_bytes w32) (take n words)
+bytes_of words n = concat (words_of words n)
 
 -- the round keys of the equivalent inverse cipher: InvMixColumns of those between the first and the
 -- last (5.3.5)

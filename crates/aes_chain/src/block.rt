@@ -16,7 +16,7 @@ use crate::tables::{
 pub(crate) const WORDS: usize = 60;
 
 // The word of four bytes, the first as the lowest.
-fn word(block: &[u8], i: usize) -> u32
+pub(crate) fn word(block: &[u8], i: usize) -> u32
     requires { i + 4 ≤ length block.now }
     ensures { to_le_bytes w32 result ≡ slice_index block.now i ∷ slice_index block.now (i + 1)
         ∷ slice_index block.now (i + 2) ∷ slice_index block.now (i + 3) ∷ [] }
@@ -81,7 +81,7 @@ fn mixed(a: u32, b: u32, c: u32, d: u32) -> u32
 
 // A column after the S-box alone.
 #[inline(always)]
-fn substituted(a: u32, b: u32, c: u32, d: u32) -> u32
+pub(crate) fn substituted(a: u32, b: u32, c: u32, d: u32) -> u32
     ensures { to_le_bytes w32 result ≡ s_box (byte_at 0 a) ∷ s_box (byte_at 1 b) ∷ s_box (byte_at 2 c)
         ∷ s_box (byte_at 3 d) ∷ [] }
 {
@@ -94,7 +94,7 @@ fn substituted(a: u32, b: u32, c: u32, d: u32) -> u32
 }
 
 #[inline(always)]
-fn inv_mixed(a: u32, b: u32, c: u32, d: u32) -> u32
+pub(crate) fn inv_mixed(a: u32, b: u32, c: u32, d: u32) -> u32
     ensures { to_le_bytes w32 result ≡ column_times inv_mix_matrix (inv_s_box (byte_at 0 a)) (inv_s_box (byte_at 1 b))
         (inv_s_box (byte_at 2 c)) (inv_s_box (byte_at 3 d)) }
 {

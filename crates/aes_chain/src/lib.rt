@@ -10,4 +10,7 @@
 #![tactic(auto)]
 
 mod block;
+mod key;
 mod tables;
+
+pub use crate::key::Key;
