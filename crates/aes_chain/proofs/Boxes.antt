@@ -6,8 +6,9 @@ use Rattle.std.proofs.lemmas.List.{get_or-map}
 use Rattle.std.proofs.lemmas.List.FromFn.{get_or-map-range_with_len}
 use Rattle.aes_chain.specs.Field.{times, product, remainder, inverse, inverse_below, byte_of_sums, affine, s_box, inv_affine, inv_s_box}
 use Rattle.aes_chain.specs.State.{mix_matrix, inv_mix_matrix}
+use Rattle.aes_chain.specs.Schedule.{power_of_x}
 use Rattle.aes_chain.specs.Words.{products}
-use Rattle.aes_chain.specs.declared.tables.TheConstants.{S_BOX, INV_S_BOX, MIX_0, MIX_1, MIX_2, MIX_3, INV_MIX_0, INV_MIX_1, INV_MIX_2, INV_MIX_3}
+use Rattle.aes_chain.specs.declared.tables.TheConstants.{ROUND_CONSTANTS, S_BOX, INV_S_BOX, MIX_0, MIX_1, MIX_2, MIX_3, INV_MIX_0, INV_MIX_1, INV_MIX_2, INV_MIX_3}
 
 S_BOX-map : S_BOX ≡ map s_box (range_with_len 0 256)
 unfolding times product remainder inverse inverse_below byte_of_sums affine s_box
@@ -22,6 +23,14 @@ INV_S_BOX-map = refl
 
 pub INV_S_BOX-is : (b : ℕ) → b < 256 → slice_index INV_S_BOX b ≡ inv_s_box b
 INV_S_BOX-is b h = ap (λ (t : List ℕ). get_or t b 0) INV_S_BOX-map ∙ get_or-map-range_with_len inv_s_box 0 256 b b 0 h (omega arith)
+
+ROUND_CONSTANTS-map : ROUND_CONSTANTS ≡ map power_of_x (range_with_len 0 10)
+unfolding times product remainder power_of_x
+ROUND_CONSTANTS-map = refl
+
+pub ROUND_CONSTANTS-is : (n : ℕ) → n < 10 → slice_index ROUND_CONSTANTS n ≡ power_of_x n
+ROUND_CONSTANTS-is n h =
+    ap (λ (t : List ℕ). get_or t n 0) ROUND_CONSTANTS-map ∙ get_or-map-range_with_len power_of_x 0 10 n n 0 h (omega arith)
 
 -- a table whose entries are, as words, the products of the entries of a box
 from_box : (t box : List ℕ) (f g : ℕ → List ℕ) (h : ℕ → ℕ) → map f t ≡ map g box → length t ≡ 256 → length box ≡ 256

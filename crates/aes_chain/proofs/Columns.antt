@@ -35,7 +35,7 @@ pub state_of_columns : (a b c d : ℕ) (p q r s : List ℕ) → to_le_bytes w32 
     → to_le_bytes w32 d ≡ s → state_at (a ∷ b ∷ c ∷ d ∷ []) 0 ≡ p ++ (q ++ (r ++ s))
 state_of_columns a b c d p q r s ep eq er es = state_columns a b c d ∙ (λ i. ep i ++ (eq i ++ (er i ++ es i)))
 
-to_le_bytes-xor : (a b : ℕ) → to_le_bytes w32 (bit_xor a b)
+pub to_le_bytes-xor : (a b : ℕ) → to_le_bytes w32 (bit_xor a b)
     ≡ bit_xor (byte_at 0 a) (byte_at 0 b) ∷ bit_xor (byte_at 1 a) (byte_at 1 b) ∷ bit_xor (byte_at 2 a) (byte_at 2 b)
     ∷ bit_xor (byte_at 3 a) (byte_at 3 b) ∷ []
 to_le_bytes-xor a b = λ i. byte_at-xor 0 a b i ∷ byte_at-xor 1 a b i ∷ byte_at-xor 2 a b i ∷ byte_at-xor 3 a b i ∷ []

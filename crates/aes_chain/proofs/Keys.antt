@@ -36,7 +36,7 @@ sub_word-bytes : (w : List ℕ) → AreBytes (sub_word w)
 unfolding sub_word
 sub_word-bytes w = AreBytes_four _ _ _ _ (s_box-lt _) (s_box-lt _) (s_box-lt _) (s_box-lt _)
 
-power_of_x-lt : (n : ℕ) → power_of_x n < 256
+pub power_of_x-lt : (n : ℕ) → power_of_x n < 256
 unfolding power_of_x
 power_of_x-lt zero = omega arith
 power_of_x-lt (suc n) = times_2-lt (power_of_x n) (power_of_x-lt n)

@@ -9,3 +9,5 @@ pub mod Keys
 pub mod Chaining
 pub mod Columns
 pub mod Rounds
+pub mod Expansion
+pub mod Expanded

@@ -50,9 +50,9 @@ impl Key {
         ensures { result ≡ bytes.now }
     {
         let first = first_words(bytes, key_len);
-        let words = expansion(first, key_len);
+        let words = expansion(&first, key_len);
         let rounds = key_len + 6;
-        let inverse_words = inverse_keys(words, rounds);
+        let inverse_words = inverse_keys(&words, rounds);
         Key {
             rounds,
             words,
@@ -96,13 +96,13 @@ fn first_words(bytes: &[u8], key_len: usize) -> [u32; WORDS]
 }
 
 // The words of a key of `key_len` words, and all that follow from them.
-fn expansion(first: [u32; WORDS], key_len: usize) -> [u32; WORDS]
+fn expansion(first: &[u32; WORDS], key_len: usize) -> [u32; WORDS]
     requires some { 4 ≤ key_len }
     requires fits { key_len ≤ 8 }
-    ensures kept { take key_len result ≡ take key_len first }
-    ensures words { words_of result (4 * key_len + 28) ≡ expanded key_len (words_of first key_len) (3 * key_len + 28) }
+    ensures kept { take key_len result ≡ take key_len first.now }
+    ensures words { words_of result (4 * key_len + 28) ≡ expanded key_len (words_of first.now key_len) (3 * key_len + 28) }
 {
-    let mut words = first;
+    let mut words = *first;
     for i in key_len..4 * key_len + 28 {
         words[i] = words[i - key_len] ^ added_word(words[i - 1], i, key_len);
     }
@@ -136,12 +136,12 @@ fn inv_mixed_word(w: u32) -> u32
 }
 
 // The round keys of the equivalent inverse cipher.
-fn inverse_keys(words: [u32; WORDS], rounds: usize) -> [u32; WORDS]
+fn inverse_keys(words: &[u32; WORDS], rounds: usize) -> [u32; WORDS]
     requires some { 1 ≤ rounds }
     requires fits { rounds ≤ 14 }
-    ensures { (i : ℕ) → i ≤ rounds → state_at result (4 * i) ≡ inv_key rounds (keys_at words) i }
+    ensures { (i : ℕ) → i ≤ rounds → state_at result (4 * i) ≡ inv_key rounds (keys_at words.now) i }
 {
-    let mut inverse = words;
+    let mut inverse = *words;
     for i in 4..4 * rounds {
         inverse[i] = inv_mixed_word(words[i]);
     }
