@@ -1,8 +1,11 @@
 -- The laws: blocks, and texts of whole blocks.
 use Rattle.std.proofs.Common.{◌≡◌, ◌<◌, ◌≤◌, ◌+◌, ◌-◌, ◌*◌, ◌/◌, ◌%◌, ℕ, zero, suc, List, [], ◌∷◌, ◌++◌, length, take, drop, replicate, refl, sym, ap, ◌∙◌, arith, length-append, length-drop}
-use Rattle.std.proofs.lemmas.List.{take-append-le, drop-append-le, take_all, drop_all, take-append-drop, length-take-le}
+use Rattle.std.proofs.lemmas.List.{take-append-le, drop-append-le, take_all, drop_all, take-append-drop, length-take-le, append_assoc, append-nil, drop-drop}
+use Rattle.std.proofs.lemmas.Slice.{take-put_mid, drop-put_mid}
+use borrow.Rule.Slice.PartMut.{put_mid}
 use Rattle.std.proofs.lemmas.List.Elements.{All-take, All-drop, All-replicate}
-use Rattle.aes_chain.specs.State.{added}
+use Rattle.aes_chain.specs.State.{state, added}
+use Rattle.aes_chain.specs.Words.{state_at}
 use Rattle.aes_chain.specs.Schedule.{round_count, round_key}
 use Rattle.aes_chain.specs.Cipher.{encrypted, decrypted}
 use Rattle.aes_chain.specs.Chain.{first_vector, cipher_blocks, plain_blocks, chain_encrypted, chain_decrypted}
@@ -103,6 +106,76 @@ module _ (key : List ℕ) (is_key : IsKey key) where
       let left : length (drop 16 text) ≡ 16 * n = omega (arith, length-drop 16 text) in
       let before = length-plain_blocks n (take 16 text) (drop 16 text) left in
       omega (arith, length-append p (plain_blocks key (take 16 text) n (drop 16 text)), length-added vector (decrypted key (take 16 text)), before)
+
+-- a block that is written in place, with what is before and after it
+module _ (i k : ℕ) (text c : List ℕ) (width : k ≡ 16) (fits : 16 * i + 16 ≤ length text) (len : length c ≡ 16) where
+  take_written : take (16 * (i + 1)) (put_mid (16 * i) k text c) ≡ take (16 * i) text ++ c
+  take_written = take-put_mid (16 * i) k text c (16 * (i + 1)) (omega arith) (omega arith)
+
+  drop_written : drop (16 * (i + 1)) (put_mid (16 * i) k text c) ≡ drop 16 (drop (16 * i) text)
+  drop_written =
+      let next : 16 * (i + 1) ≡ 16 * i + 16 = omega arith in
+      drop-put_mid (16 * i) k text c (16 * (i + 1)) (omega arith) (omega arith) (omega arith)
+      ∙ ap (λ (m : ℕ). drop m text) next ∙ sym (drop-drop 16 (16 * i) text)
+
+-- one block more of a chain that is encrypted in place
+pub cipher_blocks_more : (key vector whole text c : List ℕ) (n i k : ℕ) → k ≡ 16 → i < n → 16 * n ≤ length text
+    → whole ≡ take (16 * i) text ++ cipher_blocks key vector (n - i) (drop (16 * i) text)
+    → c ≡ encrypted key (added vector (take k (drop (16 * i) text))) → length c ≡ 16
+    → whole ≡ take (16 * (i + 1)) (put_mid (16 * i) k text c) ++ cipher_blocks key c (n - (i + 1)) (drop (16 * (i + 1)) (put_mid (16 * i) k text c))
+unfolding cipher_blocks
+cipher_blocks_more key vector whole text c n i k width low fits before is len =
+    let rest : List ℕ = drop (16 * i) text in
+    let m : ℕ = n - (i + 1) in
+    let count : n - i ≡ suc m = omega arith in
+    let same : encrypted key (added vector (take 16 rest)) ≡ c = ap (λ (j : ℕ). encrypted key (added vector (take j rest))) (sym width) ∙ sym is in
+    before ∙ ap (λ (j : ℕ). take (16 * i) text ++ cipher_blocks key vector j rest) count
+    ∙ (λ t. take (16 * i) text ++ (same t ++ cipher_blocks key (same t) m (drop 16 rest)))
+    ∙ sym (append_assoc (take (16 * i) text) c (cipher_blocks key c m (drop 16 rest)))
+    ∙ sym (λ t. take_written i k text c width (omega arith) len t ++ cipher_blocks key c m (drop_written i k text c width (omega arith) len t))
+
+-- one block more of a chain that is decrypted in place
+pub plain_blocks_more : (key vector whole text p c : List ℕ) (n i k : ℕ) → k ≡ 16 → i < n → 16 * n ≤ length text
+    → whole ≡ take (16 * i) text ++ plain_blocks key vector (n - i) (drop (16 * i) text)
+    → c ≡ take k (drop (16 * i) text) → p ≡ added vector (decrypted key c) → length p ≡ 16
+    → whole ≡ take (16 * (i + 1)) (put_mid (16 * i) k text p) ++ plain_blocks key c (n - (i + 1)) (drop (16 * (i + 1)) (put_mid (16 * i) k text p))
+unfolding plain_blocks
+plain_blocks_more key vector whole text p c n i k width low fits before is_c is len =
+    let rest : List ℕ = drop (16 * i) text in
+    let m : ℕ = n - (i + 1) in
+    let count : n - i ≡ suc m = omega arith in
+    let same : take 16 rest ≡ c = ap (λ (j : ℕ). take j rest) (sym width) ∙ sym is_c in
+    before ∙ ap (λ (j : ℕ). take (16 * i) text ++ plain_blocks key vector j rest) count
+    ∙ (λ t. take (16 * i) text ++ (added vector (decrypted key (same t)) ++ plain_blocks key (same t) m (drop 16 rest)))
+    ∙ (λ t. take (16 * i) text ++ (sym is t ++ plain_blocks key c m (drop 16 rest)))
+    ∙ sym (append_assoc (take (16 * i) text) p (plain_blocks key c m (drop 16 rest)))
+    ∙ sym (λ t. take_written i k text p width (omega arith) len t ++ plain_blocks key c m (drop_written i k text p width (omega arith) len t))
+
+-- the end of both
+pub cipher_blocks_all : (key vector whole text : List ℕ) (n i : ℕ) → n ≡ i → length text ≡ 16 * n
+    → whole ≡ take (16 * i) text ++ cipher_blocks key vector (n - i) (drop (16 * i) text) → text ≡ whole
+unfolding cipher_blocks
+cipher_blocks_all key vector whole text n i end len is =
+    let none : n - i ≡ 0 = omega arith in
+    sym (is ∙ ap (λ (j : ℕ). take (16 * i) text ++ cipher_blocks key vector j (drop (16 * i) text)) none
+      ∙ append-nil (take (16 * i) text) ∙ take_all (16 * i) text (omega arith))
+
+pub plain_blocks_all : (key vector whole text : List ℕ) (n i : ℕ) → n ≡ i → length text ≡ 16 * n
+    → whole ≡ take (16 * i) text ++ plain_blocks key vector (n - i) (drop (16 * i) text) → text ≡ whole
+unfolding plain_blocks
+plain_blocks_all key vector whole text n i end len is =
+    let none : n - i ≡ 0 = omega arith in
+    sym (is ∙ ap (λ (j : ℕ). take (16 * i) text ++ plain_blocks key vector j (drop (16 * i) text)) none
+      ∙ append-nil (take (16 * i) text) ∙ take_all (16 * i) text (omega arith))
+
+-- four words of 0 are the first vector
+pub state_at-zeros : state_at (0 ∷ 0 ∷ 0 ∷ 0 ∷ []) 0 ≡ first_vector
+unfolding state_at state
+state_at-zeros = refl
+
+pub length-state_at : (words : List ℕ) (i : ℕ) → length (state_at words i) ≡ 16
+unfolding state_at state
+length-state_at words i = refl
 
 first_vector-bytes : AreBytes first_vector
 first_vector-bytes = All-replicate (λ b. b < 256) 16 0 (omega arith)

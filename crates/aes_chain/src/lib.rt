@@ -10,7 +10,14 @@
 #![tactic(auto)]
 
 mod block;
+mod cipher;
 mod key;
+mod laws;
 mod tables;
 
+pub use crate::cipher::{chain_decrypt, chain_encrypt, decrypt_block, encrypt_block};
 pub use crate::key::Key;
+pub use crate::laws::{
+    law_chain_decrypted_encrypted, law_chain_encrypted_decrypted, law_decrypted_encrypted,
+    law_encrypted_decrypted,
+};

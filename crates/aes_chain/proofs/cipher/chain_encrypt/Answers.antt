@@ -1,0 +1,33 @@
+use Rattle.std.proofs.Common.{ℕ, List, ap, ◌∙◌, ◌≡◌, ◌+◌, ◌-◌, ◌*◌, ◌/◌, ◌%◌, ◌<◌, ◌≤◌, sym, refl, arith, take, drop, length, ◌++◌}
+use borrow.Rule.Slice.PartMut.{put_mid}
+use Rattle.aes_chain.specs.State.{added}
+use Rattle.aes_chain.specs.Cipher.{encrypted}
+use Rattle.aes_chain.specs.Chain.{first_vector, cipher_blocks, chain_encrypted}
+use Rattle.aes_chain.specs.Words.{state_at}
+use Rattle.aes_chain.proofs.Chaining.{cipher_blocks_more, cipher_blocks_all, state_at-zeros, length-state_at}
+use Rattle.aes_chain.proofs.cipher.chain_encrypt.Goals as goal
+
+pub loop-i-init : goal.loop-i-init
+loop-i-init c =
+    let n : ℕ = length c.args.text.now / 16 in
+    let count : n ≡ n - 0 = omega arith in
+    λ t. cipher_blocks c.args.key.now (sym state_at-zeros t) (count t) c.args.text.now
+
+pub loop-i-preserved : goal.loop-i-preserved
+loop-i-preserved c =
+    let n : ℕ = length c.args.text.now / 16 in
+    let k : ℕ = 16 * c.loop-i.i + 16 - 16 * c.loop-i.i in
+    let whole : List ℕ = cipher_blocks c.args.key.now first_vector n c.args.text.now in
+    let v : List ℕ = state_at c.encrypt_columns-cipher.result 0 in
+    let is : v ≡ encrypted c.args.key.now (added (state_at c.loop-i.vector 0) (take k (drop (16 * c.loop-i.i) c.loop-i.text))) =
+    c.encrypt_columns-cipher.ensures ∙ ap (encrypted c.args.key.now) (c.add.ensures ∙ ap (added (state_at c.loop-i.vector 0)) c.load.ensures) in
+    let before = cipher_blocks_more c.args.key.now (state_at c.loop-i.vector 0) whole c.loop-i.text v n c.loop-i.i k (omega arith) c.loop-i-test.true
+      (omega arith) c.loop-i.invariant is (length-state_at c.encrypt_columns-cipher.result 0) in
+    before ∙ ap (λ (b : List ℕ). take (16 * (c.loop-i.i + 1)) (put_mid (16 * c.loop-i.i) k c.loop-i.text b)
+      ++ cipher_blocks c.args.key.now v (n - (c.loop-i.i + 1)) (drop (16 * (c.loop-i.i + 1)) (put_mid (16 * c.loop-i.i) k c.loop-i.text b))) (sym c.store.ensures)
+
+pub returns : goal.returns
+unfolding chain_encrypted
+returns c =
+    cipher_blocks_all c.args.key.now (state_at c.loop-i.vector 0) (cipher_blocks c.args.key.now first_vector (length c.args.text.now / 16) c.args.text.now)
+    c.loop-i.text (length c.args.text.now / 16) c.loop-i.i (omega arith) (omega arith) c.loop-i.invariant
