@@ -60,7 +60,7 @@ module _ (key : List ℕ) (is_key : IsKey key) where
       let others : plain_blocks key c n rest ≡ drop 16 text =
       plain_blocks-cipher_blocks n c (drop 16 text) is_c.0 (All-drop (λ b. b < 256) 16 text t) left in
       (λ i. added vector (decrypted key (take_block c rest is_c.1 i))
-        ++ plain_blocks key (take_block c rest is_c.1 i) n (drop_block c rest is_c.1 i))
+      ++ plain_blocks key (take_block c rest is_c.1 i) n (drop_block c rest is_c.1 i))
       ∙ (λ i. plain i ++ others i) ∙ take-append-drop 16 text
 
   cipher_blocks-plain_blocks : (n : ℕ) (vector text : List ℕ) → AreBytes vector → AreBytes text → length text ≡ 16 * n
@@ -81,7 +81,7 @@ module _ (key : List ℕ) (is_key : IsKey key) where
       let others : cipher_blocks key c n rest ≡ drop 16 text =
       cipher_blocks-plain_blocks n c (drop 16 text) is_c.0 (All-drop (λ b. b < 256) 16 text t) left in
       (λ i. encrypted key (added vector (take_block p rest len_p i))
-        ++ cipher_blocks key (encrypted key (added vector (take_block p rest len_p i))) n (drop_block p rest len_p i))
+      ++ cipher_blocks key (encrypted key (added vector (take_block p rest len_p i))) n (drop_block p rest len_p i))
       ∙ (λ i. back i ++ cipher_blocks key (back i) n rest)
       ∙ ap (λ (x : List ℕ). c ++ x) others ∙ take-append-drop 16 text
 
@@ -158,7 +158,7 @@ unfolding cipher_blocks
 cipher_blocks_all key vector whole text n i end len is =
     let none : n - i ≡ 0 = omega arith in
     sym (is ∙ ap (λ (j : ℕ). take (16 * i) text ++ cipher_blocks key vector j (drop (16 * i) text)) none
-      ∙ append-nil (take (16 * i) text) ∙ take_all (16 * i) text (omega arith))
+    ∙ append-nil (take (16 * i) text) ∙ take_all (16 * i) text (omega arith))
 
 pub plain_blocks_all : (key vector whole text : List ℕ) (n i : ℕ) → n ≡ i → length text ≡ 16 * n
     → whole ≡ take (16 * i) text ++ plain_blocks key vector (n - i) (drop (16 * i) text) → text ≡ whole
@@ -166,7 +166,7 @@ unfolding plain_blocks
 plain_blocks_all key vector whole text n i end len is =
     let none : n - i ≡ 0 = omega arith in
     sym (is ∙ ap (λ (j : ℕ). take (16 * i) text ++ plain_blocks key vector j (drop (16 * i) text)) none
-      ∙ append-nil (take (16 * i) text) ∙ take_all (16 * i) text (omega arith))
+    ∙ append-nil (take (16 * i) text) ∙ take_all (16 * i) text (omega arith))
 
 -- four words of 0 are the first vector
 pub state_at-zeros : state_at (0 ∷ 0 ∷ 0 ∷ 0 ∷ []) 0 ≡ first_vector

@@ -21,9 +21,9 @@ unfolding row_times
 column_times-sum m w x y z a b c d p q r s =
     (λ i. byte_at-sum4 0 w x y z i ∷ byte_at-sum4 1 w x y z i ∷ byte_at-sum4 2 w x y z i ∷ byte_at-sum4 3 w x y z i ∷ [])
     ∙ (λ i. sum4 (slice_index (p i) 0) (slice_index (q i) 0) (slice_index (r i) 0) (slice_index (s i) 0)
-      ∷ sum4 (slice_index (p i) 1) (slice_index (q i) 1) (slice_index (r i) 1) (slice_index (s i) 1)
-      ∷ sum4 (slice_index (p i) 2) (slice_index (q i) 2) (slice_index (r i) 2) (slice_index (s i) 2)
-      ∷ sum4 (slice_index (p i) 3) (slice_index (q i) 3) (slice_index (r i) 3) (slice_index (s i) 3) ∷ [])
+    ∷ sum4 (slice_index (p i) 1) (slice_index (q i) 1) (slice_index (r i) 1) (slice_index (s i) 1)
+    ∷ sum4 (slice_index (p i) 2) (slice_index (q i) 2) (slice_index (r i) 2) (slice_index (s i) 2)
+    ∷ sum4 (slice_index (p i) 3) (slice_index (q i) 3) (slice_index (r i) 3) (slice_index (s i) 3) ∷ [])
 
 -- the bytes of four columns, one after another
 pub state_columns : (a b c d : ℕ) → state_at (a ∷ b ∷ c ∷ d ∷ []) 0
@@ -60,9 +60,9 @@ state_at-four words i =
 -- the items of a list of 16
 pub sixteen : (s : List ℕ) → length s ≡ 16
     → (slice_index s 0 ∷ slice_index s 1 ∷ slice_index s 2 ∷ slice_index s 3 ∷ [])
-      ++ ((slice_index s 4 ∷ slice_index s 5 ∷ slice_index s 6 ∷ slice_index s 7 ∷ [])
-        ++ ((slice_index s 8 ∷ slice_index s 9 ∷ slice_index s 10 ∷ slice_index s 11 ∷ [])
-          ++ (slice_index s 12 ∷ slice_index s 13 ∷ slice_index s 14 ∷ slice_index s 15 ∷ []))) ≡ s
+    ++ ((slice_index s 4 ∷ slice_index s 5 ∷ slice_index s 6 ∷ slice_index s 7 ∷ [])
+    ++ ((slice_index s 8 ∷ slice_index s 9 ∷ slice_index s 10 ∷ slice_index s 11 ∷ [])
+    ++ (slice_index s 12 ∷ slice_index s 13 ∷ slice_index s 14 ∷ slice_index s 15 ∷ []))) ≡ s
 unfolding state
 sixteen s h = of_sixteen s h
 

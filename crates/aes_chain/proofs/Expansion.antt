@@ -73,9 +73,9 @@ concat-key_words key (suc n) h =
     concat-append (key_words key n) ((a ∷ b ∷ c ∷ d ∷ []) ∷ [])
     ∙ (λ t. before t ++ append-nil (a ∷ b ∷ c ∷ d ∷ []) t)
     ∙ sym (four
-      ∙ append_assoc ((take i key ++ a ∷ []) ++ b ∷ []) (c ∷ []) (d ∷ [])
-      ∙ append_assoc (take i key ++ a ∷ []) (b ∷ []) (c ∷ d ∷ [])
-      ∙ append_assoc (take i key) (a ∷ []) (b ∷ c ∷ d ∷ []))
+    ∙ append_assoc ((take i key ++ a ∷ []) ++ b ∷ []) (c ∷ []) (d ∷ [])
+    ∙ append_assoc (take i key ++ a ∷ []) (b ∷ []) (c ∷ d ∷ [])
+    ∙ append_assoc (take i key) (a ∷ []) (b ∷ c ∷ d ∷ []))
     ∙ ap (λ (m : ℕ). take m key) (sym count)
 
 pub bytes_of-key : (key words : List ℕ) (n : ℕ) → length key ≡ 4 * n → words_of words n ≡ key_words key n → bytes_of words n ≡ key
@@ -104,9 +104,9 @@ unfolding state_at round_key
 state_at-round_key key words n i e len fits =
     state_cells (λ r c. byte_at r (slice_index words (4 * i + c))) (λ r c. slice_index (word_in (key_expansion key) (4 * i + c)) r)
     (λ r c low below.
-      sym (to_le_bytes-at (slice_index words (4 * i + c)) r low)
-      ∙ ap (λ (w : List ℕ). slice_index w r) (sym (word_in-words_of words n (4 * i + c) (omega arith) len))
-      ∙ ap (λ (ws : List (List ℕ)). slice_index (word_in ws (4 * i + c)) r) e)
+    sym (to_le_bytes-at (slice_index words (4 * i + c)) r low)
+    ∙ ap (λ (w : List ℕ). slice_index w r) (sym (word_in-words_of words n (4 * i + c) (omega arith) len))
+    ∙ ap (λ (ws : List (List ℕ)). slice_index (word_in ws (4 * i + c)) r) e)
 
 -- InvMixColumns of a column
 abbrev pub IsInvMixed : ℕ → ℕ → Type 0
@@ -132,13 +132,13 @@ pub added_word-first : (nk i : ℕ) (w : List ℕ) → i % nk ≡ 0 → added_wo
 unfolding added_word
 added_word-first nk i w h =
     λ t. cond (eq-eqb (i % nk) 0 h t) (word_sum (sub_word (rot_word w)) (round_constant (i / nk)))
-      (cond (eqb nk 8 && eqb (i % nk) 4) (sub_word w) w)
+    (cond (eqb nk 8 && eqb (i % nk) 4) (sub_word w) w)
 
 later_word : (nk i : ℕ) (w : List ℕ) → i % nk ≢ 0 → added_word nk i w ≡ cond (eqb nk 8 && eqb (i % nk) 4) (sub_word w) w
 unfolding added_word
 later_word nk i w h =
     λ t. cond (ne_eqb (i % nk) 0 h t) (word_sum (sub_word (rot_word w)) (round_constant (i / nk)))
-      (cond (eqb nk 8 && eqb (i % nk) 4) (sub_word w) w)
+    (cond (eqb nk 8 && eqb (i % nk) 4) (sub_word w) w)
 
 pub added_word-middle : (nk i : ℕ) (w : List ℕ) → i % nk ≢ 0 → nk ≡ 8 → i % nk ≡ 4 → added_word nk i w ≡ sub_word w
 added_word-middle nk i w h eight four =

@@ -89,10 +89,10 @@ module _ (nr : ℕ) (keys : ℕ → List ℕ) (are : (i : ℕ) → AreBytes (key
       let is : IsBlock x = IsBlock-unturned (inv_rounds nr keys s m) in
       (λ i. added (mix_columns (turned (before i))) (keys (suc r)))
       ∙ ap (λ (y : List ℕ). added (mix_columns y) (keys (suc r)))
-        (turned-unturned (inv_rounds nr keys s (suc m)) (IsBlock-inv_rounds (suc m))
-          ∙ (λ i. inv_mix_columns (added x (keys (place i)))))
+      (turned-unturned (inv_rounds nr keys s (suc m)) (IsBlock-inv_rounds (suc m))
+      ∙ (λ i. inv_mix_columns (added x (keys (place i)))))
       ∙ ap (λ (y : List ℕ). added y (keys (suc r)))
-        (mix_columns-inv_mix_columns (added x (keys (suc r))) (IsBlock-added x (keys (suc r)) is.0 (are (suc r))))
+      (mix_columns-inv_mix_columns (added x (keys (suc r))) (IsBlock-added x (keys (suc r)) is.0 (are (suc r))))
       ∙ added-twice x (keys (suc r)) is.1
 
   pub cipher-inv_cipher : 0 < nr → cipher nr keys (inv_cipher nr keys s) ≡ s

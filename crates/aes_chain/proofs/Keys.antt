@@ -53,8 +53,8 @@ added_word-bytes : (nk i : ℕ) (w : List ℕ) → AreBytes w → AreBytes (adde
 unfolding added_word
 added_word-bytes nk i w h =
     either_bytes (i % nk == 0) (word_sum (sub_word (rot_word w)) (round_constant (i / nk))) _
-      (word_sum-bytes (sub_word (rot_word w)) (round_constant (i / nk)) (sub_word-bytes (rot_word w)) (round_constant-bytes (i / nk)))
-      (either_bytes ((nk == 8) && (i % nk == 4)) (sub_word w) w (sub_word-bytes w) h)
+    (word_sum-bytes (sub_word (rot_word w)) (round_constant (i / nk)) (sub_word-bytes (rot_word w)) (round_constant-bytes (i / nk)))
+    (either_bytes ((nk == 8) && (i % nk == 4)) (sub_word w) w (sub_word-bytes w) h)
 
 next_word-bytes : (nk : ℕ) (ws : List (List ℕ)) (i : ℕ) → AreWords ws → AreBytes (next_word nk ws i)
 unfolding next_word
@@ -67,9 +67,9 @@ unfolding key_words
 key_words-bytes key h zero = All-nil (λ w. AreBytes w)
 key_words-bytes key h (suc n) =
     All-push (λ w. AreBytes w) (key_words key n)
-      (slice_index key (4 * n) ∷ slice_index key (4 * n + 1) ∷ slice_index key (4 * n + 2) ∷ slice_index key (4 * n + 3) ∷ [])
-      (key_words-bytes key h n)
-      (AreBytes_four _ _ _ _ (byte_lt key h (4 * n)) (byte_lt key h (4 * n + 1)) (byte_lt key h (4 * n + 2)) (byte_lt key h (4 * n + 3)))
+    (slice_index key (4 * n) ∷ slice_index key (4 * n + 1) ∷ slice_index key (4 * n + 2) ∷ slice_index key (4 * n + 3) ∷ [])
+    (key_words-bytes key h n)
+    (AreBytes_four _ _ _ _ (byte_lt key h (4 * n)) (byte_lt key h (4 * n + 1)) (byte_lt key h (4 * n + 2)) (byte_lt key h (4 * n + 3)))
 
 expanded-bytes : (nk : ℕ) (ws : List (List ℕ)) → AreWords ws → (n : ℕ) → AreWords (expanded nk ws n)
 unfolding expanded
@@ -77,7 +77,7 @@ expanded-bytes nk ws h zero = h
 expanded-bytes nk ws h (suc n) =
     let before = expanded-bytes nk ws h n in
     All-push (λ w. AreBytes w) (expanded nk ws n) (next_word nk (expanded nk ws n) (nk + n)) before
-      (next_word-bytes nk (expanded nk ws n) (nk + n) before)
+    (next_word-bytes nk (expanded nk ws n) (nk + n) before)
 
 key_expansion-bytes : (key : List ℕ) → AreBytes key → AreWords (key_expansion key)
 unfolding key_expansion

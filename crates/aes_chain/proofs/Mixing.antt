@@ -38,29 +38,29 @@ s_box-inv_s_box = same_at (λ b. s_box (inv_s_box b)) (λ b. b) refl
 abbrev twice : List ℕ → ℕ → ℕ → ℕ → ℕ → ℕ → ℕ → ℕ
 twice n r p q s t b =
     sum4 (times (slice_index n (4 * r)) (times p b)) (times (slice_index n (4 * r + 1)) (times q b))
-      (times (slice_index n (4 * r + 2)) (times s b)) (times (slice_index n (4 * r + 3)) (times t b))
+    (times (slice_index n (4 * r + 2)) (times s b)) (times (slice_index n (4 * r + 3)) (times t b))
 
 -- a row of the product of two matrices
 rows_twice : (n m : List ℕ) (r a b c d : ℕ)
     → row_times n r (row_times m 0 a b c d) (row_times m 1 a b c d) (row_times m 2 a b c d) (row_times m 3 a b c d)
     ≡ sum4 (twice n r (slice_index m 0) (slice_index m 4) (slice_index m 8) (slice_index m 12) a)
-      (twice n r (slice_index m 1) (slice_index m 5) (slice_index m 9) (slice_index m 13) b)
-      (twice n r (slice_index m 2) (slice_index m 6) (slice_index m 10) (slice_index m 14) c)
-      (twice n r (slice_index m 3) (slice_index m 7) (slice_index m 11) (slice_index m 15) d)
+    (twice n r (slice_index m 1) (slice_index m 5) (slice_index m 9) (slice_index m 13) b)
+    (twice n r (slice_index m 2) (slice_index m 6) (slice_index m 10) (slice_index m 14) c)
+    (twice n r (slice_index m 3) (slice_index m 7) (slice_index m 11) (slice_index m 15) d)
 unfolding row_times
 rows_twice n m r a b c d =
     let split : (k p q s t : ℕ) → times k (sum4 (times p a) (times q b) (times s c) (times t d))
-        ≡ sum4 (times k (times p a)) (times k (times q b)) (times k (times s c)) (times k (times t d)) =
+    ≡ sum4 (times k (times p a)) (times k (times q b)) (times k (times s c)) (times k (times t d)) =
     λ k p q s t. times-sum4 k (times p a) (times q b) (times s c) (times t d) in
     (λ i. sum4 (split (slice_index n (4 * r)) (slice_index m 0) (slice_index m 1) (slice_index m 2) (slice_index m 3) i)
-      (split (slice_index n (4 * r + 1)) (slice_index m 4) (slice_index m 5) (slice_index m 6) (slice_index m 7) i)
-      (split (slice_index n (4 * r + 2)) (slice_index m 8) (slice_index m 9) (slice_index m 10) (slice_index m 11) i)
-      (split (slice_index n (4 * r + 3)) (slice_index m 12) (slice_index m 13) (slice_index m 14) (slice_index m 15) i))
+    (split (slice_index n (4 * r + 1)) (slice_index m 4) (slice_index m 5) (slice_index m 6) (slice_index m 7) i)
+    (split (slice_index n (4 * r + 2)) (slice_index m 8) (slice_index m 9) (slice_index m 10) (slice_index m 11) i)
+    (split (slice_index n (4 * r + 3)) (slice_index m 12) (slice_index m 13) (slice_index m 14) (slice_index m 15) i))
     ∙ sum4-turned
-      (times (slice_index n (4 * r)) (times (slice_index m 0) a)) (times (slice_index n (4 * r)) (times (slice_index m 1) b)) (times (slice_index n (4 * r)) (times (slice_index m 2) c)) (times (slice_index n (4 * r)) (times (slice_index m 3) d))
-      (times (slice_index n (4 * r + 1)) (times (slice_index m 4) a)) (times (slice_index n (4 * r + 1)) (times (slice_index m 5) b)) (times (slice_index n (4 * r + 1)) (times (slice_index m 6) c)) (times (slice_index n (4 * r + 1)) (times (slice_index m 7) d))
-      (times (slice_index n (4 * r + 2)) (times (slice_index m 8) a)) (times (slice_index n (4 * r + 2)) (times (slice_index m 9) b)) (times (slice_index n (4 * r + 2)) (times (slice_index m 10) c)) (times (slice_index n (4 * r + 2)) (times (slice_index m 11) d))
-      (times (slice_index n (4 * r + 3)) (times (slice_index m 12) a)) (times (slice_index n (4 * r + 3)) (times (slice_index m 13) b)) (times (slice_index n (4 * r + 3)) (times (slice_index m 14) c)) (times (slice_index n (4 * r + 3)) (times (slice_index m 15) d))
+    (times (slice_index n (4 * r)) (times (slice_index m 0) a)) (times (slice_index n (4 * r)) (times (slice_index m 1) b)) (times (slice_index n (4 * r)) (times (slice_index m 2) c)) (times (slice_index n (4 * r)) (times (slice_index m 3) d))
+    (times (slice_index n (4 * r + 1)) (times (slice_index m 4) a)) (times (slice_index n (4 * r + 1)) (times (slice_index m 5) b)) (times (slice_index n (4 * r + 1)) (times (slice_index m 6) c)) (times (slice_index n (4 * r + 1)) (times (slice_index m 7) d))
+    (times (slice_index n (4 * r + 2)) (times (slice_index m 8) a)) (times (slice_index n (4 * r + 2)) (times (slice_index m 9) b)) (times (slice_index n (4 * r + 2)) (times (slice_index m 10) c)) (times (slice_index n (4 * r + 2)) (times (slice_index m 11) d))
+    (times (slice_index n (4 * r + 3)) (times (slice_index m 12) a)) (times (slice_index n (4 * r + 3)) (times (slice_index m 13) b)) (times (slice_index n (4 * r + 3)) (times (slice_index m 14) c)) (times (slice_index n (4 * r + 3)) (times (slice_index m 15) d))
 
 unmixed_00 : (b : ℕ) → b < 256 → twice inv_mix_matrix 0 2 1 1 3 b ≡ b
 unfolding times product remainder
@@ -285,17 +285,17 @@ AllRowsBelow m a b c d =
 pub mix_rows-lt : (a b c d : ℕ) → a < 256 → b < 256 → c < 256 → d < 256 → AllRowsBelow mix_matrix a b c d
 unfolding row_times
 mix_rows-lt a b c d ha hb hc hd = (
-      sum4-lt _ _ _ _ (times_2-lt a ha) (times_3-lt b hb) (times_1-lt c hc) (times_1-lt d hd),
-      sum4-lt _ _ _ _ (times_1-lt a ha) (times_2-lt b hb) (times_3-lt c hc) (times_1-lt d hd),
-      sum4-lt _ _ _ _ (times_1-lt a ha) (times_1-lt b hb) (times_2-lt c hc) (times_3-lt d hd),
-      sum4-lt _ _ _ _ (times_3-lt a ha) (times_1-lt b hb) (times_1-lt c hc) (times_2-lt d hd),
-    )
+  sum4-lt _ _ _ _ (times_2-lt a ha) (times_3-lt b hb) (times_1-lt c hc) (times_1-lt d hd),
+  sum4-lt _ _ _ _ (times_1-lt a ha) (times_2-lt b hb) (times_3-lt c hc) (times_1-lt d hd),
+  sum4-lt _ _ _ _ (times_1-lt a ha) (times_1-lt b hb) (times_2-lt c hc) (times_3-lt d hd),
+  sum4-lt _ _ _ _ (times_3-lt a ha) (times_1-lt b hb) (times_1-lt c hc) (times_2-lt d hd),
+)
 
 pub inv_mix_rows-lt : (a b c d : ℕ) → a < 256 → b < 256 → c < 256 → d < 256 → AllRowsBelow inv_mix_matrix a b c d
 unfolding row_times
 inv_mix_rows-lt a b c d ha hb hc hd = (
-      sum4-lt _ _ _ _ (times_14-lt a ha) (times_11-lt b hb) (times_13-lt c hc) (times_9-lt d hd),
-      sum4-lt _ _ _ _ (times_9-lt a ha) (times_14-lt b hb) (times_11-lt c hc) (times_13-lt d hd),
-      sum4-lt _ _ _ _ (times_13-lt a ha) (times_9-lt b hb) (times_14-lt c hc) (times_11-lt d hd),
-      sum4-lt _ _ _ _ (times_11-lt a ha) (times_13-lt b hb) (times_9-lt c hc) (times_14-lt d hd),
-    )
+  sum4-lt _ _ _ _ (times_14-lt a ha) (times_11-lt b hb) (times_13-lt c hc) (times_9-lt d hd),
+  sum4-lt _ _ _ _ (times_9-lt a ha) (times_14-lt b hb) (times_11-lt c hc) (times_13-lt d hd),
+  sum4-lt _ _ _ _ (times_13-lt a ha) (times_9-lt b hb) (times_14-lt c hc) (times_11-lt d hd),
+  sum4-lt _ _ _ _ (times_11-lt a ha) (times_13-lt b hb) (times_9-lt c hc) (times_14-lt d hd),
+)

@@ -46,18 +46,20 @@ unfolding columns_times
 IsBlock-mix_columns s h =
     let at : (r c : ℕ) → byte_in s r c < 256 = λ r c. byte_lt s h (r + 4 * c) in
     let small : (c : ℕ) → AllRowsBelow mix_matrix (byte_in s 0 c) (byte_in s 1 c) (byte_in s 2 c) (byte_in s 3 c) =
-    λ c. mix_rows-lt _ _ _ _ (at 0 c) (at 1 c) (at 2 c) (at 3 c) in
-    (AreBytes_rows (row_of mix_matrix s) (λ c. (small c).0) (λ c. (small c).1) (λ c. (small c).2) (λ c. (small c).3),
-      length-state (row_of mix_matrix s))
+    λ c. mix_rows-lt _ _ _ _ (at 0 c) (at 1 c) (at 2 c) (at 3 c) in (
+      AreBytes_rows (row_of mix_matrix s) (λ c. (small c).0) (λ c. (small c).1) (λ c. (small c).2) (λ c. (small c).3),
+      length-state (row_of mix_matrix s),
+    )
 
 pub IsBlock-inv_mix_columns : (s : List ℕ) → AreBytes s → IsBlock (inv_mix_columns s)
 unfolding columns_times
 IsBlock-inv_mix_columns s h =
     let at : (r c : ℕ) → byte_in s r c < 256 = λ r c. byte_lt s h (r + 4 * c) in
     let small : (c : ℕ) → AllRowsBelow inv_mix_matrix (byte_in s 0 c) (byte_in s 1 c) (byte_in s 2 c) (byte_in s 3 c) =
-    λ c. inv_mix_rows-lt _ _ _ _ (at 0 c) (at 1 c) (at 2 c) (at 3 c) in
-    (AreBytes_rows (row_of inv_mix_matrix s) (λ c. (small c).0) (λ c. (small c).1) (λ c. (small c).2) (λ c. (small c).3),
-      length-state (row_of inv_mix_matrix s))
+    λ c. inv_mix_rows-lt _ _ _ _ (at 0 c) (at 1 c) (at 2 c) (at 3 c) in (
+      AreBytes_rows (row_of inv_mix_matrix s) (λ c. (small c).0) (λ c. (small c).1) (λ c. (small c).2) (λ c. (small c).3),
+      length-state (row_of inv_mix_matrix s),
+    )
 
 -- ---- inverses
 
@@ -92,8 +94,8 @@ inv_mix_columns-mix_columns s h =
     let at : (r c : ℕ) → byte_in s r c < 256 = λ r c. byte_lt s h.0 (r + 4 * c) in
     columns_twice inv_mix_matrix mix_matrix s
     ∙ state_rows (row_of_rows inv_mix_matrix mix_matrix s) (byte_in s)
-      (λ c. unmixed_0 _ _ _ _ (at 0 c) (at 1 c) (at 2 c) (at 3 c)) (λ c. unmixed_1 _ _ _ _ (at 0 c) (at 1 c) (at 2 c) (at 3 c))
-      (λ c. unmixed_2 _ _ _ _ (at 0 c) (at 1 c) (at 2 c) (at 3 c)) (λ c. unmixed_3 _ _ _ _ (at 0 c) (at 1 c) (at 2 c) (at 3 c))
+    (λ c. unmixed_0 _ _ _ _ (at 0 c) (at 1 c) (at 2 c) (at 3 c)) (λ c. unmixed_1 _ _ _ _ (at 0 c) (at 1 c) (at 2 c) (at 3 c))
+    (λ c. unmixed_2 _ _ _ _ (at 0 c) (at 1 c) (at 2 c) (at 3 c)) (λ c. unmixed_3 _ _ _ _ (at 0 c) (at 1 c) (at 2 c) (at 3 c))
     ∙ of_sixteen s h.1
 
 pub mix_columns-inv_mix_columns : (s : List ℕ) → IsBlock s → mix_columns (inv_mix_columns s) ≡ s
@@ -101,8 +103,8 @@ mix_columns-inv_mix_columns s h =
     let at : (r c : ℕ) → byte_in s r c < 256 = λ r c. byte_lt s h.0 (r + 4 * c) in
     columns_twice mix_matrix inv_mix_matrix s
     ∙ state_rows (row_of_rows mix_matrix inv_mix_matrix s) (byte_in s)
-      (λ c. mixed_0 _ _ _ _ (at 0 c) (at 1 c) (at 2 c) (at 3 c)) (λ c. mixed_1 _ _ _ _ (at 0 c) (at 1 c) (at 2 c) (at 3 c))
-      (λ c. mixed_2 _ _ _ _ (at 0 c) (at 1 c) (at 2 c) (at 3 c)) (λ c. mixed_3 _ _ _ _ (at 0 c) (at 1 c) (at 2 c) (at 3 c))
+    (λ c. mixed_0 _ _ _ _ (at 0 c) (at 1 c) (at 2 c) (at 3 c)) (λ c. mixed_1 _ _ _ _ (at 0 c) (at 1 c) (at 2 c) (at 3 c))
+    (λ c. mixed_2 _ _ _ _ (at 0 c) (at 1 c) (at 2 c) (at 3 c)) (λ c. mixed_3 _ _ _ _ (at 0 c) (at 1 c) (at 2 c) (at 3 c))
     ∙ of_sixteen s h.1
 
 pub added-twice : (s k : List ℕ) → length s ≡ 16 → added (added s k) k ≡ s

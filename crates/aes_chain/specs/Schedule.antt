@@ -47,7 +47,7 @@ key_words key zero = []
 key_words key (suc n) =
     key_words key n
     ++ (slice_index key (4 * n) ∷ slice_index key (4 * n + 1) ∷ slice_index key (4 * n + 2)
-      ∷ slice_index key (4 * n + 3) ∷ []) ∷ []
+    ∷ slice_index key (4 * n + 3) ∷ []) ∷ []
 
 -- the words ws of a key of nk words, and n more
 unfoldable pub expanded : ℕ → List (List ℕ) → ℕ → List (List ℕ)

@@ -37,7 +37,7 @@ sum4 a b c d = bit_xor (bit_xor a b) (bit_xor c d)
 unfoldable pub row_times : List ℕ → ℕ → ℕ → ℕ → ℕ → ℕ → ℕ
 row_times m r a b c d =
     sum4 (times (slice_index m (4 * r)) a) (times (slice_index m (4 * r + 1)) b)
-      (times (slice_index m (4 * r + 2)) c) (times (slice_index m (4 * r + 3)) d)
+    (times (slice_index m (4 * r + 2)) c) (times (slice_index m (4 * r + 3)) d)
 
 -- each column multiplied by the matrix m
 unfoldable pub columns_times : List ℕ → List ℕ → List ℕ

@@ -23,9 +23,9 @@ loop-i-preserved c =
     let is : p ≡ added (state_at c.loop-i.vector 0) (decrypted c.args.key.now v) =
     c.add-plain.ensures ∙ ap (added (state_at c.loop-i.vector 0)) c.decrypt_columns.ensures in
     let before = plain_blocks_more c.args.key.now (state_at c.loop-i.vector 0) whole c.loop-i.text p v n c.loop-i.i k (omega arith) c.loop-i-test.true
-      (omega arith) c.loop-i.invariant c.load-cipher.ensures is (length-state_at c.add-plain.result 0) in
+    (omega arith) c.loop-i.invariant c.load-cipher.ensures is (length-state_at c.add-plain.result 0) in
     before ∙ ap (λ (b : List ℕ). take (16 * (c.loop-i.i + 1)) (put_mid (16 * c.loop-i.i) k c.loop-i.text b)
-      ++ plain_blocks c.args.key.now v (n - (c.loop-i.i + 1)) (drop (16 * (c.loop-i.i + 1)) (put_mid (16 * c.loop-i.i) k c.loop-i.text b))) (sym c.store.ensures)
+    ++ plain_blocks c.args.key.now v (n - (c.loop-i.i + 1)) (drop (16 * (c.loop-i.i + 1)) (put_mid (16 * c.loop-i.i) k c.loop-i.text b))) (sym c.store.ensures)
 
 pub returns : goal.returns
 unfolding chain_decrypted

@@ -22,9 +22,9 @@ loop-i-preserved c =
     let is : v ≡ encrypted c.args.key.now (added (state_at c.loop-i.vector 0) (take k (drop (16 * c.loop-i.i) c.loop-i.text))) =
     c.encrypt_columns-cipher.ensures ∙ ap (encrypted c.args.key.now) (c.add.ensures ∙ ap (added (state_at c.loop-i.vector 0)) c.load.ensures) in
     let before = cipher_blocks_more c.args.key.now (state_at c.loop-i.vector 0) whole c.loop-i.text v n c.loop-i.i k (omega arith) c.loop-i-test.true
-      (omega arith) c.loop-i.invariant is (length-state_at c.encrypt_columns-cipher.result 0) in
+    (omega arith) c.loop-i.invariant is (length-state_at c.encrypt_columns-cipher.result 0) in
     before ∙ ap (λ (b : List ℕ). take (16 * (c.loop-i.i + 1)) (put_mid (16 * c.loop-i.i) k c.loop-i.text b)
-      ++ cipher_blocks c.args.key.now v (n - (c.loop-i.i + 1)) (drop (16 * (c.loop-i.i + 1)) (put_mid (16 * c.loop-i.i) k c.loop-i.text b))) (sym c.store.ensures)
+    ++ cipher_blocks c.args.key.now v (n - (c.loop-i.i + 1)) (drop (16 * (c.loop-i.i + 1)) (put_mid (16 * c.loop-i.i) k c.loop-i.text b))) (sym c.store.ensures)
 
 pub returns : goal.returns
 unfolding chain_encrypted

@@ -18,8 +18,8 @@ loop-i-init c =
 pub loop-i-preserved : goal.loop-i-preserved
 loop-i-preserved c = record {
   is =
-    expanded_more c.args.key_len c.loop-i.i c.loop-i.words (words_of c.args.first.now c.args.key_len) c.added_word.result (omega arith)
-    (omega arith) (omega arith) c.loop-i.invariant.is c.added_word.ensures;
+      expanded_more c.args.key_len c.loop-i.i c.loop-i.words (words_of c.args.first.now c.args.key_len) c.added_word.result (omega arith)
+      (omega arith) (omega arith) c.loop-i.invariant.is c.added_word.ensures;
   kept = take-set-le c.args.key_len c.loop-i.words c.loop-i.i _ (omega arith) ∙ c.loop-i.invariant.kept;
   len = length-set c.loop-i.words c.loop-i.i _ ∙ c.loop-i.invariant.len;
 }
@@ -32,7 +32,7 @@ returns c =
     record {
       kept = c.loop-i.invariant.kept;
       words =
-        ap (words_of c.loop-i.words) (sym end) ∙ c.loop-i.invariant.is
-        ∙ ap (λ (m : ℕ). expanded c.args.key_len first (m - c.args.key_len)) end
-        ∙ ap (expanded c.args.key_len first) count;
+          ap (words_of c.loop-i.words) (sym end) ∙ c.loop-i.invariant.is
+          ∙ ap (λ (m : ℕ). expanded c.args.key_len first (m - c.args.key_len)) end
+          ∙ ap (expanded c.args.key_len first) count;
     }

@@ -12,9 +12,9 @@ loop-i-init c = record { is = refl; len = refl }
 pub loop-i-preserved : goal.loop-i-preserved
 loop-i-preserved c = record {
   is =
-    words_of-more c.loop-i.words c.loop-i.i c.word.result (omega arith)
-    ∙ (λ t. c.loop-i.invariant.is t ++ c.word.ensures t ∷ [])
-    ∙ sym (key_words_more c.args.bytes.now c.loop-i.i);
+      words_of-more c.loop-i.words c.loop-i.i c.word.result (omega arith)
+      ∙ (λ t. c.loop-i.invariant.is t ++ c.word.ensures t ∷ [])
+      ∙ sym (key_words_more c.args.bytes.now c.loop-i.i);
   len = length-set c.loop-i.words c.loop-i.i c.word.result ∙ c.loop-i.invariant.len;
 }
 

@@ -10,6 +10,6 @@ pub returns : goal.returns
 returns c =
     c.inv_mixed.ensures
     ∙ (λ t. column_times inv_mix_matrix (inv_s_box (slice_index (c.substituted-s.ensures t) 0)) (inv_s_box (slice_index (c.substituted-s.ensures t) 1))
-      (inv_s_box (slice_index (c.substituted-s.ensures t) 2)) (inv_s_box (slice_index (c.substituted-s.ensures t) 3)))
+    (inv_s_box (slice_index (c.substituted-s.ensures t) 2)) (inv_s_box (slice_index (c.substituted-s.ensures t) 3)))
     ∙ (λ t. column_times inv_mix_matrix (inv_s_box-s_box (byte_at 0 c.args.w) (omega arith) t) (inv_s_box-s_box (byte_at 1 c.args.w) (omega arith) t)
-      (inv_s_box-s_box (byte_at 2 c.args.w) (omega arith) t) (inv_s_box-s_box (byte_at 3 c.args.w) (omega arith) t))
+    (inv_s_box-s_box (byte_at 2 c.args.w) (omega arith) t) (inv_s_box-s_box (byte_at 3 c.args.w) (omega arith) t))

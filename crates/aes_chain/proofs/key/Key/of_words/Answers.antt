@@ -15,7 +15,7 @@ invariant_of-result c =
     let bytes : AreBytes key = All-from_get_or (λ b. b < 256) key 0 (λ i h. (c.type_inv.bytes i).fits) in
     let is : IsExpanded key words inverse (nk + 6) =
     IsExpanded-words key words first inverse nk (bytes, c.requires.permitted) c.requires.len (search rules) c.first_words-first.ensures
-      c.expansion-words.ensures.words c.inverse_keys-inverse_words.ensures (omega arith) in
+    c.expansion-words.ensures.words c.inverse_keys-inverse_words.ensures (omega arith) in
     subst (λ (k : List ℕ). IsExpanded k words inverse (nk + 6))
     (sym (bytes_of-words key words first nk c.requires.len c.first_words-first.ensures c.expansion-words.ensures.kept)) is
 
