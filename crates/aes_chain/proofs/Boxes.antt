@@ -1,6 +1,6 @@
 -- The program's tables are what the definitions say, by computation over all 256 entries.
-use Rattle.std.proofs.Common.{◌≡◌, ◌<◌, ◌≤◌, ◌+◌, ◌*◌, ℕ, Bool, true, refl, map, get_or, slice_index, slice_index_or, length, List, [], ◌∷◌, sym, ap, ◌∙◌, arith}
-use Rattle.std.specs.List.{range_with_len, list_all}
+use Rattle.std.proofs.Common.{◌≡◌, ◌<◌, ℕ, refl, map, get_or, slice_index, length, List, [], sym, ap, ◌∙◌, arith}
+use Rattle.std.specs.List.{range_with_len}
 use Rattle.std.specs.Int.{w32, to_le_bytes}
 use Rattle.std.proofs.lemmas.List.{get_or-map}
 use Rattle.std.proofs.lemmas.List.FromFn.{get_or-map-range_with_len}

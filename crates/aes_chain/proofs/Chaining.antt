@@ -1,5 +1,5 @@
 -- The laws: blocks, and texts of whole blocks.
-use Rattle.std.proofs.Common.{◌≡◌, ◌<◌, ◌≤◌, ◌+◌, ◌-◌, ◌*◌, ◌/◌, ◌%◌, ℕ, zero, suc, List, [], ◌∷◌, ◌++◌, length, take, drop, replicate, refl, sym, ap, ◌∙◌, arith, length-append, length-drop}
+use Rattle.std.proofs.Common.{◌≡◌, ◌<◌, ◌≤◌, ◌+◌, ◌-◌, ◌*◌, ◌/◌, ℕ, zero, suc, List, [], ◌∷◌, ◌++◌, length, take, drop, refl, sym, ap, ◌∙◌, arith, length-append, length-drop}
 use Rattle.std.proofs.lemmas.List.{take-append-le, drop-append-le, take_all, drop_all, take-append-drop, length-take-le, append_assoc, append-nil, drop-drop}
 use Rattle.std.proofs.lemmas.Slice.{take-put_mid, drop-put_mid}
 use borrow.Rule.Slice.PartMut.{put_mid}
@@ -9,7 +9,7 @@ use Rattle.aes_chain.specs.Words.{state_at}
 use Rattle.aes_chain.specs.Schedule.{round_count, round_key}
 use Rattle.aes_chain.specs.Cipher.{encrypted, decrypted}
 use Rattle.aes_chain.specs.Chain.{first_vector, cipher_blocks, plain_blocks, chain_encrypted, chain_decrypted}
-use Rattle.aes_chain.specs.Laws.{AreBytes, IsBlock, IsKey, IsWhole, DecryptionUndoesEncryption, EncryptionUndoesDecryption, ChainDecryptionUndoesEncryption, ChainEncryptionUndoesDecryption}
+use Rattle.aes_chain.specs.Laws.{AreBytes, IsBlock, IsKey, DecryptionUndoesEncryption, EncryptionUndoesDecryption, ChainDecryptionUndoesEncryption, ChainEncryptionUndoesDecryption}
 use Rattle.aes_chain.proofs.Steps.{IsBlock-added, length-added, added-twice_left}
 use Rattle.aes_chain.proofs.Keys.{round_key-bytes}
 use Rattle.aes_chain.proofs.Inverse.{IsBlock-cipher, IsBlock-inv_cipher, inv_cipher-cipher, cipher-inv_cipher}

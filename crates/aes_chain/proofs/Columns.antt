@@ -1,10 +1,10 @@
 -- States by their columns, as numbers of 32 bits.
-use Rattle.std.proofs.Common.{◌≡◌, ◌<◌, ◌≤◌, ◌+◌, ◌-◌, ◌*◌, ◌%◌, ℕ, List, [], ◌∷◌, ◌++◌, bit_xor, length, slice_index, refl, sym, ap, ◌∙◌, add-zero}
+use Rattle.std.proofs.Common.{◌≡◌, ◌<◌, ◌+◌, ℕ, List, [], ◌∷◌, ◌++◌, bit_xor, length, slice_index, refl, sym, ap, ◌∙◌, add-zero}
 use Rattle.std.specs.Int.{w32, byte_at, to_le_bytes, from_le_bytes}
 use Rattle.std.proofs.lemmas.Nat.{le_bytes_4}
 use Rattle.std.proofs.lemmas.List.Elements.{All-from_recursion}
-use Rattle.aes_chain.specs.Field.{times, s_box, inv_s_box}
-use Rattle.aes_chain.specs.State.{byte_in, state, sub_bytes, inv_sub_bytes, shift_rows, inv_shift_rows, sum4, row_times, columns_times, mix_matrix, inv_mix_matrix, mix_columns, inv_mix_columns, added}
+use Rattle.aes_chain.specs.Field.{s_box, inv_s_box}
+use Rattle.aes_chain.specs.State.{state, sub_bytes, inv_sub_bytes, shift_rows, inv_shift_rows, sum4, row_times, columns_times, mix_matrix, inv_mix_matrix, mix_columns, inv_mix_columns, added}
 use Rattle.aes_chain.specs.Words.{state_at, column_times, products}
 use Rattle.aes_chain.proofs.Sums.{byte_at-xor}
 use Rattle.aes_chain.proofs.States.{byte_lt, of_sixteen}

@@ -1,11 +1,11 @@
 -- What the fields of a key say of its bytes.
-use Rattle.std.proofs.Common.{◌≡◌, ◌<◌, ◌≤◌, ◌+◌, ◌-◌, ◌*◌, ◌/◌, ℕ, List, ltb, ◌&&◌, cond, length, take, map, refl, sym, ap, ◌∙◌, subst, arith, inl, inr}
+use Rattle.std.proofs.Common.{◌≡◌, ◌<◌, ◌≤◌, ◌+◌, ◌-◌, ◌*◌, ◌/◌, ℕ, List, ltb, ◌&&◌, cond, length, take, map, ap, ◌∙◌, arith}
 use Rattle.std.specs.Int.{w32, to_le_bytes}
 use Rattle.aes_chain.specs.State.{inv_mix_columns}
-use Rattle.aes_chain.specs.Schedule.{key_words, expanded, key_len, key_expansion, round_count, round_key}
+use Rattle.aes_chain.specs.Schedule.{key_words, expanded, key_expansion, round_count, round_key}
 use Rattle.aes_chain.specs.Cipher.{cipher, inv_cipher, encrypted, decrypted}
 use Rattle.aes_chain.specs.Words.{IsExpanded, bytes_of, eq_inv_cipher, inv_key, keys_at, state_at, words_of}
-use Rattle.aes_chain.specs.Laws.{IsKey, IsKeyLen}
+use Rattle.aes_chain.specs.Laws.{IsKey}
 use Rattle.aes_chain.proofs.Expansion.{bytes_of-key, state_at-round_key}
 use Rattle.aes_chain.proofs.Rounds.{cipher-same, eq_inv_cipher-inv_cipher}
 

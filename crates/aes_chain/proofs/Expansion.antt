@@ -1,13 +1,13 @@
 -- The key expansion, as the program keeps it: words of 32 bits in a list.
-use Rattle.std.proofs.Common.{◌≡◌, ◌≢◌, ◌<◌, ◌≤◌, ◌+◌, ◌-◌, ◌*◌, ◌/◌, ◌%◌, ℕ, zero, suc, Bool, cond, eqb, ◌&&◌, eq-eqb, ne_eqb, subst, List, [], ◌∷◌, ◌++◌, bit_xor, length, map, take, slice_index, slice_index_or, slice_set, get_or, refl, sym, ap, ◌∙◌, arith, add-one, add-zero, lit<}
+use Rattle.std.proofs.Common.{◌≡◌, ◌≢◌, ◌<◌, ◌≤◌, ◌+◌, ◌-◌, ◌*◌, ◌/◌, ◌%◌, ℕ, zero, suc, Bool, cond, eqb, ◌&&◌, eq-eqb, ne_eqb, subst, List, [], ◌∷◌, ◌++◌, bit_xor, length, map, take, slice_index, slice_set, refl, sym, ap, ◌∙◌, arith, add-one, lit<}
 use Rattle.std.specs.Int.{w32, byte_at, to_le_bytes, from_le_bytes}
 use Rattle.std.specs.List.{concat}
-use Rattle.std.proofs.lemmas.List.{get_or-map, get_or-take, take_more, take_more_set, take-set-le, append_assoc, length-take-le, map-append, append-nil, take_all}
+use Rattle.std.proofs.lemmas.List.{get_or-map, get_or-take, take_more, take_more_set, append_assoc, length-take-le, map-append, append-nil, take_all}
 use Rattle.std.proofs.lemmas.List.Folds.{concat-append}
-use Rattle.aes_chain.specs.Field.{inv_s_box, s_box}
-use Rattle.aes_chain.specs.State.{state, row_times, columns_times, inv_mix_matrix, inv_mix_columns}
-use Rattle.aes_chain.specs.Schedule.{word_in, word_sum, rot_word, sub_word, power_of_x, round_constant, added_word, next_word, key_words, expanded, key_len, key_expansion, round_count, round_key}
-use Rattle.aes_chain.specs.Words.{state_at, column_times, words_of, bytes_of, inv_key, keys_at}
+use Rattle.aes_chain.specs.Field.{s_box}
+use Rattle.aes_chain.specs.State.{state, columns_times, inv_mix_matrix, inv_mix_columns}
+use Rattle.aes_chain.specs.Schedule.{word_in, word_sum, rot_word, sub_word, power_of_x, round_constant, added_word, next_word, key_words, expanded, key_expansion, round_key}
+use Rattle.aes_chain.specs.Words.{state_at, column_times, words_of, bytes_of}
 use Rattle.std.proofs.Math.Bool.{and-false}
 use Rattle.std.proofs.lemmas.Nat.{div_below, xor_lt}
 use lib.Bits.{xor_zero_r}

@@ -1,5 +1,5 @@
 -- The cipher and the inverse cipher undo one another.
-use Rattle.std.proofs.Common.{◌≡◌, ◌<◌, ◌≤◌, ◌+◌, ◌-◌, ℕ, zero, suc, List, length, refl, sym, ap, ◌∙◌, arith}
+use Rattle.std.proofs.Common.{◌≡◌, ◌<◌, ◌+◌, ◌-◌, ℕ, zero, suc, List, ap, ◌∙◌, arith}
 use Rattle.aes_chain.specs.State.{sub_bytes, inv_sub_bytes, shift_rows, inv_shift_rows, mix_columns, inv_mix_columns, added}
 use Rattle.aes_chain.specs.Cipher.{rounds, cipher, inv_rounds, inv_cipher}
 use Rattle.aes_chain.specs.Laws.{AreBytes, IsBlock}

@@ -1,12 +1,10 @@
 -- Round keys are made of bytes.
-use Rattle.std.proofs.Common.{◌≡◌, ◌<◌, ◌≤◌, ◌+◌, ◌-◌, ◌*◌, ◌/◌, ◌%◌, ◌^◌, ◌==◌, ◌&&◌, ℕ, zero, suc, Bool, true, false, cond, List, [], ◌∷◌, ◌++◌, length, slice_index, slice_index_or, bit_xor, refl, arith, inl, inr}
+use Rattle.std.proofs.Common.{◌<◌, ◌+◌, ◌-◌, ◌*◌, ◌/◌, ◌%◌, ◌==◌, ◌&&◌, ℕ, zero, suc, Bool, true, false, cond, List, [], ◌∷◌, length, slice_index, bit_xor, arith, inl, inr}
 use Rattle.std.proofs.lemmas.Bool.{cases_lt}
 use Rattle.std.proofs.lemmas.List.{get_or_past}
 use Rattle.std.proofs.lemmas.List.Elements.{All-from_recursion, All-push, All-nil}
 use Rattle.std.proofs.lemmas.Nat.{xor_lt}
 use Rattle.std.specs.Prelude.{All}
-use Rattle.aes_chain.specs.Field.{s_box}
-use Rattle.aes_chain.specs.State.{state}
 use Rattle.aes_chain.specs.Schedule.{word_in, word_sum, rot_word, sub_word, power_of_x, round_constant, added_word, next_word, key_words, expanded, key_len, key_expansion, round_key}
 use Rattle.aes_chain.specs.Laws.{AreBytes}
 use Rattle.aes_chain.proofs.States.{byte_lt, AreBytes_rows, s_box-lt}

@@ -1,17 +1,12 @@
 -- The S-box and MixColumns undone, by computation over the 256 bytes.
-use Rattle.std.proofs.Common.{◌≡◌, ◌<◌, ◌≤◌, ◌+◌, ◌-◌, ◌*◌, ◌%◌, ◌==◌, ℕ, zero, suc, Bool, true, false, List, [], ◌∷◌, bit_xor, length, map, slice_index, get_or, refl, sym, ap, ◌∙◌, arith, inl, inr}
-use Rattle.std.specs.Prelude.{All}
+use Rattle.std.proofs.Common.{◌≡◌, ◌<◌, ◌+◌, ◌*◌, ◌%◌, ℕ, List, bit_xor, map, slice_index, get_or, refl, sym, ap, ◌∙◌, arith}
 use Rattle.std.specs.List.{range_with_len}
-use Rattle.std.proofs.lemmas.Bool.{cases_lt}
-use Rattle.std.proofs.lemmas.List.{get_or_past}
-use Rattle.std.proofs.lemmas.List.Elements.{All-from_recursion, All-get_or}
-use Rattle.std.proofs.lemmas.List.FromFn.{get_or-map-range_with_len, fill_by_all}
+use Rattle.std.proofs.lemmas.List.FromFn.{get_or-map-range_with_len}
 use Rattle.std.proofs.lemmas.Nat.{xor_lt}
 use lib.Bits.{xor_zero_r}
 use Rattle.aes_chain.specs.Field.{times, product, remainder, inverse, inverse_below, byte_of_sums, affine, s_box, inv_affine, inv_s_box}
-use Rattle.aes_chain.specs.State.{byte_in, state, sub_bytes, inv_sub_bytes, shift_rows, inv_shift_rows, sum4, row_times, columns_times, mix_matrix, inv_mix_matrix, mix_columns, inv_mix_columns, added}
-use Rattle.aes_chain.specs.Laws.{AreBytes, IsBlock}
-use Rattle.aes_chain.proofs.Sums.{sum4-turned, times-sum4, times-xor, xor_pairs, xor_twice, xor_twice_left}
+use Rattle.aes_chain.specs.State.{sum4, row_times, mix_matrix, inv_mix_matrix}
+use Rattle.aes_chain.proofs.Sums.{sum4-turned, times-sum4}
 
 abbrev all_bytes : List ℕ
 all_bytes = range_with_len 0 256

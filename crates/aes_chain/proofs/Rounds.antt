@@ -1,5 +1,5 @@
 -- The loops over the rounds, and the equivalent inverse cipher against the inverse cipher.
-use Rattle.std.proofs.Common.{◌≡◌, ◌<◌, ◌≤◌, ◌+◌, ◌-◌, ◌*◌, ℕ, zero, suc, Bool, true, false, List, ltb, cond, ◌&&◌, refl, sym, ap, ◌∙◌, arith}
+use Rattle.std.proofs.Common.{◌≡◌, ◌<◌, ◌≤◌, ◌+◌, ◌-◌, ℕ, zero, suc, Bool, true, false, List, ltb, cond, ◌&&◌, refl, sym, ap, ◌∙◌, arith}
 use Rattle.std.proofs.Math.Bool.{and-false}
 use Rattle.std.proofs.lemmas.Bool.{lt-ltb, le-ltb}
 use Rattle.aes_chain.specs.State.{sub_bytes, inv_sub_bytes, shift_rows, inv_shift_rows, inv_mix_matrix, mix_columns, inv_mix_columns, added}

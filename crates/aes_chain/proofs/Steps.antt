@@ -1,5 +1,5 @@
 -- The steps of a round: each has its inverse, and gives a block.
-use Rattle.std.proofs.Common.{◌≡◌, ◌<◌, ◌≤◌, ◌+◌, ◌-◌, ◌*◌, ◌%◌, ◌^◌, ℕ, List, bit_xor, length, slice_index, refl, sym, ap, ◌∙◌, arith}
+use Rattle.std.proofs.Common.{◌≡◌, ◌<◌, ◌+◌, ◌-◌, ◌*◌, ◌%◌, ℕ, List, bit_xor, length, slice_index, refl, ◌∙◌}
 use Rattle.std.proofs.lemmas.Nat.{xor_lt}
 use Rattle.aes_chain.specs.Field.{times, s_box, inv_s_box}
 use Rattle.aes_chain.specs.State.{byte_in, state, sub_bytes, inv_sub_bytes, shift_rows, inv_shift_rows, sum4, row_times, columns_times, mix_matrix, inv_mix_matrix, mix_columns, inv_mix_columns, added}

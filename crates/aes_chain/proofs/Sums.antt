@@ -1,7 +1,7 @@
 -- Sums over two elements, and that products of polynomials go through them.
-use Rattle.std.proofs.Common.{◌≡◌, ◌<◌, ◌≤◌, ◌+◌, ◌*◌, ◌/◌, ◌%◌, ◌^◌, ℕ, zero, suc, bit_xor, refl, sym, ap, ◌∙◌, arith, add-zero}
+use Rattle.std.proofs.Common.{◌≡◌, ◌<◌, ◌+◌, ◌*◌, ◌/◌, ◌%◌, ◌^◌, ℕ, zero, suc, bit_xor, refl, sym, ap, ◌∙◌, arith, add-zero}
 use Rattle.std.proofs.Math.Nat.{zero-mul, one-mul, pow-suc}
-use Rattle.std.specs.Int.{bit_at, byte_at, w32, to_le_bytes}
+use Rattle.std.specs.Int.{bit_at, byte_at}
 use Rattle.std.proofs.lemmas.Nat.{pow-add, xor_comm, xor_block, xor_shr, xor_mod, pow_pos}
 use Rattle.std.proofs.lemmas.Nat.Bits.{bit_at_xor, bit_at-lt}
 use lib.Bits.{xor_assoc, xor_self, xor_zero_l, xor_zero_r}

@@ -1,6 +1,6 @@
 -- Bytes as polynomials over two elements (FIPS 197, section 4): bit i of a number is the coefficient
 -- of x^i, and `bit_xor` is the sum.
-use Rattle.std.specs.Prelude.{ℕ, zero, suc, ◌+◌, ◌*◌, ◌/◌, ◌%◌, ◌^◌, ◌==◌, true, false, bit_xor}
+use Rattle.std.specs.Prelude.{ℕ, zero, suc, ◌+◌, ◌*◌, ◌%◌, ◌^◌, ◌==◌, true, false, bit_xor}
 use Rattle.std.specs.Int.{bit_at}
 
 -- the product of polynomials, over the lowest n coefficients of the first: the sum of x^i times the

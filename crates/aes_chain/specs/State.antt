@@ -1,6 +1,6 @@
 -- The state of AES: a list of 16 bytes, of which byte r + 4c stands in row r and column c (FIPS 197,
 -- 3.4), and what a round does to it.
-use Rattle.std.specs.Prelude.{ℕ, zero, suc, ◌+◌, ◌-◌, ◌*◌, ◌%◌, List, [], ◌∷◌, slice_index, bit_xor}
+use Rattle.std.specs.Prelude.{ℕ, ◌+◌, ◌-◌, ◌*◌, ◌%◌, List, [], ◌∷◌, slice_index, bit_xor}
 use Rattle.aes_chain.specs.Field.{times, s_box, inv_s_box}
 
 -- the byte in row r and column c

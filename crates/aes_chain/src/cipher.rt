@@ -34,7 +34,8 @@ pub fn chain_encrypt(key: &Key, text: &mut [u8])
     let mut vector = [0; 4];
     for i in 0..text.len() / BLOCK_LEN {
         let block = &mut text[BLOCK_LEN * i..BLOCK_LEN * i + BLOCK_LEN];
-        let cipher = key.encrypt_columns(add(vector, load(block)));
+        let plain = load(block);
+        let cipher = key.encrypt_columns(add(vector, plain));
         store(cipher, block);
         vector = cipher;
     }
@@ -48,9 +49,9 @@ pub fn chain_decrypt(key: &Key, text: &mut [u8])
     let mut vector = [0; 4];
     for i in 0..text.len() / BLOCK_LEN {
         let block = &mut text[BLOCK_LEN * i..BLOCK_LEN * i + BLOCK_LEN];
-        let cipher = load(block);
-        let plain = add(vector, key.decrypt_columns(cipher));
+        let next = load(block);
+        let plain = add(vector, key.decrypt_columns(next));
         store(plain, block);
-        vector = cipher;
+        vector = next;
     }
 }

@@ -1,4 +1,4 @@
-use Rattle.std.proofs.Common.{ℕ, List, ap, ◌∙◌, ◌≡◌, ◌+◌, ◌-◌, ◌*◌, sym, refl, arith}
+use Rattle.std.proofs.Common.{ℕ, ap, ◌∙◌, ◌≡◌, ◌-◌, sym, arith}
 use Rattle.aes_chain.specs.State.{inv_sub_bytes, inv_shift_rows, inv_mix_columns, added}
 use Rattle.aes_chain.specs.Words.{keys_at, state_at, eq_inv_rounds, eq_inv_cipher}
 use Rattle.aes_chain.proofs.Rounds.{eq_inv_rounds_more}

@@ -1,4 +1,4 @@
-use Rattle.std.proofs.Common.{ℕ, List, ◌∷◌, [], ap, ◌∙◌, ◌≡◌, sym, refl, slice_index, rules}
+use Rattle.std.proofs.Common.{ℕ, List, ap, ◌∙◌, slice_index}
 use Rattle.aes_chain.specs.Field.{inv_s_box}
 use Rattle.aes_chain.specs.State.{inv_mix_matrix}
 use Rattle.aes_chain.specs.Words.{products}

@@ -1,5 +1,4 @@
-use Rattle.std.proofs.Common.{ℕ, List, ◌∷◌, [], ap, ◌∙◌, ◌≡◌, sym, refl, slice_index, rules}
-use Rattle.aes_chain.proofs.States.{of_sixteen}
+use Rattle.std.proofs.Common.{◌∙◌}
 use Rattle.aes_chain.proofs.Columns.{state_of_columns, sixteen}
 use Rattle.aes_chain.proofs.block.load.Goals as goal
 

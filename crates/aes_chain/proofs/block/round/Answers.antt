@@ -1,4 +1,4 @@
-use Rattle.std.proofs.Common.{ℕ, List, ◌∷◌, [], ap, ◌∙◌, ◌≡◌, sym, refl, slice_index, rules}
+use Rattle.std.proofs.Common.{ℕ, List, ap, ◌∙◌}
 use Rattle.aes_chain.specs.State.{added}
 use Rattle.aes_chain.specs.Words.{state_at}
 use Rattle.aes_chain.proofs.Columns.{round_columns}

@@ -1,4 +1,4 @@
-use Rattle.std.proofs.Common.{ℕ, List, ◌∷◌, [], ap, ◌∙◌, ◌≡◌, ◌+◌, ◌-◌, ◌*◌, sym, refl, slice_index}
+use Rattle.std.proofs.Common.{◌∷◌, [], ◌∙◌, slice_index}
 use Rattle.aes_chain.specs.State.{state}
 use Rattle.aes_chain.specs.Words.{state_at}
 use Rattle.aes_chain.proofs.block.store.Goals as goal

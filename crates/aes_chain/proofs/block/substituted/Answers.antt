@@ -1,4 +1,4 @@
-use Rattle.std.proofs.Common.{ℕ, List, ◌∷◌, [], ap, ◌∙◌, ◌≡◌, sym, refl, slice_index, rules}
+use Rattle.std.proofs.Common.{ℕ, List, ◌∷◌, [], ap, ◌∙◌, slice_index}
 use Rattle.aes_chain.specs.Field.{s_box}
 use Rattle.aes_chain.proofs.Columns.{bytes_four}
 use Rattle.aes_chain.proofs.block.substituted.Goals as goal

@@ -1,4 +1,4 @@
-use Rattle.std.proofs.Common.{ℕ, List, ap, ◌∙◌, ◌≡◌, ◌+◌, ◌-◌, ◌*◌, ◌/◌, ◌%◌, ◌<◌, ◌≤◌, sym, refl, arith, take, drop, length, ◌++◌}
+use Rattle.std.proofs.Common.{ℕ, List, ap, ◌∙◌, ◌≡◌, ◌+◌, ◌-◌, ◌*◌, ◌/◌, sym, arith, take, drop, length, ◌++◌}
 use borrow.Rule.Slice.PartMut.{put_mid}
 use Rattle.aes_chain.specs.State.{added}
 use Rattle.aes_chain.specs.Cipher.{encrypted}
@@ -20,7 +20,7 @@ loop-i-preserved c =
     let whole : List ℕ = cipher_blocks c.args.key.now first_vector n c.args.text.now in
     let v : List ℕ = state_at c.encrypt_columns-cipher.result 0 in
     let is : v ≡ encrypted c.args.key.now (added (state_at c.loop-i.vector 0) (take k (drop (16 * c.loop-i.i) c.loop-i.text))) =
-    c.encrypt_columns-cipher.ensures ∙ ap (encrypted c.args.key.now) (c.add.ensures ∙ ap (added (state_at c.loop-i.vector 0)) c.load.ensures) in
+    c.encrypt_columns-cipher.ensures ∙ ap (encrypted c.args.key.now) (c.add.ensures ∙ ap (added (state_at c.loop-i.vector 0)) c.load-plain.ensures) in
     let before = cipher_blocks_more c.args.key.now (state_at c.loop-i.vector 0) whole c.loop-i.text v n c.loop-i.i k (omega arith) c.loop-i-test.true
     (omega arith) c.loop-i.invariant is (length-state_at c.encrypt_columns-cipher.result 0) in
     before ∙ ap (λ (b : List ℕ). take (16 * (c.loop-i.i + 1)) (put_mid (16 * c.loop-i.i) k c.loop-i.text b)

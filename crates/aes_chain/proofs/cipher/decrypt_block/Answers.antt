@@ -1,4 +1,4 @@
-use Rattle.std.proofs.Common.{ℕ, List, ap, ◌∙◌, ◌≡◌, ◌+◌, ◌-◌, ◌*◌, ◌/◌, ◌%◌, ◌<◌, ◌≤◌, sym, refl, arith, take, drop, length, ◌++◌}
+use Rattle.std.proofs.Common.{ap, ◌∙◌}
 use Rattle.aes_chain.specs.Cipher.{decrypted}
 use Rattle.aes_chain.proofs.cipher.decrypt_block.Goals as goal
 

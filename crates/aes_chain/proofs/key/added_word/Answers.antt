@@ -1,7 +1,7 @@
-use Rattle.std.proofs.Common.{ℕ, List, [], ◌∷◌, ◌++◌, ap, ◌∙◌, ◌≡◌, ◌+◌, ◌-◌, ◌*◌, ◌/◌, ◌%◌, ◌<◌, ◌≤◌, ◌≢◌, take, length, slice_index, slice_set, get_or, sym, refl, arith, inl, inr}
+use Rattle.std.proofs.Common.{ℕ, List, [], ◌∷◌, ap, ◌∙◌, ◌≡◌, slice_index, sym, refl}
 use Rattle.std.specs.Int.{byte_at}
 use Rattle.aes_chain.specs.Field.{s_box}
-use Rattle.aes_chain.specs.Schedule.{added_word, sub_word}
+use Rattle.aes_chain.specs.Schedule.{sub_word}
 use Rattle.aes_chain.proofs.Expansion.{first_word, added_word-middle, added_word-none_at, added_word-none}
 use Rattle.aes_chain.proofs.key.added_word.Goals as goal
 use Rattle.aes_chain.proofs.key.added_word.Goals.{else-key_len-eq8-via-then-key_len-eq8+else-i-key_len-eq4, else-key_len-eq8-via-else-key_len-eq8}

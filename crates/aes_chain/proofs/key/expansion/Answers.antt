@@ -1,4 +1,4 @@
-use Rattle.std.proofs.Common.{ℕ, List, [], ◌∷◌, ◌++◌, ap, ◌∙◌, ◌≡◌, ◌+◌, ◌-◌, ◌*◌, ◌/◌, ◌%◌, ◌<◌, ◌≤◌, ◌≢◌, take, length, slice_index, slice_set, get_or, sym, refl, arith, inl, inr}
+use Rattle.std.proofs.Common.{ℕ, List, ap, ◌∙◌, ◌≡◌, ◌+◌, ◌-◌, ◌*◌, sym, refl, arith}
 use Rattle.std.proofs.lemmas.List.{length-set, take-set-le}
 use Rattle.aes_chain.specs.Schedule.{expanded}
 use Rattle.aes_chain.specs.Words.{words_of}

@@ -1,4 +1,4 @@
-use Rattle.std.proofs.Common.{◌≡◌, ◌≤◌, ◌<◌, ◌-◌, ◌+◌, ◌*◌, ℕ, take, length, slice_index, List}
+use Rattle.std.proofs.Common.{◌≡◌, length}
 use Rattle.aes_chain.specs.Schedule.{key_words}
 use Rattle.aes_chain.specs.Words.{words_of}
 use Rattle.aes_chain.proofs.key.first_words.Given as goal

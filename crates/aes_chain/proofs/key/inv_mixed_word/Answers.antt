@@ -1,6 +1,6 @@
-use Rattle.std.proofs.Common.{ℕ, List, [], ◌∷◌, ◌++◌, ap, ◌∙◌, ◌≡◌, ◌+◌, ◌-◌, ◌*◌, ◌/◌, ◌%◌, ◌<◌, ◌≤◌, ◌≢◌, take, length, slice_index, slice_set, get_or, sym, refl, arith, inl, inr}
+use Rattle.std.proofs.Common.{◌∙◌, slice_index, arith}
 use Rattle.std.specs.Int.{byte_at}
-use Rattle.aes_chain.specs.Field.{inv_s_box, s_box}
+use Rattle.aes_chain.specs.Field.{inv_s_box}
 use Rattle.aes_chain.specs.State.{inv_mix_matrix}
 use Rattle.aes_chain.specs.Words.{column_times}
 use Rattle.aes_chain.proofs.Mixing.{inv_s_box-s_box}

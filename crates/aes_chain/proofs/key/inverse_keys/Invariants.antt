@@ -1,4 +1,4 @@
-use Rattle.std.proofs.Common.{◌≡◌, ◌≤◌, ◌<◌, ◌-◌, ◌+◌, ◌*◌, ℕ, take, length, slice_index, List}
+use Rattle.std.proofs.Common.{◌≡◌, ◌≤◌, ◌<◌, ℕ, length, slice_index}
 use Rattle.aes_chain.proofs.Expansion.{IsInvMixed}
 use Rattle.aes_chain.proofs.key.inverse_keys.Given as goal
 

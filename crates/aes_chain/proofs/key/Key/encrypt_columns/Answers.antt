@@ -1,4 +1,4 @@
-use Rattle.std.proofs.Common.{ℕ, List, ap, ◌∙◌, ◌≡◌, ◌-◌, sym, subst, arith}
+use Rattle.std.proofs.Common.{ℕ, List, ap, ◌∙◌, ◌-◌}
 use Rattle.aes_chain.specs.Cipher.{encrypted}
 use Rattle.aes_chain.specs.Words.{bytes_of, state_at}
 use Rattle.aes_chain.proofs.Expanded.{cipher-encrypted}

@@ -1,5 +1,5 @@
-use Rattle.std.proofs.Common.{ℕ, List, rules, ◌+◌, ◌<◌, ap, ◌∙◌, ◌≡◌, ◌-◌, sym, subst, arith}
-use Rattle.aes_chain.specs.Words.{IsExpanded, bytes_of}
+use Rattle.std.proofs.Common.{ℕ, List, rules, ◌+◌, ◌<◌, sym, subst, arith}
+use Rattle.aes_chain.specs.Words.{IsExpanded}
 use Rattle.aes_chain.specs.Laws.{AreBytes}
 use Rattle.std.proofs.lemmas.List.Elements.{All-from_get_or}
 use Rattle.aes_chain.proofs.Expanded.{IsExpanded-words, bytes_of-words}
