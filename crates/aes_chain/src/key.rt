@@ -12,6 +12,9 @@ use crate::block::{WORDS, decrypt, encrypt, inv_mixed, substituted, word};
 use crate::tables::{ROUND_CONSTANTS, s_box};
 use std::marker::Model;
 
+// The words of the longest key, whose expansion has one substitution more.
+const LONGEST: usize = 8;
+
 /// A key of AES, of 16, 24 or 32 bytes, with its round keys. In contracts it is the list of its bytes.
 #[derive(Drop)]
 pub struct Key {
@@ -120,7 +123,7 @@ fn added_word(before: u32, i: usize, key_len: usize) -> u32
         let [a, b, c, d] = before.to_le_bytes();
         let constant = ROUND_CONSTANTS[i / key_len - 1];
         u32::from_le_bytes([s_box(b) ^ constant, s_box(c), s_box(d), s_box(a)])
-    } else if key_len == 8 && i % key_len == 4 {
+    } else if key_len == LONGEST && i % key_len == 4 {
         substituted(before, before, before, before)
     } else {
         before

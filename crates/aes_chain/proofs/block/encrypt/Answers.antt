@@ -1,4 +1,4 @@
-use Rattle.std.proofs.Common.{ℕ, ap, ◌∙◌, ◌≡◌, ◌-◌, ◌*◌, sym, arith}
+use Rattle.std.proofs.Common.{List, ℕ, ap, ◌∙◌, ◌≡◌, ◌-◌, ◌*◌, sym, arith}
 use Rattle.aes_chain.specs.State.{sub_bytes, shift_rows, mix_columns, added}
 use Rattle.aes_chain.specs.Cipher.{rounds, cipher}
 use Rattle.aes_chain.specs.Words.{keys_at, state_at}
@@ -15,10 +15,13 @@ loop-r-preserved c =
     ∙ (λ i. added (mix_columns (shift_rows (sub_bytes (c.loop-r.invariant i)))) (c.key_at-key.ensures i))
     ∙ sym (rounds_more (keys_at c.args.words.now) (state_at c.args.block 0) c.loop-r.r c.loop-r.auto.r)
 
-pub returns : goal.returns
+-- the rounds so far, and the last one
+ends : (nr : ℕ) (keys : ℕ → List ℕ) (s out : List ℕ) (r : ℕ) → r ≡ nr
+    → out ≡ added (shift_rows (sub_bytes (rounds keys s (r - 1)))) (keys nr) → out ≡ cipher nr keys s
 unfolding cipher
+ends nr keys s out r end is = is ∙ ap (λ (k : ℕ). added (shift_rows (sub_bytes (rounds keys s (k - 1)))) (keys nr)) end
+
+pub returns : goal.returns
 returns c =
-    let end : c.loop-r.r ≡ c.args.rounds = omega arith in
-    c.last_round.ensures
-    ∙ (λ i. added (shift_rows (sub_bytes (c.loop-r.invariant i))) (c.key_at-2.ensures i))
-    ∙ ap (λ (k : ℕ). added (shift_rows (sub_bytes (rounds (keys_at c.args.words.now) (state_at c.args.block 0) (k - 1)))) (state_at c.args.words.now (4 * c.args.rounds))) end
+    let so_far : state_at c.loop-r.s 0 ≡ rounds (keys_at c.args.words.now) (state_at c.args.block 0) (c.loop-r.r - 1) = c.loop-r.invariant in
+    ends c.args.rounds (keys_at c.args.words.now) (state_at c.args.block 0) _ c.loop-r.r (omega arith) (cc)

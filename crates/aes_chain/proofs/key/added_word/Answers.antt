@@ -4,7 +4,7 @@ use Rattle.aes_chain.specs.Field.{s_box}
 use Rattle.aes_chain.specs.Schedule.{sub_word}
 use Rattle.aes_chain.proofs.Expansion.{first_word, added_word-middle, added_word-none_at, added_word-none}
 use Rattle.aes_chain.proofs.key.added_word.Goals as goal
-use Rattle.aes_chain.proofs.key.added_word.Goals.{else-key_len-eq8-via-then-key_len-eq8+else-i-key_len-eq4, else-key_len-eq8-via-else-key_len-eq8}
+use Rattle.aes_chain.proofs.key.added_word.Goals.{else-key_len-eq-LONGEST-via-then-key_len-eq-LONGEST+else-i-key_len-eq4, else-key_len-eq-LONGEST-via-else-key_len-eq-LONGEST}
 
 pub returns-then-i-key_len-eq0 : goal.returns-then-i-key_len-eq0
 returns-then-i-key_len-eq0 c =
@@ -22,13 +22,13 @@ pub returns-then-i-key_len-eq4 : goal.returns-then-i-key_len-eq4
 unfolding sub_word
 returns-then-i-key_len-eq4 c =
     c.substituted.ensures
-    ∙ sym (added_word-middle c.args.key_len c.args.i _ c.if-i-key_len-eq0.false c.if-key_len-eq8.true c.if-i-key_len-eq4.true)
+    ∙ sym (added_word-middle c.args.key_len c.args.i _ c.if-i-key_len-eq0.false c.if-key_len-eq-LONGEST.true c.if-i-key_len-eq4.true)
 
-pub returns-else-key_len-eq8 : goal.returns-else-key_len-eq8
-returns-else-key_len-eq8 c =
-    elim c.else-key_len-eq8.branch [
-      | else-key_len-eq8-via-then-key_len-eq8+else-i-key_len-eq4 w ↦
+pub returns-else-key_len-eq-LONGEST : goal.returns-else-key_len-eq-LONGEST
+returns-else-key_len-eq-LONGEST c =
+    elim c.else-key_len-eq-LONGEST.branch [
+      | else-key_len-eq-LONGEST-via-then-key_len-eq-LONGEST+else-i-key_len-eq4 w ↦
           sym (added_word-none_at c.args.key_len c.args.i _ c.if-i-key_len-eq0.false w.if-i-key_len-eq4.false)
-      | else-key_len-eq8-via-else-key_len-eq8 w ↦
-          sym (added_word-none c.args.key_len c.args.i _ c.if-i-key_len-eq0.false w.if-key_len-eq8.false)
+      | else-key_len-eq-LONGEST-via-else-key_len-eq-LONGEST w ↦
+          sym (added_word-none c.args.key_len c.args.i _ c.if-i-key_len-eq0.false w.if-key_len-eq-LONGEST.false)
     ]
