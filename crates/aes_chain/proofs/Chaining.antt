@@ -3,13 +3,13 @@ use Rattle.std.proofs.Common.{◌≡◌, ◌<◌, ◌≤◌, ◌+◌, ◌-◌, �
 use Rattle.std.proofs.lemmas.List.{take-append-le, drop-append-le, take_all, drop_all, take-append-drop, length-take-le, append_assoc, append-nil, drop-drop}
 use Rattle.std.proofs.lemmas.Slice.{take-put_mid, drop-put_mid}
 use borrow.Rule.Slice.PartMut.{put_mid}
-use Rattle.std.proofs.lemmas.List.Elements.{All-take, All-drop, All-replicate}
+use Rattle.std.proofs.lemmas.List.Elements.{All-nil, All-append, All-take, All-drop, All-replicate}
 use Rattle.aes_chain.specs.State.{state, added}
 use Rattle.aes_chain.specs.Words.{state_at}
 use Rattle.aes_chain.specs.Schedule.{round_count, round_key}
 use Rattle.aes_chain.specs.Cipher.{encrypted, decrypted}
 use Rattle.aes_chain.specs.Chain.{first_vector, cipher_blocks, plain_blocks, chain_encrypted, chain_decrypted}
-use Rattle.aes_chain.specs.Laws.{AreBytes, IsBlock, IsKey, DecryptionUndoesEncryption, EncryptionUndoesDecryption, ChainDecryptionUndoesEncryption, ChainEncryptionUndoesDecryption}
+use Rattle.aes_chain.specs.Laws.{AreBytes, IsBlock, IsKey, IsWhole, DecryptionUndoesEncryption, EncryptionUndoesDecryption, ChainDecryptionUndoesEncryption, ChainEncryptionUndoesDecryption}
 use Rattle.aes_chain.proofs.Steps.{IsBlock-added, length-added, added-twice_left}
 use Rattle.aes_chain.proofs.Keys.{round_key-bytes}
 use Rattle.aes_chain.proofs.Inverse.{IsBlock-cipher, IsBlock-inv_cipher, inv_cipher-cipher, cipher-inv_cipher}
@@ -107,6 +107,32 @@ module _ (key : List ℕ) (is_key : IsKey key) where
       let before = length-plain_blocks n (take 16 text) (drop 16 text) left in
       omega (arith, length-append p (plain_blocks key (take 16 text) n (drop 16 text)), length-added vector (decrypted key (take 16 text)), before)
 
+-- a text keeps its length and is made of bytes
+module _ (key : List ℕ) (is_key : IsKey key) where
+  AreBytes-cipher_blocks : (n : ℕ) (vector text : List ℕ) → AreBytes vector → AreBytes text → length text ≡ 16 * n
+      → AreBytes (cipher_blocks key vector n text)
+  unfolding cipher_blocks
+  AreBytes-cipher_blocks zero vector text v t len = All-nil (λ b. b < 256)
+  AreBytes-cipher_blocks (suc n) vector text v t len =
+      let b : List ℕ = added vector (take 16 text) in
+      let c : List ℕ = encrypted key b in
+      let is_c : IsBlock c = IsBlock-encrypted key b is_key (IsBlock-added vector (take 16 text) v (IsBlock-first text t (omega arith)).0) in
+      let left : length (drop 16 text) ≡ 16 * n = omega (arith, length-drop 16 text) in
+      All-append (λ b. b < 256) c (cipher_blocks key c n (drop 16 text)) is_c.0
+      (AreBytes-cipher_blocks n c (drop 16 text) is_c.0 (All-drop (λ b. b < 256) 16 text t) left)
+
+  AreBytes-plain_blocks : (n : ℕ) (vector text : List ℕ) → AreBytes vector → AreBytes text → length text ≡ 16 * n
+      → AreBytes (plain_blocks key vector n text)
+  unfolding plain_blocks
+  AreBytes-plain_blocks zero vector text v t len = All-nil (λ b. b < 256)
+  AreBytes-plain_blocks (suc n) vector text v t len =
+      let first : IsBlock (take 16 text) = IsBlock-first text t (omega arith) in
+      let p : List ℕ = added vector (decrypted key (take 16 text)) in
+      let left : length (drop 16 text) ≡ 16 * n = omega (arith, length-drop 16 text) in
+      All-append (λ b. b < 256) p (plain_blocks key (take 16 text) n (drop 16 text))
+      (IsBlock-added vector (decrypted key (take 16 text)) v (IsBlock-decrypted key (take 16 text) is_key first).0).0
+      (AreBytes-plain_blocks n (take 16 text) (drop 16 text) first.0 (All-drop (λ b. b < 256) 16 text t) left)
+
 -- a block that is written in place, with what is before and after it
 module _ (i k : ℕ) (text c : List ℕ) (width : k ≡ 16) (fits : 16 * i + 16 ≤ length text) (len : length c ≡ 16) where
   take_written : take (16 * (i + 1)) (put_mid (16 * i) k text c) ≡ take (16 * i) text ++ c
@@ -199,3 +225,29 @@ chain_encrypted-chain_decrypted key text k t =
     let same : length (plain_blocks key first_vector n text) / 16 ≡ n = omega (arith, len) in
     ap (λ (m : ℕ). cipher_blocks key first_vector m (plain_blocks key first_vector n text)) same
     ∙ cipher_blocks-plain_blocks key k n first_vector text first_vector-bytes t.0 whole
+
+pub length-chain_encrypted : (key text : List ℕ) → IsKey key → IsWhole text → length (chain_encrypted key text) ≡ length text
+unfolding chain_encrypted
+length-chain_encrypted key text k t =
+    let n : ℕ = length text / 16 in
+    omega (arith, t.1, length-cipher_blocks key k n first_vector text first_vector-bytes t.0 (omega (arith, t.1)))
+
+pub length-chain_decrypted : (key text : List ℕ) → IsKey key → IsWhole text → length (chain_decrypted key text) ≡ length text
+unfolding chain_decrypted
+length-chain_decrypted key text k t =
+    let n : ℕ = length text / 16 in
+    omega (arith, t.1, length-plain_blocks key k n first_vector text (omega (arith, t.1)))
+
+pub IsWhole-chain_encrypted : (key text : List ℕ) → IsKey key → IsWhole text → IsWhole (chain_encrypted key text)
+unfolding chain_encrypted
+IsWhole-chain_encrypted key text k t =
+    let n : ℕ = length text / 16 in
+    let whole : length text ≡ 16 * n = omega (arith, t.1) in
+    (AreBytes-cipher_blocks key k n first_vector text first_vector-bytes t.0 whole, omega (arith, t.1, length-chain_encrypted key text k t))
+
+pub IsWhole-chain_decrypted : (key text : List ℕ) → IsKey key → IsWhole text → IsWhole (chain_decrypted key text)
+unfolding chain_decrypted
+IsWhole-chain_decrypted key text k t =
+    let n : ℕ = length text / 16 in
+    let whole : length text ≡ 16 * n = omega (arith, t.1) in
+    (AreBytes-plain_blocks key k n first_vector text first_vector-bytes t.0 whole, omega (arith, t.1, length-chain_decrypted key text k t))

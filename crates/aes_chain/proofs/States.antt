@@ -1,8 +1,8 @@
 -- States byte by byte, and the steps of a round that undo one another.
-use Rattle.std.proofs.Common.{◌≡◌, ◌<◌, ◌≤◌, ◌==◌, ℕ, zero, suc, true, false, List, [], ◌∷◌, length, slice_index, refl, sym, arith, inl, inr}
+use Rattle.std.proofs.Common.{◌≡◌, ◌<◌, ◌≤◌, ◌==◌, ℕ, zero, suc, true, false, List, [], ◌∷◌, length, slice_index, refl, sym, arith, inl, inr, Fits, w8, get_or}
 use Rattle.std.proofs.lemmas.Bool.{cases_lt}
 use Rattle.std.proofs.lemmas.List.{get_or_past}
-use Rattle.std.proofs.lemmas.List.Elements.{All-from_recursion}
+use Rattle.std.proofs.lemmas.List.Elements.{All-from_get_or, All-from_recursion}
 use Rattle.std.proofs.lemmas.List.FromFn.{fill_by_all}
 use Rattle.aes_chain.specs.Field.{times, inverse, inverse_below, byte_of_sums, affine, s_box, inv_affine, inv_s_box}
 use Rattle.aes_chain.specs.State.{byte_in, state}
@@ -14,6 +14,10 @@ byte_lt s all k = elim (cases_lt k (length s)) [
   | inl lt ↦ all k 0 lt
   | inr ge ↦ rw (get_or_past s k 0 ge) (omega arith)
 ]
+
+-- the items of a slice of bytes, as a function that takes one knows them
+pub AreBytes-from_fits : (s : List ℕ) → ((i : ℕ) → Fits w8 (get_or s i 0)) → AreBytes s
+AreBytes-from_fits s h = All-from_get_or (λ b. b < 256) s 0 (λ i _. (h i).fits)
 
 -- a list of 16 bytes is a state
 pub of_sixteen : (s : List ℕ) → length s ≡ 16 → state (byte_in s) ≡ s

@@ -1,7 +1,7 @@
 use Rattle.std.proofs.Common.{ℕ, List, rules, ◌+◌, ◌<◌, sym, subst, arith}
 use Rattle.aes_chain.specs.Words.{IsExpanded}
 use Rattle.aes_chain.specs.Laws.{AreBytes}
-use Rattle.std.proofs.lemmas.List.Elements.{All-from_get_or}
+use Rattle.aes_chain.proofs.States.{AreBytes-from_fits}
 use Rattle.aes_chain.proofs.Expanded.{IsExpanded-words, bytes_of-words}
 use Rattle.aes_chain.proofs.key.Key.of_words.Goals as goal
 
@@ -12,7 +12,7 @@ invariant_of-result c =
     let first : List ℕ = c.first_words-first.result in
     let inverse : List ℕ = c.inverse_keys-inverse_words.result in
     let nk : ℕ = c.args.key_len in
-    let bytes : AreBytes key = All-from_get_or (λ b. b < 256) key 0 (λ i h. (c.type_inv.bytes i).fits) in
+    let bytes : AreBytes key = AreBytes-from_fits key c.type_inv.bytes in
     let is : IsExpanded key words inverse (nk + 6) =
     IsExpanded-words key words first inverse nk (bytes, c.requires.permitted) c.requires.len (search rules) c.first_words-first.ensures
     c.expansion-words.ensures.words c.inverse_keys-inverse_words.ensures (omega arith) in
