@@ -1,5 +1,5 @@
--- How the program keeps states and round keys: columns as numbers of 32 bits, with row 0 as the lowest
--- byte.
+-- How the program keeps states and round keys: columns as numbers of 32 bits, with the first row as
+-- the lowest byte.
 use Rattle.std.specs.Prelude.{◌≡◌, ℕ, zero, suc, ◌+◌, ◌-◌, ◌*◌, ◌≤◌, ◌&&◌, nat_lt, List, [], ◌∷◌, map, take, slice_index, if◌then◌else◌}
 use Rattle.std.specs.Int.{w32, byte_at, to_le_bytes}
 use Rattle.std.specs.List.{concat}

@@ -1,5 +1,5 @@
-// One block through the cipher, as four columns of 32 bits with row 0 as the lowest byte. A table for
-// each row gives what its byte adds to its column.
+// One block through the cipher, as four columns of 32 bits with the first row as the lowest byte. A
+// table for each row gives what its byte adds to its column.
 
 ghost use Rattle.std.specs.Prelude.{◌≡◌, ℕ, ◌+◌, ◌-◌, ◌*◌, ◌<◌, ◌≤◌, [], ◌∷◌, List, length, slice_index};
 ghost use Rattle.std.specs.Int.{byte_at, to_le_bytes, w32};

@@ -1,4 +1,4 @@
-use Rattle.std.proofs.Common.{List, ℕ, ap, ◌∙◌, ◌≡◌, ◌-◌, ◌*◌, sym, arith}
+use Rattle.std.proofs.Common.{List, ℕ, ap, ◌∙◌, ◌≡◌, ◌-◌, sym, arith}
 use Rattle.aes_chain.specs.State.{sub_bytes, shift_rows, mix_columns, added}
 use Rattle.aes_chain.specs.Cipher.{rounds, cipher}
 use Rattle.aes_chain.specs.Words.{keys_at, state_at}

@@ -1,4 +1,4 @@
-use Rattle.std.proofs.Common.{ℕ, List, rules, ◌+◌, ◌<◌, sym, subst, arith}
+use Rattle.std.proofs.Common.{ℕ, List, rules, ◌+◌, sym, subst, arith}
 use Rattle.aes_chain.specs.Words.{IsExpanded}
 use Rattle.aes_chain.specs.Laws.{AreBytes}
 use Rattle.aes_chain.proofs.States.{AreBytes-from_fits}
