@@ -1,0 +1,29 @@
+-- What the definitions of this crate add up to.
+use Rattle.std.specs.Prelude.{◌≡◌, ◌≢◌, ℕ, ◌↔◌, ◌≤◌, Option, Some, List, length, All}
+use Rattle.std.specs.Char.{IsAsciiGraphic}
+use Rattle.civil_time.specs.Calendar.{CivilDate, date_of, day_number, IsCalendarDate}
+use Rattle.civil_time.specs.Stamp.{IsMoment, IsStampOf, stamp, stamp_time}
+
+-- the date of a day number is in the calendar, and so many days lie before it
+abbrev pub DatesAreCounted : Type 0
+DatesAreCounted = (n : ℕ) → IsCalendarDate (date_of n) × (day_number (date_of n) ≡ n)
+
+-- each date of the calendar from 1970 to 9999 is the date of its day number
+abbrev pub DatesAreReached : Type 0
+DatesAreReached = (date : CivilDate) → IsCalendarDate date → date.year ≤ 9999 → date_of (day_number date) ≡ date
+
+-- two different moments have different stamps
+abbrev pub StampsDiffer : Type 0
+StampsDiffer = (t u : ℕ) → IsMoment t → IsMoment u → t ≢ u → stamp t ≢ stamp u
+
+-- the moment of a text is the one whose stamp it is
+abbrev pub StampsAreRead : Type 0
+StampsAreRead = (t : ℕ) (bytes : List ℕ) → (stamp_time bytes ≡ Some t) ↔ IsStampOf t bytes
+
+-- a byte that is seen when it is printed, and no bar
+abbrev pub IsStampByte : ℕ → Type 0
+IsStampByte b = IsAsciiGraphic b × (b ≢ 124)
+
+-- a stamp has 20 bytes, each seen when it is printed: no line feed, no carriage return, and no bar
+abbrev pub StampsArePlain : Type 0
+StampsArePlain = (t : ℕ) → IsMoment t → (length (stamp t) ≡ 20) × All IsStampByte (stamp t)

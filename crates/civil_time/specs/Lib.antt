@@ -1,0 +1,4 @@
+pub mod Calendar
+pub mod Stamp
+pub mod LocalTime
+pub mod Laws
