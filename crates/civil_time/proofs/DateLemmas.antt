@@ -1,6 +1,6 @@
 -- Dates and their day numbers, and how both are those of jiff.
 use Rattle.std.proofs.Common.{◌≡◌, ℕ, zero, suc, ◌+◌, ◌-◌, ◌<◌, ◌≤◌, ◌⊎◌, inl, inr, refl, sym, ap, subst, ◌∙◌, arith, ℤ, pos, neg_ℤ, ◌+ℤ◌, ◌≤ℤ◌}
-use Rattle.std.proofs.lemmas.Bool.{cases_order}
+use Rattle.std.proofs.lemmas.Bool.{cases_lt}
 use Rattle.std.proofs.lemmas.Bool.Decides.{nat_tests}
 use Rattle.jiff_core.specs.declared.civil.date.Date.{Date}
 use Rattle.jiff_core.specs.Calendar.{days_in_month, days_from_civil, day_count}
@@ -45,12 +45,12 @@ record Follows (date next : CivilDate) : Type 0 where
 
 next_date-follows : (date : CivilDate) → IsCalendarDate date → Follows date (next_date date)
 next_date-follows date h =
-    elim (cases_day date.day (month_length date.year date.month)) [
+    elim (cases_lt date.day (month_length date.year date.month)) [
       | inl within ↦ subst (Follows date) (sym (next_in_month date within)) (record {
           is_date = record { from_1970 = h.from_1970; month_low = h.month_low; month_high = h.month_high; day_low = omega arith; day_high = omega arith };
           number = omega (arith, h.day_low);
         })
-      | inr past ↦ elim (cases_day date.month 12) [
+      | inr past ↦ elim (cases_lt date.month 12) [
         | inl earlier ↦ subst (Follows date) (sym (next_in_year date past earlier)) (record {
             is_date = record { from_1970 = h.from_1970; month_low = omega arith; month_high = omega arith; day_low = omega arith; day_high = omega (arith, days_in_month_bounds (pos date.year) (date.month + 1)) };
             number = month_number date h past;
@@ -62,10 +62,6 @@ next_date-follows date h =
       ]
     ]
   where
-    cases_day : (a b : ℕ) → (a < b) ⊎ (b ≤ a)
-    cases_day a b =
-        elim (cases_order a b) [ inl same ↦ inr (omega arith) | inr (inl lt) ↦ inl lt | inr (inr gt) ↦ inr (omega arith) ]
-
     month_number : (date : CivilDate) → IsCalendarDate date → month_length date.year date.month ≤ date.day → day_number (record { year = date.year; month = date.month + 1; day = 1 }) ≡ suc (day_number date)
     month_number date h past =
         let back : date.month + 1 - 1 ≡ date.month = omega arith in
@@ -132,10 +128,9 @@ days_of_years-all = omega (arith, day_count-years 8030, day_count-end)
 -- before that day the year has four digits
 pub date_of-year : (n : ℕ) → n < 2_932_897 → (date_of n).year ≤ 9999
 date_of-year n h =
-    elim (cases_order (date_of n).year 9999) [
-      | inl same ↦ omega arith
-      | inr (inl lt) ↦ omega arith
-      | inr (inr gt) ↦
+    elim (cases_lt (date_of n).year 10_000) [
+      | inl within ↦ omega arith
+      | inr past ↦
         let years = days_of_years-add 8030 ((date_of n).year - 10_000) in
         let all : (date_of n).year - 10_000 + 8030 ≡ (date_of n).year - 1970 = omega arith in
         absurd (omega (arith, rw all at years, days_of_years-all, day_number-date_of n))
@@ -163,6 +158,9 @@ epoch_day-date_of d n h e =
     let same = epoch_day_injective d (jiff_date (date_of n) (date_of-is_date n) (date_of-year n h)) (e ∙ sym (days_from_civil-date_of n)) in
     record { year = same.0; month = same.1; day = same.2 }
 
+pub same_parts : (a b : CivilDate) → a.year ≡ b.year → a.month ≡ b.month → a.day ≡ b.day → a ≡ b
+same_parts a b year month day = λ i. record { year = year i; month = month i; day = day i }
+
 -- each date of the calendar through 9999 is the date of its day number
 pub date_of-day_number : (date : CivilDate) → IsCalendarDate date → date.year ≤ 9999 → date_of (day_number date) ≡ date
 date_of-day_number date h year =
@@ -171,6 +169,3 @@ date_of-day_number date h year =
     let small : day_number date < 2_932_897 = omega (arith, last, day_count-day_number date h) in
     let same = epoch_day-date_of d (day_number date) small (days_from_civil-day_number date h) in
     same_parts _ _ (cc same.year) (sym same.month) (sym same.day)
-  where
-    same_parts : (a b : CivilDate) → a.year ≡ b.year → a.month ≡ b.month → a.day ≡ b.day → a ≡ b
-    same_parts a b year month day = λ i. record { year = year i; month = month i; day = day i }
