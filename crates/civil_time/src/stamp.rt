@@ -1,6 +1,6 @@
 ghost use Rattle.std.specs.Prelude.{◌≡◌, ◌↔◌, ◌+◌, ◌*◌, ◌/◌, ◌%◌, ◌<◌, ◌≤◌, ℕ, pos, IsTrue, IfSome, IfNone};
+ghost use Rattle.jiff_core.specs.Calendar.{IsCivilDate, days_from_civil};
 ghost use Rattle.jiff_core.specs.Date.{epoch_day};
-ghost use Rattle.civil_time.specs.Calendar.{date_of};
 ghost use Rattle.civil_time.specs.Stamp.{IsMoment, IsStampOf, stamp, stamp_time, two_digits, is_fresh};
 
 use jiff_core::civil::Date;
@@ -85,8 +85,8 @@ fn moment_at(year: u32, month: u32, day: u32, second: u32) -> Option<u64>
     requires day { day < 100 }
     requires second { second < 1_000_000 }
     ensures moment { IfSome result (λ t. IsMoment t) }
-    ensures only { (t : ℕ) → IsMoment t → (date_of (t / 86_400)).year ≡ year → (date_of (t / 86_400)).month ≡ month
-        → (date_of (t / 86_400)).day ≡ day → t % 86_400 ≡ second → result ≡ Some t }
+    ensures only { (t : ℕ) → IsMoment t → IsCivilDate (pos year) month day
+        → days_from_civil (pos year) month day ≡ pos (t / 86_400) → t % 86_400 ≡ second → result ≡ Some t }
 {
     let date = Date::new(year as i16, month as i8, day as i8).ok()?;
     let days = u64::try_from(date.to_unix_epoch_day()).ok()?;
