@@ -1,7 +1,7 @@
-ghost use Rattle.std.specs.Prelude.{◌≡◌, ◌↔◌, ◌+◌, ◌*◌, ◌/◌, ◌%◌, ◌<◌, ◌≤◌, ℕ, pos, IsTrue, IfSome, IfNone};
+ghost use Rattle.std.specs.Prelude.{◌≡◌, ◌↔◌, ◌+◌, ◌*◌, ◌/◌, ◌%◌, ◌<◌, ◌≤◌, ℕ, pos, IsTrue, IfSome, IfNone, length, slice_index, slice_set};
 ghost use Rattle.jiff_core.specs.Calendar.{IsCivilDate, days_from_civil};
 ghost use Rattle.jiff_core.specs.Date.{epoch_day};
-ghost use Rattle.civil_time.specs.Stamp.{IsMoment, IsStampOf, stamp, stamp_time, two_digits, is_fresh};
+ghost use Rattle.civil_time.specs.Stamp.{IsMoment, IsStampOf, stamp, stamp_time, is_fresh};
 
 use jiff_core::civil::Date;
 
@@ -17,17 +17,16 @@ pub fn stamp_of(moment: u64) -> [u8; 20]
     ensures { result ≡ stamp moment }
 {
     let date = date_at(moment);
-    let year = date.year.unsigned_abs() as u32;
-    let [h, hh] = digits((moment / 3600 % 24) as u32);
-    let [m, mm] = digits((moment / 60 % 60) as u32);
-    let [s, ss] = digits((moment % 60) as u32);
-    let [o, oo] = digits(date.month as u32);
-    let [d, dd] = digits(date.day as u32);
-    let [c, cc] = digits(year / 100);
-    let [y, yy] = digits(year % 100);
-    [
-        b'_', h, hh, b':', m, mm, b':', s, ss, b',', o, oo, b'-', d, dd, b'-', c, cc, y, yy,
-    ]
+    let year = date.year.unsigned_abs() as u64;
+    let mut stamp = *b"_00:00:00,00-00-0000";
+    put_digits(&mut stamp, 1, moment / 3600 % 24);
+    put_digits(&mut stamp, 4, moment / 60 % 60);
+    put_digits(&mut stamp, 7, moment % 60);
+    put_digits(&mut stamp, 10, date.month as u64);
+    put_digits(&mut stamp, 13, date.day as u64);
+    put_digits(&mut stamp, 16, year / 100);
+    put_digits(&mut stamp, 18, year % 100);
+    stamp
 }
 
 /// The moment whose stamp the bytes are, and `None` where they are the stamp of no moment.
@@ -63,23 +62,30 @@ fn date_at(moment: u64) -> Date
     Date::from_days_since_min((moment / DAY) as u32 + 4_371_587)
 }
 
-fn digits(n: u32) -> [u8; 2]
-    requires { n < 100 }
-    ensures { result ≡ two_digits n }
+// Writes the two digits of a number at a place.
+fn put_digits(stamp: &mut [u8; 20], place: usize, n: u64)
+    requires place { place < 19 }
+    requires small { n < 100 }
+    ensures { stamp.new ≡ slice_set (slice_set stamp.old place (48 + n / 10)) (place + 1) (48 + n % 10) }
 {
-    [b'0' + (n / 10) as u8, b'0' + (n % 10) as u8]
+    stamp[place] = b'0' + (n / 10) as u8;
+    stamp[place + 1] = b'0' + (n % 10) as u8;
 }
 
-// The number that two digits give. Of other bytes it is some number.
-fn number(high: u8, low: u8) -> u32
+// The number that the two digits at a place give. Of other bytes it is some number.
+fn number_at(bytes: &[u8], place: usize) -> u64
+    requires { place + 1 < length bytes.now }
     ensures small { result < 100 }
-    ensures value { (n : ℕ) → n < 100 → high ≡ 48 + n / 10 → low ≡ 48 + n % 10 → result ≡ n }
+    ensures value { (n : ℕ) → n < 100 → slice_index bytes.now place ≡ 48 + n / 10
+        → slice_index bytes.now (place + 1) ≡ 48 + n % 10 → result ≡ n }
 {
-    u32::from(high.saturating_sub(b'0') % 10) * 10 + u32::from(low.saturating_sub(b'0') % 10)
+    let tens = bytes[place].saturating_sub(b'0') % 10;
+    let ones = bytes[place + 1].saturating_sub(b'0') % 10;
+    u64::from(tens) * 10 + u64::from(ones)
 }
 
 // The moment of a date and a second of that day, from 1970 to the end of 9999.
-fn moment_at(year: u32, month: u32, day: u32, second: u32) -> Option<u64>
+fn moment_at(year: u64, month: u64, day: u64, second: u64) -> Option<u64>
     requires year { year < 10_000 }
     requires month { month < 100 }
     requires day { day < 100 }
@@ -90,7 +96,7 @@ fn moment_at(year: u32, month: u32, day: u32, second: u32) -> Option<u64>
 {
     let date = Date::new(year as i16, month as i8, day as i8).ok()?;
     let days = u64::try_from(date.to_unix_epoch_day()).ok()?;
-    Some(days * DAY + u64::from(second)).filter(|&moment| moment < END)
+    Some(days * DAY + second).filter(|&moment| moment < END)
 }
 
 // The only moment whose stamp the bytes can be. Whether they are is not looked at.
@@ -98,32 +104,10 @@ fn candidate(bytes: &[u8]) -> Option<u64>
     ensures moment { IfSome result (λ t. IsMoment t) }
     ensures only { (t : ℕ) → IsMoment t → bytes.now ≡ stamp t → result ≡ Some t }
 {
-    let [
-        _,
-        h,
-        hh,
-        _,
-        m,
-        mm,
-        _,
-        s,
-        ss,
-        _,
-        o,
-        oo,
-        _,
-        d,
-        dd,
-        _,
-        c,
-        cc,
-        y,
-        yy,
-    ] = bytes
-    else {
+    if bytes.len() != 20 {
         return None;
-    };
-    let second = number(*h, *hh) * 3600 + number(*m, *mm) * 60 + number(*s, *ss);
-    let year = number(*c, *cc) * 100 + number(*y, *yy);
-    moment_at(year, number(*o, *oo), number(*d, *dd), second)
+    }
+    let second = number_at(bytes, 1) * 3600 + number_at(bytes, 4) * 60 + number_at(bytes, 7);
+    let year = number_at(bytes, 16) * 100 + number_at(bytes, 18);
+    moment_at(year, number_at(bytes, 10), number_at(bytes, 13), second)
 }

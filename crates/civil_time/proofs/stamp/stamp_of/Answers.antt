@@ -14,4 +14,4 @@ returns c =
     let same = epoch_day-date_of c.date_at-date.result day (omega arith) c.date_at-date.ensures in
     let year_fits : FitsSigned w16 c.date_at-date.result.year = omega (arith, signed_arith, c.date_at-date.result.year_in) in
     let year : c.unsigned_abs-year.result ≡ (date_of day).year = simp to_z-of_z at c.unsigned_abs-year.ensures.value ∙ ap unsigned_abs same.year in
-    rw (c.digits.ensures, c.digits-2.ensures, c.digits-3.ensures, c.digits-4.ensures, c.digits-5.ensures, c.digits-6.ensures, c.digits-7.ensures, year, same.month, same.day) refl
+    rw (c.put_digits-7.ensures, c.put_digits-6.ensures, c.put_digits-5.ensures, c.put_digits-4.ensures, c.put_digits-3.ensures, c.put_digits-2.ensures, c.put_digits.ensures, year, same.month, same.day)
