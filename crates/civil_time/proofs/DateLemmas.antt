@@ -161,11 +161,15 @@ epoch_day-date_of d n h e =
 pub same_parts : (a b : CivilDate) → a.year ≡ b.year → a.month ≡ b.month → a.day ≡ b.day → a ≡ b
 same_parts a b year month day = λ i. record { year = year i; month = month i; day = day i }
 
+-- the dates through 9999 have the day numbers before that day
+pub day_number-year : (date : CivilDate) → IsCalendarDate date → date.year ≤ 9999 → day_number date < 2_932_897
+day_number-year date h year =
+    let d = jiff_date date h year in
+    omega (arith, day_count_bounds d.year d.month d.day (d.year_in, d.month_in, d.day_in), day_count-day_number date h)
+
 -- each date of the calendar through 9999 is the date of its day number
 pub date_of-day_number : (date : CivilDate) → IsCalendarDate date → date.year ≤ 9999 → date_of (day_number date) ≡ date
 date_of-day_number date h year =
-    let d = jiff_date date h year in
-    let last = day_count_bounds d.year d.month d.day (d.year_in, d.month_in, d.day_in) in
-    let small : day_number date < 2_932_897 = omega (arith, last, day_count-day_number date h) in
-    let same = epoch_day-date_of d (day_number date) small (days_from_civil-day_number date h) in
+    let small = day_number-year date h year in
+    let same = epoch_day-date_of (jiff_date date h year) (day_number date) small (days_from_civil-day_number date h) in
     same_parts _ _ (cc same.year) (sym same.month) (sym same.day)

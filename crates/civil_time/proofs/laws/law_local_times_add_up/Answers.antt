@@ -1,0 +1,23 @@
+use Rattle.std.proofs.Common.{◌≡◌, ℕ, ◌+◌, ◌*◌, ◌<◌, ◌/◌, ◌%◌, arith, ℤ, pos, ◌+ℤ◌, ◌*ℤ◌, unsigned_abs}
+use Rattle.std.specs.Int.{int_div_euclid, int_rem_euclid}
+use Rattle.jiff_core.proofs.SignedLemmas.{signed_arith, int_div_euclid-parts, int_rem_euclid-parts, unsigned_abs-parts}
+use Rattle.civil_time.specs.LocalTime.{local_seconds, local_day, local_minute, local_weekday}
+use Rattle.civil_time.proofs.laws.law_local_times_add_up.Goals as goal
+
+pub returns : goal.returns
+returns c = λ t offset.
+    let seconds = local_seconds t offset in
+    let day = local_day t offset +ℤ pos 3 in
+    let rest = int_rem_euclid-parts seconds 86_400 (omega arith) in
+    let of_day = unsigned_abs-parts (int_rem_euclid seconds (pos 86_400)) in
+    let of_week = int_rem_euclid-parts day 7 (omega arith) in
+    let weekday = unsigned_abs-parts (int_rem_euclid day (pos 7)) in
+    record {
+      second = unsigned_abs (int_rem_euclid seconds (pos 86_400)) % 60;
+      second_in = omega arith;
+      minute_in = omega arith;
+      seconds = omega (arith, signed_arith);
+      week = int_div_euclid day (pos 7);
+      weekday_in = omega arith;
+      days = omega (arith, signed_arith);
+    }
