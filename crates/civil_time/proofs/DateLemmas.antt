@@ -1,5 +1,5 @@
 -- Dates and their day numbers, and how both are those of jiff.
-use Rattle.std.proofs.Common.{◌≡◌, ℕ, zero, suc, ◌+◌, ◌-◌, ◌<◌, ◌≤◌, ◌⊎◌, inl, inr, refl, sym, ap, subst, ◌∙◌, arith, ℤ, pos, neg_ℤ, ◌+ℤ◌, ◌≤ℤ◌}
+use Rattle.std.proofs.Common.{◌≡◌, ℕ, zero, suc, ◌+◌, ◌-◌, ◌<◌, ◌≤◌, inl, inr, refl, sym, ap, subst, ◌∙◌, arith, pos, neg_ℤ, ◌+ℤ◌, ◌≤ℤ◌}
 use Rattle.std.proofs.lemmas.Bool.{cases_lt}
 use Rattle.std.proofs.lemmas.Bool.Decides.{nat_tests}
 use Rattle.jiff_core.specs.declared.civil.date.Date.{Date}
@@ -47,18 +47,18 @@ next_date-follows : (date : CivilDate) → IsCalendarDate date → Follows date 
 next_date-follows date h =
     elim (cases_lt date.day (month_length date.year date.month)) [
       | inl within ↦ subst (Follows date) (sym (next_in_month date within)) (record {
-          is_date = record { from_1970 = h.from_1970; month_low = h.month_low; month_high = h.month_high; day_low = omega arith; day_high = omega arith };
-          number = omega (arith, h.day_low);
-        })
+        is_date = record { from_1970 = h.from_1970; month_low = h.month_low; month_high = h.month_high; day_low = omega arith; day_high = omega arith };
+        number = omega (arith, h.day_low);
+      })
       | inr past ↦ elim (cases_lt date.month 12) [
         | inl earlier ↦ subst (Follows date) (sym (next_in_year date past earlier)) (record {
-            is_date = record { from_1970 = h.from_1970; month_low = omega arith; month_high = omega arith; day_low = omega arith; day_high = omega (arith, days_in_month_bounds (pos date.year) (date.month + 1)) };
-            number = month_number date h past;
-          })
+          is_date = record { from_1970 = h.from_1970; month_low = omega arith; month_high = omega arith; day_low = omega arith; day_high = omega (arith, days_in_month_bounds (pos date.year) (date.month + 1)) };
+          number = month_number date h past;
+        })
         | inr last ↦ subst (Follows date) (sym (next_in_next_year date past last)) (record {
-            is_date = record { from_1970 = omega (arith, h.from_1970); month_low = omega arith; month_high = omega arith; day_low = omega arith; day_high = omega (arith, days_in_month_bounds (pos (date.year + 1)) 1) };
-            number = year_number date h past last;
-          })
+          is_date = record { from_1970 = omega (arith, h.from_1970); month_low = omega arith; month_high = omega arith; day_low = omega arith; day_high = omega (arith, days_in_month_bounds (pos (date.year + 1)) 1) };
+          number = year_number date h past last;
+        })
       ]
     ]
   where
@@ -131,9 +131,9 @@ date_of-year n h =
     elim (cases_lt (date_of n).year 10_000) [
       | inl within ↦ omega arith
       | inr past ↦
-        let years = days_of_years-add 8030 ((date_of n).year - 10_000) in
-        let all : (date_of n).year - 10_000 + 8030 ≡ (date_of n).year - 1970 = omega arith in
-        absurd (omega (arith, rw all at years, days_of_years-all, day_number-date_of n))
+          let years = days_of_years-add 8030 ((date_of n).year - 10_000) in
+          let all : (date_of n).year - 10_000 + 8030 ≡ (date_of n).year - 1970 = omega arith in
+          absurd (omega (arith, rw all at years, days_of_years-all, day_number-date_of n))
     ]
 
 -- a date of the calendar, as jiff keeps it

@@ -1,12 +1,12 @@
 -- Stamps: what their bytes tell, and how they are read.
-use Rattle.std.proofs.Common.{◌≡◌, ◌≢◌, ◌↔◌, ℕ, zero, suc, ◌+◌, ◌-◌, ◌/◌, ◌%◌, ◌<◌, ◌≤◌, inl, inr, Bool, true, false, cond, Option, Some, None, List, [], ◌∷◌, ◌++◌, length, get_or, refl, sym, ap, subst, ◌∙◌, arith, All}
+use Rattle.std.proofs.Common.{◌≡◌, ◌≢◌, ℕ, zero, suc, ◌+◌, ◌/◌, ◌%◌, ◌<◌, ◌≤◌, inl, inr, Bool, true, Some, None, List, length, get_or, refl, sym, ap, ◌∙◌, arith, All}
 use Rattle.std.proofs.lemmas.Bool.{cases_Bool}
 use Rattle.std.proofs.lemmas.Slice.Eq.{bytes_eq-Decides}
 use Rattle.std.proofs.lemmas.List.Elements.{All-from_recursion}
 use Rattle.jiff_core.proofs.CalendarLemmas.{days_in_month_bounds}
 use Rattle.std.specs.Prelude.{bytes_eq, pos}
 use Rattle.std.specs.List.{AllByRecursion}
-use Rattle.civil_time.specs.Calendar.{CivilDate, IsCalendarDate, date_of, day_number}
+use Rattle.civil_time.specs.Calendar.{CivilDate, date_of, day_number}
 use Rattle.civil_time.specs.Stamp.{IsMoment, IsStampOf, stamp, stamp_text, stamp_time, found_below}
 use Rattle.civil_time.specs.Laws.{IsStampByte}
 use Rattle.civil_time.proofs.DateLemmas.{date_of-is_date, date_of-year, day_number-date_of, same_parts}
@@ -74,11 +74,11 @@ found_below-passes test zero t e = cc
 found_below-passes test (suc n) t e =
     elim (cases_Bool (test n)) [
       | inl passes ↦
-        let here : n ≡ t = cc (rw passes at e) in
-        (omega arith, ap test (sym here) ∙ passes)
+          let here : n ≡ t = cc (rw passes at e) in
+          (omega arith, ap test (sym here) ∙ passes)
       | inr fails ↦
-        let below = found_below-passes test n t (rw fails at e) in
-        (omega (arith, below.0), below.1)
+          let below = found_below-passes test n t (rw fails at e) in
+          (omega (arith, below.0), below.1)
     ]
 
 -- where one number below the bound passes, it is found
@@ -88,11 +88,11 @@ found_below-only test zero t lt passes only = absurd (omega arith)
 found_below-only test (suc n) t lt passes only =
     elim (cases_Bool (test n)) [
       | inl last ↦
-        let here : n ≡ t = only n (omega arith) last in
-        rw last (ap Some here)
+          let here : n ≡ t = only n (omega arith) last in
+          rw last (ap Some here)
       | inr fails ↦
-        let apart : n ≢ t = λ same. cc (ap test same, fails, passes) in
-        rw fails (found_below-only test n t (omega arith) passes (λ u low. only u (omega arith)))
+          let apart : n ≢ t = λ same. cc (ap test same, fails, passes) in
+          rw fails (found_below-only test n t (omega arith) passes (λ u low. only u (omega arith)))
     ]
 
 -- where none passes, none is found
@@ -148,10 +148,52 @@ stamp_text-plain h m s date bh bm bs shown =
     let century = plain-digits (date.year / 100) (omega (arith, shown.year)) in
     let year = plain-digits (date.year % 100) (omega arith) in
     let colon = plain 58 (omega arith) (omega arith) in
-    let dash = plain 45 (omega arith) (omega arith) in
-    (plain 95 (omega arith) (omega arith), (hour.0, (hour.1, (colon, (minute.0, (minute.1, (colon, (second.0, (second.1,
-    (plain 44 (omega arith) (omega arith), (month.0, (month.1, (dash, (day.0, (day.1,
-    (dash, (century.0, (century.1, (year.0, (year.1, tt))))))))))))))))))))
+    let dash = plain 45 (omega arith) (omega arith) in (
+      plain 95 (omega arith) (omega arith),
+      (
+        hour.0,
+        (
+          hour.1,
+          (
+            colon,
+            (
+              minute.0,
+              (
+                minute.1,
+                (
+                  colon,
+                  (
+                    second.0,
+                    (
+                      second.1,
+                      (
+                        plain 44 (omega arith) (omega arith),
+                        (
+                          month.0,
+                          (
+                            month.1,
+                            (
+                              dash,
+                              (
+                                day.0,
+                                (
+                                  day.1,
+                                  (dash, (century.0, (century.1, (year.0, (year.1, tt))))),
+                                ),
+                              ),
+                            ),
+                          ),
+                        ),
+                      ),
+                    ),
+                  ),
+                ),
+              ),
+            ),
+          ),
+        ),
+      ),
+    )
 
 pub stamp-plain : (t : ℕ) → IsMoment t → All IsStampByte (stamp t)
 unfolding stamp

@@ -7,6 +7,8 @@
 pub mod laws;
 mod place;
 mod stamp;
+#[cfg(test)]
+mod tests;
 mod zoned;
 
 pub use place::Local;

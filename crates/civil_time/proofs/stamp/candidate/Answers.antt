@@ -1,7 +1,6 @@
-use Rattle.std.proofs.Common.{◌≡◌, ◌+◌, ◌*◌, ◌/◌, ◌%◌, ◌<◌, ◌≤◌, ℕ, List, length, get_or, pos, ap, sym, ◌∙◌, arith}
+use Rattle.std.proofs.Common.{◌≡◌, ◌+◌, ◌*◌, ◌/◌, ◌%◌, ℕ, List, length, get_or, ap, ◌∙◌, arith}
 use Rattle.jiff_core.proofs.SignedLemmas.{signed_arith}
 use Rattle.civil_time.specs.Calendar.{date_of}
-use Rattle.civil_time.specs.Stamp.{IsMoment, stamp}
 use Rattle.civil_time.proofs.DateLemmas.{date_of-is_date, date_of-year, days_from_civil-date_of}
 use Rattle.civil_time.proofs.StampLemmas.{length-stamp, stamp-text, date_of-shown}
 use Rattle.civil_time.proofs.stamp.candidate.Goals as goal

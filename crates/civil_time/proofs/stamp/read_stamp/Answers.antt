@@ -1,7 +1,6 @@
 use Rattle.std.proofs.Common.{◌≡◌, true, ◌∙◌, sym}
 use Rattle.std.proofs.lemmas.Slice.Eq.{slice_eq-Decides}
 use Rattle.std.proofs.lemmas.Bool.Decides.{Decides-eqb}
-use Rattle.civil_time.specs.Stamp.{IsStampOf, stamp, stamp_time}
 use Rattle.civil_time.proofs.StampLemmas.{stamp_time-complete, stamp_time-none}
 use Rattle.civil_time.proofs.stamp.read_stamp.Goals as goal
 

@@ -1,10 +1,10 @@
-use Rattle.std.proofs.Common.{◌≡◌, arith, refl, FitsSigned, w16, ap, sym, ◌∙◌, ℕ, pos, ◌/◌, ◌%◌}
+use Rattle.std.proofs.Common.{◌≡◌, arith, FitsSigned, w16, ap, ◌∙◌, ◌/◌}
 use Rattle.jiff.proofs.SpanFacts.{signed_arith}
 use Rattle.std.specs.Prelude.{unsigned_abs}
 use Rattle.std.proofs.lemmas.Int.{to_z-of_z}
 use Rattle.civil_time.specs.Calendar.{date_of}
-use Rattle.civil_time.specs.Stamp.{stamp, stamp_text}
-use Rattle.civil_time.proofs.DateLemmas.{SameDate, epoch_day-date_of}
+use Rattle.civil_time.specs.Stamp.{stamp}
+use Rattle.civil_time.proofs.DateLemmas.{epoch_day-date_of}
 use Rattle.civil_time.proofs.stamp.stamp_of.Goals as goal
 
 pub returns : goal.returns

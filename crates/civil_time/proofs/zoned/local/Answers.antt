@@ -1,9 +1,9 @@
-use Rattle.std.proofs.Common.{◌≡◌, ℕ, ◌+◌, ◌*◌, ◌<◌, ◌/◌, ◌^◌, negsuc, ap, sym, ◌∙◌, arith, w16, w64, ℤ, pos, ◌+ℤ◌, ◌*ℤ◌, FitsSigned, to_z, of_z, unsigned_abs, int_div}
+use Rattle.std.proofs.Common.{◌≡◌, ◌<◌, ◌/◌, ◌^◌, negsuc, ap, ◌∙◌, arith, w64, ℤ, pos, ◌+ℤ◌, FitsSigned, to_z, of_z, unsigned_abs, int_div}
 use borrow.Author.Differences.{down}
 use Rattle.std.proofs.lemmas.Int.{ints, to_z-of_z}
 use Rattle.std.specs.Int.{int_div_euclid, int_rem_euclid}
 use Rattle.jiff_core.proofs.SignedLemmas.{signed_arith, int_div_euclid-parts, int_rem_euclid-parts}
-use Rattle.civil_time.specs.LocalTime.{local_seconds, local_day, local_minute, local_weekday}
+use Rattle.civil_time.specs.LocalTime.{local_seconds, local_day}
 use Rattle.civil_time.proofs.zoned.local.Goals as goal
 
 pub returns-clause-weekday : goal.returns-clause-weekday
