@@ -4,10 +4,10 @@ use Rattle.std.proofs.lemmas.Bool.{cases_Bool}
 use Rattle.std.proofs.lemmas.Slice.Eq.{bytes_eq-Decides}
 use Rattle.std.proofs.lemmas.List.Elements.{All-from_recursion}
 use Rattle.jiff_core.proofs.CalendarLemmas.{days_in_month_bounds}
-use Rattle.std.specs.Prelude.{bytes_eq, pos}
+use Rattle.std.specs.Prelude.{bytes_eq, pos, codes, ◌++◌}
 use Rattle.std.specs.List.{AllByRecursion}
 use Rattle.civil_time.specs.Calendar.{CivilDate, date_of, day_number}
-use Rattle.civil_time.specs.Stamp.{IsMoment, IsStampOf, stamp, stamp_text, stamp_time, found_below}
+use Rattle.civil_time.specs.Stamp.{IsMoment, IsStampOf, two_digits, four_digits, stamp, stamp_text, stamp_time, found_below}
 use Rattle.civil_time.specs.Laws.{IsStampByte}
 use Rattle.civil_time.proofs.DateLemmas.{date_of-is_date, date_of-year, day_number-date_of, same_parts}
 
@@ -138,7 +138,10 @@ plain b low high = ((low, omega arith), λ bar. omega arith)
 plain-digits : (n : ℕ) → n < 100 → IsStampByte (48 + n / 10) × IsStampByte (48 + n % 10)
 plain-digits n small = (plain (48 + n / 10) (omega arith) (omega arith), plain (48 + n % 10) (omega arith) (omega arith))
 
-stamp_text-plain : (h m s : ℕ) (date : CivilDate) → h < 100 → m < 100 → s < 100 → IsShown date → AllByRecursion IsStampByte (stamp_text h m s date)
+abbrev EachPlain : List ℕ → Type 0
+EachPlain = AllByRecursion IsStampByte
+
+stamp_text-plain : (h m s : ℕ) (date : CivilDate) → h < 100 → m < 100 → s < 100 → IsShown date → EachPlain (stamp_text h m s date)
 stamp_text-plain h m s date bh bm bs shown =
     let hour = plain-digits h bh in
     let minute = plain-digits m bm in
@@ -147,53 +150,15 @@ stamp_text-plain h m s date bh bm bs shown =
     let day = plain-digits date.day shown.day in
     let century = plain-digits (date.year / 100) (omega (arith, shown.year)) in
     let year = plain-digits (date.year % 100) (omega arith) in
+    let underscore = plain 95 (omega arith) (omega arith) in
     let colon = plain 58 (omega arith) (omega arith) in
-    let dash = plain 45 (omega arith) (omega arith) in (
-      plain 95 (omega arith) (omega arith),
-      (
-        hour.0,
-        (
-          hour.1,
-          (
-            colon,
-            (
-              minute.0,
-              (
-                minute.1,
-                (
-                  colon,
-                  (
-                    second.0,
-                    (
-                      second.1,
-                      (
-                        plain 44 (omega arith) (omega arith),
-                        (
-                          month.0,
-                          (
-                            month.1,
-                            (
-                              dash,
-                              (
-                                day.0,
-                                (
-                                  day.1,
-                                  (dash, (century.0, (century.1, (year.0, (year.1, tt))))),
-                                ),
-                              ),
-                            ),
-                          ),
-                        ),
-                      ),
-                    ),
-                  ),
-                ),
-              ),
-            ),
-          ),
-        ),
-      ),
-    )
+    let comma = plain 44 (omega arith) (omega arith) in
+    let dash = plain 45 (omega arith) (omega arith) in
+    let from_year : EachPlain (four_digits date.year) = (century.0, (century.1, (year.0, (year.1, tt)))) in
+    let from_day : EachPlain (two_digits date.day ++ codes "-" ++ four_digits date.year) = (day.0, (day.1, (dash, from_year))) in
+    let from_month : EachPlain (two_digits date.month ++ codes "-" ++ two_digits date.day ++ codes "-" ++ four_digits date.year) = (month.0, (month.1, (dash, from_day))) in
+    let from_second : EachPlain (two_digits s ++ codes "," ++ two_digits date.month ++ codes "-" ++ two_digits date.day ++ codes "-" ++ four_digits date.year) = (second.0, (second.1, (comma, from_month))) in
+    (underscore, (hour.0, (hour.1, (colon, (minute.0, (minute.1, (colon, from_second)))))))
 
 pub stamp-plain : (t : ℕ) → IsMoment t → All IsStampByte (stamp t)
 unfolding stamp

@@ -3,7 +3,8 @@ ghost use Rattle.jiff_core.specs.Calendar.{IsCivilDate, days_from_civil};
 ghost use Rattle.jiff_core.specs.Date.{epoch_day};
 ghost use Rattle.civil_time.specs.Stamp.{IsMoment, IsStampOf, stamp, stamp_time, is_fresh};
 
-use jiff_core::civil::Date;
+use jiff::civil::Date;
+use jiff_core::civil;
 
 /// The first second of the year 10000.
 const END: u64 = 253_402_300_800;
@@ -17,13 +18,13 @@ pub fn stamp_of(moment: u64) -> [u8; 20]
     ensures { result ≡ stamp moment }
 {
     let date = date_at(moment);
-    let year = date.year.unsigned_abs() as u64;
+    let year = date.year().unsigned_abs() as u64;
     let mut stamp = *b"_00:00:00,00-00-0000";
     put_digits(&mut stamp, 1, moment / 3600 % 24);
     put_digits(&mut stamp, 4, moment / 60 % 60);
     put_digits(&mut stamp, 7, moment % 60);
-    put_digits(&mut stamp, 10, date.month as u64);
-    put_digits(&mut stamp, 13, date.day as u64);
+    put_digits(&mut stamp, 10, date.month() as u64);
+    put_digits(&mut stamp, 13, date.day() as u64);
     put_digits(&mut stamp, 16, year / 100);
     put_digits(&mut stamp, 18, year % 100);
     stamp
@@ -59,7 +60,7 @@ fn date_at(moment: u64) -> Date
     ensures { epoch_day result ≡ pos (moment / 86_400) }
 {
     // 4,371,587 days lie between jiff's first day and 1 January 1970.
-    Date::from_days_since_min((moment / DAY) as u32 + 4_371_587)
+    Date::from_plain(civil::Date::from_days_since_min((moment / DAY) as u32 + 4_371_587))
 }
 
 // Writes the two digits of a number at a place.
@@ -95,7 +96,7 @@ fn moment_at(year: u64, month: u64, day: u64, second: u64) -> Option<u64>
         → days_from_civil (pos year) month day ≡ pos (t / 86_400) → t % 86_400 ≡ second → result ≡ Some t }
 {
     let date = Date::new(year as i16, month as i8, day as i8).ok()?;
-    let days = u64::try_from(date.to_unix_epoch_day()).ok()?;
+    let days = u64::try_from(date.to_plain().to_unix_epoch_day()).ok()?;
     Some(days * DAY + second).filter(|&moment| moment < END)
 }
 
