@@ -18,13 +18,14 @@ pub fn stamp_of(moment: u64) -> [u8; 20]
     ensures { result ≡ stamp moment }
 {
     let date = date_at(moment);
-    let year = date.year().unsigned_abs() as u64;
+    let year = u64::from(date.year().unsigned_abs());
+    let (month, day) = (date.month() as u64, date.day() as u64);
     let mut stamp = *b"_00:00:00,00-00-0000";
     put_digits(&mut stamp, 1, moment / 3600 % 24);
     put_digits(&mut stamp, 4, moment / 60 % 60);
     put_digits(&mut stamp, 7, moment % 60);
-    put_digits(&mut stamp, 10, date.month() as u64);
-    put_digits(&mut stamp, 13, date.day() as u64);
+    put_digits(&mut stamp, 10, month);
+    put_digits(&mut stamp, 13, day);
     put_digits(&mut stamp, 16, year / 100);
     put_digits(&mut stamp, 18, year % 100);
     stamp

@@ -18,7 +18,7 @@ returns c =
     let year_fits : FitsSigned w16 (pos (date_of n).year) = omega (arith, signed_arith, shown.year) in
     let month_fits : FitsSigned w8 (pos (date_of n).month) = omega (arith, signed_arith, shown.month) in
     let day_fits : FitsSigned w8 (pos (date_of n).day) = omega (arith, signed_arith, shown.day) in
-    let year = c.unsigned_abs-year.ensures.value ∙ cast w16 _ _ (c.year.ensures ∙ same.year) year_fits in
+    let year = c.from-year.ensures ∙ c.unsigned_abs.ensures.value ∙ cast w16 _ _ (c.year.ensures ∙ same.year) year_fits in
     let month = cast w8 _ _ (c.month.ensures ∙ ap pos same.month) month_fits in
     let day = cast w8 _ _ (c.day.ensures ∙ ap pos same.day) day_fits in
     rw (c.put_digits-7.ensures, c.put_digits-6.ensures, c.put_digits-5.ensures, c.put_digits-4.ensures, c.put_digits-3.ensures, c.put_digits-2.ensures, c.put_digits.ensures, year, month, day)
