@@ -12,7 +12,7 @@ const END: u64 = 253_402_300_800;
 /// The seconds of a day.
 const DAY: u64 = 86_400;
 
-/// The stamp `_HH:MM:SS,MM-DD-YYYY` of a moment in GMT.
+/// The stamp `_HH:MM:SS,MM-DD-YYYY` of a moment in GMT, as ANSI/SIA DC-09 writes it. The moment lies before the year 10000.
 pub fn stamp_of(moment: u64) -> [u8; 20]
     requires { IsMoment moment }
     ensures { result ≡ stamp moment }
@@ -31,7 +31,8 @@ pub fn stamp_of(moment: u64) -> [u8; 20]
     stamp
 }
 
-/// The moment whose stamp the bytes are, and `None` where they are the stamp of no moment.
+/// The moment from 1970 to the end of 9999 whose stamp the bytes are. `None` where they are no such stamp, of whatever
+/// length.
 pub fn read_stamp(bytes: &[u8]) -> Option<u64>
     ensures some { IfSome result (λ t. IsStampOf t bytes.now) }
     ensures none { IfNone result ((t : ℕ) → IsMoment t → ¬ (bytes.now ≡ stamp t)) }
@@ -45,7 +46,8 @@ pub fn read_stamp(bytes: &[u8]) -> Option<u64>
     }
 }
 
-/// Whether a stamp is at most 40 seconds older and at most 20 seconds newer than the clock, both ends included.
+/// Whether the moment of a stamp is at most 40 seconds older and at most 20 seconds newer than that of the clock, both
+/// ends included. Both lie before the year 10000.
 pub fn fresh(stamp: u64, now: u64) -> bool
     requires stamp { IsMoment stamp }
     requires now { IsMoment now }

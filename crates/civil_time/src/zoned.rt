@@ -5,7 +5,8 @@ ghost use Rattle.civil_time.specs.LocalTime.{local_day, local_minute, local_week
 
 use crate::place::Local;
 
-/// The local weekday, minute and day of a moment, where local time is GMT plus `offset` minutes, from -840 to 840.
+/// The local weekday, minute and day of a moment before the year 10000, where local time is GMT plus `offset` minutes, from
+/// -840 to 840. The local day may lie before 1970, or after 9999.
 pub fn local(moment: u64, offset: i16) -> Local
     requires moment { IsMoment moment }
     requires offset { IsWithin 840 offset }
