@@ -1,2 +1,3 @@
 pub mod ContactId
 pub mod Setups
+pub mod Signals
