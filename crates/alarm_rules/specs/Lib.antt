@@ -1,3 +1,4 @@
 pub mod ContactId
 pub mod Setups
+pub mod SiaCodes
 pub mod Signals

@@ -1,14 +1,11 @@
 -- The class of every code, by computation.
-use Rattle.std.proofs.Common.{◌≡◌, ℕ, suc, ◌<◌, Bool, true, ◌&&◌, refl, sym, subst, arith, inl, inr}
+use Rattle.std.proofs.Common.{◌≡◌, ℕ, ◌<◌, refl}
 use Rattle.std.specs.Prelude.{if◌then◌else◌, ◌==◌, ◌||◌}
-use Prim.Native.Nat.{zero}
-use Rattle.std.proofs.lemmas.Bool.{and_parts, cases_lt}
-use Rattle.arc_data.specs.Classes.{same_class}
 use Rattle.arc_data.specs.Digits.{is_between}
-use Rattle.arc_data.proofs.ClassLemmas.{same_class-true}
 use Rattle.arc_data.specs.declared.signal.Class.{Class}
 use Rattle.arc_data.specs.declared.signal.Class.TheVariants.{Fire, Medical, Panic, Gas, Burglary, Tamper, Environment, CommFail, Trouble, LateClose, Unlisted, Test, OpenClose, Bypass, Cancel, Program}
 use Rattle.alarm_rules.specs.ContactId.{contact_id_class, contact_id_table}
+use Rattle.alarm_rules.proofs.Agreement.{values_below, agree_below}
 use Rattle.contact_id.specs.Digits.{digits_of}
 
 -- the class by ranges, as the code has it
@@ -31,25 +28,12 @@ by_number n =
     else if (n == 627) || (n == 628) then Program
     else Unlisted
 
-abbrev agrees : ℕ → Bool
-agrees n = same_class (by_number n) (contact_id_class (digits_of n))
+abbrev by_table : ℕ → Class
+by_table n = contact_id_class (digits_of n)
 
-abbrev agrees_below : ℕ → Bool
-agrees_below zero = true
-agrees_below (suc n) = agrees n && agrees_below n
-
-checked : agrees_below 1000 ≡ true
+agreed : values_below by_table 1000 ≡ values_below by_number 1000
 unfolding contact_id_class contact_id_table
-checked = refl
-
-below : (limit n : ℕ) → agrees_below limit ≡ true → n < limit → agrees n ≡ true
-below zero n all lt = absurd (omega arith)
-below (suc limit) n all lt =
-    let parts = and_parts (agrees limit) (agrees_below limit) all in
-    elim (cases_lt n limit) [
-      | inl less ↦ below limit n parts.1 less
-      | inr not_less ↦ let same : limit ≡ n = omega arith in subst (λ m. agrees m ≡ true) same parts.0
-    ]
+agreed = refl
 
 pub by_number_is : (n : ℕ) → n < 1000 → contact_id_class (digits_of n) ≡ by_number n
-by_number_is n lt = sym (same_class-true (by_number n) (contact_id_class (digits_of n)) (below 1000 n checked lt))
+by_number_is n lt = agree_below by_table by_number 1000 n agreed lt
