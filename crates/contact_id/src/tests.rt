@@ -19,17 +19,13 @@ fn read_code(qualifier: u8, code: &[u8]) -> Option<(Class, Kind)> {
 }
 
 // How many of all codes are read so.
-fn count(qualifier: u8, wanted: (Option<Class>, Option<Kind>)) -> u32 {
+fn count(qualifier: u8, class: Class, kind: Kind) -> u32 {
     let mut count: u32 = 0;
     for a in DIGITS {
         for b in DIGITS {
             for c in DIGITS {
-                if let Some((class, kind)) = read_code(qualifier, &[a, b, c]) {
-                    if wanted.0.is_none_or(|want| want == class)
-                        && wanted.1.is_none_or(|want| want == kind)
-                    {
-                        count = count.wrapping_add(1);
-                    }
+                if read_code(qualifier, &[a, b, c]) == Some((class, kind)) {
+                    count = count.wrapping_add(1);
                 }
             }
         }
@@ -39,30 +35,112 @@ fn count(qualifier: u8, wanted: (Option<Class>, Option<Kind>)) -> u32 {
 
 #[test]
 fn reads_each_code_of_the_table(rt: HostRuntime) {
+    let (usual, entry, log) = (
+        [Kind::New, Kind::Restore, Kind::Again],
+        [Kind::Opening, Kind::Closing, Kind::LogOnly],
+        [Kind::LogOnly, Kind::LogOnly, Kind::LogOnly],
+    );
     let table = [
-        (Class::Medical, "100 101 102"),
-        (Class::Fire, "110 111 112 113 114 115 116 117 118"),
-        (Class::Panic, "120 121 122 123"),
-        (Class::Burglary, "130 131 132 133 134 135 136 138 139 140"),
-        (Class::Tamper, "137 144 145 383"),
-        (Class::Gas, "151 162"),
-        (Class::Environment, "150 154 158 159"),
-        (Class::CommFail, "350 354"),
-        (Class::Trouble, "301 302 305 344 373 380 381 384"),
-        (Class::OpenClose, "400 401 402 403 407 408 409 441"),
-        (Class::LateClose, "454"),
-        (Class::Cancel, "406"),
-        (Class::Bypass, "570"),
-        (Class::Test, "601 602 607"),
-        (Class::Program, "627 628"),
+        (Class::Medical, usual, "100 101 102"),
+        (Class::Fire, usual, "110 111 112 113 114 115 116 117 118"),
+        (Class::Panic, usual, "120 121 122 123"),
+        (
+            Class::Burglary,
+            usual,
+            "130 131 132 133 134 135 136 138 139 140",
+        ),
+        (Class::Tamper, usual, "137 144 145 383"),
+        (Class::Gas, usual, "151 162"),
+        (Class::Environment, usual, "150 154 158 159"),
+        (Class::CommFail, usual, "350 354"),
+        (Class::Trouble, usual, "301 302 305 344 373 380 381 384"),
+        (Class::OpenClose, entry, "400 401 402 403 407 408 409 441"),
+        (Class::LateClose, usual, "454"),
+        (Class::Cancel, log, "406"),
+        (Class::Bypass, log, "570"),
+        (Class::Test, log, "601 602 607"),
+        (Class::Program, log, "627 628"),
+        (
+            Class::Unlisted,
+            [Kind::New, Kind::New, Kind::New],
+            "000 099 103 119 124 141 999 1FF A00 b31 13a",
+        ),
     ];
-    for (class, codes) in table {
+    for (class, [one, three, six], codes) in table {
         for code in codes.split(' ') {
-            assert_eq!(rt;
-                read_code(b'1', code.as_bytes()).map(|read| read.0),
-                Some(class),
-                "at {code}"
-            );
+            let code = code.as_bytes();
+            assert_eq!(rt; read_code(b'1', code), Some((class, one)), "at {code:?}");
+            assert_eq!(rt; read_code(b'3', code), Some((class, three)), "at {code:?}");
+            assert_eq!(rt; read_code(b'6', code), Some((class, six)), "at {code:?}");
         }
+    }
+}
+
+#[test]
+fn lists_so_many_of_all_codes(rt: HostRuntime) {
+    let table = [
+        (b'1', Class::Medical, Kind::New, 3),
+        (b'1', Class::Fire, Kind::New, 9),
+        (b'1', Class::Panic, Kind::New, 4),
+        (b'1', Class::Burglary, Kind::New, 10),
+        (b'1', Class::Tamper, Kind::New, 4),
+        (b'1', Class::Gas, Kind::New, 2),
+        (b'1', Class::Environment, Kind::New, 4),
+        (b'1', Class::CommFail, Kind::New, 2),
+        (b'1', Class::Trouble, Kind::New, 8),
+        (b'1', Class::OpenClose, Kind::Opening, 8),
+        (b'3', Class::OpenClose, Kind::Closing, 8),
+        (b'6', Class::OpenClose, Kind::LogOnly, 8),
+        (b'1', Class::LateClose, Kind::New, 1),
+        (b'1', Class::Cancel, Kind::LogOnly, 1),
+        (b'1', Class::Bypass, Kind::LogOnly, 1),
+        (b'1', Class::Test, Kind::LogOnly, 3),
+        (b'1', Class::Program, Kind::LogOnly, 2),
+        (b'1', Class::Unlisted, Kind::New, 4034),
+        (b'3', Class::Unlisted, Kind::New, 4034),
+        (b'6', Class::Unlisted, Kind::New, 4034),
+        (b'3', Class::Burglary, Kind::Restore, 10),
+        (b'6', Class::Burglary, Kind::Again, 10),
+    ];
+    for (qualifier, class, kind, want) in table {
+        assert_eq!(rt; count(qualifier, class, kind), want, "of {class:?}");
+    }
+}
+
+#[test]
+fn reads_the_form_alone(rt: HostRuntime) {
+    let table = [
+        ("1999 01 001", Some((Class::Unlisted, Kind::New))),
+        ("3401 01 001", Some((Class::OpenClose, Kind::Closing))),
+        ("6401 01 001", Some((Class::OpenClose, Kind::LogOnly))),
+        ("6131 01 001", Some((Class::Burglary, Kind::Again))),
+        ("1131 fF aB9", Some((Class::Burglary, Kind::New))),
+        (
+            "1131 01 001][S123Main St.",
+            Some((Class::Burglary, Kind::New)),
+        ),
+        ("1131 01 001]", Some((Class::Burglary, Kind::New))),
+        ("2131 01 001", None),
+        ("0131 01 001", None),
+        ("", None),
+        ("]1131 01 001", None),
+        ("1131 01 00", None),
+        ("1131 01 00]1", None),
+        ("1131 01 0011", None),
+        ("1131  01 001", None),
+        ("1131-01 001", None),
+        ("1131 01-001", None),
+        ("11G1 01 001", None),
+        ("1131 0g 001", None),
+        ("1131 01 00:", None),
+        (" 131 01 001", None),
+    ];
+    for (content, want) in table {
+        let read = read(content.as_bytes());
+        assert_eq!(rt;
+            read.map(|signal| (signal.class, signal.kind)),
+            want,
+            "of {content}"
+        );
     }
 }

@@ -6,3 +6,6 @@ mod meaning;
 mod reading;
 
 pub use reading::read;
+
+#[cfg(test)]
+mod tests;
