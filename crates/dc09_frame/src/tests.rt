@@ -272,6 +272,8 @@ fn writes_frames(rt: HostRuntime) {
         write_frame(body, &mut out);
         assert_eq!(rt; out.bytes(), frame, "at {body:?}");
     }
+    out.clear();
+    assert!(rt; out.bytes().is_empty());
 }
 
 #[test]
