@@ -75,9 +75,13 @@ ends_more WriteFault setup ts us n written extra left is e = (
 )
 ends_more Memory setup ts us n written extra left is e = (e.0, e.1, e.2, e.3, ap (λ (l : List ℕ). text_of ts ++ l) e.4 ∙ sym (text-append ts us), e.5)
 ends_more (FormNotBuilt after) setup ts us n written extra left is e = (
-  e.0, e.1, e.2, e.3,
+  e.0,
+  e.1,
+  e.2,
+  e.3,
   ap (λ (l : List ℕ). text_of ts ++ l) e.4 ∙ sym (text-append ts us),
-  e.5, e.6,
+  e.5,
+  e.6,
   omega (arith, length-append ts us, is, e.7),
 )
 

@@ -14,6 +14,8 @@ use std::{env, io};
 mod run;
 mod session;
 mod status;
+#[cfg(test)]
+mod tests;
 
 // The arguments as short texts. One that is longer than 32 bytes stands as `?`, which no form has.
 fn words<R: Env + AllocGlobal>(rt: &R) -> io::Result<Vec<Txt>> {
@@ -33,14 +35,24 @@ fn main(rt: HostRuntime) -> ExitCode {
         Ok(words) => serve(&rt, &words),
         Err(_) => Status::Memory,
     };
-    let mut errors = StdPort::new(io::empty(), rt.stderr(), RealClock::new(&rt), RealNoise::new(&rt));
+    let mut errors = StdPort::new(
+        io::empty(),
+        rt.stderr(),
+        RealClock::new(&rt),
+        RealNoise::new(&rt),
+    );
     let _ = status.text(&mut errors);
     ExitCode::from(status.number())
 }
 
 // Runs over the real setup file and the real standard streams.
 fn serve(rt: &HostRuntime, words: &[Txt]) -> Status {
-    let port = StdPort::new(rt.reader(), io::writer(rt), RealClock::new(rt), RealNoise::new(rt));
+    let port = StdPort::new(
+        rt.reader(),
+        io::writer(rt),
+        RealClock::new(rt),
+        RealNoise::new(rt),
+    );
     let setup = FileSource::new(rt, "setup.txt");
     run(rt, rt.alloc(), words, Outside { setup, port }).status
 }

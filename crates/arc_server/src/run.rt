@@ -47,10 +47,22 @@ pub fn run<R, S: Source, P: Port>(
     ensures line { IsRun result.status
         (record { left = S.left outside.setup; faults = S.read_faults outside.setup })
         (record { left = S.left result.outside.setup; faults = S.read_faults result.outside.setup })
-        (record { left = P.left outside.port; read_faults = P.read_faults outside.port; written = P.written outside.port;
-            write_faults = P.write_faults outside.port; readings = P.readings outside.port; noise = P.noise outside.port })
-        (record { left = P.left result.outside.port; read_faults = P.read_faults result.outside.port; written = P.written result.outside.port;
-            write_faults = P.write_faults result.outside.port; readings = P.readings result.outside.port; noise = P.noise result.outside.port })
+        (record {
+          left = P.left outside.port;
+          read_faults = P.read_faults outside.port;
+          written = P.written outside.port;
+          write_faults = P.write_faults outside.port;
+          readings = P.readings outside.port;
+          noise = P.noise outside.port;
+        })
+        (record {
+          left = P.left result.outside.port;
+          read_faults = P.read_faults result.outside.port;
+          written = P.written result.outside.port;
+          write_faults = P.write_faults result.outside.port;
+          readings = P.readings result.outside.port;
+          noise = P.noise result.outside.port;
+        })
         result.centre }
 {
     if !is_line(words) {
@@ -81,19 +93,27 @@ fn is_line(words: &[Txt]) -> bool
 }
 
 // Reads the setup, begins a run, and serves the line.
-fn line<S: Source, P: Port>(
-    alloc: Global,
-    source: &mut S,
-    port: &mut P,
-) -> (Status, Option<Centre>)
+fn line<S: Source, P: Port>(alloc: Global, source: &mut S, port: &mut P) -> (Status, Option<Centre>)
     ensures usage { result.0 ≢ Status.Usage }
     ensures line { IsRun result.0
         (record { left = S.left source.old; faults = S.read_faults source.old })
         (record { left = S.left source.new; faults = S.read_faults source.new })
-        (record { left = P.left port.old; read_faults = P.read_faults port.old; written = P.written port.old;
-            write_faults = P.write_faults port.old; readings = P.readings port.old; noise = P.noise port.old })
-        (record { left = P.left port.new; read_faults = P.read_faults port.new; written = P.written port.new;
-            write_faults = P.write_faults port.new; readings = P.readings port.new; noise = P.noise port.new })
+        (record {
+          left = P.left port.old;
+          read_faults = P.read_faults port.old;
+          written = P.written port.old;
+          write_faults = P.write_faults port.old;
+          readings = P.readings port.old;
+          noise = P.noise port.old;
+        })
+        (record {
+          left = P.left port.new;
+          read_faults = P.read_faults port.new;
+          written = P.written port.new;
+          write_faults = P.write_faults port.new;
+          readings = P.readings port.new;
+          noise = P.noise port.new;
+        })
         result.1 }
 {
     let setup = match read_setup(alloc, source) {
@@ -139,10 +159,22 @@ fn serve_input<P: Port>(alloc: Global, hall: &mut RamHall, port: &mut P) -> Stat
     ensures begun { result ≢ Status.Usage }
     ensures served { (text : List ℕ) (clock : ℕ) → StandsFor nothing hall.old (begun text clock) → hall.old.sum.text ≡ Some text →
         IsServed result text clock
-        (record { left = P.left port.old; read_faults = P.read_faults port.old; written = P.written port.old;
-            write_faults = P.write_faults port.old; readings = P.readings port.old; noise = P.noise port.old })
-        (record { left = P.left port.new; read_faults = P.read_faults port.new; written = P.written port.new;
-            write_faults = P.write_faults port.new; readings = P.readings port.new; noise = P.noise port.new }) hall.new }
+        (record {
+          left = P.left port.old;
+          read_faults = P.read_faults port.old;
+          written = P.written port.old;
+          write_faults = P.write_faults port.old;
+          readings = P.readings port.old;
+          noise = P.noise port.old;
+        })
+        (record {
+          left = P.left port.new;
+          read_faults = P.read_faults port.new;
+          written = P.written port.new;
+          write_faults = P.write_faults port.new;
+          readings = P.readings port.new;
+          noise = P.noise port.new;
+        }) hall.new }
 {
     let reads = port.read_faults();
     let writes = port.write_faults();

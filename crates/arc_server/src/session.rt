@@ -30,16 +30,11 @@ pub enum SessionEnd {
 }
 
 /// Serves the whole pieces of the input, in their order: one reading of the clock for each, and its answer.
-pub fn serve<P: Port>(
-    alloc: Global,
-    hall: &mut RamHall,
-    port: &mut P,
-    input: &[u8],
-) -> SessionEnd
+pub fn serve<P: Port>(alloc: Global, hall: &mut RamHall, port: &mut P, input: &[u8]) -> SessionEnd
     requires { hall.old.entries + length input.now < 2 ^ 48 }
     ensures session { (b : Summary) (h : List Entry) (text : List ℕ) → StandsFor b hall.old h → hall.old.sum.text ≡ Some text →
         IsSession result b (meaning text) (bodies input.now) h hall.new
-            (P.written port.old) (P.written port.new) (P.readings port.old) (P.readings port.new) }
+        (P.written port.old) (P.written port.new) (P.readings port.old) (P.readings port.new) }
     ensures write { result ≡ SessionEnd.WriteFault → Rose (P.write_faults port.old) (P.write_faults port.new) }
     ensures later { P.write_faults port.old ≤ P.write_faults port.new }
     ensures left { P.left port.new ≡ P.left port.old }
@@ -84,7 +79,7 @@ fn answer<P: Port>(
     requires { hall.old.entries < 2 ^ 48 }
     ensures session { (b : Summary) (h : List Entry) (text : List ℕ) → StandsFor b hall.old h → hall.old.sum.text ≡ Some text →
         IsSession result b (meaning text) (body.now ∷ []) h hall.new
-            (P.written port.old) (P.written port.new) (P.readings port.old) (P.readings port.new) }
+        (P.written port.old) (P.written port.new) (P.readings port.old) (P.readings port.new) }
     ensures first { (after : ℕ) → result ≡ SessionEnd.NotBuilt after → after ≡ 0 }
     ensures text { hall.new.sum.text ≡ hall.old.sum.text }
     ensures entries { hall.new.entries ≤ hall.old.entries + 1 }

@@ -105,7 +105,7 @@ returns-in-NotBuilt-clause-session g c b h text s e =
     let so_far = session_more (NotBuilt c.in-NotBuilt.after) b (meaning text) xs (body ∷ []) h c.loop-at.hall c.answer.new.hall _ _ _ _ _ _ c.loop-at.after old.count (old.session b h text s e) (λ x sx. c.in-NotBuilt.ensures.session b x text sx (old.text ∙ e)) in
     subst (λ (l : List (List ℕ)). IsSession (NotBuilt c.loop-at.after) b (meaning text) l h c.answer.new.hall (g.P.Ends.written c.args.port.now) (g.P.Ends.written c.answer.new.port) (g.P.Ends.readings c.args.port.now) (g.P.Ends.readings c.answer.new.port)) (sym all)
     (session_wider (NotBuilt c.loop-at.after) b (meaning text) (xs ++ body ∷ []) rest.0 h c.answer.new.hall _ _ _ _ tt
-      (subst (λ k. IsSession (NotBuilt k) b (meaning text) (xs ++ body ∷ []) h c.answer.new.hall (g.P.Ends.written c.args.port.now) (g.P.Ends.written c.answer.new.port) (g.P.Ends.readings c.args.port.now) (g.P.Ends.readings c.answer.new.port)) count so_far))
+    (subst (λ k. IsSession (NotBuilt k) b (meaning text) (xs ++ body ∷ []) h c.answer.new.hall (g.P.Ends.written c.args.port.now) (g.P.Ends.written c.answer.new.port) (g.P.Ends.readings c.args.port.now) (g.P.Ends.readings c.answer.new.port)) count so_far))
 
 pub returns-in-WriteFault-clause-session : goal.returns-in-WriteFault-clause-session
 returns-in-WriteFault-clause-session g c b h text s e =
