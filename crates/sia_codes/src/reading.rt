@@ -8,6 +8,9 @@ ghost use Rattle.sia_codes.specs.Events.{signals_of, Gives};
 use crate::item::{Item, item_at};
 use alarm_signal::{Signal, Signals, data_of};
 
+// The fewest events that data may have. The room for signals is the most.
+const FEWEST: usize = 1;
+
 /// The signals of a content with SIA data, in order: one for each event, 1 to 8 of them. None exactly where the data, which
 /// ends before the first `]`, is outside the grammar or has another number of events. The code of a signal is its two
 /// letters; modifiers, addresses and free text have no effect. Takes no memory.
@@ -16,7 +19,7 @@ pub fn read(content: &[u8]) -> Option<Signals>
 {
     let items = after_letter(data_of(content))?;
     let signals = signals_of(items)?;
-    if signals.count() == 0 {
+    if signals.count() < FEWEST {
         return None;
     }
     Some(signals)

@@ -1,4 +1,4 @@
-use Rattle.std.proofs.Common.{sym, ◌∙◌, ap}
+use Rattle.std.proofs.Common.{sym, ◌∙◌, ap, arith}
 use Rattle.alarm_rules.specs.SiaCodes.{sia_signals}
 use Rattle.sia_codes.proofs.Numbers.{sia_signals-no_letter, sia_signals-unread, sia_signals-empty, sia_signals-some}
 use Rattle.sia_codes.proofs.reading.read.Goals as goal
@@ -13,12 +13,12 @@ returns-in_err-signals c =
     ∙ sym (sia_signals-unread c.data_of.result.now c.in_ok-items.items.now c.in_ok-items.ensures (sym c.in_err-signals.ensures))
     ∙ ap sia_signals c.data_of.ensures
 
-pub returns-then-count-eq0 : goal.returns-then-count-eq0
-returns-then-count-eq0 c =
-    sym (sia_signals-empty c.data_of.result.now c.in_ok-items.items.now c.in_ok-signals.signals c.in_ok-items.ensures (sym c.in_ok-signals.ensures) (sym c.count.ensures ∙ c.if-count-eq0.true))
+pub returns-then-count-lt-FEWEST : goal.returns-then-count-lt-FEWEST
+returns-then-count-lt-FEWEST c =
+    sym (sia_signals-empty c.data_of.result.now c.in_ok-items.items.now c.in_ok-signals.signals c.in_ok-items.ensures (sym c.in_ok-signals.ensures) (omega arith))
     ∙ ap sia_signals c.data_of.ensures
 
 pub returns : goal.returns
 returns c =
-    sym (sia_signals-some c.data_of.result.now c.in_ok-items.items.now c.in_ok-signals.signals c.in_ok-items.ensures (sym c.in_ok-signals.ensures) (λ empty. c.if-count-eq0.false (c.count.ensures ∙ empty)))
+    sym (sia_signals-some c.data_of.result.now c.in_ok-items.items.now c.in_ok-signals.signals c.in_ok-items.ensures (sym c.in_ok-signals.ensures) (λ empty. omega arith))
     ∙ ap sia_signals c.data_of.ensures
