@@ -35,7 +35,8 @@ impl Model for Setup {
 }
 
 impl Setup {
-    /// The setup that a text means. The fault is exactly that of the text, or want of memory.
+    /// The setup that a text means, or its fault: that it has more than 4,194,304 bytes, else the fault of the first line
+    /// that has one. `Memory` comes only for want of memory, and says nothing of the text.
     pub fn read(alloc: Global, text: &[u8]) -> Result<Setup, SetupFault>
         ensures ok { IfOk result (λ setup. setup ≡ text.now) }
         ensures valid { OnOk result (IsOk (setup_of text.now)) }
@@ -60,7 +61,7 @@ impl Setup {
         self.text.bytes()
     }
 
-    /// A copy of it.
+    /// A copy of it. The error is want of memory.
     pub fn copy(&self, alloc: Global) -> Result<Setup, Memory>
         ensures { IfOk result (λ setup. setup ≡ self.now) }
     {
