@@ -1,0 +1,24 @@
+# What a user runs. It needs the kit's rt on PATH, make, bash and coreutils.
+PREFIX = /usr/local
+PROGRAM = crates/arc_server/out/arc_server
+
+.PHONY: build demo test install clean
+
+# proves and builds the program, and says where it stands
+build:
+	@tools/build
+
+# one alarm frame in, its acknowledgement out
+demo: build
+	@tools/demo $(PROGRAM)
+
+# proves and tests everything, from nothing
+test:
+	@.ci/run
+
+# puts the program as PREFIX/bin/arc
+install: build
+	install -D -m 755 $(PROGRAM) '$(DESTDIR)$(PREFIX)/bin/arc'
+
+clean:
+	rm -rf crates/*/out
