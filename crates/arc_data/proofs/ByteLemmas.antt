@@ -1,5 +1,5 @@
 -- Lists of bytes.
-use Rattle.std.proofs.Common.{◌<◌, ◌≡◌, suc, ◌+◌, ℕ, List, [], ◌∷◌, get_or, refl, ap, arith}
+use Rattle.std.proofs.Common.{◌<◌, suc, ℕ, List, [], ◌∷◌, get_or}
 use Rattle.arc_data.specs.Digits.{AreBytes}
 
 -- what is below 256 at each place is a list of bytes

@@ -39,9 +39,7 @@ pub enum Reply {
     /// The message is recorded.
     Taken,
     /// The message stands recorded already, the last time at this moment.
-    Repeat {
-        first: u64,
-    },
+    Repeat { first: u64 },
     /// The setup in force has no such account, or the text is no setup.
     Unknown,
 }

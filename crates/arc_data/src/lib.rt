@@ -13,3 +13,6 @@ pub use event::{Entry, Event, Message, Past, Reply, Token};
 pub use setup_fault::{LineKind, SetupFault};
 pub use signal::{Class, Kind, Signal, Signals};
 pub use txt::Txt;
+
+#[cfg(test)]
+mod tests;

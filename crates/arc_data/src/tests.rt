@@ -1,0 +1,52 @@
+// What no clause says: that calls succeed, and examples worked out by hand.
+use super::*;
+use std::test::Fail;
+
+#[test]
+fn texts_of_at_most_32_bytes(rt: HostRuntime) {
+    for (bytes, fits) in [
+        ("", true),
+        ("1", true),
+        ("0123456789abcdef0123456789abcde", true),
+        ("0123456789abcdef0123456789abcdef", true),
+        ("0123456789abcdef0123456789abcdef0", false),
+    ] {
+        let text = Txt::of(bytes.as_bytes());
+        assert_eq!(rt; text.is_some(), fits, "{bytes}");
+        if let Some(text) = text {
+            assert_eq!(rt; text.bytes(), bytes.as_bytes());
+        }
+    }
+    assert_eq!(rt; Txt::empty().bytes(), b"".as_slice());
+    assert_eq!(rt; Txt::question().bytes(), b"?".as_slice());
+}
+
+#[test]
+fn capitals_of_texts(rt: HostRuntime) -> Result<(), Fail> {
+    for (bytes, capitals) in [
+        ("", ""),
+        ("abcdefghijklmnopqrstuvwxyz", "ABCDEFGHIJKLMNOPQRSTUVWXYZ"),
+        ("0a1B2-Cd", "0A1B2-CD"),
+        ("@[`{ \u{e4}", "@[`{ \u{e4}"),
+    ] {
+        let text = Txt::of(bytes.as_bytes()).ok_or("a long text")?;
+        let want = Txt::of(capitals.as_bytes()).ok_or("a long text")?;
+        assert_eq!(rt; text.capitals().bytes(), capitals.as_bytes());
+        assert_eq!(rt; text == want, bytes == capitals, "{bytes}");
+    }
+    Ok(())
+}
+
+#[test]
+fn blobs(rt: HostRuntime) -> Result<(), Fail> {
+    assert_eq!(rt; Blob::new(rt.alloc()).count(), 0);
+    let bytes = b"one\ntwo\x00".as_slice();
+    let copy = Blob::of(rt.alloc(), bytes)?;
+    let kept = Blob::of_vec(bytes.to_vec(rt.alloc())?);
+    for blob in [&copy, &kept] {
+        assert_eq!(rt; blob.bytes(), bytes);
+        assert_eq!(rt; blob.count(), 8);
+        assert_eq!(rt; (blob.at(0), blob.at(3), blob.at(7)), (b'o', b'\n', 0));
+    }
+    Ok(())
+}
