@@ -26,12 +26,15 @@ last_if false x y at e = e
 
 pub grown : (b : Summary) (s t : State) (h : List Entry) (e : Entry) → StandsFor b s h → Grows s t e → IsWellFormed e.event → e.reply ≡ answer_over s.sum [] e.event e.at → s.sum.last ≤ e.at → IsMoment e.at → StandsFor b t (e ∷ h)
 grown b s t h e w g formed r late moment = record {
-  legal = (record {
-    event = formed;
-    reply = r ∙ answer_same w.same e.event e.at;
-    late = subst (λ (n : ℕ). n ≤ e.at) w.last late;
-    moment = moment;
-  }, w.legal);
+  legal = (
+    record {
+      event = formed;
+      reply = r ∙ answer_same w.same e.event e.at;
+      late = subst (λ (n : ℕ). n ≤ e.at) w.last late;
+      moment = moment;
+    },
+    w.legal,
+  );
   entries = omega (arith, g.entries, w.entries);
   recorded = g.recorded ∙ ap (λ n. n + length (recorded (e ∷ []))) w.recorded ∙ length_if (is_recorded e.reply) e h b.recorded;
   last = g.last ∙ last_if (is_recorded e.reply) s.sum.last (last b h) e.at w.last;

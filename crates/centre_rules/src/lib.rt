@@ -21,5 +21,4 @@ pub fn is_recorded(reply: &Reply) -> bool
 /// Entries that are not recorded, repeats among them, change no answer.
 pub fn law_repeats()
     ensures { QuietChangesNothing }
-{
-}
+{}

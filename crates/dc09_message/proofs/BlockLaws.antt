@@ -43,9 +43,9 @@ block_takes bytes digits contents e =
     let last = some_if ((length b.0 == 12) && (get_or b.0 11 0 == 93) && list_all is_free (take 11 b.0)) (take 11 b.0) c.0 c.1 in
     let ends = twelve b.0 last.0 in
     let whole : bytes ≡ block_bytes d.0.0 (take 11 b.0) =
-        after_byte_takes 35 bytes a.0 a.1
-        ∙ ap (λ (l : List ℕ). 35 ∷ l) (run.0 ∙ ap (λ (l : List ℕ). d.0.0 ++ l) (after_byte_takes 124 d.0.1 b.0 b.1 ∙ ap (λ (l : List ℕ). 124 ∷ l) ends.0))
-        ∙ sym (flat d.0.0 (take 11 b.0)) in
+    after_byte_takes 35 bytes a.0 a.1
+    ∙ ap (λ (l : List ℕ). 35 ∷ l) (run.0 ∙ ap (λ (l : List ℕ). d.0.0 ++ l) (after_byte_takes 124 d.0.1 b.0 b.1 ∙ ap (λ (l : List ℕ). 124 ∷ l) ends.0))
+    ∙ sym (flat d.0.0 (take 11 b.0)) in
     subst (λ (p : List ℕ × List ℕ). IsBlock bytes p.0 p.1) (some_is (d.0.0, c.0) (digits, contents) c.2)
     (subst (λ (l : List ℕ). IsBlock bytes d.0.0 l) last.1 (record { account = run.1; short = ends.1; spelled = whole }))
 

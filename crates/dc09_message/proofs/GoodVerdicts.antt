@@ -38,18 +38,37 @@ contact_bytes q c1 c2 c3 s1 g1 g2 s2 z1 z2 z3 h =
     let h5 = and_front _ _ h6 in
     let h4 = and_front _ _ h5 in
     let h3 = and_front _ _ h4 in
-    let h2 = and_front _ _ h3 in
-    (qualifier_byte q (and_front _ _ h2),
-      (hex_is_byte c1 (and_back (is_qualifier q) _ h2),
-        (hex_is_byte c2 (and_back _ _ h3),
-          (hex_is_byte c3 (and_back _ _ h4),
-            (space_byte s1 (and_back _ _ h5),
-              (hex_is_byte g1 (and_back _ _ h6),
-                (hex_is_byte g2 (and_back _ _ h7),
-                  (space_byte s2 (and_back _ _ h8),
-                    (hex_is_byte z1 (and_back _ _ h9),
-                      (hex_is_byte z2 (and_back _ _ h10),
-                        (hex_is_byte z3 (and_back _ _ h), tt)))))))))))
+    let h2 = and_front _ _ h3 in (
+      qualifier_byte q (and_front _ _ h2),
+      (
+        hex_is_byte c1 (and_back (is_qualifier q) _ h2),
+        (
+          hex_is_byte c2 (and_back _ _ h3),
+          (
+            hex_is_byte c3 (and_back _ _ h4),
+            (
+              space_byte s1 (and_back _ _ h5),
+              (
+                hex_is_byte g1 (and_back _ _ h6),
+                (
+                  hex_is_byte g2 (and_back _ _ h7),
+                  (
+                    space_byte s2 (and_back _ _ h8),
+                    (
+                      hex_is_byte z1 (and_back _ _ h9),
+                      (
+                        hex_is_byte z2 (and_back _ _ h10),
+                        (hex_is_byte z3 (and_back _ _ h), tt),
+                      ),
+                    ),
+                  ),
+                ),
+              ),
+            ),
+          ),
+        ),
+      ),
+    )
 
 pub short_contact : (contents : List ℕ) → is_contact_id contents ≡ true → IsShort contents
 short_contact (q ∷ c1 ∷ c2 ∷ c3 ∷ s1 ∷ g1 ∷ g2 ∷ s2 ∷ z1 ∷ z2 ∷ z3 ∷ []) h = record { size = omega arith; bytes = contact_bytes q c1 c2 c3 s1 g1 g2 s2 z1 z2 z3 h }

@@ -3,10 +3,10 @@
 #![tactic(auto)]
 
 mod blocks;
-mod reading;
 mod laws;
 mod outcome;
+mod reading;
 
-pub use reading::verdict;
 pub use laws::{law_block_is_spelled, law_spelled_block_is_read, law_verdicts_are_good};
 pub use outcome::{Verdict, Why};
+pub use reading::verdict;
