@@ -1,3 +1,5 @@
+pub mod Grammar
 pub mod Numbers
+pub mod Runs
 pub mod Steps
 pub mod Sweeps
