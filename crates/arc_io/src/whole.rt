@@ -8,7 +8,7 @@ use std::alloc::Global;
 /// Writes all of the bytes, in as many calls as the sink asks for.
 pub fn put<K: Sink>(sink: &mut K, bytes: &[u8]) -> Result<(), Failed>
     ensures all { OnOk result (K.written sink.new ≡ append_known (K.written sink.old) bytes.now) }
-    ensures part { OnErr result ((n : ℕ) × (n ≤ length bytes.now)
+    ensures part { OnErr result ((n : ℕ) × (n < length bytes.now)
         × (K.written sink.new ≡ append_known (K.written sink.old) (take n bytes.now))) }
     ensures cause { HasCause (K.write_faults sink.old) (K.write_faults sink.new) result }
     ensures left { K.left sink.new ≡ K.left sink.old }

@@ -1,7 +1,6 @@
 -- How sessions begin, and how they go on.
-use Rattle.std.proofs.Common.{◌≡◌, ◌≤◌, suc, ◌+◌, ◌∷◌, ◌++◌, ℕ, List, [], map, take, length, Option, Some, None, refl, sym, ◌∙◌, ap, append_assoc, append-nil, length-append, arith}
+use Rattle.std.proofs.Common.{◌≡◌, ◌<◌, subst, suc, ◌+◌, ◌∷◌, ◌++◌, ℕ, List, [], map, take, length, Option, Some, None, refl, sym, ◌∙◌, ap, append_assoc, append-nil, length-append, arith}
 use Rattle.std.specs.Prelude.{reverse}
-use Rattle.std.specs.List.{AllByRecursion}
 use Rattle.std.specs.Option.{option_to_list}
 use Rattle.std.proofs.lemmas.List.{reverse-append, map-append}
 use Rattle.std.proofs.lemmas.Grind.{flat_map-append}
@@ -9,13 +8,12 @@ use Rattle.std.specs.Io.KnownBytes.{append_known}
 use Rattle.arc_io.proofs.KnownMore.{known_both}
 use Rattle.alarm_rules.specs.Setups.{Setup, meaning}
 use Rattle.centre_rules.specs.Summary.{Summary}
-use Rattle.centre_rules.specs.History.{Entry, Extends}
+use Rattle.centre_rules.specs.History.{Entry}
 use Rattle.centre_rules.specs.State.{State, StandsFor}
 use Rattle.dc09_message.specs.Verdicts.{verdict_of}
 use Rattle.dc09_message.specs.declared.outcome.Verdict.{Verdict}
-use Rattle.dc09_message.specs.declared.outcome.Verdict.TheVariants.{Silence, NotBuilt, Duh, Numbered}
 use Rattle.arc_server.specs.Sessions.{IsSession, IsEnd, Echoes}
-use Rattle.arc_server.specs.Turns.{Turn, IsTurn, IsAnswered, StandsIn, Serves, entries_of, text_of}
+use Rattle.arc_server.specs.Turns.{Turn, IsTurn, AreTurns, Serves, entries_of, text_of}
 use Rattle.arc_server.specs.declared.session.SessionEnd.{SessionEnd}
 use Rattle.arc_server.specs.declared.session.SessionEnd.TheVariants.{AllAnswered, WriteFault, Memory, NotBuilt as FormNotBuilt}
 
@@ -23,30 +21,27 @@ pub known_none : (known : Option (List ℕ)) → append_known known [] ≡ known
 known_none None = refl
 known_none (Some xs) = ap Some (append-nil xs)
 
--- A turn that is right in a history is right in what goes on from it.
+-- Turns behind those that went before.
 
-pub extends_trans : (h x y : List Entry) → Extends h x → Extends x y → Extends h y
-extends_trans h x y a b = (b.0 ++ a.0, b.1 ∙ ap (λ l. b.0 ++ l) a.1 ∙ sym (append_assoc b.0 a.0 h))
+turned : (o : Option Entry) → reverse (option_to_list o) ≡ option_to_list o
+turned None = refl
+turned (Some e) = refl
 
-stands_later : (b : Summary) (x y : List Entry) (reading : ℕ) (e : Entry) → Extends x y → StandsIn b x reading e → StandsIn b y reading e
-stands_later b x y reading e more s = record { before = s.before; extends = extends_trans (e ∷ s.before) x y s.extends more; at = s.at }
+entries_behind : (t : Turn) (ts : List Turn) (h : List Entry) → reverse (entries_of (t ∷ ts)) ++ h ≡ reverse (entries_of ts) ++ (option_to_list t.entry ++ h)
+entries_behind t ts h =
+    ap (λ (l : List Entry). l ++ h) (reverse-append (option_to_list t.entry) (entries_of ts) ∙ ap (λ (l : List Entry). reverse (entries_of ts) ++ l) (turned t.entry))
+    ∙ append_assoc (reverse (entries_of ts)) (option_to_list t.entry) h
 
-answered_later : (b : Summary) (x y : List Entry) (t : Turn) (v : Verdict) → Extends x y → IsAnswered b x t v → IsAnswered b y t v
-answered_later b x y t Silence more turn = turn
-answered_later b x y t NotBuilt more turn = turn
-answered_later b x y t (Duh h why) more turn = turn
-answered_later b x y t (Numbered h m) more turn = (turn.0, turn.1, turn.2, stands_later b x y t.reading turn.0 more turn.3, turn.4)
-
-turns_later : (b : Summary) (setup : Setup) (x y : List Entry) (ts us : List Turn) → Extends x y → AllByRecursion (IsTurn b setup x) ts → AllByRecursion (IsTurn b setup y) us → AllByRecursion (IsTurn b setup y) (ts ++ us)
-turns_later b setup x y [] us more all last = last
-turns_later b setup x y (t ∷ ts) us more all last = (answered_later b x y t (verdict_of setup t.body) more all.0, turns_later b setup x y ts us more all.1 last)
+turns_more : (b : Summary) (setup : Setup) (h x : List Entry) (ts us : List Turn) → x ≡ reverse (entries_of ts) ++ h → AreTurns b setup h ts → AreTurns b setup x us → AreTurns b setup h (ts ++ us)
+turns_more b setup h x [] us is all next = subst (λ (l : List Entry). AreTurns b setup l us) is next
+turns_more b setup h x (t ∷ ts) us is all next = (all.0, turns_more b setup (option_to_list t.entry ++ h) x ts us (is ∙ entries_behind t ts h) all.1 next)
 
 serves_more : (b : Summary) (setup : Setup) (h x y : List Entry) (ts us : List Turn) → Serves b setup h x ts → Serves b setup x y us → Serves b setup h y (ts ++ us)
 serves_more b setup h x y ts us first next = record {
   added =
       next.added ∙ ap (λ (l : List Entry). reverse (entries_of us) ++ l) first.added ∙ sym (append_assoc (reverse (entries_of us)) (reverse (entries_of ts)) h)
       ∙ ap (λ (l : List Entry). l ++ h) (sym (reverse-append (entries_of ts) (entries_of us)) ∙ ap reverse (sym (flat_map-append (λ (t : Turn). option_to_list t.entry) ts us)));
-  each = turns_later b setup x y ts us (reverse (entries_of us), next.added) first.each next.each;
+  each = turns_more b setup h x ts us first.added first.each next.each;
 }
 
 pub text-append : (ts us : List Turn) → text_of (ts ++ us) ≡ text_of ts ++ text_of us
@@ -59,19 +54,16 @@ behind n WriteFault = WriteFault
 behind n Memory = Memory
 behind n (FormNotBuilt after) = FormNotBuilt (n + after)
 
-take_behind : (xs ys : List ℕ) (n : ℕ) → xs ++ take n ys ≡ take (length xs + n) (xs ++ ys)
-take_behind [] ys n = ap (λ k. take k ys) (omega arith)
-take_behind (x ∷ xs) ys n =
-    let more : suc (length xs + n) ≡ suc (length xs) + n = omega arith in
-    ap (λ (l : List ℕ). x ∷ l) (take_behind xs ys n) ∙ ap (λ k. take k (x ∷ (xs ++ ys))) more
-
 ends_more : (end : SessionEnd) (setup : Setup) (ts us : List Turn) (n : ℕ) (written extra : List ℕ) (left : List (List ℕ)) → n ≡ length ts → IsEnd end setup us written extra left → IsEnd (behind n end) setup (ts ++ us) (text_of ts ++ written) extra left
 ends_more AllAnswered setup ts us n written extra left is e = (ap (λ (l : List ℕ). text_of ts ++ l) e.0 ∙ sym (text-append ts us), e.1, e.2)
 ends_more WriteFault setup ts us n written extra left is e = (
-  length (text_of ts) + e.0,
-  rw text-append (omega (arith, length-append (text_of ts) (text_of us), e.1)),
-  ap (λ (l : List ℕ). text_of ts ++ l) e.2 ∙ take_behind (text_of ts) (text_of us) e.0 ∙ ap (take (length (text_of ts) + e.0)) (sym (text-append ts us)),
-  e.3,
+  ts ++ e.0,
+  e.1,
+  e.2,
+  ap (λ (l : List Turn). ts ++ l) e.3 ∙ sym (append_assoc ts e.0 (e.1 ∷ [])),
+  e.4,
+  ap (λ (l : List ℕ). text_of ts ++ l) e.5 ∙ sym (append_assoc (text_of ts) (text_of e.0) (take e.2 e.1.reply)) ∙ ap (λ (l : List ℕ). l ++ take e.2 e.1.reply) (sym (text-append ts e.0)),
+  e.6,
 )
 ends_more Memory setup ts us n written extra left is e = (e.0, e.1, e.2, e.3, ap (λ (l : List ℕ). text_of ts ++ l) e.4 ∙ sym (text-append ts us), e.5)
 ends_more (FormNotBuilt after) setup ts us n written extra left is e = (
@@ -134,7 +126,7 @@ session_none b setup h state w r s = record {
 }
 
 -- A session over one whole piece, which was answered.
-pub session_one : (b : Summary) (setup : Setup) (h x : List Entry) (t : Turn) (new : State) (w w' r r' : Option (List ℕ)) → x ≡ reverse (entries_of (t ∷ [])) ++ h → IsTurn b setup x t → StandsFor b new x
+pub session_one : (b : Summary) (setup : Setup) (h x : List Entry) (t : Turn) (new : State) (w w' r r' : Option (List ℕ)) → x ≡ reverse (entries_of (t ∷ [])) ++ h → IsTurn b setup h t → StandsFor b new x
     → w' ≡ append_known w t.reply → r' ≡ append_known r (t.reading ∷ []) → IsSession AllAnswered b setup (t.body ∷ []) h new w w' r r'
 session_one b setup h x t new w w' r r' added turn s wrote clock = record {
   turns = t ∷ [];
@@ -151,8 +143,8 @@ session_one b setup h x t new w w' r r' added turn s wrote clock = record {
 }
 
 -- The same, of which a write failed.
-pub session_cut : (b : Summary) (setup : Setup) (h x : List Entry) (t : Turn) (new : State) (n : ℕ) (w w' r r' : Option (List ℕ)) → x ≡ reverse (entries_of (t ∷ [])) ++ h → IsTurn b setup x t → StandsFor b new x
-    → n ≤ length t.reply → w' ≡ append_known w (take n t.reply) → r' ≡ append_known r (t.reading ∷ []) → IsSession WriteFault b setup (t.body ∷ []) h new w w' r r'
+pub session_cut : (b : Summary) (setup : Setup) (h x : List Entry) (t : Turn) (new : State) (n : ℕ) (w w' r r' : Option (List ℕ)) → x ≡ reverse (entries_of (t ∷ [])) ++ h → IsTurn b setup h t → StandsFor b new x
+    → n < length t.reply → w' ≡ append_known w (take n t.reply) → r' ≡ append_known r (t.reading ∷ []) → IsSession WriteFault b setup (t.body ∷ []) h new w w' r r'
 session_cut b setup h x t new n w w' r r' added turn s few wrote clock = record {
   turns = t ∷ [];
   history = x;
@@ -164,7 +156,7 @@ session_cut b setup h x t new n w w' r r' added turn s few wrote clock = record 
   stands = s;
   wrote = wrote;
   clock = clock;
-  ended = (n, rw append-nil few, rw append-nil refl, refl);
+  ended = ([], t, n, refl, few, refl, refl);
 }
 
 -- A whole piece that was not answered.
@@ -185,7 +177,7 @@ session_unanswered end b setup h body reading new w w' r r' s ended wrote clock 
 }
 
 -- A session over one whole piece, whose reply was written or cut off.
-pub session_echoed : (end : SessionEnd) (b : Summary) (setup : Setup) (h x : List Entry) (t : Turn) (new : State) (w w' r r' : Option (List ℕ)) → x ≡ reverse (entries_of (t ∷ [])) ++ h → IsTurn b setup x t → StandsFor b new x
+pub session_echoed : (end : SessionEnd) (b : Summary) (setup : Setup) (h x : List Entry) (t : Turn) (new : State) (w w' r r' : Option (List ℕ)) → x ≡ reverse (entries_of (t ∷ [])) ++ h → IsTurn b setup h t → StandsFor b new x
     → Echoes end w w' t.reply → r' ≡ append_known r (t.reading ∷ []) → IsSession end b setup (t.body ∷ []) h new w w' r r'
 session_echoed AllAnswered b setup h x t new w w' r r' added turn s echoes clock = session_one b setup h x t new w w' r r' added turn s echoes clock
 session_echoed WriteFault b setup h x t new w w' r r' added turn s echoes clock = session_cut b setup h x t new echoes.0 w w' r r' added turn s echoes.1 echoes.2 clock

@@ -33,10 +33,15 @@ pub record PortSeen : Type 0 where
 abbrev pub after_reading : ℕ → PortSeen → PortSeen
 after_reading clock p = record p { readings = append_known p.readings (clock ∷ []) }
 
--- This text was read of the setup's source: all of it, unless it has more than 4,194,304 bytes.
+-- This text was read of the setup's source: all of it, or 4,194,305 bytes.
 pub record ReadsText (q q' : SetupSeen) (text : List ℕ) : Type 0 where
   pub taken : q.left ≡ prepend_known text q'.left
+  pub size : length text ≤ 4194305
   pub whole : length text ≤ 4194304 → IsAtEnd q'.left
+
+-- a reading that stopped took no more than this many bytes
+abbrev pub ReadsPart : ℕ → Option (List ℕ) → Option (List ℕ) → Type 0
+ReadsPart most left left' = (bytes : List ℕ) × (length bytes ≤ most) × (left ≡ prepend_known bytes left')
 
 -- the count has its stated values at entry and at the end, and rose between them
 pub record HasRisen (first second entry end : ℕ) : Type 0 where
@@ -45,19 +50,22 @@ pub record HasRisen (first second entry end : ℕ) : Type 0 where
   pub rose : Rose first second
 
 -- All bytes of the line were read, at most 65,536, and served to this end, from the beginning of the run on: an Adopt of the
--- setup's text and a Start.
+-- setup's text and a Start. No noise was taken.
 pub record ServesLine (end : SessionEnd) (text : List ℕ) (clock : ℕ) (p p' : PortSeen) (state : State) : Type 0 where
   pub input : List ℕ
   pub taken : p.left ≡ prepend_known input p'.left
   pub all : IsAtEnd p'.left
   pub size : length input ≤ 65536
   pub session : IsSession end nothing (meaning text) (bodies input) (begun text clock) state p.written p'.written p.readings p'.readings
+  pub noise : p'.noise ≡ p.noise
 
--- the run began, and nothing of the line was served
+-- the run began, at most 65,537 bytes of the line were read, and nothing of them was served
 pub record ServesNothing (text : List ℕ) (clock : ℕ) (p p' : PortSeen) (state : State) : Type 0 where
   pub stands : StandsFor nothing state (begun text clock)
   pub written : p'.written ≡ p.written
   pub readings : p'.readings ≡ p.readings
+  pub noise : p'.noise ≡ p.noise
+  pub part : ReadsPart 65537 p.left p'.left
 
 -- 65,537 bytes were read of the line, and nothing of it was served
 pub record IsTooLong (text : List ℕ) (clock : ℕ) (p p' : PortSeen) (state : State) : Type 0 where
@@ -79,20 +87,24 @@ IsServed (NotBuilt after) text clock p p' state = ((after ≡ 0) × IsTooLong te
 
 -- What a status shows where the setup was not read or is none.
 abbrev pub IsSetupEnd : Status → SetupSeen → SetupSeen → Type 0
-IsSetupEnd Memory q q' = Unit {0}
+IsSetupEnd Memory q q' = ReadsPart 4194305 q.left q'.left
 IsSetupEnd (SetupBad fault) q q' = (text : List ℕ) × ReadsText q q' text × (setup_of text ≡ Err fault)
-IsSetupEnd (ReadFault Setup before now) q q' = HasRisen before now q.faults q'.faults
+IsSetupEnd (ReadFault Setup before now) q q' = HasRisen before now q.faults q'.faults × ReadsPart 4194305 q.left q'.left
 IsSetupEnd (ReadFault Input before now) q q' = ⊥
 IsSetupEnd Done q q' = ⊥
 IsSetupEnd Usage q q' = ⊥
 IsSetupEnd (WriteFault before now) q q' = ⊥
 IsSetupEnd (NotBuilt after) q q' = ⊥
 
--- What a status shows where no run began: the words were at fault and nothing was touched, memory was wanted, or the setup was
--- not read or is none, and the port was not touched.
+-- the setup was read, and memory was wanted for the beginning of the run, whose one reading was taken
+abbrev pub DoesNotBegin : SetupSeen → SetupSeen → PortSeen → PortSeen → Type 0
+DoesNotBegin q q' p p' = (text : List ℕ) × (clock : ℕ) × ReadsText q q' text × IsOk (setup_of text) × (p' ≡ after_reading clock p)
+
+-- What a status shows where no run began: the words were at fault and nothing was touched; or the setup was not read or is none,
+-- and the port was not touched; or memory was wanted for the beginning.
 abbrev pub EndsEarly : Status → SetupSeen → SetupSeen → PortSeen → PortSeen → Type 0
 EndsEarly Usage q q' p p' = (q' ≡ q) × (p' ≡ p)
-EndsEarly Memory q q' p p' = Unit {0}
+EndsEarly Memory q q' p p' = (IsSetupEnd Memory q q' × (p' ≡ p)) ⊎ DoesNotBegin q q' p p'
 EndsEarly status q q' p p' = IsSetupEnd status q q' × (p' ≡ p)
 
 -- What a run did: no centre was made, or a setup was read, a run began at the first reading, and its centre is handed back.

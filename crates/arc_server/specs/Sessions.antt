@@ -1,5 +1,5 @@
 -- What a line session over bytes in memory did, by its end.
-use Rattle.std.specs.Prelude.{◌≡◌, ◌≤◌, ◌++◌, ℕ, List, [], ◌∷◌, Option, map, take, length}
+use Rattle.std.specs.Prelude.{◌≡◌, ◌<◌, ◌++◌, ℕ, List, [], ◌∷◌, Option, map, take, length}
 use Rattle.std.specs.Io.KnownBytes.{append_known}
 use Rattle.alarm_rules.specs.Setups.{Setup}
 use Rattle.centre_rules.specs.Summary.{Summary}
@@ -16,7 +16,8 @@ use Rattle.arc_server.specs.declared.session.SessionEnd.TheVariants.{AllAnswered
 -- form is not built, and its reading was taken.
 abbrev pub IsEnd : SessionEnd → Setup → List Turn → List ℕ → List ℕ → List (List ℕ) → Type 0
 IsEnd AllAnswered setup turns written extra left = (written ≡ text_of turns) × (extra ≡ []) × (left ≡ [])
-IsEnd WriteFault setup turns written extra left = (n : ℕ) × (n ≤ length (text_of turns)) × (written ≡ take n (text_of turns)) × (extra ≡ [])
+IsEnd WriteFault setup turns written extra left =
+    (front : List Turn) × (last : Turn) × (n : ℕ) × (turns ≡ front ++ last ∷ []) × (n < length last.reply) × (written ≡ text_of front ++ take n last.reply) × (extra ≡ [])
 IsEnd Memory setup turns written extra left = (body : List ℕ) × (more : List (List ℕ)) × (reading : ℕ) × (left ≡ body ∷ more) × (written ≡ text_of turns) × (extra ≡ reading ∷ [])
 IsEnd (FormNotBuilt after) setup turns written extra left = (body : List ℕ) × (more : List (List ℕ)) × (reading : ℕ) × (left ≡ body ∷ more) × (written ≡ text_of turns) × (extra ≡ reading ∷ []) × (verdict_of setup body ≡ NotBuilt) × (after ≡ length turns)
 
@@ -35,9 +36,9 @@ pub record IsSession (end : SessionEnd) (b : Summary) (setup : Setup) (bodies : 
   pub clock : readings' ≡ append_known readings (map (λ t. t.reading) turns ++ extra)
   pub ended : IsEnd end setup turns text extra left
 
--- a reply was written: all of it, or at a write fault a front of it
+-- a reply was written: all of it, or at a write fault a front of it that lacks a byte at least
 abbrev pub Echoes : SessionEnd → Option (List ℕ) → Option (List ℕ) → List ℕ → Type 0
 Echoes AllAnswered written written' reply = written' ≡ append_known written reply
-Echoes WriteFault written written' reply = (n : ℕ) × (n ≤ length reply) × (written' ≡ append_known written (take n reply))
+Echoes WriteFault written written' reply = (n : ℕ) × (n < length reply) × (written' ≡ append_known written (take n reply))
 Echoes Memory written written' reply = ⊥
 Echoes (FormNotBuilt after) written written' reply = ⊥

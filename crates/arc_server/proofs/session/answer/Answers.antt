@@ -1,7 +1,8 @@
-use Rattle.std.proofs.Common.{◌∷◌, [], ℕ, List, Option, Some, None, refl, sym, ◌∙◌, subst}
+use Rattle.std.proofs.Common.{ap, ◌≡◌, ◌∷◌, [], ℕ, List, Option, Some, None, refl, sym, ◌∙◌, subst}
 use Rattle.arc_data.specs.declared.event.Event.TheVariants.{Message as Sent}
 use Rattle.alarm_rules.specs.Setups.{meaning}
-use Rattle.centre_rules.specs.History.{Entry}
+use Rattle.centre_rules.specs.History.{Entry, moment_after}
+use Rattle.centre_rules.specs.State.{StandsFor}
 use Rattle.dc09_frame.specs.Frames.{frame_of}
 use Rattle.dc09_frame.specs.Headers.{echo_body}
 use Rattle.dc09_frame.specs.declared.header.Echo.TheVariants.{Ack, Duh as DuhWord}
@@ -48,14 +49,16 @@ returns-in-Ok-clause-session g c b h text s force =
     let body = c.args.body.now in
     let header = c.in-Ok-Numbered.header in
     let message = c.in-Ok-Numbered.message in
+    let reading = c.now-reading.result in
     let reply = frame_of (echo_body Ack header) in
     let done = c.in-Ok.ensures.done b h s in
     let e : Entry = record { caller = c.in-Ok.field-0.caller; event = Sent message; at = c.in-Ok.field-0.at; reply = c.in-Ok.field-0.reply } in
-    let x : List Entry = e ∷ done.before in
+    let x : List Entry = e ∷ h in
+    let same : done.before ≡ h = cc (done.own) in
     let t : Turn = record { body = body; reading = c.now-reading.result; entry = Some e; reply = reply } in
     let v = verdict_is text c.setup.result.now body c.args.hall.now.sum.text c.in-Ok-Numbered.field-0 (Numbered header message) c.setup.ensures force c.in-Ok-Numbered.ensures.exact c.in-Ok-Numbered.field-0-is in
-    session_echoed c.echo-in-Ok.result b (meaning text) h x t c.submit.new.self _ _ _ _ done.own
-    (subst (IsAnswered b x t) (sym v) (e, refl, refl, record { before = done.before; extends = ([], refl); at = done.at }, refl)) done.holds
+    session_echoed c.echo-in-Ok.result b (meaning text) h x t c.submit.new.self _ _ _ _ refl
+    (subst (IsAnswered b h t) (sym v) (e, refl, c.in-Ok.ensures.caller, refl, done.at ∙ ap (λ (l : List Entry). moment_after b l reading) same, refl)) (subst (StandsFor b c.submit.new.self) done.own done.holds)
     (subst (λ (w : Option (List ℕ)). Echoes c.echo-in-Ok.result w (g.P.Ends.written c.echo-in-Ok.new.port) reply) c.now-reading.ensures.written c.echo-in-Ok.ensures.wrote)
     (c.echo-in-Ok.ensures.readings ∙ c.now-reading.ensures.tells)
 
