@@ -12,3 +12,6 @@ pub use arc_data::{Blob, Event, Memory, Message, Reply, Token};
 pub use centre::Centre;
 pub use hall::{RamHall, Stop};
 pub use ready::{Done, Ready};
+
+#[cfg(test)]
+mod tests;
