@@ -10,3 +10,6 @@ mod reading;
 pub use laws::{law_block_is_spelled, law_spelled_block_is_read, law_verdicts_are_good};
 pub use outcome::{Verdict, Why};
 pub use reading::verdict;
+
+#[cfg(test)]
+mod tests;
