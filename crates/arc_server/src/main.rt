@@ -9,7 +9,7 @@ use status::Status;
 use std::env::Env;
 use std::io::Write;
 use std::process::ExitCode;
-use std::{env, io};
+use std::{env, fs, io};
 
 mod run;
 mod session;
@@ -31,6 +31,11 @@ fn words<R: Env + AllocGlobal>(rt: &R) -> io::Result<Vec<Txt>> {
 }
 
 fn main(rt: HostRuntime) -> ExitCode {
+    // The number of a standard stream that is closed would go to the next file that is opened, and that file would then be
+    // read or written as the stream. Until the end a folder stands there, which can be neither read nor written.
+    let _input = fs::open(&rt, ".");
+    let _output = fs::open(&rt, ".");
+    let _errors = fs::open(&rt, ".");
     let status = match words(&rt) {
         Ok(words) => serve(&rt, &words),
         Err(_) => Status::Memory,
