@@ -1,18 +1,19 @@
 -- What a setup text means.
-use Rattle.std.specs.Prelude.{ℕ, ◌==◌, ◌&&◌, List, [], ◌∷◌, ◌++◌, Bool, true, false, if◌then◌else◌, Option, Some, None, is_some, Result, Ok, Err, nat_lt, nat_eq, length, drop, codes}
-use Rattle.std.specs.List.{find, filter_map, enumerate_from, position, starts_with}
+use Rattle.std.specs.Prelude.{ℕ, ◌==◌, ◌&&◌, ◌||◌, List, [], ◌∷◌, ◌++◌, Bool, true, false, if◌then◌else◌, Option, Some, None, is_some, option_and_then, Result, Ok, Err, nat_lt, length, codes}
+use Rattle.std.specs.List.{find, filter_map, enumerate_from, position, list_all, slice_split}
 use Rattle.std.specs.Option.{option_map}
 use Rattle.std.specs.Result.{result_unwrap_or}
 use Rattle.std.specs.Str.{bytes_eq}
 use Rattle.std.specs.Str.Lines.{lines}
-use Rattle.arc_data.specs.Digits.{capitals, is_account}
+use Rattle.arc_data.specs.Digits.{capitals, is_account, is_hex, bytes_spelled}
 use Rattle.arc_data.specs.declared.setup_fault.LineKind.TheVariants.{Form}
 use Rattle.arc_data.specs.declared.setup_fault.SetupFault.{SetupFault}
 use Rattle.arc_data.specs.declared.setup_fault.SetupFault.TheVariants.{TooLarge, BadLine, TwoSame}
 
--- an account, its number in capitals
+-- an account: its number in capitals, and the bytes of its key, where it has one
 pub record Account : Type 0 where
   pub number : List ℕ
+  pub key : Option (List ℕ)
 
 -- the accounts in the order of their lines
 pub record Setup : Type 0 where
@@ -29,9 +30,30 @@ abbrev pub is_skipped : List ℕ → Bool
 is_skipped [] = true
 is_skipped (b ∷ bs) = b == 35
 
--- the account that a line declares, where it is the word `account`, one space and a number of 3 to 16 hexadecimal digits
+-- the words of a line: what stands between its spaces; two spaces together, or one at an end, make a word of no bytes
+abbrev pub words_of : List ℕ → List (List ℕ)
+words_of line = slice_split (λ b. b == 32) line
+
+-- a key's digits: 32, 48 or 64 hexadecimal digits, in either case
+abbrev pub is_key : List ℕ → Bool
+is_key digits = list_all is_hex digits && ((length digits == 32) || (length digits == 48) || (length digits == 64))
+
+abbrev pub plain_account : List ℕ → Account
+plain_account number = record { number = capitals number; key = None }
+
+abbrev pub keyed_account : List ℕ → List ℕ → Account
+keyed_account number digits = record { number = capitals number; key = Some (bytes_spelled digits) }
+
+-- the account that the words of a line declare: `account`, and a number of 3 to 16 hexadecimal digits; and then, where the
+-- account has a key, `key` and the key's digits
+abbrev pub account_of_words : List (List ℕ) → Option Account
+account_of_words (word ∷ number ∷ []) = if bytes_eq word (codes "account") && is_account number then Some (plain_account number) else None
+account_of_words (word ∷ number ∷ mark ∷ digits ∷ []) = if bytes_eq word (codes "account") && is_account number && bytes_eq mark (codes "key") && is_key digits then Some (keyed_account number digits) else None
+account_of_words other = None
+
+-- the account that a line declares, where it declares one
 abbrev pub declared_account : List ℕ → Option Account
-declared_account line = if starts_with nat_eq line (codes "account ") && is_account (drop 8 line) then Some (record { number = capitals (drop 8 line) }) else None
+declared_account line = account_of_words (words_of line)
 
 abbrev pub has_number : List ℕ → Account → Bool
 has_number number account = bytes_eq number account.number
@@ -84,6 +106,10 @@ setup_of text = if nat_lt 4194304 (length text) then Err TooLarge else unless (f
 
 abbrev pub account_of : Setup → List ℕ → Option Account
 account_of setup number = find (has_number number) setup.accounts
+
+-- the bytes of the account's key, where the setup has the account and the account has a key
+abbrev pub key_of : Setup → List ℕ → Option (List ℕ)
+key_of setup number = option_and_then (λ account. account.key) (account_of setup number)
 
 abbrev pub has_account : Setup → List ℕ → Bool
 has_account setup number = is_some (account_of setup number)

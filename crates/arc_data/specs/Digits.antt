@@ -28,6 +28,12 @@ unfoldable pub hex_value : List ℕ → ℕ
 hex_value [] = 0
 hex_value (b ∷ bs) = digit_value b * 16 ^ length bs + hex_value bs
 
+-- the bytes that pairs of hexadecimal digits spell; a last digit that has no pair spells nothing
+unfoldable pub bytes_spelled : List ℕ → List ℕ
+bytes_spelled [] = []
+bytes_spelled (a ∷ []) = []
+bytes_spelled (a ∷ b ∷ rest) = (digit_value a * 16 + digit_value b) ∷ bytes_spelled rest
+
 -- what decimal digits spell
 unfoldable pub dec_value : List ℕ → ℕ
 dec_value [] = 0

@@ -2,7 +2,7 @@
 use Rattle.std.specs.Prelude.{◌≡◌, ◌≤◌, ℕ, List, Bool, true, Option, Some, None, length}
 use Rattle.arc_data.specs.Digits.{is_run, is_hex, is_capital_hex, AreBytes}
 use Rattle.arc_data.specs.declared.event.Event.{Event}
-use Rattle.arc_data.specs.declared.event.Event.TheVariants.{Adopt, Start, Message as Sent}
+use Rattle.arc_data.specs.declared.event.Event.TheVariants.{Adopt, Start, Message as Sent, Beat}
 use Rattle.arc_data.specs.declared.event.Message.{Message}
 
 -- no `R` field, or 1 to 6 hexadecimal digits
@@ -29,3 +29,4 @@ abbrev pub IsWellFormed : Event → Type 0
 IsWellFormed (Adopt text) = IsText text
 IsWellFormed Start = Unit {0}
 IsWellFormed (Sent m) = IsMessage m
+IsWellFormed (Beat account) = is_run is_capital_hex 3 16 account ≡ true

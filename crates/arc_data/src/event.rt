@@ -29,6 +29,8 @@ pub enum Event {
     Start,
     /// A panel's message.
     Message(Message),
+    /// A panel's heartbeat. The account is in capitals.
+    Beat { account: Txt },
 }
 
 /// What the centre answers.
@@ -40,7 +42,9 @@ pub enum Reply {
     Taken,
     /// The message stands recorded already, the last time at this moment.
     Repeat { first: u64 },
-    /// The setup in force has no such account, or the text is no setup.
+    /// The heartbeat is recorded.
+    Heard,
+    /// The setup in force has no such account, the content has no signals, or the text is no setup.
     Unknown,
 }
 

@@ -1,0 +1,6 @@
+//! Sealed messages of DC-09: encrypted bodies are opened, and acknowledgements are sealed, by a profile of this project's own.
+#![tactic(auto)]
+
+mod opening;
+
+pub use opening::Opening;
