@@ -4,11 +4,11 @@ use Rattle.std.specs.Prelude.{option_and_then}
 use Rattle.std.specs.Result.{result_ok}
 use Rattle.std.specs.Str.{bytes_eq}
 use Rattle.arc_data.specs.declared.event.Event.{Event}
-use Rattle.arc_data.specs.declared.event.Event.TheVariants.{Adopt, Start, Message as Sent}
+use Rattle.arc_data.specs.declared.event.Event.TheVariants.{Adopt, Start, Message as Sent, Beat}
 use Rattle.alarm_rules.specs.Setups.{setup_of}
 use Rattle.centre_rules.specs.Summary.{Summary, Past}
 use Rattle.centre_rules.specs.Marks.{Mark, Adopts, Sends, text_at, messages_at, text, force, messages}
-use Rattle.centre_rules.specs.History.{Entry, marks, onto}
+use Rattle.centre_rules.specs.History.{onto}
 use Rattle.centre_rules.specs.Answers.{answer_over}
 use Rattle.centre_rules.specs.State.{Same}
 
@@ -56,3 +56,4 @@ pub answer_same : {s t : Summary} {ms ns : List Mark} → Same s ms t ns → (e 
 answer_same w (Adopt text) at = refl
 answer_same w Start at = refl
 answer_same w (Sent m) at = rw (force_same w, w.recent m.account) refl
+answer_same w (Beat account) at = rw (force_same w) refl

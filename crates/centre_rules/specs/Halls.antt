@@ -13,9 +13,10 @@ pub record GoesOn (b : Summary) (stands : List Entry → Type 0) (own_new own_ol
   pub at : e.at ≡ moment_after b before clock
   pub own : own_new (e ∷ before) ≡ e ∷ own_old h
 
--- From h on, the hall stands for a history to which this call added nothing.
-pub record Waits (stands : List Entry → Type 0) (own_new own_old : List Entry → List Entry) (h : List Entry) : Type 0 where
+-- From h on, the hall stands for a legal history to which this call added nothing.
+pub record Waits (b : Summary) (stands : List Entry → Type 0) (own_new own_old : List Entry → List Entry) (h : List Entry) : Type 0 where
   pub now : List Entry
   pub extends : Extends h now
   pub holds : stands now
+  pub legal : IsLegal b now
   pub own : own_new now ≡ own_old h

@@ -1,10 +1,10 @@
 -- Histories: lists of entries, the newest first, over a summary.
 use Rattle.std.specs.Prelude.{◌≡◌, ◌<◌, ℕ, max, List, [], ◌∷◌, ◌++◌, Bool, true, false, if◌then◌else◌}
 use Rattle.arc_data.specs.declared.event.Event.{Event}
-use Rattle.arc_data.specs.declared.event.Event.TheVariants.{Adopt, Start, Message as Sent}
+use Rattle.arc_data.specs.declared.event.Event.TheVariants.{Adopt, Start, Message as Sent, Beat}
 pub use Rattle.arc_data.specs.declared.event.Entry.{Entry}
 use Rattle.arc_data.specs.declared.event.Reply.{Reply}
-use Rattle.arc_data.specs.declared.event.Reply.TheVariants.{Adopted, Started, Taken, Repeat, Unknown}
+use Rattle.arc_data.specs.declared.event.Reply.TheVariants.{Adopted, Started, Taken, Repeat, Heard, Unknown}
 use Rattle.centre_rules.specs.Summary.{Summary}
 use Rattle.centre_rules.specs.Marks.{Mark, Adopts, Sends}
 
@@ -14,6 +14,7 @@ is_recorded Adopted = true
 is_recorded Started = true
 is_recorded Taken = true
 is_recorded (Repeat first) = false
+is_recorded Heard = true
 is_recorded Unknown = false
 
 -- the recorded entries
@@ -43,6 +44,7 @@ abbrev pub marks_of : Event → ℕ → List Mark
 marks_of (Adopt text) at = Adopts text ∷ []
 marks_of Start at = []
 marks_of (Sent m) at = Sends m at ∷ []
+marks_of (Beat account) at = []
 
 -- each of these put upon the marks in turn
 abbrev pub onto : List Mark → List Mark → List Mark

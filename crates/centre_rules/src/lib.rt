@@ -13,7 +13,7 @@ pub fn is_recorded(reply: &Reply) -> bool
     ensures { result ≡ is_recorded reply.now }
 {
     match reply {
-        Reply::Adopted | Reply::Started | Reply::Taken => true,
+        Reply::Adopted | Reply::Started | Reply::Taken | Reply::Heard => true,
         Reply::Repeat { .. } | Reply::Unknown => false,
     }
 }
