@@ -1,3 +1,1 @@
 pub mod DigitLemmas
-pub mod GoodVerdicts
-pub mod BlockLaws
