@@ -63,6 +63,17 @@ impl Key {
         }
     }
 
+    /// A copy of the key. Takes no memory.
+    pub fn copy(&self) -> Key
+        ensures { result ≡ self.now }
+    {
+        Key {
+            rounds: self.rounds,
+            words: self.words,
+            inverse_words: self.inverse_words,
+        }
+    }
+
     /// A key has 16, 24 or 32 bytes, as the laws of this crate ask.
     pub fn law_key(&self)
         ensures { IsKey self.now }
