@@ -2,7 +2,7 @@
 use Rattle.std.specs.Prelude.{not}
 use Rattle.std.proofs.Common.{◌≡◌, ◌≤◌, ◌+◌, ◌∷◌, ℕ, List, [], Bool, true, false, cond, refl, ◌∙◌, ap, subst}
 use Rattle.arc_data.specs.declared.event.Event.{Event}
-use Rattle.arc_data.specs.declared.event.Event.TheVariants.{Adopt, Start, Message as Sent}
+use Rattle.arc_data.specs.declared.event.Event.TheVariants.{Adopt, Start, Message as Sent, Beat}
 use Rattle.centre_rules.specs.Marks.{text}
 use Rattle.centre_rules.specs.History.{Entry, is_recorded, marks_of, onto}
 use Rattle.centre_rules.specs.Answers.{answer_over}
@@ -26,6 +26,7 @@ text_by false s event at sent = refl
 text_by true s (Adopt t) at sent = absurd sent
 text_by true s Start at sent = refl
 text_by true s (Sent m) at sent = refl
+text_by true s (Beat account) at sent = refl
 
 -- neither an Adopt nor a Start: the setup in force stays
 pub text_stays : (s t : State) (e : Entry) → IsSubmitted e.event → Grows s t e → t.sum.text ≡ s.sum.text

@@ -2,7 +2,7 @@
 use Rattle.std.specs.Prelude.{◌≡◌, ◌≤◌, ◌+◌, ◌++◌, ℕ, List, [], ◌∷◌, map, if◌then◌else◌, Option, Some, None, IsOk, IsErr, IfSome}
 use Rattle.std.specs.Str.{bytes_eq}
 use Rattle.arc_data.specs.declared.event.Event.{Event}
-use Rattle.arc_data.specs.declared.event.Event.TheVariants.{Adopt, Start, Message as Sent}
+use Rattle.arc_data.specs.declared.event.Event.TheVariants.{Adopt, Start, Message as Sent, Beat}
 use Rattle.alarm_rules.specs.Setups.{setup_of}
 use Rattle.centre_rules.specs.Summary.{Past, AccountRow}
 use Rattle.centre_rules.specs.History.{marks_of, onto, IsMoment}
@@ -35,12 +35,14 @@ abbrev pub IsAdopted : Event → Option (List ℕ) → Type 0
 IsAdopted (Adopt text) setup = IsSetupOf text setup
 IsAdopted Start setup = setup ≡ None
 IsAdopted (Sent m) setup = setup ≡ None
+IsAdopted (Beat account) setup = setup ≡ None
 
 -- the setup that a recorded event brings into force
 abbrev pub CarriesSetup : Event → Option (List ℕ) → Type 0
 CarriesSetup (Adopt text) setup = (setup ≡ Some text) × IsOk (setup_of text)
 CarriesSetup Start setup = Unit {0}
 CarriesSetup (Sent m) setup = Unit {0}
+CarriesSetup (Beat account) setup = Unit {0}
 
 -- what has been worked out is sound, and the setup of an Adopt was read
 pub record IsReady (p : Plan) (setup : Option (List ℕ)) : Type 0 where

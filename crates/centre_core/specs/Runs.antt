@@ -1,7 +1,7 @@
 -- How a run begins, and what is submitted in one.
 use Rattle.std.specs.Prelude.{ℕ, List, [], ◌∷◌}
 use Rattle.arc_data.specs.declared.event.Event.{Event}
-use Rattle.arc_data.specs.declared.event.Event.TheVariants.{Adopt, Start, Message as Sent}
+use Rattle.arc_data.specs.declared.event.Event.TheVariants.{Adopt, Start, Message as Sent, Beat}
 use Rattle.arc_data.specs.declared.event.Reply.TheVariants.{Adopted, Started}
 use Rattle.centre_rules.specs.History.{Entry}
 
@@ -14,3 +14,4 @@ abbrev pub IsSubmitted : Event → Type 0
 IsSubmitted (Adopt text) = ⊥
 IsSubmitted Start = ⊥
 IsSubmitted (Sent m) = Unit {0}
+IsSubmitted (Beat account) = Unit {0}

@@ -12,6 +12,7 @@ ghost use Rattle.std.specs.Option.{option_map};
 
 use crate::ready::{Done, Ready};
 use crate::repeats::repeat_among;
+use crate::signals::has_signals;
 use accounts::Setup;
 use arc_data::{Event, Memory, Message, Past, Reply, SetupFault, Txt};
 use std::alloc::Global;
@@ -115,23 +116,25 @@ impl Centre {
         ensures at { result.at ≡ ready.at }
         ensures reply { result.reply ≡ ready.reply }
     {
-        let quiet = ready.quiet();
+        let done = Done {
+            caller: 0,
+            at: ready.at,
+            reply: ready.reply,
+        };
+        self.entries += 1;
+        if ready.quiet() {
+            ready.discard();
+            return done;
+        }
         let Ready {
             event,
             at,
-            reply,
+            reply: _,
             setup,
             of: _,
         } = ready;
-        self.entries += 1;
-        if !quiet {
-            self.record(event, at, setup);
-        }
-        Done {
-            caller: 0,
-            at,
-            reply,
-        }
+        self.record(event, at, setup);
+        done
     }
 
     // Keeps what a recorded event brings.
@@ -146,7 +149,7 @@ impl Centre {
         self.last = at;
         match event {
             Event::Adopt { .. } => self.setup = setup,
-            Event::Start => {}
+            Event::Start | Event::Beat { .. } => {}
             Event::Message(message) => self.messages.push_reserved(Past { message, at }),
         }
     }
@@ -166,12 +169,19 @@ impl Centre {
             }
             Event::Start => Reply::Started,
             Event::Message(message) => {
-                if !self.knows(&message.account) {
+                if !self.knows(&message.account) || !has_signals(message) {
                     return Reply::Unknown;
                 }
                 match repeat_among(&self.messages, message, at) {
                     Some(first) => Reply::Repeat { first },
                     None => Reply::Taken,
+                }
+            }
+            Event::Beat { account } => {
+                if self.knows(account) {
+                    Reply::Heard
+                } else {
+                    Reply::Unknown
                 }
             }
         }

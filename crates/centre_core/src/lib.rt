@@ -6,6 +6,7 @@ mod centre;
 mod hall;
 mod ready;
 mod repeats;
+mod signals;
 
 pub use accounts::Setup;
 pub use arc_data::{Blob, Event, Memory, Message, Reply, Token};

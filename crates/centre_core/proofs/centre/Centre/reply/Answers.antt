@@ -12,7 +12,7 @@ returns-in-Some c =
     let m = c.in-Message.message in
     let rows = ap (λ (t : State). t.sum.rows) (sym c.self.view_is) in
     let found = repeat_is s _ m c.args.at rows ∙ ap (λ (ps : List Past). scan m c.args.at 32 (messages_of m.account ps)) (sym c.deref.ensures.value) ∙ sym c.repeat_among.ensures ∙ c.in-Some.is in
-    rw c.in-Message.is (taken_is s m c.args.at _ (sym c.knows.ensures ∙ c.if-not-knows.false) found)
+    rw c.in-Message.is (taken_is s m c.args.at _ (sym c.knows.ensures ∙ c.if-not-knows.false) (sym c.has_signals.ensures ∙ c.if-not-has_signals.false) found)
 
 pub returns-in-None : goal.returns-in-None
 returns-in-None c =
@@ -20,4 +20,4 @@ returns-in-None c =
     let m = c.in-Message.message in
     let rows = ap (λ (t : State). t.sum.rows) (sym c.self.view_is) in
     let found = repeat_is s _ m c.args.at rows ∙ ap (λ (ps : List Past). scan m c.args.at 32 (messages_of m.account ps)) (sym c.deref.ensures.value) ∙ sym c.repeat_among.ensures ∙ c.in-None.is in
-    rw c.in-Message.is (taken_is s m c.args.at _ (sym c.knows.ensures ∙ c.if-not-knows.false) found)
+    rw c.in-Message.is (taken_is s m c.args.at _ (sym c.knows.ensures ∙ c.if-not-knows.false) (sym c.has_signals.ensures ∙ c.if-not-has_signals.false) found)
