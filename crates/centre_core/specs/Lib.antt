@@ -6,3 +6,5 @@ pub use Rattle.centre_rules.specs.Halls
 pub use Rattle.centre_rules.specs.WellFormed
 pub mod Kept
 pub mod Runs
+pub mod Setting
+pub mod InForce

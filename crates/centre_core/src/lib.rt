@@ -11,7 +11,7 @@ mod signals;
 pub use accounts::Setup;
 pub use arc_data::{Blob, Event, Memory, Message, Reply, Token};
 pub use centre::Centre;
-pub use hall::{RamHall, Stop};
+pub use hall::{Hall, RamHall, Stop};
 pub use ready::{Done, Ready};
 
 #[cfg(test)]

@@ -5,6 +5,7 @@ use Rattle.alarm_rules.specs.Setups.{setup_of}
 use Rattle.centre_rules.specs.Summary.{nothing}
 use Rattle.centre_rules.specs.History.{Entry}
 use Rattle.centre_rules.specs.State.{StandsFor, entry_of}
+use Rattle.centre_core.specs.Setting.{IsSetting}
 use Rattle.centre_core.proofs.Begun.{adopted, adopt_entry, start_entry}
 use Rattle.centre_core.proofs.hall.RamHall.new.Goals as goal
 
@@ -23,4 +24,5 @@ returns c =
     let begun = c.in_ok-start.ensures.stays nothing (adopted text clock ∷ []) told in
     let second = c.apply-2.ensures.entry nothing (adopted text clock ∷ []) 0 begun in
     let second_is = start_entry text clock start c.in_ok-start.ensures.event (c.in_ok-start.ensures.at nothing (adopted text clock ∷ []) begun) second.legal.0.reply in
-    subst (λ (e : Entry). StandsFor nothing c.apply-2.new.self (e ∷ adopted text clock ∷ [])) second_is second
+    let stands = subst (λ (e : Entry). StandsFor nothing c.apply-2.new.self (e ∷ adopted text clock ∷ [])) second_is second in
+    record { stands = stands; setting = subst IsSetting (sym stands.same.text) valid }

@@ -1,0 +1,29 @@
+use Rattle.std.proofs.Common.{◌≡◌, ◌∷◌, [], refl, sym, ◌∙◌, ap, subst}
+use Rattle.centre_rules.specs.History.{Entry}
+use Rattle.centre_rules.specs.State.{State, StandsFor, entry_of}
+use Rattle.centre_rules.specs.Answers.{IsLegal}
+use Rattle.centre_core.specs.Runs.{IsSubmitted}
+use Rattle.centre_core.specs.Setting.{IsSetting}
+use Rattle.centre_core.proofs.Applied.{text_stays}
+use Rattle.centre_core.proofs.hall.RamHallHall.submit.Goals as goal
+
+pub returns-in-Ok-clause-done : goal.returns-in-Ok-clause-done
+returns-in-Ok-clause-done c b h s =
+    let sent = subst IsSubmitted (sym c.in-Ok.ensures.event) c.requires.submitted in
+    let text = text_stays c.prepare.new.self c.apply.new.self (entry_of 0 c.in-Ok.ready) sent c.apply.ensures.grows
+    ∙ ap (λ x. x.text) c.in-Ok.ensures.sum ∙ ap (λ (x : State). x.sum.text) c.self.view_is in
+    let kept = c.in-Ok.ensures.stays b h (subst (λ (x : State). StandsFor b x h) (sym c.self.view_is) s.stands) in
+    let after = c.apply.ensures.entry b h c.apply.result.caller kept in
+    let same : entry_of c.apply.result.caller c.in-Ok.ready ≡ record { caller = c.apply.result.caller; event = c.args.event; at = c.apply.result.at; reply = c.apply.result.reply } =
+    λ i. record { caller = c.apply.result.caller; event = c.in-Ok.ensures.event i; at = sym c.apply.ensures.at i; reply = sym c.apply.ensures.reply i } in
+    record {
+      before = h;
+      extends = ([], refl);
+      holds = record {
+        stands = subst (λ (e : Entry). StandsFor b c.apply.new.self (e ∷ h)) same after;
+        setting = subst IsSetting (sym text) s.setting;
+      };
+      legal = subst (λ (e : Entry). IsLegal b (e ∷ h)) same after.legal;
+      at = c.apply.ensures.at ∙ c.in-Ok.ensures.at b h kept;
+      own = refl;
+    }

@@ -1,0 +1,27 @@
+-- The hall in memory: which setup is in force, and why an event is not taken.
+use Rattle.std.specs.Prelude.{◌≡◌, ◌≤◌, ◌^◌, ℕ, List, [], Option, Some, None, IsOk, unwrap_or}
+use Rattle.alarm_rules.specs.Setups.{setup_of}
+use Rattle.centre_rules.specs.Summary.{Summary}
+use Rattle.centre_rules.specs.History.{Entry}
+use Rattle.centre_rules.specs.State.{State, StandsFor}
+use Rattle.centre_core.specs.declared.hall.Stop.{Stop}
+use Rattle.centre_core.specs.declared.hall.Stop.TheVariants.{Memory, Worn}
+
+-- a setup is in force: there is a text, and it is one
+abbrev pub IsSetting : Option (List ℕ) → Type 0
+IsSetting None = ⊥
+IsSetting (Some text) = IsOk (setup_of text)
+
+-- the text in force
+abbrev pub text_of : State → List ℕ
+text_of s = unwrap_or s.sum.text []
+
+-- the state is that of the history, after which a setup is in force
+pub record IsSetFor (b : Summary) (s : State) (h : List Entry) : Type 0 where
+  pub stands : StandsFor b s h
+  pub setting : IsSetting s.sum.text
+
+-- what is told of a stop: of want of memory nothing, and otherwise how many entries there are, too many for another
+abbrev pub IsShown : State → Stop → Type 0
+IsShown s Memory = Unit {0}
+IsShown s (Worn count) = (count ≡ s.entries) × (2 ^ 48 ≤ count)
