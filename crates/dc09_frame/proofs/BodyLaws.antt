@@ -8,9 +8,8 @@ use Rattle.std.proofs.lemmas.List.Elements.{filter-append}
 use Rattle.dc09_frame.specs.declared.cut.Cut.{Cut}
 use Rattle.dc09_frame.specs.declared.cut.Cut.TheVariants.{Whole, BadCheck, BadLength, TooLong}
 use Rattle.dc09_frame.specs.Pieces.{up_to_return, pieces}
-use Rattle.dc09_frame.specs.Frames.{IsBody, piece_of, frame_of, do_spell, body_of, has_length, has_check, cut, is_whole, bodies}
+use Rattle.dc09_frame.specs.Frames.{is_clean, IsBody, piece_of, frame_of, do_spell, body_of, has_length, has_check, cut, is_whole, bodies}
 use Rattle.dc09_frame.specs.Cutting.{is_end, CutterValue, Feeds, body_told, AddsBody}
-use Rattle.dc09_frame.proofs.FrameLaws.{is_clean}
 use Rattle.dc09_frame.proofs.PieceLaws.{frame_again}
 
 -- A piece has neither a line feed nor a carriage return.

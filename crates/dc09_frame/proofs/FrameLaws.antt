@@ -11,12 +11,12 @@ use Rattle.arc_data.specs.Digits.{is_between, is_digit, is_hex, digit_value, hex
 use Rattle.dc09_frame.specs.declared.cut.Cut.TheVariants.{Whole}
 use Rattle.dc09_frame.specs.Check.{divisor, all_bits, check_of}
 use Rattle.dc09_frame.specs.Polynomial.{remainder, zeros, bits, number}
-use Rattle.dc09_frame.specs.Frames.{digit_of, four_digits, IsBody, piece_of, head_of, frame_of, do_spell, has_length, has_check, cut}
+use Rattle.dc09_frame.specs.Frames.{digit_of, four_digits, is_clean, IsBody, piece_of, head_of, frame_of, do_spell, has_length, has_check, cut}
 use Rattle.arc_data.specs.WellFormed.{is_receiver}
 use Rattle.dc09_frame.specs.declared.header.Header.{Header}
 use Rattle.dc09_frame.specs.declared.header.Echo.{Echo}
 use Rattle.dc09_frame.specs.declared.header.Echo.TheVariants.{Ack, Duh}
-use Rattle.dc09_frame.specs.Headers.{IsHeader, receiver_field, fields, word_of, echo_body}
+use Rattle.dc09_frame.specs.Headers.{IsHeader, receiver_field, fields, word_of, echo_body, nak_body}
 use Rattle.dc09_frame.proofs.Division.{divides}
 use Rattle.dc09_frame.proofs.Polynomials.{length-bits}
 
@@ -48,16 +48,13 @@ check-lt bytes =
 
 -- Digits.
 
-abbrev pub is_clean : ℕ → Bool
-is_clean b = not (eqb b 10) && not (eqb b 13)
-
 -- what a digit that is written stands for
 pub record IsDigitOf (n b : ℕ) : Type 0 where
   pub hex : is_hex b ≡ true
   pub value : digit_value b ≡ n
   pub clean : is_clean b ≡ true
 
-digit_again : (n : ℕ) → n < 16 → IsDigitOf n (digit_of n)
+pub digit_again : (n : ℕ) → n < 16 → IsDigitOf n (digit_of n)
 digit_again n lt = elim (cases_lt n 10) [
   | inl low ↦ rw (lt-ltb n 10 low) (low_digit n low)
   | inr high ↦ rw (le-ltb n 10 high) (high_digit n high lt)
@@ -142,43 +139,43 @@ framed old bytes head len is long made =
 
 -- A reply's body.
 
-clean_hex : (b : ℕ) → is_hex b ≡ true → is_clean b ≡ true
+pub clean_hex : (b : ℕ) → is_hex b ≡ true → is_clean b ≡ true
 clean_hex b h =
     let feed : eqb b 10 ≡ false = ne_eqb b 10 (λ is. let no : is_hex 10 ≡ true = ap is_hex (sym is) ∙ h in cc) in
     let return : eqb b 13 ≡ false = ne_eqb b 13 (λ is. let no : is_hex 13 ≡ true = ap is_hex (sym is) ∙ h in cc) in
     rw (feed, return) refl
 
-clean_digit : (b : ℕ) → is_digit b ≡ true → is_clean b ≡ true
+pub clean_digit : (b : ℕ) → is_digit b ≡ true → is_clean b ≡ true
 clean_digit b h = clean_hex b (or_left _ _ (or_left _ _ h))
 
-all_clean : (test : ℕ → Bool) → ((b : ℕ) → test b ≡ true → is_clean b ≡ true) → (text : List ℕ) → list_all test text ≡ true → list_all is_clean text ≡ true
+pub all_clean : (test : ℕ → Bool) → ((b : ℕ) → test b ≡ true → is_clean b ≡ true) → (text : List ℕ) → list_all test text ≡ true → list_all is_clean text ≡ true
 all_clean test passes [] all = refl
 all_clean test passes (b ∷ text) all =
     let h = and_parts (test b) (list_all test text) all in
     and_from _ _ (passes b h.0) (all_clean test passes text h.1)
 
 -- a text without ends, of so many bytes at most
-record IsShort (most : ℕ) (text : List ℕ) : Type 0 where
-  size : length text ≤ most
-  clean : list_all is_clean text ≡ true
+pub record IsShort (most : ℕ) (text : List ℕ) : Type 0 where
+  pub size : length text ≤ most
+  pub clean : list_all is_clean text ≡ true
 
-run_short : (test : ℕ → Bool) → ((b : ℕ) → test b ≡ true → is_clean b ≡ true) → (low high : ℕ) (text : List ℕ) → is_run test low high text ≡ true → IsShort high text
+pub run_short : (test : ℕ → Bool) → ((b : ℕ) → test b ≡ true → is_clean b ≡ true) → (low high : ℕ) (text : List ℕ) → is_run test low high text ≡ true → IsShort high text
 run_short test passes low high text run =
     let h = and_parts (is_between low high (length text)) (list_all test text) run in
     let sizes = and_parts (leb low (length text)) (leb (length text) high) h.0 in
     record { size = leb-true (length text) high sizes.1; clean = all_clean test passes text h.1 }
 
-short-append : (m n : ℕ) (xs ys : List ℕ) → IsShort m xs → IsShort n ys → IsShort (m + n) (xs ++ ys)
+pub short-append : (m n : ℕ) (xs ys : List ℕ) → IsShort m xs → IsShort n ys → IsShort (m + n) (xs ++ ys)
 short-append m n xs ys p q = record { size = omega (arith, length-append xs ys, p.size, q.size); clean = list_all-append is_clean xs ys ∙ and_from _ _ p.clean q.clean }
 
-short-cons : (m x : ℕ) (xs : List ℕ) → is_clean x ≡ true → IsShort m xs → IsShort (m + 1) (x ∷ xs)
+pub short-cons : (m x : ℕ) (xs : List ℕ) → is_clean x ≡ true → IsShort m xs → IsShort (m + 1) (x ∷ xs)
 short-cons m x xs is p = record { size = omega (arith, p.size); clean = and_from _ _ is p.clean }
 
 receiver_short : (r : Option (List ℕ)) → is_receiver r ≡ true → IsShort 7 (receiver_field r)
 receiver_short None is = record { size = omega arith; clean = refl }
 receiver_short (Some digits) is = short-cons 6 82 digits refl (run_short is_hex clean_hex 1 6 digits is)
 
-fields_short : (h : Header) → IsHeader h → IsShort 35 (fields h)
+pub fields_short : (h : Header) → IsHeader h → IsShort 35 (fields h)
 fields_short h is =
     short-append 18 17 (h.seq ++ receiver_field h.receiver ++ 76 ∷ h.line) (35 ∷ h.account)
     (short-append 11 7 (h.seq ++ receiver_field h.receiver) (76 ∷ h.line) (short-append 4 7 h.seq (receiver_field h.receiver) (run_short is_digit clean_digit 4 4 h.seq is.sequence) (receiver_short h.receiver is.receiver)) (short-cons 6 76 h.line refl (run_short is_hex clean_hex 1 6 h.line is.line)))
@@ -197,3 +194,11 @@ echo_is_body word h is =
 pub echo_parts : (word : Echo) (h : Header) → (34 ∷ word_of word ++ 34 ∷ []) ++ fields h ++ codes "[]" ≡ echo_body word h
 echo_parts Ack h = refl
 echo_parts Duh h = refl
+
+pub nak_is_body : (stamp : List ℕ) → length stamp ≡ 20 → list_all is_clean stamp ≡ true → IsBody (nak_body stamp)
+nak_is_body stamp twenty clean = record {
+  some = omega arith;
+  size = omega (arith, twenty);
+  quote = refl;
+  clean = clean;
+}

@@ -5,8 +5,8 @@ use Rattle.std.specs.List.{list_all, list_any}
 use Rattle.std.proofs.lemmas.Bool.{and_parts, not-true, or_parts, or_from, or_right, cases_Bool}
 use Rattle.dc09_frame.specs.Pieces.{up_to_return, pieces}
 use Rattle.dc09_frame.specs.Cutting.{is_end, open_piece}
-use Rattle.dc09_frame.specs.Frames.{IsBody, piece_of, frame_of, IsCutAgain}
-use Rattle.dc09_frame.proofs.FrameLaws.{is_clean, piece_whole, piece_clean}
+use Rattle.dc09_frame.specs.Frames.{is_clean, IsBody, piece_of, frame_of, IsCutAgain}
+use Rattle.dc09_frame.proofs.FrameLaws.{piece_whole, piece_clean}
 
 -- A run has no end: neither a line feed nor a carriage return.
 

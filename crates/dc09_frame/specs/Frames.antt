@@ -16,12 +16,16 @@ digit_of n = if nat_lt n 10 then n + 48 else n + 55
 abbrev pub four_digits : ℕ → List ℕ
 four_digits n = digit_of (n / 4096 % 16) ∷ digit_of (n / 256 % 16) ∷ digit_of (n / 16 % 16) ∷ digit_of (n % 16) ∷ []
 
+-- neither a line feed nor a carriage return
+abbrev pub is_clean : ℕ → Bool
+is_clean b = not (b == 10) && not (b == 13)
+
 -- a body: 1 to 4,095 bytes, of which the first is a double quote and none a line feed or a carriage return
 pub record IsBody (body : List ℕ) : Type 0 where
   pub some : 1 ≤ length body
   pub size : length body ≤ 4095
   pub quote : slice_index body 0 ≡ 34
-  pub clean : list_all (λ b. not (b == 10) && not (b == 13)) body ≡ true
+  pub clean : list_all is_clean body ≡ true
 
 -- what stands between the line feed and the carriage return of the body's frame
 abbrev pub piece_of : List ℕ → List ℕ

@@ -104,3 +104,7 @@ word_of Duh = codes "DUH"
 -- the body of a reply that echoes a header: its word in double quotes, the fields as they came, `[]`
 abbrev pub echo_body : Echo → Header → List ℕ
 echo_body word h = 34 ∷ word_of word ++ 34 ∷ fields h ++ codes "[]"
+
+-- the body of the reply that refuses a message for its time: `"NAK"`, fields of zeros, `[]`, the receiver's stamp
+abbrev pub nak_body : List ℕ → List ℕ
+nak_body stamp = codes "\"NAK\"0000R0L0A0[]" ++ stamp

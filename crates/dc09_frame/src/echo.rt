@@ -1,7 +1,8 @@
 // The frames that a receiver writes.
-ghost use Rattle.std.specs.Prelude.{◌≡◌, ◌≤◌, ◌+◌, [], ◌∷◌, ◌++◌, length};
-ghost use Rattle.dc09_frame.specs.Frames.{frame_of, IsBody};
-ghost use Rattle.dc09_frame.specs.Headers.{IsHeader, word_of, receiver_field, fields, echo_body};
+ghost use Rattle.std.specs.Prelude.{◌≡◌, ◌≤◌, ◌+◌, [], ◌∷◌, ◌++◌, length, true};
+ghost use Rattle.dc09_frame.specs.Frames.{is_clean, frame_of, IsBody};
+ghost use Rattle.dc09_frame.specs.Headers.{IsHeader, word_of, receiver_field, fields, echo_body, nak_body};
+ghost use Rattle.std.specs.List.{list_all};
 
 use crate::frame_buf::FrameBuf;
 use crate::header::{Echo, Header};
@@ -31,6 +32,19 @@ pub fn write_echo(word: Echo, header: &Header, out: &mut FrameBuf)
     out.end_frame();
 }
 
+/// Makes `out` the frame of the reply `NAK` (DC-09, the NAK reply), which refuses a message for its time and tells the
+/// receiver's: a sequence and fields of zeros, an empty block, and the stamp.
+pub fn write_nak(stamp: &[u8; 20], out: &mut FrameBuf)
+    requires { list_all is_clean stamp.now ≡ true }
+    ensures frame { out.new ≡ frame_of (nak_body stamp.now) }
+    ensures body { IsBody (nak_body stamp.now) }
+{
+    out.begin_frame();
+    out.append(b"\"NAK\"0000R0L0A0[]");
+    out.append(stamp);
+    out.end_frame();
+}
+
 // The word of a reply in double quotes.
 fn quoted_word_of(word: Echo) -> &'static [u8]
     ensures { result.now ≡ 34 ∷ word_of word ++ 34 ∷ [] }
@@ -41,8 +55,9 @@ fn quoted_word_of(word: Echo) -> &'static [u8]
     }
 }
 
-// Puts the sequence, the `R` field, the `L` field and the account behind what stands there, as they came.
-fn append_fields(header: &Header, out: &mut FrameBuf)
+/// Puts the header's sequence, `R` field, `L` field and account behind the bytes that stand there, as they came. A frame that
+/// has more to hold than a reply of this crate is made of them: `begin_frame`, then the body's parts, then `end_frame`.
+pub fn append_fields(header: &Header, out: &mut FrameBuf)
     requires { length out.old ≤ 4000 }
     ensures { out.new ≡ out.old ++ fields header.now }
 {

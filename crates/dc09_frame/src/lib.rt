@@ -13,7 +13,7 @@ mod reading;
 pub use checksum::check;
 pub use cut::Cut;
 pub use cutter::Cutter;
-pub use echo::{write_echo, write_frame};
+pub use echo::{append_fields, write_echo, write_frame, write_nak};
 pub use frame_buf::FrameBuf;
 pub use header::{Echo, Header};
 pub use laws::{

@@ -335,6 +335,14 @@ fn writes_echoes(rt: HostRuntime) {
     }
 }
 
+#[test]
+fn writes_naks(rt: HostRuntime) {
+    let mut out = FrameBuf::new();
+    write_nak(b"_01:47:20,09-09-2001", &mut out);
+    let frame = b"\n32D10025\"NAK\"0000R0L0A0[]_01:47:20,09-09-2001\r";
+    assert_eq!(rt; out.bytes(), frame.as_slice());
+}
+
 // Feeds the stream in parts of so many bytes, and compares each cut and each whole body.
 fn feed_in_parts(rt: &impl Abort, stream: &[u8], size: usize, want: &[(Cut, &[u8])]) {
     let mut cutter = Cutter::new();
