@@ -42,7 +42,7 @@ lines-found text end found =
     let cut : ℕ → List (List ℕ) = λ k. strip_carriage_return (take k text) ∷ lines (drop (k + 1) text) in
     lines-first text (ltb-true n (length text) here.0) ∙ ap cut here.1 ∙ ap (λ more. strip_carriage_return (take end text) ∷ lines more) (sym (take_rest text (end + 1)))
 
-cond_none : (b : Bool) (x : ℕ) → None ≡ cond b (Some x) None → b ≡ false
+pub cond_none : (b : Bool) (x : ℕ) → None ≡ cond b (Some x) None → b ≡ false
 cond_none true x is = cc
 cond_none false x is = refl
 

@@ -3,4 +3,4 @@ use Rattle.alarm_rules.specs.Setups.{Account}
 use Rattle.accounts.specs.declared.account.Account.{Account as Kept}
 
 abbrev pub defined : Kept → Account
-defined account = record { number = account.number }
+defined account = record { number = account.number; key = account.key }

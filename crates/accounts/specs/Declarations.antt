@@ -9,7 +9,7 @@ use Rattle.accounts.specs.declared.account_table.Declaration.{Declaration}
 
 -- the declaration that stands in a line
 abbrev pub declaration_of : ℕ → Account → Declaration
-declaration_of line account = record { account = record { number = account.number }; line = line }
+declaration_of line account = record { account = record { number = account.number; key = account.key }; line = line }
 
 abbrev pub declaration_at : ℕ × List ℕ → Option Declaration
 declaration_at line = option_map (declaration_of line.0) (declared_account line.1)

@@ -6,6 +6,7 @@ mod account_table;
 mod lines;
 mod reading;
 mod setup;
+mod words;
 
 pub use account::Account;
 pub use arc_data::{LineKind, SetupFault};
