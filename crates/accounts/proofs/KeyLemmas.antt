@@ -10,24 +10,10 @@ use Rattle.std.proofs.lemmas.List.Sums.{AllPass-from_list_all, list_all-from_All
 use Rattle.aes_chain.specs.Laws.{IsKeyLen}
 use Rattle.hex.specs.Hex.{decode_of, decode_sized, is_hex_digit}
 use Rattle.hex.specs.declared.error.FromHexError.{FromHexError}
-use Rattle.hex.proofs.HexLemmas.{decode_of-even, decode_of-ok, decode_of-same, decode_sized-ok, decode_sized-twice, IsOk-decode_sized}
 use Rattle.arc_data.specs.Digits.{capitals, is_account, is_hex, bytes_spelled}
 use Rattle.alarm_rules.specs.Setups.{Account, account_of_words, is_key}
 use Rattle.accounts.specs.Keys.{key_of_digits, key_of_words}
-use Rattle.accounts.proofs.DigitPairs.{all_same, decode_pairs-spelled}
-
--- What decoding into room for some bytes answers, by what it wrote.
-
-abbrev Decodes : Result (List ℕ) FromHexError → Result Unit FromHexError → List ℕ → Type 0
-Decodes decoded answer out = MatchResult decoded (λ bytes. (answer ≡ Ok tt) × (out ≡ bytes)) (λ e. answer ≡ Err e)
-
-pub decoded-ok : (decoded : Result (List ℕ) FromHexError) (answer : Result Unit FromHexError) (out : List ℕ) → Decodes decoded answer out → true ≡ is_ok answer → decoded ≡ Ok out
-decoded-ok (Ok bytes) answer out is ok = ap Ok (sym is.1)
-decoded-ok (Err e) answer out is ok = cc (ok ∙ ap is_ok is)
-
-pub decoded-err : (decoded : Result (List ℕ) FromHexError) (answer : Result Unit FromHexError) (out : List ℕ) → Decodes decoded answer out → false ≡ is_ok answer → (e : FromHexError) × (decoded ≡ Err e)
-decoded-err (Ok bytes) answer out is err = cc (err ∙ ap is_ok is.0)
-decoded-err (Err e) answer out is err = (e, refl)
+use Rattle.accounts.proofs.DigitPairs.{IsSpelled, is-spelled, not-spelled}
 
 -- Digits of a key.
 
@@ -50,44 +36,30 @@ chosen digits b is = ap (λ c. if c then Some (bytes_spelled digits) else None) 
 
 -- what does not decode is no key
 pub no-key : (digits : List ℕ) (n : ℕ) (e : FromHexError) → n ≡ length digits / 2 → decode_sized digits n ≡ Err e → None ≡ key_of_digits digits
-no-key digits n e half err = by (is_key digits) refl
+no-key digits n e half is = by (is_key digits) refl
   where
     by : (b : Bool) → is_key digits ≡ b → None ≡ key_of_digits digits
-    by false is = sym (chosen digits false is)
-    by true is =
-        let parts = and_parts (list_all is_hex digits) (is_length (length digits)) is in
-        let twice : length digits ≡ 2 * n = omega (arith, half, even (length digits) parts.1) in
-        let ok : IsOk (decode_sized digits n) = (IsOk-decode_sized digits n).1 (twice, AllPass-from_list_all is_hex_digit digits (all_same digits ∙ parts.0)) in
-        cc (sym ok ∙ ap is_ok err)
+    by false is_none = sym (chosen digits false is_none)
+    by true is_one =
+        let parts = and_parts (list_all is_hex digits) (is_length (length digits)) is_one in
+        cc (sym parts.0 ∙ not-spelled digits n e (omega (arith, half, even (length digits) parts.1)) is)
 
--- and what does is one where it has a key's length
+-- what decodes is one where it has a key's length
 module _ (digits : List ℕ) (n : ℕ) (bytes : List ℕ) (is : decode_sized digits n ≡ Ok bytes) where
-  twice : length digits ≡ 2 * n
-  twice = decode_sized-ok digits n bytes is
-
-  decoded : decode_of digits ≡ Ok bytes
-  decoded = sym (decode_sized-twice digits n twice) ∙ is
-
-  all_hex : list_all is_hex digits ≡ true
-  all_hex = sym (all_same digits) ∙ list_all-from_AllPass is_hex_digit digits (decode_of-ok digits bytes decoded).1
-
-  spelled : bytes ≡ bytes_spelled digits
-  spelled = decode_of-same digits bytes (bytes_spelled digits) decoded (decode_of-even digits (omega (arith, twice)) ∙ decode_pairs-spelled 0 digits all_hex (omega (arith, twice)))
-
-  doubled : length digits ≡ 2 * length bytes
-  doubled = (decode_of-ok digits bytes decoded).2
+  spelled : IsSpelled digits n bytes
+  spelled = is-spelled digits n bytes is
 
   pub a-key : (key : Option (List ℕ)) → IsSome key ↔ IsKeyLen (length bytes) → IfSome key (λ k. k ≡ bytes) → key ≡ key_of_digits digits
   a-key (Some k) permitted same =
-      let long : is_length (length digits) ≡ true = rw doubled (length-key (length bytes) (permitted.0 refl)) in
-      ap Some (same ∙ spelled) ∙ sym (chosen digits true (λ i. all_hex i && long i))
+      let long : is_length (length digits) ≡ true = rw spelled.twice (length-key (length bytes) (permitted.0 refl)) in
+      ap Some (same ∙ spelled.bytes_are) ∙ sym (chosen digits true (λ i. spelled.all i && long i))
   a-key None permitted same = by (is_key digits) refl
     where
       by : (b : Bool) → is_key digits ≡ b → None ≡ key_of_digits digits
       by false is_none = sym (chosen digits false is_none)
       by true is_one =
           let parts = and_parts (list_all is_hex digits) (is_length (length digits)) is_one in
-          cc (permitted.1 (key-length (length bytes) (rw doubled at parts.1)))
+          cc (permitted.1 (key-length (length bytes) (rw spelled.twice at parts.1)))
 
 -- Words that declare a key.
 
@@ -136,9 +108,3 @@ module _ (word number : List ℕ) where
   no-account words some none =
       let test = bytes_eq word (codes "account") && is_account number in
       none-either (keyed number) test ∙ ap (λ found. if test then option_map (keyed number) found else None) none ∙ sym (by-key words some)
-
-  -- and where they do
-  pub an-account : (words : List (List ℕ)) (bytes : List ℕ) → 0 < length words → bytes_eq word (codes "account") ≡ true → is_account number ≡ true → Some bytes ≡ key_of_words words → Some (keyed number bytes) ≡ account_of_words (word ∷ number ∷ words)
-  an-account words bytes some is_word is_number found =
-      let shown : Bool → Bool → Option (List ℕ) → Option Account = λ a b key. if a && b then option_map (keyed number) key else None in
-      ap (shown true true) found ∙ (λ i. shown (sym is_word i) (sym is_number i) (key_of_words words)) ∙ sym (by-key words some)

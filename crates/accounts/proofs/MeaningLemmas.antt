@@ -1,6 +1,6 @@
 -- What a text that was read means, by its declarations.
 use Rattle.std.proofs.Common.{◌≡◌, ◌+◌, ◌≤◌, ◌<◌, ℕ, List, [], ◌∷◌, Bool, true, false, cond, Option, Some, None, Result, Ok, Err, IsOk, length, map, refl, sym, ap, ◌∙◌, is_some, slice_get}
-use Rattle.std.specs.Prelude.{if◌then◌else◌}
+use Rattle.std.specs.Prelude.{if◌then◌else◌, option_and_then}
 use Rattle.std.proofs.lemmas.Bool.{le-ltb, lt-ltb}
 use Rattle.std.proofs.lemmas.List.{length-map}
 use Rattle.std.proofs.lemmas.Option.{slice_get-map}
@@ -8,7 +8,7 @@ use Rattle.accounts.proofs.TableLemmas.{position-map}
 use Rattle.std.specs.List.{find, filter_map, cons_option, enumerate_from, position}
 use Rattle.std.specs.Option.{option_map}
 use Rattle.std.specs.Result.{result_unwrap_or}
-use Rattle.alarm_rules.specs.Setups.{Account, Setup, declared_account, numbered_lines, first_fault, unless, setup_of, setup_of_lines, meaning, place_of, has_account, has_number}
+use Rattle.alarm_rules.specs.Setups.{Account, Setup, declared_account, numbered_lines, first_fault, unless, setup_of, setup_of_lines, meaning, account_of as account_in, place_of, has_account, has_number, key_of}
 use Rattle.arc_data.specs.declared.setup_fault.SetupFault.{SetupFault}
 use Rattle.arc_data.specs.declared.setup_fault.SetupFault.TheVariants.{TooLarge}
 use Rattle.std.specs.Str.Lines.{lines}
@@ -64,13 +64,23 @@ place-read text table read number = sym (ap (λ accounts. position (has_number n
 pub account-read : (text : List ℕ) (table : List Declaration) → IsReadFrom text table → (place : ℕ) (d : Declaration) → slice_get table place ≡ Some d → slice_get (meaning text).accounts place ≡ Some (account_of d)
 account-read text table read place d at = ap (λ accounts. slice_get accounts place) (accounts-read text table read) ∙ slice_get-map account_of table place ∙ ap (λ found. option_map account_of found) at
 
-is_found : (number : List ℕ) (ds : List Declaration) → is_some (option_map (λ (d : Declaration). d.line) (find_number number ds)) ≡ is_some (find (has_number number) (map account_of ds))
-is_found number [] = refl
-is_found number (d ∷ ds) = by (declares_number number d) (is_found number ds)
+found : (number : List ℕ) (ds : List Declaration) → find (has_number number) (map account_of ds) ≡ option_map account_of (find_number number ds)
+found number [] = refl
+found number (d ∷ ds) = by (declares_number number d) (found number ds)
   where
-    by : (b : Bool) → is_some (option_map (λ (e : Declaration). e.line) (find_number number ds)) ≡ is_some (find (has_number number) (map account_of ds)) → is_some (option_map (λ (e : Declaration). e.line) (cond b (Some d) (find_number number ds))) ≡ is_some (cond b (Some (account_of d)) (find (has_number number) (map account_of ds)))
+    by : (b : Bool) → find (has_number number) (map account_of ds) ≡ option_map account_of (find_number number ds) → cond b (Some (account_of d)) (find (has_number number) (map account_of ds)) ≡ option_map account_of (cond b (Some d) (find_number number ds))
     by true rest = refl
     by false rest = rest
 
+found-read : (text : List ℕ) (table : List Declaration) → IsReadFrom text table → (number : List ℕ) → account_in (meaning text) number ≡ option_map account_of (find_number number table)
+found-read text table read number = ap (find (has_number number)) (accounts-read text table read) ∙ found number table
+
+is_found : (d : Option Declaration) → is_some (option_map (λ (e : Declaration). e.line) d) ≡ is_some (option_map account_of d)
+is_found None = refl
+is_found (Some d) = refl
+
 pub knows-read : (text : List ℕ) (table : List Declaration) → IsReadFrom text table → (number : List ℕ) → is_some (option_map (λ (d : Declaration). d.line) (find_number number table)) ≡ has_account (meaning text) number
-knows-read text table read number = is_found number table ∙ sym (ap (λ accounts. is_some (find (has_number number) accounts)) (accounts-read text table read))
+knows-read text table read number = is_found (find_number number table) ∙ sym (ap is_some (found-read text table read number))
+
+pub key-read : (text : List ℕ) (table : List Declaration) → IsReadFrom text table → (number : List ℕ) (d : Option Declaration) → d ≡ find_number number table → option_and_then (λ (account : Account). account.key) (option_map account_of d) ≡ key_of (meaning text) number
+key-read text table read number d is = ap (λ e. option_and_then (λ (account : Account). account.key) (option_map account_of e)) is ∙ sym (ap (option_and_then (λ (account : Account). account.key)) (found-read text table read number))

@@ -69,11 +69,18 @@ impl AccountTable {
         &self.by_number[place]
     }
 
+    /// The declaration of the account with this number.
+    pub(crate) fn find(&self, number: &Txt) -> Option<&Declaration>
+        ensures { option_map (λ d. d.now) result ≡ find_number number.now self.now }
+    {
+        self.by_number.get(number)
+    }
+
     /// The line that declares the account with this number.
     pub(crate) fn line_of(&self, number: &Txt) -> Option<u64>
         ensures { result ≡ option_map (λ d. d.line) (find_number number.now self.now) }
     {
-        match self.by_number.get(number) {
+        match self.find(number) {
             Some(declaration) => Some(declaration.line),
             None => None,
         }

@@ -1,11 +1,13 @@
 // A setup: its text and what the text means.
 ghost use Rattle.std.specs.Prelude.{◌≡◌, ◌≤◌, ◌<◌, ◌⊎◌, length, slice_get, Err, IfErr, IfOk, IfSome, IsOk, OnOk, Some};
-ghost use Rattle.alarm_rules.specs.Setups.{setup_of, meaning, place_of, has_account};
+ghost use Rattle.std.specs.Option.{option_map};
+ghost use Rattle.alarm_rules.specs.Setups.{setup_of, meaning, place_of, has_account, key_of};
 ghost use Rattle.accounts.specs.Accounts.{defined};
 
 use crate::account::Account;
 use crate::account_table::AccountTable;
 use crate::reading::read_accounts;
+use aes_chain::Key;
 use arc_data::{Blob, Memory, SetupFault, Txt};
 use std::alloc::Global;
 use std::marker::Model;
@@ -92,6 +94,14 @@ impl Setup {
         ensures { result ≡ has_account (meaning self.now) account.now }
     {
         self.table.line_of(account).is_some()
+    }
+
+    /// The key of an account, which is given in capitals. None where the setup lacks the account or the account has no
+    /// key. Takes no memory.
+    pub fn key(&self, account: &Txt) -> Option<&Key>
+        ensures { option_map (λ k. k.now) result ≡ key_of (meaning self.now) account.now }
+    {
+        self.table.find(account)?.account.key.as_ref()
     }
 
     /// The account at a place below the count.

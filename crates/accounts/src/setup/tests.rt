@@ -1,4 +1,5 @@
 use super::*;
+use aes_chain::encrypt_block;
 use arc_data::LineKind;
 use std::alloc::AllocError;
 use std::test::Fail;
@@ -58,6 +59,10 @@ fn texts_of_setups(rt: HostRuntime) -> Result<(), Fail> {
         ("account 0123456789abcdeF\n", " 0123456789ABCDEF"),
         ("account bbb\n# next\n\naccount AAA", " BBB AAA"),
         ("account 123\naccount 0123\n", " 123 0123"),
+        (
+            "account a9f key 000102030405060708090a0b0c0d0e0f\r\naccount 123\n",
+            " A9F 123",
+        ),
     ] {
         let setup = Setup::read(rt.alloc(), text.as_bytes()).expect(&rt, "a setup");
         let all = numbers(rt.alloc(), &setup)?;
@@ -85,6 +90,43 @@ fn places_of_numbers(rt: HostRuntime) -> Result<(), Fail> {
     Ok(())
 }
 
+// The number of the bytes 00, 11 to ff, encrypted by the account's key. None where there is no key.
+fn encrypted(setup: &Setup, account: &Txt) -> Option<u128> {
+    let mut block = (0x00112233_44556677_8899aabb_ccddeeff_u128).to_be_bytes();
+    encrypt_block(setup.key(account)?, &mut block);
+    Some(u128::from_be_bytes(block))
+}
+
+#[test]
+fn keys_of_accounts(rt: HostRuntime) -> Result<(), Fail> {
+    let text = b"\
+account 016 key 000102030405060708090a0b0c0d0e0f
+account 000
+account b24 key 000102030405060708090A0B0C0D0E0F1011121314151617
+account B32 key 000102030405060708090a0b0c0d0e0F101112131415161718191a1B1C1D1E1F
+account FFF key 69c4e0d86a7b0430d8cdb78070b4c55a";
+    let setup = Setup::read(rt.alloc(), text).expect(&rt, "a setup");
+    let copy = setup.copy(rt.alloc()).expect(&rt, "a copy");
+    // FIPS 197, appendix C; the last is of openssl.
+    for (account, want) in [
+        ("016", Some(0x69c4e0d8_6a7b0430_d8cdb780_70b4c55a)),
+        ("000", None),
+        ("B24", Some(0xdda97ca4_864cdfe0_6eaf70a0_ec0d7191)),
+        ("b24", None),
+        ("B32", Some(0x8ea2b7ca_516745bf_eafc4990_4b496089)),
+        ("B33", None),
+        ("FFF", Some(0x78cf9c98_7f9c7feb_514fe4a4_197b7283)),
+    ] {
+        let account = Txt::of(account.as_bytes()).ok_or("a long number")?;
+        assert_eq!(rt; encrypted(&setup, &account), want);
+        assert_eq!(rt; encrypted(&copy, &account), want);
+    }
+    for (place, keyed) in [(0, true), (1, false), (2, true)] {
+        assert_eq!(rt; setup.account(place).key.is_some(), keyed);
+    }
+    Ok(())
+}
+
 #[test]
 fn faults_of_lines(rt: HostRuntime) {
     for (text, want) in [
@@ -102,7 +144,6 @@ fn faults_of_lines(rt: HostRuntime) {
         ("account \n", bad(1)),
         ("account\t1234\n", bad(1)),
         ("account1234\n", bad(1)),
-        ("account 1234 key 00\n", bad(1)),
         (" # no remark\n", bad(1)),
         (" \n", bad(1)),
         ("# one\n\nhours 1234\n", bad(3)),
@@ -113,6 +154,71 @@ fn faults_of_lines(rt: HostRuntime) {
         ("# a\naccount 123\n\n# b\naccount 123\n", same(5, 2)),
         ("account abc\naccount 123\naccount ABC\n", same(3, 1)),
         ("account ABC\r\naccount 123\r\naccount aBc\r\n", same(3, 1)),
+    ] {
+        assert_eq!(rt; outcome(rt.alloc(), text.as_bytes()), want, "{text:?}");
+    }
+}
+
+#[test]
+fn faults_of_keyed_lines(rt: HostRuntime) {
+    for (text, want) in [
+        ("account 1234 key 000102030405060708090a0b0c0d0e0", bad(1)),
+        ("account 1234 key 000102030405060708090a0b0c0d0e0f1", bad(1)),
+        (
+            "\naccount 1234 key 000102030405060708090a0b0c0d0e0f10111213",
+            bad(2),
+        ),
+        (
+            "account 1234 key 000102030405060708090a0b0c0d0e0f000102030405060708090a0b0c0d0e0f20",
+            bad(1),
+        ),
+        (
+            "account 1234 key 000102030405060708090a0b0c0d0e0g\n",
+            bad(1),
+        ),
+        ("account 1234  key 000102030405060708090a0b0c0d0e0f", bad(1)),
+        ("account 1234 key  000102030405060708090a0b0c0d0e0f", bad(1)),
+        ("account  1234 key 000102030405060708090a0b0c0d0e0f", bad(1)),
+        (" account 1234 key 000102030405060708090a0b0c0d0e0f", bad(1)),
+        (
+            "account 1234 key 000102030405060708090a0b0c0d0e0f \n",
+            bad(1),
+        ),
+        (
+            "account 1234 key 000102030405060708090a0b0c0d0e0f\t\n",
+            bad(1),
+        ),
+        ("account 123\naccount 1234 key\n", bad(2)),
+        ("account 1234 key \n", bad(1)),
+        ("account 1234 Key 000102030405060708090a0b0c0d0e0f", bad(1)),
+        ("account 1234 000102030405060708090a0b0c0d0e0f", bad(1)),
+        (
+            "account 1234 key key 000102030405060708090a0b0c0d0e0f",
+            bad(1),
+        ),
+        (
+            "account 1234 key 000102030405060708090a0b0c0d0e0f key 000102030405060708090a0b0c0d0e0f",
+            bad(1),
+        ),
+        (
+            "account 1234 key 000102030405060708090a0b0c0d0e0f 00",
+            bad(1),
+        ),
+        ("account key 000102030405060708090a0b0c0d0e0f", bad(1)),
+        ("account 12 key 000102030405060708090a0b0c0d0e0f", bad(1)),
+        ("key 000102030405060708090a0b0c0d0e0f", bad(1)),
+        (
+            "account abc key 000102030405060708090a0b0c0d0e0f\naccount ABC\n",
+            same(2, 1),
+        ),
+        (
+            "account ABC\n\naccount aBc key 000102030405060708090a0b0c0d0e0f\n",
+            same(3, 1),
+        ),
+        (
+            "account ABC key 000102030405060708090a0b0c0d0e0f\naccount ABC key 000102030405060708090a0b0c0d0e0f\n",
+            same(2, 1),
+        ),
     ] {
         assert_eq!(rt; outcome(rt.alloc(), text.as_bytes()), want, "{text:?}");
     }

@@ -1,5 +1,6 @@
 use Rattle.std.proofs.Common.{◌∙◌, arith}
-use Rattle.accounts.proofs.KeyLemmas.{decoded-ok, decoded-err, a-key, no-key}
+use Rattle.accounts.proofs.DigitPairs.{decoded-ok, decoded-err}
+use Rattle.accounts.proofs.KeyLemmas.{a-key, no-key}
 use Rattle.accounts.proofs.account.key_of_digits.Goals as goal
 
 pub returns-in_err-ok : goal.returns-in_err-ok

@@ -1,0 +1,7 @@
+use Rattle.std.proofs.Common.{ap, ◌∙◌}
+use Rattle.accounts.specs.Declarations.{find_number}
+use Rattle.accounts.proofs.TableLemmas.{lookup-keyed}
+use Rattle.accounts.proofs.account_table.AccountTable.find.Goals as goal
+
+pub returns : goal.returns
+returns c = c.get.ensures.value ∙ lookup-keyed c.args.number.now _ _ c.self.invariant ∙ ap (find_number c.args.number.now) c.self.view_is
