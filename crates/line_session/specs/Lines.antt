@@ -1,0 +1,69 @@
+-- What a line's state keeps of the bytes that it took, and what a session over a port did.
+use Rattle.std.specs.Prelude.{◌≡◌, ◌<◌, ◌≤◌, ◌-◌, ◌^◌, ◌++◌, ℕ, List, Result, Ok, Err, take, length}
+use Rattle.std.specs.Io.KnownBytes.{prepend_known, IsAtEnd}
+use Rattle.arc_data.specs.declared.event.Event.{Event}
+use Rattle.arc_io.specs.Causes.{Rose}
+use Rattle.alarm_rules.specs.Setups.{Setup}
+use Rattle.centre_core.specs.declared.hall.Stop.{Stop}
+use Rattle.centre_rules.specs.Summary.{Summary}
+use Rattle.centre_rules.specs.History.{Entry}
+use Rattle.dc09_frame.specs.Cutting.{CutterValue, WasFed}
+use Rattle.dc09_frame.specs.Frames.{bodies}
+use Rattle.line_session.specs.Completeness.{IsComplete}
+use Rattle.line_session.specs.Ports.{PortSeen}
+use Rattle.line_session.specs.Sessions.{IsSession}
+use Rattle.line_session.specs.declared.line_end.LineEnd.{LineEnd}
+use Rattle.line_session.specs.declared.line_end.LineEnd.TheVariants.{InputEnded, ReadFault, WriteFault, Spent, Stopped}
+
+-- how many bytes of an input are taken at most
+abbrev pub input_limit : ℕ
+input_limit = 2 ^ 40
+
+-- what a line's state keeps: its cutter, and how many bytes it took
+pub record LineValue : Type 0 where
+  pub cutter : CutterValue
+  pub count : ℕ
+
+-- the state took this stream, which is shorter than the limit, and none of its calls has answered an end
+pub record TookStream (stream : List ℕ) (s : LineValue) : Type 0 where
+  pub fed : WasFed stream s.cutter
+  pub count : s.count ≡ length stream
+  pub short : length stream < input_limit
+
+-- the bytes of a piece that are taken behind a stream: as many as the limit leaves
+abbrev pub in_limit : List ℕ → List ℕ → List ℕ
+in_limit stream piece = take (input_limit - length stream) piece
+
+-- what is left of a state that took a piece behind a stream, by what it answered
+abbrev pub IsTaken : Result (Unit {0}) LineEnd → List ℕ → List ℕ → LineValue → Type 0
+IsTaken (Ok done) stream piece s = TookStream (stream ++ piece) s
+IsTaken (Err InputEnded) stream piece s = ⊥
+IsTaken (Err ReadFault) stream piece s = ⊥
+IsTaken (Err WriteFault) stream piece s = Unit {0}
+IsTaken (Err Spent) stream piece s = input_limit ≤ length (stream ++ piece)
+IsTaken (Err (Stopped stop)) stream piece s = Unit {0}
+
+-- A session over the whole pieces that a piece of the stream ends behind what was taken before.
+pub record ServesPiece (end : Result (Unit {0}) LineEnd) (stream piece : List ℕ) (b : Summary) (setup : Setup) (caller : ℕ) (h : List Entry)
+    (stands : List Entry → Type 0) (own_old own_new : List Entry → List Entry) (shows : Stop → Event → ℕ → Type 0) (p p' : PortSeen) : Type 0 where
+  pub whole : List (List ℕ)
+  pub ended : bodies (stream ++ in_limit stream piece) ≡ bodies stream ++ whole
+  pub session : IsSession end b setup caller whole h stands own_old own_new shows p p'
+
+-- Why a session over a port ended, of the bytes that it read: the input ended; a read failed; a write failed; 2^40 bytes were
+-- read; or the hall stopped.
+abbrev pub HasEnded : LineEnd → List ℕ → PortSeen → PortSeen → Type 0
+HasEnded InputEnded read p p' = IsAtEnd p'.left × (length read < input_limit)
+HasEnded ReadFault read p p' = Rose p.read_faults p'.read_faults × (length read < input_limit)
+HasEnded WriteFault read p p' = Rose p.write_faults p'.write_faults × (length read ≤ input_limit)
+HasEnded Spent read p p' = length read ≡ input_limit
+HasEnded (Stopped stop) read p p' = length read ≤ input_limit
+
+-- A line session over a port: the bytes that it read, and a session over all their whole pieces.
+pub record ServesLine (end : LineEnd) (b : Summary) (setup : Setup) (caller : ℕ) (h : List Entry) (stands : List Entry → Type 0)
+    (own_old own_new : List Entry → List Entry) (shows : Stop → Event → ℕ → Type 0) (p p' : PortSeen) : Type 0 where
+  pub read : List ℕ
+  pub taken : p.left ≡ prepend_known read p'.left
+  pub cause : HasEnded end read p p'
+  pub session : IsSession (Err end) b setup caller (bodies read) h stands own_old own_new shows p p'
+  pub complete : IsComplete end setup session.added.text (bodies read)

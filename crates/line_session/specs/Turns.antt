@@ -1,0 +1,103 @@
+-- The text of a line session, as turns: one for each whole piece of the bytes read.
+use Rattle.std.specs.Prelude.{◌≡◌, ℕ, List, [], ◌∷◌, Bool, true, false, Option, Some, None, map, length}
+use Rattle.std.specs.List.{flat_map}
+use Rattle.std.specs.Option.{option_to_list}
+use Rattle.arc_data.specs.Digits.{capitals}
+use Rattle.arc_data.specs.declared.event.Event.{Event}
+use Rattle.arc_data.specs.declared.event.Event.TheVariants.{Message as Sent, Beat as Heartbeat}
+use Rattle.alarm_rules.specs.Setups.{Setup, key_of}
+use Rattle.centre_rules.specs.Summary.{Summary}
+use Rattle.centre_rules.specs.History.{Entry, Extends, moment_after}
+use Rattle.civil_time.specs.Stamp.{stamp}
+use Rattle.dc09_crypt.specs.Sealed.{sealed_ack_body}
+use Rattle.dc09_frame.specs.Frames.{frame_of}
+use Rattle.dc09_frame.specs.Headers.{echo_body, nak_body}
+use Rattle.dc09_frame.specs.declared.header.Echo.TheVariants.{Ack, Duh as DuhWord}
+use Rattle.dc09_frame.specs.declared.header.Header.{Header}
+use Rattle.dc09_message.specs.Verdicts.{verdict_of}
+use Rattle.dc09_message.specs.declared.outcome.Verdict.{Verdict}
+use Rattle.dc09_message.specs.declared.outcome.Verdict.TheVariants.{Silence, Nak, Duh, Beat, Numbered}
+use Rattle.line_session.specs.Ports.{Added}
+
+-- one whole piece: its body, the reading of the clock that it took, the noise that it took, its entry where it has one, and
+-- the reply
+pub record Turn : Type 0 where
+  pub body : List ℕ
+  pub reading : ℕ
+  pub noise : List ℕ
+  pub entry : Option Entry
+  pub reply : List ℕ
+
+-- what is submitted of a verdict
+abbrev pub event_of : Verdict → Option Event
+event_of Silence = None
+event_of Nak = None
+event_of (Duh header why) = None
+event_of (Beat header account) = Some (Heartbeat account)
+event_of (Numbered header m) = Some (Sent m)
+
+-- The acknowledgement of a message with this header, at a reading: of a plain one its echo, which takes no noise; of a sealed
+-- one it is sealed under the account's key, with the stamp of the reading and ten bytes of noise.
+abbrev pub IsAckBy : Bool → Option (List ℕ) → Header → ℕ → List ℕ → List ℕ → Type 0
+IsAckBy false key h reading noise reply = (noise ≡ []) × (reply ≡ frame_of (echo_body Ack h))
+IsAckBy true key h reading noise reply = (k : List ℕ) × (key ≡ Some k) × (length noise ≡ 10) × (reply ≡ frame_of (sealed_ack_body k h (stamp reading) noise))
+
+abbrev pub IsAck : Setup → Header → ℕ → List ℕ → List ℕ → Type 0
+IsAck setup h reading noise reply = IsAckBy h.sealed (key_of setup (capitals h.account)) h reading noise reply
+
+-- from the history h on the turn takes no entry and no noise, and gives this reply
+pub record TakesNothing (h x : List Entry) (t : Turn) (text : List ℕ) : Type 0 where
+  pub same : x ≡ h
+  pub entry : t.entry ≡ None
+  pub noise : t.noise ≡ []
+  pub reply : t.reply ≡ text
+
+-- From the history h on, to x: other entries, and then the turn's entry. It is the caller's, of this event, at the moment that
+-- the turn's reading has there, and the turn gives the acknowledgement.
+pub record TakesEntry (b : Summary) (setup : Setup) (caller : ℕ) (h x : List Entry) (t : Turn) (header : Header) (event : Event) : Type 0 where
+  pub before : List Entry
+  pub entry : Entry
+  pub extends : Extends h before
+  pub is : x ≡ entry ∷ before
+  pub taken : t.entry ≡ Some entry
+  pub by : entry.caller ≡ caller
+  pub of : entry.event ≡ event
+  pub at : entry.at ≡ moment_after b before t.reading
+  pub reply : IsAck setup header t.reading t.noise t.reply
+
+-- The turn of each verdict, from the history h on, to x: silence gives nothing; NAK gives its frame with the stamp of the
+-- reading; DUH gives its frame; a heartbeat and a numbered message take an entry and give their acknowledgement.
+abbrev pub IsAnswered : Summary → Setup → ℕ → List Entry → List Entry → Turn → Verdict → Type 0
+IsAnswered b setup caller h x t Silence = TakesNothing h x t []
+IsAnswered b setup caller h x t Nak = TakesNothing h x t (frame_of (nak_body (stamp t.reading)))
+IsAnswered b setup caller h x t (Duh header why) = TakesNothing h x t (frame_of (echo_body DuhWord header))
+IsAnswered b setup caller h x t (Beat header account) = TakesEntry b setup caller h x t header (Heartbeat account)
+IsAnswered b setup caller h x t (Numbered header m) = TakesEntry b setup caller h x t header (Sent m)
+
+-- the turn is that of its body's verdict under the setup, at its reading
+abbrev pub IsTurn : Summary → Setup → ℕ → List Entry → List Entry → Turn → Type 0
+IsTurn b setup caller h x t = IsAnswered b setup caller h x t (verdict_of setup t.reading t.body)
+
+-- From h on, to x: the turns stand behind one another, with entries of others between them.
+abbrev pub AreTurns : Summary → Setup → ℕ → List Entry → List Entry → List Turn → Type 0
+AreTurns b setup caller h x [] = Extends h x
+AreTurns b setup caller h x (t ∷ ts) = (mid : List Entry) × IsTurn b setup caller h mid t × AreTurns b setup caller mid x ts
+
+abbrev pub entries_of : List Turn → List Entry
+entries_of turns = flat_map (λ t. option_to_list t.entry) turns
+
+abbrev pub bodies_of : List Turn → List (List ℕ)
+bodies_of turns = map (λ t. t.body) turns
+
+abbrev pub text_of : List Turn → List ℕ
+text_of turns = flat_map (λ t. t.reply) turns
+
+abbrev pub readings_of : List Turn → List ℕ
+readings_of turns = map (λ t. t.reading) turns
+
+abbrev pub noise_of : List Turn → List ℕ
+noise_of turns = flat_map (λ t. t.noise) turns
+
+-- what the turns add to a port
+abbrev pub added_by : List Turn → Added
+added_by turns = record { text = text_of turns; readings = readings_of turns; noise = noise_of turns }
