@@ -1,2 +1,5 @@
 pub mod DigitPairs
 pub mod Openings
+pub mod UpperDigits
+pub mod AckBodies
+pub mod OpenedAcks

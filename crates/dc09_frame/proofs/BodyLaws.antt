@@ -10,6 +10,10 @@ use Rattle.dc09_frame.specs.declared.cut.Cut.TheVariants.{Whole, BadCheck, BadLe
 use Rattle.dc09_frame.specs.Pieces.{up_to_return, pieces}
 use Rattle.dc09_frame.specs.Frames.{is_clean, IsBody, piece_of, frame_of, do_spell, body_of, has_length, has_check, cut, is_whole, bodies}
 use Rattle.dc09_frame.specs.Cutting.{is_end, CutterValue, Feeds, body_told, AddsBody}
+use Rattle.dc09_frame.specs.Holding.{kept_in, cut_of_kept, IsHeld}
+use Rattle.dc09_frame.specs.declared.cutter.Piece.{Piece}
+use Rattle.dc09_frame.specs.declared.cutter.Piece.TheVariants.{Closed, Open, Overlong}
+use Rattle.std.proofs.lemmas.List.Folds.{list_any-append}
 use Rattle.dc09_frame.proofs.PieceLaws.{frame_again}
 
 -- A piece has neither a line feed nor a carriage return.
@@ -134,3 +138,18 @@ unfolding judged
 bodies-frame body rest is =
     let again = frame_again body is in
     ap (λ ps. map body_of (filter is_whole ps)) (again.first rest) ∙ bodies_first (piece_of body) true (pieces rest) (is_whole_from (piece_of body) Whole again.whole)
+
+-- What a cutter keeps.
+
+some_is : (s t : Cut) → Some s ≡ Some t → s ≡ t
+some_is s t is = cc
+
+-- what is left of a whole piece that was held is a body
+pub held_body : (piece : Piece) (len : ℕ) (bytes : List ℕ) (t : Cut) → IsHeld len bytes → cut_of_kept (kept_in piece len bytes) ≡ Some t → t ≡ Whole → IsBody (drop 8 (take len bytes))
+held_body Closed len bytes t held is whole = absurd cc
+held_body Open len bytes t held is whole = whole_is_body (take len bytes) held.clear (some_is (cut (take len bytes)) t is ∙ whole)
+held_body Overlong len bytes t held is whole = let same : TooLong ≡ t = some_is TooLong t is in absurd (let no : TooLong ≡ Whole = same ∙ whole in cc)
+
+-- what is held and a run without an end are held
+pub held_more : (len end : ℕ) (bytes field run : List ℕ) → IsHeld len bytes → take end field ≡ take len bytes ++ run → end ≤ 4103 → list_any is_end run ≡ false → IsHeld end field
+held_more len end bytes field run held is short none = record { short = short; clear = ap (list_any is_end) is ∙ list_any-append is_end (take len bytes) run ∙ or_from _ _ held.clear none }

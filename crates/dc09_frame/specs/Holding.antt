@@ -1,9 +1,10 @@
 -- What a cutter's fields keep of the open piece.
-use Rattle.std.specs.Prelude.{ℕ, List, [], Option, Some, None, take, drop}
+use Rattle.std.specs.Prelude.{◌≡◌, ◌≤◌, ℕ, List, [], false, Option, Some, None, take, drop}
+use Rattle.std.specs.List.{list_any}
 use Rattle.dc09_frame.specs.declared.cut.Cut.{Cut}
 use Rattle.dc09_frame.specs.declared.cut.Cut.TheVariants.{TooLong}
 use Rattle.dc09_frame.specs.Frames.{cut}
-use Rattle.dc09_frame.specs.Cutting.{Kept, Outside, Within, Beyond}
+use Rattle.dc09_frame.specs.Cutting.{Kept, Outside, Within, Beyond, is_end}
 use Rattle.dc09_frame.specs.declared.cutter.Piece.{Piece}
 use Rattle.dc09_frame.specs.declared.cutter.Piece.TheVariants.{Closed, Open, Overlong}
 
@@ -24,3 +25,8 @@ abbrev pub cut_of_kept : Kept → Option Cut
 cut_of_kept Outside = None
 cut_of_kept (Within piece) = Some (cut piece)
 cut_of_kept Beyond = Some TooLong
+
+-- the first bytes of the buffer fit in it and have no end
+pub record IsHeld (len : ℕ) (bytes : List ℕ) : Type 0 where
+  pub short : len ≤ 4103
+  pub clear : list_any is_end (take len bytes) ≡ false

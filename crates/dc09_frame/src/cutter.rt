@@ -1,8 +1,9 @@
 // The pieces of a stream that comes bit by bit.
-ghost use Rattle.std.specs.Prelude.{◌≡◌, ◌<◌, ◌≤◌, ◌++◌, ◌∷◌, [], ℕ, List, length, take, IfNone, OnSome, None, false};
+ghost use Rattle.std.specs.Prelude.{◌≡◌, ◌<◌, ◌≤◌, ◌++◌, ◌∷◌, [], ℕ, List, length, take, IfNone, OnSome, None, Some, false};
 ghost use Rattle.std.specs.List.{list_any, position, position_or_len};
 ghost use Rattle.dc09_frame.specs.Cutting.{is_end, WasFed, Feeds};
 ghost use Rattle.dc09_frame.specs.Holding.{cut_of_kept};
+ghost use Rattle.dc09_frame.specs.Frames.{IsBody};
 
 use crate::cut::Cut;
 use std::marker::Model;
@@ -25,15 +26,14 @@ pub struct Cutter {
 }
 
 impl Model for Cutter {
-    ghost use Rattle.std.specs.Prelude.{◌≤◌};
     ghost use Rattle.dc09_frame.specs.Cutting.{CutterValue};
-    ghost use Rattle.dc09_frame.specs.Holding.{kept_in, body_in};
+    ghost use Rattle.dc09_frame.specs.Holding.{kept_in, body_in, IsHeld};
 
     ghost Value = { CutterValue };
 
     ghost view = { λ c. record { kept = kept_in c.piece c.len c.bytes; body = body_in c.piece c.len c.bytes } };
 
-    ghost invariant = { λ c. c.len ≤ 4103 };
+    ghost invariant = { λ c. IsHeld c.len c.bytes };
 }
 
 impl Cutter {
@@ -55,6 +55,7 @@ impl Cutter {
         ensures all { IfNone result.1 (result.0 ≡ length piece.now) }
         ensures some { OnSome result.1 (0 < result.0) }
         ensures feeds { (stream : List ℕ) → WasFed stream self.old → Feeds stream (take result.0 piece.now) result.1 self.new }
+        ensures body { result.1 ≡ Some Cut.Whole → IsBody self.new.body }
         ensures empty { piece.now ≡ [] → self.new ≡ self.old }
     {
         let mut taken = 0;
@@ -112,7 +113,8 @@ impl Cutter {
 
     // Takes a carriage return.
     fn close(&mut self) -> Option<Cut>
-        ensures { (stream : List ℕ) → WasFed stream self.old → Feeds stream (13 ∷ []) result self.new }
+        ensures feeds { (stream : List ℕ) → WasFed stream self.old → Feeds stream (13 ∷ []) result self.new }
+        ensures body { result ≡ Some Cut.Whole → IsBody self.new.body }
     {
         let cut = self.cut()?;
         self.piece = Piece::Closed;

@@ -18,7 +18,7 @@ pub returns-in-Some-clause-feeds : goal.returns-in-Some-clause-feeds
 returns-in-Some-clause-feeds c =
     let front = took_front c.args.self.now c.loop-taken.self c.keep.new.self c.args.piece.now c.loop-taken.taken c.run_length-run.result c.loop-taken.invariant.took c.run_length-run.ensures.value c.keep.ensures in
     let end = stopped_at_return c.args.piece.now c.loop-taken.taken c.run_length-run.result c.run_length-run.ensures.value c.if-taken-piece.true c.if-end-eq10.false in
-    answers_cut c.args.self.now c.keep.new.self c.close.new.self c.args.piece.now (c.loop-taken.taken + c.run_length-run.result) c.in-Some.cut front c.if-taken-piece.true end c.in-Some.ensures
+    answers_cut c.args.self.now c.keep.new.self c.close.new.self c.args.piece.now (c.loop-taken.taken + c.run_length-run.result) c.in-Some.cut front c.if-taken-piece.true end c.in-Some.ensures.feeds
 
 pub loop-taken-preserved-in_default : goal.loop-taken-preserved-in_default
 loop-taken-preserved-in_default c =
@@ -26,7 +26,7 @@ loop-taken-preserved-in_default c =
     let end = stopped_at_return c.args.piece.now c.loop-taken.taken c.run_length-run.result c.run_length-run.ensures.value c.if-taken-piece.true c.if-end-eq10.false in
     record {
       within = omega arith;
-      took = took_return c.args.self.now c.keep.new.self c.close.new.self c.args.piece.now (c.loop-taken.taken + c.run_length-run.result) front c.if-taken-piece.true end c.in_default.ensures;
+      took = took_return c.args.self.now c.keep.new.self c.close.new.self c.args.piece.now (c.loop-taken.taken + c.run_length-run.result) front c.if-taken-piece.true end c.in_default.ensures.feeds;
       start = λ none. absurd (omega arith);
     }
 

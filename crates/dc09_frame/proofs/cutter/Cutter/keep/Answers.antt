@@ -3,6 +3,7 @@ use Rattle.std.proofs.lemmas.Slice.{take-put_mid}
 use borrow.Rule.Slice.PartMut.{put_mid}
 use Rattle.dc09_frame.specs.Cutting.{Within, CutterValue}
 use Rattle.dc09_frame.specs.Holding.{kept_in}
+use Rattle.dc09_frame.proofs.BodyLaws.{held_more}
 use Rattle.dc09_frame.proofs.CutterLaws.{within_after, beyond_after, elsewhere_after}
 use Rattle.dc09_frame.proofs.cutter.Cutter.keep.Goals as goal
 
@@ -27,3 +28,12 @@ returns-in_default c stream fed =
     let inside = c.self.inside in
     let held : kept_in inside.piece inside.len inside.bytes ≡ c.args.self.now.kept = ap (λ (v : CutterValue). v.kept) c.self.view_is in
     sym held ∙ elsewhere_after stream c.args.run.now inside.bytes inside.piece inside.len c.requires c.in_default.not-Open (held ∙ fed)
+
+pub invariant_of-self-else-run-self : goal.invariant_of-self-else-run-self
+invariant_of-self-else-run-self c =
+    let inside = c.self.inside in
+    let end : ℕ = inside.len + length c.args.run.now in
+    let field : List ℕ = put_mid inside.len (end - inside.len) inside.bytes c.copy_from_slice.new.self in
+    let put : take end field ≡ take inside.len inside.bytes ++ c.args.run.now =
+    take-put_mid inside.len (end - inside.len) inside.bytes c.copy_from_slice.new.self end (omega (arith, ap length c.copy_from_slice.ensures.after)) (omega arith) ∙ ap (λ l. take inside.len inside.bytes ++ l) c.copy_from_slice.ensures.after in
+    held_more inside.len end inside.bytes field c.args.run.now c.self.invariant put (omega arith) c.requires
