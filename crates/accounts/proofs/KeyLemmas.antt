@@ -1,14 +1,13 @@
 -- The key that digits spell, and the words that declare it.
-use Rattle.std.proofs.Common.{◌≡◌, ◌<◌, ◌*◌, ◌/◌, ◌%◌, ◌==◌, ◌⊎◌, inl, inr, ℕ, List, [], ◌∷◌, Bool, true, false, cond, Option, Some, None, is_some, Result, Ok, Err, length, refl, sym, ap, subst, ◌∙◌, arith}
-use Rattle.std.specs.Prelude.{◌&&◌, ◌||◌, ◌↔◌, if◌then◌else◌, codes, is_ok, IsOk, IsSome, IfSome, MatchOption, MatchResult}
-use Rattle.std.specs.List.{list_all, AllPass}
+use Rattle.std.proofs.Common.{◌≡◌, ◌<◌, ◌*◌, ◌/◌, ◌%◌, ◌==◌, inl, inr, ℕ, List, [], ◌∷◌, Bool, true, false, Option, Some, None, is_some, Ok, Err, length, refl, sym, ap, ◌∙◌, arith}
+use Rattle.std.specs.Prelude.{◌&&◌, ◌||◌, ◌↔◌, if◌then◌else◌, codes, IsSome, IfSome, MatchOption}
+use Rattle.std.specs.List.{list_all}
 use Rattle.std.specs.Option.{option_map}
 use Rattle.std.specs.Str.{bytes_eq}
 use Rattle.std.proofs.lemmas.Bool.{and_parts}
 use Rattle.std.proofs.lemmas.Bool.Decides.{nat_tests}
-use Rattle.std.proofs.lemmas.List.Sums.{AllPass-from_list_all, list_all-from_AllPass}
 use Rattle.aes_chain.specs.Laws.{IsKeyLen}
-use Rattle.hex.specs.Hex.{decode_of, decode_sized, is_hex_digit}
+use Rattle.hex.specs.Hex.{decode_sized}
 use Rattle.hex.specs.declared.error.FromHexError.{FromHexError}
 use Rattle.arc_data.specs.Digits.{capitals, is_account, is_hex, bytes_spelled}
 use Rattle.alarm_rules.specs.Setups.{Account, account_of_words, is_key}

@@ -1,17 +1,12 @@
 -- The first word of a line, and the words that declare an account.
-use Rattle.std.proofs.Common.{◌≡◌, ◌<◌, ◌≤◌, ◌+◌, ◌-◌, ℕ, List, [], ◌∷◌, Bool, true, false, cond, not, Option, Some, None, length, take, drop, nat_lt, ◌==◌, refl, sym, ap, ◌∙◌, arith}
-use Rattle.std.specs.Prelude.{◌&&◌, if◌then◌else◌, codes}
+use Rattle.std.proofs.Common.{◌≡◌, ◌<◌, ◌≤◌, ◌+◌, ◌-◌, ℕ, List, [], ◌∷◌, Bool, not, Some, None, length, take, drop, nat_lt, ◌==◌, sym, ap, ◌∙◌, arith}
 use Rattle.std.specs.List.{slice_split, position, position_or_len}
-use Rattle.std.specs.Option.{option_map}
-use Rattle.std.specs.Str.{bytes_eq}
 use Rattle.std.proofs.lemmas.Option.{cond_some}
 use Rattle.std.proofs.lemmas.Bool.{ltb-true, ltb-false}
 use Rattle.std.proofs.lemmas.List.{take_rest}
 use Rattle.std.proofs.lemmas.List.Sums.{fails_before_first, prefix_len-le-length}
 use Rattle.std.proofs.lemmas.List.Splits.{slice_split_first, slice_split_none, length-slice_split}
-use Rattle.arc_data.specs.Digits.{is_account}
-use Rattle.alarm_rules.specs.Setups.{Account, words_of, is_key, account_of_words, keyed_account}
-use Rattle.accounts.specs.Keys.{key_of_words}
+use Rattle.alarm_rules.specs.Setups.{words_of}
 use Rattle.accounts.proofs.LineLemmas.{cond_none}
 
 -- The first part of a list that is split.

@@ -1,5 +1,5 @@
 // An account, and the line of a setup text that declares it.
-ghost use Rattle.std.specs.Prelude.{◌≡◌};
+ghost use Rattle.std.specs.Prelude.{◌≡◌, ⊤};
 ghost use Rattle.std.specs.Option.{option_map};
 ghost use Rattle.alarm_rules.specs.Setups.{declared_account, words_of};
 ghost use Rattle.accounts.specs.Accounts.{defined};
@@ -24,6 +24,8 @@ pub struct Account {
 
 impl Clone for Account {
     ghost is_clone = { λ account copy. copy ≡ account };
+
+    ghost is_infallible = { λ account. ⊤ };
 
     /// A copy, with its key. Takes no memory.
     fn clone(&self) -> Result<Account, AllocError> {

@@ -37,12 +37,16 @@ fn large_text(alloc: Global, first: &[u8], length: usize) -> Result<Vec<u8>, All
     Ok(text)
 }
 
-// The numbers of the accounts of a setup text, each with a space before it.
+// The numbers of the accounts of a setup, each with a space before it, and an asterisk after it where there is a key.
 fn numbers(alloc: Global, setup: &Setup) -> Result<Vec<u8>, AllocError> {
     let mut all = Vec::new(alloc);
     for place in 0..setup.count() {
         all.push(b' ')?;
-        all.extend_from_slice(setup.account(place).number.bytes())?;
+        let account = setup.account(place);
+        all.extend_from_slice(account.number.bytes())?;
+        if account.key.is_some() {
+            all.push(b'*')?;
+        }
     }
     Ok(all)
 }
@@ -61,7 +65,7 @@ fn texts_of_setups(rt: HostRuntime) -> Result<(), Fail> {
         ("account 123\naccount 0123\n", " 123 0123"),
         (
             "account a9f key 000102030405060708090a0b0c0d0e0f\r\naccount 123\n",
-            " A9F 123",
+            " A9F* 123",
         ),
     ] {
         let setup = Setup::read(rt.alloc(), text.as_bytes()).expect(&rt, "a setup");
@@ -120,9 +124,6 @@ account FFF key 69c4e0d86a7b0430d8cdb78070b4c55a";
         let account = Txt::of(account.as_bytes()).ok_or("a long number")?;
         assert_eq!(rt; encrypted(&setup, &account), want);
         assert_eq!(rt; encrypted(&copy, &account), want);
-    }
-    for (place, keyed) in [(0, true), (1, false), (2, true)] {
-        assert_eq!(rt; setup.account(place).key.is_some(), keyed);
     }
     Ok(())
 }
