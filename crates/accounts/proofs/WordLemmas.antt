@@ -1,4 +1,4 @@
--- The first word of a line, and the words that declare an account.
+-- The first word of a line.
 use Rattle.std.proofs.Common.{◌≡◌, ◌<◌, ◌≤◌, ◌+◌, ◌-◌, ℕ, List, [], ◌∷◌, Bool, not, Some, None, length, take, drop, nat_lt, ◌==◌, sym, ap, ◌∙◌, arith}
 use Rattle.std.specs.List.{slice_split, position, position_or_len}
 use Rattle.std.proofs.lemmas.Option.{cond_some}
