@@ -2,4 +2,3 @@ pub mod DigitPairs
 pub mod Openings
 pub mod UpperDigits
 pub mod AckBodies
-pub mod OpenedAcks
