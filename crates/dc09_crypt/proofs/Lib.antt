@@ -2,3 +2,4 @@ pub mod DigitPairs
 pub mod Openings
 pub mod UpperDigits
 pub mod AckBodies
+pub mod OpenedAcks
