@@ -8,6 +8,9 @@ use crate::opening::Opening;
 use aes_chain::{Key, chain_decrypt};
 use dc09_frame::FrameBuf;
 
+/// The digits of a block.
+const BLOCK_DIGITS: usize = 32;
+
 /// The bytes that the digits of the longest body can spell: 127 blocks.
 const LONGEST: usize = 2032;
 
@@ -22,7 +25,7 @@ pub fn open_body(key: &Key, digits: &[u8], out: &mut FrameBuf) -> Opening
     ensures within { LiesIn result out.new }
 {
     out.clear();
-    if digits.len() < 32 || digits.len() % 32 != 0 {
+    if digits.len() < BLOCK_DIGITS || digits.len() % BLOCK_DIGITS != 0 {
         return Opening::NotCipher;
     }
     let mut bytes = [0; LONGEST];

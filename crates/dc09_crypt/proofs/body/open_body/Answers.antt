@@ -5,13 +5,13 @@ use Rattle.aes_chain.specs.Chain.{chain_decrypted}
 use Rattle.dc09_crypt.specs.Sealed.{is_cipher, text_under}
 use Rattle.dc09_crypt.proofs.Openings.{no_cipher, cipher_text, short_cipher, odd_cipher, other_cipher, all_cipher}
 use Rattle.dc09_crypt.proofs.body.open_body.Goals as goal
-use Rattle.dc09_crypt.proofs.body.open_body.Goals.{then-digits-lt32-via-then-digits-lt32, then-digits-lt32-via-else-digits-lt32+then-digits-ne0}
+use Rattle.dc09_crypt.proofs.body.open_body.Goals.{then-digits-lt-BLOCK_DIGITS-via-then-digits-lt-BLOCK_DIGITS, then-digits-lt-BLOCK_DIGITS-via-else-digits-lt-BLOCK_DIGITS+then-digits-ne0}
 
-pub returns-then-digits-lt32-clause-opening : goal.returns-then-digits-lt32-clause-opening
-returns-then-digits-lt32-clause-opening c =
-    elim c.then-digits-lt32.branch [
-      | then-digits-lt32-via-then-digits-lt32 w ↦ no_cipher c.args.key.now c.args.digits.now (short_cipher c.args.digits.now w.if-digits-lt32.true)
-      | then-digits-lt32-via-else-digits-lt32+then-digits-ne0 w ↦ no_cipher c.args.key.now c.args.digits.now (odd_cipher c.args.digits.now w.if-digits-ne0.true)
+pub returns-then-digits-lt-BLOCK_DIGITS-clause-opening : goal.returns-then-digits-lt-BLOCK_DIGITS-clause-opening
+returns-then-digits-lt-BLOCK_DIGITS-clause-opening c =
+    elim c.then-digits-lt-BLOCK_DIGITS.branch [
+      | then-digits-lt-BLOCK_DIGITS-via-then-digits-lt-BLOCK_DIGITS w ↦ no_cipher c.args.key.now c.args.digits.now (short_cipher c.args.digits.now w.if-digits-lt-BLOCK_DIGITS.true)
+      | then-digits-lt-BLOCK_DIGITS-via-else-digits-lt-BLOCK_DIGITS+then-digits-ne0 w ↦ no_cipher c.args.key.now c.args.digits.now (odd_cipher c.args.digits.now w.if-digits-ne0.true)
     ]
 
 pub returns-then-not-decode-clause-opening : goal.returns-then-not-decode-clause-opening
