@@ -2,4 +2,5 @@ pub mod DigitPairs
 pub mod Openings
 pub mod UpperDigits
 pub mod AckBodies
+pub mod StampBytes
 pub mod OpenedAcks

@@ -1,8 +1,8 @@
 -- A sealed acknowledgement opens to the bracket and the stamp.
-use Rattle.std.proofs.Common.{◌≡◌, ℕ, ◌+◌, ◌-◌, ◌*◌, ◌%◌, ◌<◌, ◌≤◌, true, false, cond, List, [], ◌∷◌, ◌++◌, length, drop, map, Some, refl, sym, ap, ◌∙◌, arith, append_assoc, length-append}
-use Rattle.std.specs.List.{position, position_or_len, All}
-use Rattle.std.proofs.lemmas.Bool.{ne_eqb, lt-ltb, le-leb}
-use Rattle.std.proofs.lemmas.List.Elements.{All-append, All-map, All-cons, All-nil}
+use Rattle.std.proofs.Common.{◌≡◌, ℕ, ◌+◌, ◌-◌, ◌%◌, ◌<◌, true, false, List, [], ◌∷◌, ◌++◌, length, drop, map, Some, refl, sym, ap, ◌∙◌, arith, append_assoc, length-append}
+use Rattle.std.specs.List.{position, position_or_len}
+use Rattle.std.proofs.lemmas.Bool.{ne_eqb}
+use Rattle.std.proofs.lemmas.List.Elements.{All-append, All-cons, All-nil}
 use Rattle.std.proofs.lemmas.List.{length-map}
 use Rattle.std.proofs.Math.Seq.{drop-append_seam}
 use Rattle.aes_chain.specs.Laws.{IsKey, AreBytes, IsWhole}
@@ -10,11 +10,11 @@ use Rattle.aes_chain.specs.Chain.{chain_encrypted, chain_decrypted}
 use Rattle.aes_chain.proofs.States.{byte_lt}
 use Rattle.aes_chain.proofs.Chaining.{chain_decrypted-chain_encrypted, length-chain_encrypted, IsWhole-chain_encrypted}
 use Rattle.civil_time.specs.Stamp.{stamp, stamp_time, IsMoment}
-use Rattle.civil_time.proofs.StampLemmas.{length-stamp, stamp-plain, stamp_time-stamp}
-use Rattle.dc09_crypt.specs.declared.opening.Opening.{Opening}
+use Rattle.civil_time.proofs.StampLemmas.{length-stamp, stamp_time-stamp}
 use Rattle.dc09_crypt.specs.declared.opening.Opening.TheVariants.{Text}
-use Rattle.dc09_crypt.specs.Sealed.{is_cipher, text_under, is_bar, stamp_behind, opened_at, opened_with, opening_of, pad_letter, ack_text, sealed_digits, OpensAgain}
+use Rattle.dc09_crypt.specs.Sealed.{is_cipher, text_under, is_bar, stamp_behind, opened_at, opened_with, pad_letter, ack_text, sealed_digits, OpensAgain}
 use Rattle.dc09_crypt.proofs.Openings.{cipher_text, all_cipher}
+use Rattle.dc09_crypt.proofs.StampBytes.{stamp_bytes}
 use Rattle.dc09_crypt.proofs.UpperDigits.{spelled_again}
 
 pub length-ack_text : (stamp noise : List ℕ) → length stamp ≡ 20 → length noise ≡ 10 → length (ack_text stamp noise) ≡ 32
@@ -47,9 +47,6 @@ text_opens noise t ten moment =
 pad_bytes : (noise : List ℕ) → AreBytes (map pad_letter noise)
 pad_bytes [] = All-nil (λ b. b < 256)
 pad_bytes (n ∷ noise) = All-cons (λ b. b < 256) (pad_letter n) (map pad_letter noise) (omega arith) (pad_bytes noise)
-
-stamp_bytes : (t : ℕ) → IsMoment t → AreBytes (stamp t)
-stamp_bytes t moment = λ k d lt. let plain = stamp-plain t moment k d lt in omega (arith, plain.0)
 
 ack_text_whole : (noise : List ℕ) (t : ℕ) → length noise ≡ 10 → IsMoment t → IsWhole (ack_text (stamp t) noise)
 ack_text_whole noise t ten moment =

@@ -1,7 +1,7 @@
 -- What the digits of a sealed message open to.
-use Rattle.std.proofs.Common.{◌≡◌, ◌≢◌, ℕ, ◌%◌, ◌<◌, ◌≤◌, Bool, true, false, ◌&&◌, eqb, leb, List, length, refl, ap, ◌∙◌, arith}
+use Rattle.std.proofs.Common.{◌≡◌, ◌≢◌, ℕ, ◌%◌, ◌<◌, ◌≤◌, true, false, List, length, refl, arith}
 use Rattle.std.specs.List.{list_all, position}
-use Rattle.std.proofs.lemmas.Bool.{and_from, le-leb, lt-leb, eq-eqb, ne_eqb}
+use Rattle.std.proofs.lemmas.Bool.{and_from, le-leb, eq-eqb}
 use Rattle.std.proofs.lemmas.Bool.Decides.{nat_tests}
 use Rattle.arc_data.specs.Digits.{is_hex}
 use Rattle.dc09_crypt.specs.declared.opening.Opening.TheVariants.{NotCipher}

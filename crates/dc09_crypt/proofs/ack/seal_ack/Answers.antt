@@ -1,6 +1,6 @@
-use Rattle.std.proofs.Common.{rules, ◌≡◌, ◌∙◌, ◌++◌, ◌∷◌, ap, length}
+use Rattle.std.proofs.Common.{rules, ◌∙◌, ◌++◌, ◌∷◌, ap}
 use Rattle.std.specs.Prelude.{codes}
-use Rattle.dc09_frame.specs.Frames.{frame_of, IsBody}
+use Rattle.dc09_frame.specs.Frames.{frame_of}
 use Rattle.dc09_frame.specs.Headers.{fields}
 use Rattle.dc09_crypt.proofs.AckBodies.{ack_is_body, ack_stands}
 use Rattle.dc09_crypt.proofs.ack.seal_ack.Goals as goal

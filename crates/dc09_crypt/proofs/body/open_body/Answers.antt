@@ -1,8 +1,8 @@
-use Rattle.std.proofs.Common.{◌≡◌, ◌∙◌, ◌%◌, ◌≤◌, arith, true, length, sym, ap, List, ℕ}
+use Rattle.std.proofs.Common.{◌≡◌, ◌∙◌, arith, true, sym, ap}
 use Rattle.std.specs.List.{list_all}
-use Rattle.arc_data.specs.Digits.{is_hex, bytes_spelled}
+use Rattle.arc_data.specs.Digits.{is_hex}
 use Rattle.aes_chain.specs.Chain.{chain_decrypted}
-use Rattle.dc09_crypt.specs.Sealed.{is_cipher, text_under}
+use Rattle.dc09_crypt.specs.Sealed.{is_cipher}
 use Rattle.dc09_crypt.proofs.Openings.{no_cipher, cipher_text, short_cipher, odd_cipher, other_cipher, all_cipher}
 use Rattle.dc09_crypt.proofs.body.open_body.Goals as goal
 use Rattle.dc09_crypt.proofs.body.open_body.Goals.{then-digits-lt-BLOCK_DIGITS-via-then-digits-lt-BLOCK_DIGITS, then-digits-lt-BLOCK_DIGITS-via-else-digits-lt-BLOCK_DIGITS+then-digits-ne0}
