@@ -2,3 +2,4 @@ pub mod Scans
 pub mod RowLemmas
 pub mod Applied
 pub mod Begun
+pub mod Heard

@@ -1,6 +1,10 @@
 // What no clause says: that calls succeed, and answers of the centre worked out by hand.
-ghost use Rattle.std.specs.Prelude.{◌≤◌, IfOk};
+ghost use Rattle.std.specs.Prelude.{◌≡◌, ◌≤◌, ℕ, List, true, IfOk};
+ghost use Rattle.arc_data.specs.Digits.{is_run, is_capital_hex};
 ghost use Rattle.arc_data.specs.WellFormed.{IsWellFormed};
+ghost use Rattle.centre_rules.specs.Summary.{Summary};
+ghost use Rattle.centre_rules.specs.History.{Entry, IsMoment};
+ghost use Rattle.centre_rules.specs.Answers.{if_known};
 ghost use Rattle.centre_core.specs.Runs.{IsSubmitted};
 
 use super::*;
@@ -24,6 +28,7 @@ enum Other {
     Line,
     Token,
     Content,
+    Sia,
 }
 
 // The burglary alarm of a panel, but for one field.
@@ -34,6 +39,7 @@ fn message(alloc: Global, seq: u16, other: Other) -> Result<Event, Fail>
 {
     let content = match other {
         Other::Content => Blob::of(alloc, b"1131 01 002")?,
+        Other::Sia => Blob::of(alloc, b"Nri1/BA01")?,
         _ => Blob::of(alloc, b"1131 01 001")?,
     };
     let account = match other {
@@ -50,7 +56,7 @@ fn message(alloc: Global, seq: u16, other: Other) -> Result<Event, Fail>
         _ => Txt::of(b"0"),
     };
     let token = match other {
-        Other::Token => Token::SiaDcs,
+        Other::Token | Other::Sia => Token::SiaDcs,
         _ => Token::AdmCid,
     };
     Ok(Event::Message(Message {
@@ -61,6 +67,37 @@ fn message(alloc: Global, seq: u16, other: Other) -> Result<Event, Fail>
         token,
         content,
     }))
+}
+
+// A heartbeat of account 1234, or of one that is lacking.
+fn beat(known: bool) -> Event
+    ensures { IsWellFormed result }
+{
+    let account = if known {
+        Txt::of(b"1234")
+    } else {
+        Txt::of(b"9999")
+    };
+    Event::Beat {
+        account: account.unwrap(),
+    }
+}
+
+// Tells a hall a heartbeat. Gives whether the setup in force has the account, and what the hall answers.
+fn tell_hall<H: Hall>(
+    alloc: Global,
+    hall: &mut H,
+    account: Txt,
+    clock: u64,
+) -> Result<(bool, Done), Stop>
+    requires ready { H.ready hall.old }
+    requires account { is_run is_capital_hex 3 16 account ≡ true }
+    requires clock { IsMoment clock }
+    ensures { IfOk result (λ r. (b : Summary) (h : List Entry) → H.stands hall.old b h → r.1.reply ≡ if_known r.0 Reply.Heard) }
+{
+    let done = hall.submit(alloc, Event::Beat { account }, clock)?;
+    let known = hall.setup().knows(&account);
+    Ok((known, done))
 }
 
 // An Adopt of a text.
@@ -129,7 +166,11 @@ fn messages_and_their_repeats(rt: HostRuntime) -> Result<(), Fail> {
         (Other::Account, 302, 302, Reply::Taken, 6),
         (Other::Receiver, 302, 302, Reply::Taken, 7),
         (Other::Line, 302, 302, Reply::Taken, 8),
-        (Other::Token, 302, 302, Reply::Taken, 9),
+        // The content has no signals in the grammar of this token.
+        (Other::Token, 310, 310, Reply::Unknown, 8),
+        (Other::Token, 310, 310, Reply::Unknown, 8),
+        (Other::Sia, 303, 303, Reply::Taken, 9),
+        (Other::Sia, 303, 303, repeat(303), 9),
         (Other::Content, 310, 310, repeat(10), 9),
         (Other::Content, 311, 311, Reply::Taken, 10),
     ] {
@@ -138,6 +179,26 @@ fn messages_and_their_repeats(rt: HostRuntime) -> Result<(), Fail> {
         let done = tell(&rt, rt.alloc(), &mut centre, event, clock)?;
         let want = (BEGIN.saturating_add(at), reply, recorded);
         assert_eq!(rt; (done.at, done.reply, centre.recorded()), want, "{other:?}");
+    }
+    Ok(())
+}
+
+#[test]
+fn heartbeats(rt: HostRuntime) -> Result<(), Fail> {
+    let mut centre = begun(&rt, rt.alloc())?;
+    // Whether the account is known, the clock, the moment, the reply and how many entries are recorded then.
+    for (known, clock, at, reply, recorded) in [
+        (true, 0, 0, Reply::Heard, 3),
+        (true, 0, 0, Reply::Heard, 4),
+        (false, 9, 9, Reply::Unknown, 4),
+        (true, 5, 5, Reply::Heard, 5),
+        // A clock behind the last recorded entry.
+        (true, 2, 5, Reply::Heard, 6),
+    ] {
+        let clock = BEGIN.saturating_add(clock);
+        let done = tell(&rt, rt.alloc(), &mut centre, beat(known), clock)?;
+        let want = (BEGIN.saturating_add(at), reply, recorded);
+        assert_eq!(rt; (done.at, done.reply, centre.recorded()), want);
     }
     Ok(())
 }
@@ -220,7 +281,15 @@ fn a_centre_and_a_hall(rt: HostRuntime) -> Result<(), Fail> {
         reply: Reply::Taken,
     };
     assert_eq!(rt; done, want);
+    let account = Txt::of(b"1234").unwrap();
+    let want = Done {
+        caller: 0,
+        at: BEGIN,
+        reply: Reply::Heard,
+    };
+    let told = tell_hall(rt.alloc(), &mut hall, account, BEGIN)?;
+    assert_eq!(rt; told, (true, want));
     let centre = hall.into_centre();
-    assert_eq!(rt; (centre.entries(), centre.recorded()), (3, 3));
+    assert_eq!(rt; (centre.entries(), centre.recorded()), (4, 4));
     Ok(())
 }
