@@ -1,16 +1,14 @@
 -- The two entries with which a run begins.
-use Rattle.std.proofs.Common.{◌≡◌, ◌∷◌, ℕ, List, [], true, refl, sym, ◌∙◌, ap, arith}
+use Rattle.std.proofs.Common.{◌≡◌, ◌∷◌, ℕ, List, [], ◌∙◌, ap, arith}
 use Rattle.std.specs.Prelude.{IsOk, max}
 use Rattle.arc_data.specs.declared.event.Event.{Event}
 use Rattle.arc_data.specs.declared.event.Event.TheVariants.{Adopt, Start}
-use Rattle.arc_data.specs.declared.event.Reply.{Reply}
 use Rattle.arc_data.specs.declared.event.Reply.TheVariants.{Adopted, Started}
 use Rattle.alarm_rules.specs.Setups.{setup_of}
 use Rattle.centre_rules.specs.Summary.{nothing}
 use Rattle.centre_rules.specs.History.{Entry, moment_after}
 use Rattle.centre_rules.specs.Answers.{answer, if_known}
-use Rattle.centre_rules.specs.State.{Plan, State, StandsFor, entry_of}
-use Rattle.centre_core.specs.Runs.{begun}
+use Rattle.centre_rules.specs.State.{Plan, entry_of}
 
 abbrev pub adopted : List ℕ → ℕ → Entry
 adopted text clock = record { caller = 0; event = Adopt text; at = clock; reply = Adopted }

@@ -1,10 +1,10 @@
-use Rattle.std.proofs.Common.{◌≡◌, ◌∷◌, [], List, ℕ, refl, sym, ◌∙◌, ap, subst}
+use Rattle.std.proofs.Common.{◌≡◌, ◌∷◌, [], List, ℕ, sym, ◌∙◌, ap, subst}
 use Rattle.std.specs.Prelude.{IsOk}
 use Rattle.arc_data.specs.declared.event.Event.TheVariants.{Adopt}
 use Rattle.alarm_rules.specs.Setups.{setup_of}
 use Rattle.centre_rules.specs.Summary.{nothing}
 use Rattle.centre_rules.specs.History.{Entry}
-use Rattle.centre_rules.specs.State.{StandsFor, entry_of}
+use Rattle.centre_rules.specs.State.{StandsFor}
 use Rattle.centre_core.specs.Setting.{IsSetting}
 use Rattle.centre_core.proofs.Begun.{adopted, adopt_entry, start_entry}
 use Rattle.centre_core.proofs.hall.RamHall.new.Goals as goal
