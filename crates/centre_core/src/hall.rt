@@ -45,10 +45,10 @@ pub trait Hall {
     /// The part of such a history that its caller made.
     ghost own: { Self → List Entry → List Entry };
 
-    /// That it shows of a stop of this event, at this reading of the clock, what its cause was.
+    /// What it shows after a stop of this event, at this reading of the clock: that the stop had its cause.
     ghost shows: { Self → Stop → Event → ℕ → Type 0 };
 
-    /// Submits an event at a reading of the clock (seconds since 1970). After a Stop it has no entry.
+    /// Submits an event at a reading of the clock (seconds since 1970), which gets one entry. After a Stop it has none.
     fn submit(&mut self, alloc: Global, event: Event, clock: u64) -> Result<Done, Stop>
         requires ready { ready self.old }
         requires submitted { IsSubmitted event }
@@ -68,8 +68,10 @@ pub trait Hall {
         requires { ready self.now }
         ensures { result.now ≡ text self.now };
 
+    /// It stands for legal histories alone.
     ghost legal: { (hall : Self) (b : Summary) (h : List Entry) → stands hall b h → IsLegal b h };
 
+    /// After each history for which it stands the setup of its text is in force.
     ghost in_force: { (hall : Self) (b : Summary) (h : List Entry) → stands hall b h → force b (marks h) ≡ Some (meaning (text hall)) };
 }
 
@@ -138,8 +140,8 @@ impl Hall for RamHall {
 
     ghost in_force = { in_force };
 
-    /// Submits an event at a reading of the clock (seconds since 1970). After a Stop nothing has changed. It takes memory
-    /// for an entry of the centre alone.
+    /// Submits an event at a reading of the clock (seconds since 1970). After a Stop nothing has changed. It is worn exactly
+    /// where it has 281,474,976,710,656 entries or more; the other Stop is want of memory.
     fn submit(&mut self, alloc: Global, event: Event, clock: u64) -> Result<Done, Stop>
         requires submitted { IsSubmitted event }
         requires formed { IsWellFormed event }
