@@ -1,11 +1,12 @@
--- Completeness: unless a write failed or the hall stopped, every whole piece is answered.
-use Rattle.std.specs.Prelude.{◌≡◌, ◌++◌, ℕ, List, Result, Ok, Err, Contains}
+-- Completeness: unless a write failed or the hall stopped, every whole piece is answered, and each heartbeat and numbered
+-- message among them is acknowledged.
+use Rattle.std.specs.Prelude.{◌≡◌, ◌++◌, ℕ, List, [], ◌∷◌}
 use Rattle.alarm_rules.specs.Setups.{Setup}
 use Rattle.dc09_frame.specs.declared.header.Header.{Header}
 use Rattle.dc09_message.specs.Verdicts.{verdict_of}
 use Rattle.dc09_message.specs.declared.outcome.Verdict.{Verdict}
 use Rattle.dc09_message.specs.declared.outcome.Verdict.TheVariants.{Silence, Nak, Duh, Beat, Numbered}
-use Rattle.line_session.specs.Turns.{IsAck}
+use Rattle.line_session.specs.Turns.{Turn, IsAck, bodies_of, text_of}
 use Rattle.line_session.specs.declared.line_end.LineEnd.{LineEnd}
 use Rattle.line_session.specs.declared.line_end.LineEnd.TheVariants.{InputEnded, ReadFault, WriteFault, Spent, Stopped}
 
@@ -17,25 +18,24 @@ IsReported (Duh header why) h = ⊥
 IsReported (Beat header account) h = header ≡ h
 IsReported (Numbered header m) h = header ≡ h
 
--- A whole piece was answered: its reply, at the reading that it took, stands in the text that was written, and is the
--- acknowledgement where its verdict is a heartbeat or a numbered message.
-pub record IsAcknowledged (setup : Setup) (text body : List ℕ) : Type 0 where
-  pub reading : ℕ
-  pub noise : List ℕ
-  pub before : List ℕ
-  pub reply : List ℕ
-  pub after : List ℕ
-  pub written : text ≡ before ++ reply ++ after
-  pub acknowledged : (header : Header) → IsReported (verdict_of setup reading body) header → IsAck setup header reading noise reply
+-- where the turn's verdict is a heartbeat or a numbered message, its reply is the acknowledgement
+abbrev pub IsAcknowledged : Setup → Turn → Type 0
+IsAcknowledged setup t = (header : Header) → IsReported (verdict_of setup t.reading t.body) header → IsAck setup header t.reading t.noise t.reply
 
--- each of these whole pieces was answered
-abbrev pub AnswersEach : Setup → List ℕ → List (List ℕ) → Type 0
-AnswersEach setup text bodies = (body : List ℕ) → Contains bodies body → IsAcknowledged setup text body
+-- the turn's reply stands in the text behind the replies of the turns before it, and acknowledges where it has to
+pub record IsAnsweredIn (setup : Setup) (before : List Turn) (t : Turn) (text : List ℕ) : Type 0 where
+  pub after : List ℕ
+  pub written : text ≡ text_of before ++ t.reply ++ after
+  pub acknowledged : IsAcknowledged setup t
+
+-- so is each of these turns
+abbrev pub AnswersTurns : Setup → List Turn → List ℕ → Type 0
+AnswersTurns setup turns text = (before : List Turn) (t : Turn) (later : List Turn) → turns ≡ before ++ t ∷ later → IsAnsweredIn setup before t text
 
 -- what an end says of the whole pieces
-abbrev pub IsComplete : LineEnd → Setup → List ℕ → List (List ℕ) → Type 0
-IsComplete InputEnded setup text bodies = AnswersEach setup text bodies
-IsComplete ReadFault setup text bodies = AnswersEach setup text bodies
-IsComplete Spent setup text bodies = AnswersEach setup text bodies
-IsComplete WriteFault setup text bodies = Unit {0}
-IsComplete (Stopped stop) setup text bodies = Unit {0}
+abbrev pub IsComplete : LineEnd → Setup → List Turn → List ℕ → List (List ℕ) → Type 0
+IsComplete InputEnded setup turns text bodies = (bodies ≡ bodies_of turns) × AnswersTurns setup turns text
+IsComplete ReadFault setup turns text bodies = (bodies ≡ bodies_of turns) × AnswersTurns setup turns text
+IsComplete Spent setup turns text bodies = (bodies ≡ bodies_of turns) × AnswersTurns setup turns text
+IsComplete WriteFault setup turns text bodies = (front : List Turn) × (last : Turn) × (turns ≡ front ++ last ∷ []) × AnswersTurns setup front text
+IsComplete (Stopped stop) setup turns text bodies = AnswersTurns setup turns text

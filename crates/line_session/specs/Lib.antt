@@ -1,5 +1,6 @@
 pub mod Ports
 pub mod Turns
 pub mod Sessions
+pub mod Replies
 pub mod Lines
 pub mod Completeness

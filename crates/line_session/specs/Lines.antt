@@ -1,5 +1,5 @@
 -- What a line's state keeps of the bytes that it took, and what a session over a port did.
-use Rattle.std.specs.Prelude.{◌≡◌, ◌<◌, ◌≤◌, ◌-◌, ◌^◌, ◌++◌, ℕ, List, Result, Ok, Err, take, length}
+use Rattle.std.specs.Prelude.{◌≡◌, ◌<◌, ◌≤◌, ◌-◌, ◌^◌, ◌++◌, ℕ, List, [], ◌∷◌, Result, Ok, Err, take, length}
 use Rattle.std.specs.Io.KnownBytes.{prepend_known, IsAtEnd}
 use Rattle.arc_data.specs.declared.event.Event.{Event}
 use Rattle.arc_io.specs.Causes.{Rose}
@@ -12,6 +12,7 @@ use Rattle.dc09_frame.specs.Frames.{bodies}
 use Rattle.line_session.specs.Completeness.{IsComplete}
 use Rattle.line_session.specs.Ports.{PortSeen}
 use Rattle.line_session.specs.Sessions.{IsSession}
+use Rattle.line_session.specs.Turns.{Turn, bodies_of}
 use Rattle.line_session.specs.declared.line_end.LineEnd.{LineEnd}
 use Rattle.line_session.specs.declared.line_end.LineEnd.TheVariants.{InputEnded, ReadFault, WriteFault, Spent, Stopped}
 
@@ -24,7 +25,7 @@ pub record LineValue : Type 0 where
   pub cutter : CutterValue
   pub count : ℕ
 
--- the state took this stream, which is shorter than the limit, and none of its calls has answered an end
+-- the state took this stream, which is shorter than the limit
 pub record TookStream (stream : List ℕ) (s : LineValue) : Type 0 where
   pub fed : WasFed stream s.cutter
   pub count : s.count ≡ length stream
@@ -34,7 +35,7 @@ pub record TookStream (stream : List ℕ) (s : LineValue) : Type 0 where
 abbrev pub in_limit : List ℕ → List ℕ → List ℕ
 in_limit stream piece = take (input_limit - length stream) piece
 
--- what is left of a state that took a piece behind a stream, by what it answered
+-- What is left of a state that took a piece behind a stream, by what it answered. Of one that answered an end nothing is left.
 abbrev pub IsTaken : Result (Unit {0}) LineEnd → List ℕ → List ℕ → LineValue → Type 0
 IsTaken (Ok done) stream piece s = TookStream (stream ++ piece) s
 IsTaken (Err InputEnded) stream piece s = ⊥
@@ -43,11 +44,11 @@ IsTaken (Err WriteFault) stream piece s = Unit {0}
 IsTaken (Err Spent) stream piece s = input_limit ≤ length (stream ++ piece)
 IsTaken (Err (Stopped stop)) stream piece s = Unit {0}
 
--- A session over the whole pieces that a piece of the stream ends behind what was taken before.
-pub record ServesPiece (end : Result (Unit {0}) LineEnd) (stream piece : List ℕ) (b : Summary) (setup : Setup) (caller : ℕ) (h : List Entry)
+-- A session over the whole pieces that these bytes end behind a stream.
+pub record ServesBytes (end : Result (Unit {0}) LineEnd) (stream bytes : List ℕ) (b : Summary) (setup : Setup) (caller : ℕ) (h : List Entry)
     (stands : List Entry → Type 0) (own_old own_new : List Entry → List Entry) (shows : Stop → Event → ℕ → Type 0) (p p' : PortSeen) : Type 0 where
   pub whole : List (List ℕ)
-  pub ended : bodies (stream ++ in_limit stream piece) ≡ bodies stream ++ whole
+  pub ended : bodies (stream ++ bytes) ≡ bodies stream ++ whole
   pub session : IsSession end b setup caller whole h stands own_old own_new shows p p'
 
 -- Why a session over a port ended, of the bytes that it read: the input ended; a read failed; a write failed; 2^40 bytes were
@@ -59,11 +60,31 @@ HasEnded WriteFault read p p' = Rose p.write_faults p'.write_faults × (length r
 HasEnded Spent read p p' = length read ≡ input_limit
 HasEnded (Stopped stop) read p p' = length read ≤ input_limit
 
--- A line session over a port: the bytes that it read, and a session over all their whole pieces.
-pub record ServesLine (end : LineEnd) (b : Summary) (setup : Setup) (caller : ℕ) (h : List Entry) (stands : List Entry → Type 0)
-    (own_old own_new : List Entry → List Entry) (shows : Stop → Event → ℕ → Type 0) (p p' : PortSeen) : Type 0 where
-  pub read : List ℕ
+-- these bytes were read of the port, and it ended for its cause
+pub record ReadsLine (end : LineEnd) (read : List ℕ) (p p' : PortSeen) : Type 0 where
   pub taken : p.left ≡ prepend_known read p'.left
   pub cause : HasEnded end read p p'
+
+-- Nothing was read ahead: what was read before the last piece, of at most 4,096 bytes, had its answers before that was read.
+pub record IsNotAhead (read : List ℕ) (answered : List Turn) : Type 0 where
+  pub front : List ℕ
+  pub last : List ℕ
+  pub more : List (List ℕ)
+  pub parts : read ≡ front ++ last
+  pub short : length last ≤ 4096
+  pub before : bodies_of answered ≡ bodies front ++ more
+
+-- of the bytes that a session read, where it was cut short: after the fault or the stop nothing was read
+abbrev pub ReadsNoFurther : LineEnd → List ℕ → List Turn → Type 0
+ReadsNoFurther InputEnded read turns = Unit {0}
+ReadsNoFurther ReadFault read turns = Unit {0}
+ReadsNoFurther Spent read turns = Unit {0}
+ReadsNoFurther WriteFault read turns = (front : List Turn) × (last : Turn) × (turns ≡ front ++ last ∷ []) × IsNotAhead read front
+ReadsNoFurther (Stopped stop) read turns = IsNotAhead read turns
+
+-- A line session over a port that read these bytes: a session over all their whole pieces.
+pub record ServesLine (end : LineEnd) (read : List ℕ) (b : Summary) (setup : Setup) (caller : ℕ) (h : List Entry) (stands : List Entry → Type 0)
+    (own_old own_new : List Entry → List Entry) (shows : Stop → Event → ℕ → Type 0) (p p' : PortSeen) : Type 0 where
   pub session : IsSession (Err end) b setup caller (bodies read) h stands own_old own_new shows p p'
-  pub complete : IsComplete end setup session.added.text (bodies read)
+  pub ahead : ReadsNoFurther end read session.turns
+  pub complete : IsComplete end setup session.turns session.added.text (bodies read)

@@ -64,3 +64,12 @@ pub record IsSession (end : Result (Unit {0}) LineEnd) (b : Summary) (setup : Se
   pub own : own_new history ≡ reverse (entries_of turns) ++ own_old h
   pub adds : Adds p p' added
   pub ended : IsEnd end setup shows turns added left
+
+-- all was answered, or a write failed, or the hall stopped
+abbrev pub IsCutShort : Result (Unit {0}) LineEnd → Type 0
+IsCutShort (Ok done) = Unit {0}
+IsCutShort (Err InputEnded) = ⊥
+IsCutShort (Err ReadFault) = ⊥
+IsCutShort (Err Spent) = ⊥
+IsCutShort (Err WriteFault) = Unit {0}
+IsCutShort (Err (Stopped stop)) = Unit {0}

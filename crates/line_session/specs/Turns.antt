@@ -45,9 +45,9 @@ IsAckBy true key h reading noise reply = (k : List ℕ) × (key ≡ Some k) × (
 abbrev pub IsAck : Setup → Header → ℕ → List ℕ → List ℕ → Type 0
 IsAck setup h reading noise reply = IsAckBy h.sealed (key_of setup (capitals h.account)) h reading noise reply
 
--- from the history h on the turn takes no entry and no noise, and gives this reply
+-- From the history h on, to x: entries of others; the turn takes no entry and no noise, and gives this reply.
 pub record TakesNothing (h x : List Entry) (t : Turn) (text : List ℕ) : Type 0 where
-  pub same : x ≡ h
+  pub extends : Extends h x
   pub entry : t.entry ≡ None
   pub noise : t.noise ≡ []
   pub reply : t.reply ≡ text

@@ -2,6 +2,16 @@
 //! a hall where it brings an event, and answered.
 #![tactic(auto)]
 
+mod answer;
+mod laws;
+mod line;
 mod line_end;
+mod line_state;
+mod reply;
+mod report;
+mod serve;
 
+pub use laws::law_sessions_join;
+pub use line::serve_line;
 pub use line_end::LineEnd;
+pub use line_state::LineState;

@@ -1,0 +1,95 @@
+use Rattle.std.proofs.Common.{◌≡◌, ◌+◌, ◌∷◌, ◌++◌, [], ℕ, List, take, drop, Ok, Err, refl, sym, ◌∙◌, ap, subst, append-nil, arith}
+use Rattle.std.specs.Prelude.{Bool, true, false, IsTrue}
+use Rattle.std.proofs.lemmas.List.{take_rest}
+use Rattle.std.proofs.lemmas.Result.{err_from_is_err_and}
+use Rattle.alarm_rules.specs.Setups.{meaning}
+use Rattle.dc09_frame.specs.Cutting.{WasFed, Feeds, body_told}
+use Rattle.dc09_frame.specs.Frames.{bodies}
+use Rattle.line_session.proofs.Fed.{fed_more, told_none, told_one, bodies_behind}
+use Rattle.line_session.proofs.Served.{serves_none, serves_same, serves_more, serves_wider, early_err, session_under}
+use Rattle.line_session.proofs.serve.serve.Goals as goal
+
+clash : (b : Bool) → IsTrue b → b ≡ false → ⊥
+clash true h is = absurd (cc)
+clash false h is = absurd (cc)
+
+pub loop-at-init : goal.loop-at-init
+loop-at-init g c = record {
+  within = omega arith;
+  ready = c.requires;
+  text = refl;
+  caller = refl;
+  fed = λ stream fed. subst (λ (s : List ℕ). WasFed s c.args.cutter.now) (sym (append-nil stream)) fed;
+  served = λ stream b h fed s. serves_none stream b (meaning (g.H.Hall.text c.args.hall.now)) (g.H.Hall.caller c.args.hall.now) h _ _ _ _ s (g.met.H.Hall.legal c.args.hall.now b h s);
+  later = omega arith;
+  left = refl;
+  read_faults = refl;
+}
+
+pub loop-at-preserved : goal.loop-at-preserved
+loop-at-preserved g c =
+    let bytes = c.args.bytes.now in
+    let at = c.loop-at.at in
+    let n = c.feed-count.result.0 in
+    let told = c.feed-count.result.1 in
+    let cutter = c.feed-count.new.self in
+    let old = c.loop-at.invariant in
+    let fed_by = λ (stream : List ℕ) (fed : WasFed stream c.args.cutter.now). fed_more stream bytes at n told cutter (subst (λ (p : List ℕ). Feeds (stream ++ take at bytes) (take n p) told cutter) (take_rest bytes at) (c.feed-count.ensures.feeds (stream ++ take at bytes) (old.fed stream fed))) in
+    let none : body_told told cutter ≡ [] = told_none told cutter (λ e. clash c.is_whole.result (c.is_whole.ensures.1 e) c.if-is_whole.false) in
+    record {
+      within = omega (arith, c.feed-count.ensures.count);
+      ready = old.ready;
+      text = old.text;
+      caller = old.caller;
+      fed = λ stream fed. (fed_by stream fed).fed;
+      served = λ stream b h fed s. serves_same stream b (meaning (g.H.Hall.text c.args.hall.now)) (g.H.Hall.caller c.args.hall.now) h (Ok tt) (take at bytes) (take (at + n) bytes) _ _ _ _ _ _
+          ((fed_by stream fed).added ∙ ap (λ (l : List (List ℕ)). bodies (stream ++ take at bytes) ++ l) none ∙ append-nil (bodies (stream ++ take at bytes))) (old.served stream b h fed s);
+      later = old.later;
+      left = old.left;
+      read_faults = old.read_faults;
+    }
+
+pub loop-at-preserved-in-Continue-1 : goal.loop-at-preserved-in-Continue-1
+loop-at-preserved-in-Continue-1 g c =
+    let bytes = c.args.bytes.now in
+    let at = c.loop-at.at in
+    let n = c.feed-count.result.0 in
+    let told = c.feed-count.result.1 in
+    let cutter = c.feed-count.new.self in
+    let body = c.body.result.now in
+    let old = c.loop-at.invariant in
+    let fed_by = λ (stream : List ℕ) (fed : WasFed stream c.args.cutter.now). fed_more stream bytes at n told cutter (subst (λ (p : List ℕ). Feeds (stream ++ take at bytes) (take n p) told cutter) (take_rest bytes at) (c.feed-count.ensures.feeds (stream ++ take at bytes) (old.fed stream fed))) in
+    let one : body_told told cutter ≡ body ∷ [] = told_one told cutter (c.is_whole.ensures.0 c.if-is_whole.true) ∙ ap (λ (l : List ℕ). l ∷ []) (sym c.body.ensures) in
+    record {
+      within = omega (arith, c.feed-count.ensures.count);
+      ready = c.in_ok-answer.ensures.ready;
+      text = c.in_ok-answer.ensures.text ∙ old.text;
+      caller = c.in_ok-answer.ensures.caller ∙ old.caller;
+      fed = λ stream fed. (fed_by stream fed).fed;
+      served = λ stream b h fed s. serves_more stream b (meaning (g.H.Hall.text c.args.hall.now)) (g.H.Hall.caller c.args.hall.now) h (Ok tt) (take at bytes) (take (at + n) bytes) body _ _ _ _ _ _ _ _ _ _
+          ((fed_by stream fed).added ∙ ap (λ (l : List (List ℕ)). bodies (stream ++ take at bytes) ++ l) one) (old.served stream b h fed s)
+          (λ x sx. session_under _ b _ _ _ _ (body ∷ []) x _ _ _ _ _ _ (ap meaning old.text) old.caller (c.in_ok-answer.ensures.session b x sx));
+      later = omega (arith, c.in_ok-answer.ensures.later, old.later);
+      left = c.in_ok-answer.ensures.left ∙ old.left;
+      read_faults = c.in_ok-answer.ensures.read_faults ∙ old.read_faults;
+    }
+
+pub returns-in_err-answer-clause-served : goal.returns-in_err-answer-clause-served
+returns-in_err-answer-clause-served g c stream b h fed s =
+    let bytes = c.args.bytes.now in
+    let at = c.loop-at.at in
+    let n = c.feed-count.result.0 in
+    let told = c.feed-count.result.1 in
+    let cutter = c.feed-count.new.self in
+    let body = c.body.result.now in
+    let old = c.loop-at.invariant in
+    let f = fed_more stream bytes at n told cutter (subst (λ (p : List ℕ). Feeds (stream ++ take at bytes) (take n p) told cutter) (take_rest bytes at) (c.feed-count.ensures.feeds (stream ++ take at bytes) (old.fed stream fed))) in
+    let one : body_told told cutter ≡ body ∷ [] = told_one told cutter (c.is_whole.ensures.0 c.if-is_whole.true) ∙ ap (λ (l : List ℕ). l ∷ []) (sym c.body.ensures) in
+    let behind = bodies_behind stream bytes (at + n) in
+    let p = err_from_is_err_and c.from_residual.result c.from_residual.ensures.1 in
+    let same : c.from_residual.result ≡ Err c.in_err-answer.field-0.0 = p.1 ∙ ap Err p.2 in
+    rw same
+    (serves_wider stream b (meaning (g.H.Hall.text c.args.hall.now)) (g.H.Hall.caller c.args.hall.now) h (Err c.in_err-answer.field-0.0) (take (at + n) bytes) bytes behind.0 _ _ _ _ _ _ (early_err (Err c.in_err-answer.field-0.0) c.in_err-answer.field-0.0 refl c.in_err-answer.ensures.ends) behind.1
+    (serves_more stream b (meaning (g.H.Hall.text c.args.hall.now)) (g.H.Hall.caller c.args.hall.now) h (Err c.in_err-answer.field-0.0) (take at bytes) (take (at + n) bytes) body _ _ _ _ _ _ _ _ _ _
+    (f.added ∙ ap (λ (l : List (List ℕ)). bodies (stream ++ take at bytes) ++ l) one) (old.served stream b h fed s)
+    (λ x sx. session_under _ b _ _ _ _ (body ∷ []) x _ _ _ _ _ _ (ap meaning old.text) old.caller (c.in_err-answer.ensures.session b x sx))))
