@@ -1,1 +1,6 @@
 pub mod DigitLemmas
+pub mod BlockLaws
+pub mod KeptLemmas
+pub mod ContentLaws
+pub mod ContentLemmas
+pub mod GoodVerdicts

@@ -1,6 +1,6 @@
 -- The blocks of a message (DC-09, the data fields): what stands behind the header's `[`. The first block's content has no
 -- brackets, and neither has that of a further block; a tail may follow the last block.
-use Rattle.std.specs.Prelude.{◌≡◌, ℕ, zero, suc, ◌==◌, ◌&&◌, ◌++◌, List, [], ◌∷◌, Bool, true, false, not, Option, Some, None, length, drop}
+use Rattle.std.specs.Prelude.{◌≡◌, ℕ, zero, suc, ◌==◌, ◌&&◌, ◌++◌, List, [], ◌∷◌, Bool, true, not, Option, Some, None, length, drop}
 use Rattle.std.specs.List.{list_all, flat_map, take_while}
 use Rattle.std.specs.Option.{option_map}
 use Rattle.dc09_frame.specs.Headers.{◌>>=◌, after_byte}

@@ -1,5 +1,5 @@
 -- The verdict on an undamaged frame: the first case that holds.
-use Rattle.std.specs.Prelude.{◌≡◌, ℕ, List, Bool, if◌then◌else◌, Option, Some, None, is_some, drop, slice_range}
+use Rattle.std.specs.Prelude.{◌≡◌, ℕ, List, if◌then◌else◌, Option, Some, None, is_some, drop, slice_range}
 use Rattle.arc_data.specs.Digits.{capitals, dec_value}
 use Rattle.arc_data.specs.WellFormed.{IsMessage, IsWellFormed}
 use Rattle.arc_data.specs.declared.event.Event.TheVariants.{Beat as Heard}

@@ -2,8 +2,20 @@
 //! fits, and the heartbeat or message that it brings.
 #![tactic(auto)]
 
+mod blocks;
+mod content;
 mod kind;
+mod laws;
 mod outcome;
+mod reading;
 
 pub use kind::MessageKind;
+pub use laws::{
+    law_blocks_are_written, law_content_is_written, law_written_blocks_are_read,
+    law_written_content_is_read,
+};
 pub use outcome::{Verdict, Why};
+pub use reading::verdict;
+
+#[cfg(test)]
+mod tests;
