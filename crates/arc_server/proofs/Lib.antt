@@ -1,3 +1,2 @@
-pub mod SessionLemmas
-pub mod FeedLemmas
 pub mod OneWord
+pub mod Served

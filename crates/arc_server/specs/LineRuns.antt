@@ -1,33 +1,25 @@
--- What a run of the command `line` did, by its status.
-use Rattle.std.specs.Prelude.{◌≡◌, ◌≤◌, ◌⊎◌, ℕ, List, [], ◌∷◌, Option, Some, None, Err, IsOk, length}
+-- What a run of `line` did, by its status.
+use Rattle.std.specs.Prelude.{◌≡◌, ◌≤◌, ◌^◌, ◌⊎◌, ℕ, List, [], ◌∷◌, Option, Some, None, Err, IsOk, length}
 use Rattle.std.specs.Io.KnownBytes.{append_known, prepend_known, IsAtEnd}
 use Rattle.arc_io.specs.Causes.{Rose}
 use Rattle.alarm_rules.specs.Setups.{setup_of, meaning}
 use Rattle.centre_core.specs.Runs.{begun}
+use Rattle.centre_core.specs.Setting.{IsSetFor, IsShown}
+use Rattle.centre_core.specs.declared.hall.Stop.TheVariants.{Memory as MemoryWanted, Worn as HallWorn}
 use Rattle.centre_rules.specs.Summary.{nothing}
-use Rattle.centre_rules.specs.State.{State, StandsFor}
-use Rattle.dc09_frame.specs.Frames.{bodies}
-use Rattle.arc_server.specs.Sessions.{IsSession}
-use Rattle.arc_server.specs.declared.session.SessionEnd.{SessionEnd}
-use Rattle.arc_server.specs.declared.session.SessionEnd.TheVariants.{AllAnswered, WriteFault as NotWritten, Memory as SessionMemory, NotBuilt as FormNotBuilt}
+use Rattle.centre_rules.specs.State.{State}
+use Rattle.line_session.specs.Lines.{ReadsLine, ServesLine}
+use Rattle.line_session.specs.Ports.{PortSeen}
+use Rattle.line_session.specs.declared.line_end.LineEnd.{LineEnd}
+use Rattle.line_session.specs.declared.line_end.LineEnd.TheVariants.{InputEnded, ReadFault as NotRead, WriteFault as NotWritten, Spent as InputSpent, Stopped}
 use Rattle.arc_server.specs.declared.status.Status.{Status}
-use Rattle.arc_server.specs.declared.status.Status.TheVariants.{Done, Usage, SetupBad, ReadFault, WriteFault, Memory, NotBuilt}
+use Rattle.arc_server.specs.declared.status.Status.TheVariants.{Done, Usage, SetupBad, ReadFault, WriteFault, Memory, Spent, Worn}
 use Rattle.arc_server.specs.declared.status.Which.TheVariants.{Setup, Input}
 
 -- What is told of the setup's source at one moment: its bytes left, and how often a read of it failed.
 pub record SetupSeen : Type 0 where
   pub left : Option (List ℕ)
   pub faults : ℕ
-
--- What is told of the port at one moment: its bytes left, its bytes written, its readings, its noise, and how often a read
--- and a write of it failed.
-pub record PortSeen : Type 0 where
-  pub left : Option (List ℕ)
-  pub read_faults : ℕ
-  pub written : Option (List ℕ)
-  pub write_faults : ℕ
-  pub readings : Option (List ℕ)
-  pub noise : Option (List ℕ)
 
 -- the port after one more reading
 abbrev pub after_reading : ℕ → PortSeen → PortSeen
@@ -49,41 +41,24 @@ pub record HasRisen (first second entry end : ℕ) : Type 0 where
   pub now : second ≡ end
   pub rose : Rose first second
 
--- All bytes of the line were read, at most 65,536, and served to this end, from the beginning of the run on: an Adopt of the
--- setup's text and a Start. No noise was taken.
-pub record ServesLine (end : SessionEnd) (text : List ℕ) (clock : ℕ) (p p' : PortSeen) (state : State) : Type 0 where
-  pub input : List ℕ
-  pub taken : p.left ≡ prepend_known input p'.left
-  pub all : IsAtEnd p'.left
-  pub size : length input ≤ 65536
-  pub session : IsSession end nothing (meaning text) (bodies input) (begun text clock) state p.written p'.written p.readings p'.readings
-  pub noise : p'.noise ≡ p.noise
-
--- the run began, at most 65,537 bytes of the line were read, and nothing of them was served
-pub record ServesNothing (text : List ℕ) (clock : ℕ) (p p' : PortSeen) (state : State) : Type 0 where
-  pub stands : StandsFor nothing state (begun text clock)
-  pub written : p'.written ≡ p.written
-  pub readings : p'.readings ≡ p.readings
-  pub noise : p'.noise ≡ p.noise
-  pub part : ReadsPart 65537 p.left p'.left
-
--- 65,537 bytes were read of the line, and nothing of it was served
-pub record IsTooLong (text : List ℕ) (clock : ℕ) (p p' : PortSeen) (state : State) : Type 0 where
-  pub input : List ℕ
-  pub taken : p.left ≡ prepend_known input p'.left
-  pub size : length input ≡ 65537
-  pub nothing : ServesNothing text clock p p' state
+-- A line was served to this end, from the beginning of the run on, an Adopt of the setup's text and a Start. The centre that is
+-- handed back stands for the history that the session ended with.
+pub record ServesRun (end : LineEnd) (text : List ℕ) (clock : ℕ) (p p' : PortSeen) (state : State) : Type 0 where
+  pub read : List ℕ
+  pub reads : ReadsLine end read p p'
+  pub line : ServesLine end read nothing (meaning text) 0 (begun text clock) (λ x. IsSetFor nothing state x) (λ x. x) (λ x. x) (λ stop event reading. IsShown state stop) p p'
 
 -- What a status shows where a run began, at this reading of the clock: a centre in this state is handed back.
 abbrev pub IsServed : Status → List ℕ → ℕ → PortSeen → PortSeen → State → Type 0
-IsServed Done text clock p p' state = ServesLine AllAnswered text clock p p' state
+IsServed Done text clock p p' state = ServesRun InputEnded text clock p p' state
 IsServed Usage text clock p p' state = ⊥
 IsServed (SetupBad fault) text clock p p' state = ⊥
 IsServed (ReadFault Setup before now) text clock p p' state = ⊥
-IsServed (ReadFault Input before now) text clock p p' state = HasRisen before now p.read_faults p'.read_faults × ServesNothing text clock p p' state
-IsServed (WriteFault before now) text clock p p' state = HasRisen before now p.write_faults p'.write_faults × ServesLine NotWritten text clock p p' state
-IsServed Memory text clock p p' state = ServesNothing text clock p p' state ⊎ ServesLine SessionMemory text clock p p' state
-IsServed (NotBuilt after) text clock p p' state = ((after ≡ 0) × IsTooLong text clock p p' state) ⊎ ServesLine (FormNotBuilt after) text clock p p' state
+IsServed (ReadFault Input before now) text clock p p' state = HasRisen before now p.read_faults p'.read_faults × ServesRun NotRead text clock p p' state
+IsServed (WriteFault before now) text clock p p' state = HasRisen before now p.write_faults p'.write_faults × ServesRun NotWritten text clock p p' state
+IsServed Memory text clock p p' state = ServesRun (Stopped MemoryWanted) text clock p p' state
+IsServed Spent text clock p p' state = ServesRun InputSpent text clock p p' state
+IsServed (Worn count) text clock p p' state = (count ≡ state.entries) × (2 ^ 48 ≤ count) × ServesRun (Stopped (HallWorn count)) text clock p p' state
 
 -- What a status shows where the setup was not read or is none.
 abbrev pub IsSetupEnd : Status → SetupSeen → SetupSeen → Type 0
@@ -94,7 +69,8 @@ IsSetupEnd (ReadFault Input before now) q q' = ⊥
 IsSetupEnd Done q q' = ⊥
 IsSetupEnd Usage q q' = ⊥
 IsSetupEnd (WriteFault before now) q q' = ⊥
-IsSetupEnd (NotBuilt after) q q' = ⊥
+IsSetupEnd Spent q q' = ⊥
+IsSetupEnd (Worn count) q q' = ⊥
 
 -- the setup was read, and memory was wanted for the beginning of the run, whose one reading was taken
 abbrev pub DoesNotBegin : SetupSeen → SetupSeen → PortSeen → PortSeen → Type 0

@@ -3,7 +3,7 @@ use Rattle.std.specs.Prelude.{ℕ, ◌++◌, List, [], codes, decimal}
 use Rattle.arc_data.specs.declared.setup_fault.SetupFault.{SetupFault}
 use Rattle.arc_data.specs.declared.setup_fault.SetupFault.TheVariants.{TooLarge, BadLine, TwoSame, Memory as NoMemory}
 use Rattle.arc_server.specs.declared.status.Status.{Status}
-use Rattle.arc_server.specs.declared.status.Status.TheVariants.{Done, Usage, SetupBad, ReadFault, WriteFault, Memory, NotBuilt}
+use Rattle.arc_server.specs.declared.status.Status.TheVariants.{Done, Usage, SetupBad, ReadFault, WriteFault, Memory, Spent, Worn}
 use Rattle.arc_server.specs.declared.status.Which.{Which}
 use Rattle.arc_server.specs.declared.status.Which.TheVariants.{Setup, Input}
 
@@ -15,7 +15,8 @@ number_of (SetupBad fault) = 2
 number_of (ReadFault which before now) = 3
 number_of (WriteFault before now) = 4
 number_of Memory = 10
-number_of (NotBuilt after) = 13
+number_of Spent = 11
+number_of (Worn count) = 12
 
 abbrev pub at_line : ℕ → List ℕ
 at_line line = codes "setup: line " ++ decimal line
@@ -44,4 +45,5 @@ text_of_status (SetupBad fault) = setup_text fault
 text_of_status (ReadFault which before now) = read_text which
 text_of_status (WriteFault before now) = codes "write fault\n"
 text_of_status Memory = codes "out of memory\n"
-text_of_status (NotBuilt after) = codes "not built yet\n"
+text_of_status Spent = codes "input too long\n"
+text_of_status (Worn count) = codes "count spent\n"

@@ -12,7 +12,6 @@ use std::process::ExitCode;
 use std::{env, fs, io};
 
 mod run;
-mod session;
 mod status;
 #[cfg(test)]
 mod tests;

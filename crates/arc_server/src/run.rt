@@ -2,22 +2,19 @@
 ghost use Rattle.std.specs.Prelude.{◌≡◌, ◌≢◌, ◌↔◌, ◌∷◌, [], List, ℕ, Some, IsTrue, IsOk, IfOk, IfErr, codes};
 ghost use Rattle.alarm_rules.specs.Setups.{setup_of};
 ghost use Rattle.centre_rules.specs.Summary.{nothing};
-ghost use Rattle.centre_rules.specs.State.{StandsFor};
 ghost use Rattle.centre_core.specs.Runs.{begun};
+ghost use Rattle.centre_core.specs.Setting.{IsSetFor, text_of};
 ghost use Rattle.arc_server.specs.LineRuns.{IsRun, IsServed, IsSetupEnd, ReadsText};
 
-use crate::session::{SessionEnd, serve};
 use crate::status::{Status, Which};
 use arc_data::{SetupFault, Txt};
 use arc_io::{Port, ReadEnd, Source, read_all};
-use centre_core::{Centre, RamHall, Setup};
+use centre_core::{Centre, RamHall, Setup, Stop};
+use line_session::{LineEnd, serve_line};
 use std::alloc::Global;
 
 /// How many bytes of a setup text are read at most: one more than a setup may have.
 const SETUP_READ: usize = 4_194_305;
-
-/// How many bytes of a line are read at most: one more than are served.
-const LINE_READ: usize = 65_537;
 
 /// What a run is handed: the source of the setup text, and the port of the line.
 #[derive(Drop)]
@@ -124,7 +121,7 @@ fn line<S: Source, P: Port>(alloc: Global, source: &mut S, port: &mut P) -> (Sta
     let Ok(mut hall) = RamHall::new(alloc, setup, clock) else {
         return (Status::Memory, None);
     };
-    let status = serve_input(alloc, &mut hall, port);
+    let status = serve(alloc, &mut hall, port);
     (status, Some(hall.into_centre()))
 }
 
@@ -153,11 +150,10 @@ fn read_setup<S: Source>(alloc: Global, source: &mut S) -> Result<Setup, Status>
     }
 }
 
-// Reads the line's bytes, and serves them. The status is the end that this makes.
-fn serve_input<P: Port>(alloc: Global, hall: &mut RamHall, port: &mut P) -> Status
-    requires { hall.old.entries ≡ 2 }
+// Serves the line. The status is the end that this makes.
+fn serve<P: Port>(alloc: Global, hall: &mut RamHall, port: &mut P) -> Status
     ensures begun { result ≢ Status.Usage }
-    ensures served { (text : List ℕ) (clock : ℕ) → StandsFor nothing hall.old (begun text clock) → hall.old.sum.text ≡ Some text →
+    ensures served { (text : List ℕ) (clock : ℕ) → IsSetFor nothing hall.old (begun text clock) → text_of hall.old ≡ text →
         IsServed result text clock
         (record {
           left = P.left port.old;
@@ -178,27 +174,19 @@ fn serve_input<P: Port>(alloc: Global, hall: &mut RamHall, port: &mut P) -> Stat
 {
     let reads = port.read_faults();
     let writes = port.write_faults();
-    let input = match read_all(alloc, port, LINE_READ) {
-        Ok(input) => input,
-        Err(ReadEnd::Memory) => return Status::Memory,
-        Err(ReadEnd::Failed) => {
-            return Status::ReadFault {
-                input: Which::Input,
-                before: reads,
-                now: port.read_faults(),
-            };
-        }
-    };
-    if input.len() == LINE_READ {
-        return Status::NotBuilt { after: 0 };
-    }
-    match serve(alloc, hall, port, &input) {
-        SessionEnd::AllAnswered => Status::Done,
-        SessionEnd::WriteFault => Status::WriteFault {
+    match serve_line(alloc, hall, port) {
+        LineEnd::InputEnded => Status::Done,
+        LineEnd::ReadFault => Status::ReadFault {
+            input: Which::Input,
+            before: reads,
+            now: port.read_faults(),
+        },
+        LineEnd::WriteFault => Status::WriteFault {
             before: writes,
             now: port.write_faults(),
         },
-        SessionEnd::Memory => Status::Memory,
-        SessionEnd::NotBuilt { after } => Status::NotBuilt { after },
+        LineEnd::Spent => Status::Spent,
+        LineEnd::Stopped(Stop::Memory) => Status::Memory,
+        LineEnd::Stopped(Stop::Worn { count }) => Status::Worn { count },
     }
 }

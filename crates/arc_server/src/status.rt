@@ -32,8 +32,10 @@ pub enum Status {
     WriteFault { before: u64, now: u64 },
     /// Want of memory.
     Memory,
-    /// The input has more than 65,536 bytes, or a frame in it is of a form that is not built yet, after so many whole frames.
-    NotBuilt { after: u64 },
+    /// 1,099,511,627,776 bytes (2^40) of the input were read.
+    Spent,
+    /// The centre has 281,474,976,710,656 entries (2^48) or more.
+    Worn { count: u64 },
 }
 
 impl Status {
@@ -48,12 +50,13 @@ impl Status {
             Status::ReadFault { .. } => 3,
             Status::WriteFault { .. } => 4,
             Status::Memory => 10,
-            Status::NotBuilt { .. } => 13,
+            Status::Spent => 11,
+            Status::Worn { .. } => 12,
         }
     }
 
     /// Writes the text of the status: one line with LF, and nothing for Done. Failed comes only where the sink failed.
-    #[tactic(auto, using(crate::proofs::SessionLemmas::known_none), unfolding(crate::specs::Statuses::text_of_status))]
+    #[tactic(auto, using(line_session::proofs::Turned::known_none), unfolding(crate::specs::Statuses::text_of_status))]
     pub fn text<K: Sink>(&self, out: &mut K) -> Result<(), Failed>
         ensures all { OnOk result (K.written out.new ≡ append_known (K.written out.old) (text_of_status self.now)) }
         ensures cause { HasCause (K.write_faults out.old) (K.write_faults out.new) result }
@@ -75,7 +78,8 @@ impl Status {
             } => put(out, b"read fault on input\n"),
             Status::WriteFault { .. } => put(out, b"write fault\n"),
             Status::Memory => put(out, b"out of memory\n"),
-            Status::NotBuilt { .. } => put(out, b"not built yet\n"),
+            Status::Spent => put(out, b"input too long\n"),
+            Status::Worn { .. } => put(out, b"count spent\n"),
         }
     }
 }

@@ -93,7 +93,7 @@ fn inputs_get_their_replies(rt: HostRuntime) -> Result<(), Fail> {
         alloc,
         &[b"noise\r\n2EE70027\"ADM", b"\n\n", &ALARM[1..], b"\r\n1BC1"],
     )?;
-    let cases: [(&[u8], &[u8], &[u8], u64); 10] = [
+    let cases: [(&[u8], &[u8], &[u8], u64); 14] = [
         (SETUP, b"", b"", 2),
         (SETUP, twice.as_slice(), both.as_slice(), 3),
         (SETUP, damaged.as_slice(), ACKNOWLEDGEMENT, 3),
@@ -130,6 +130,34 @@ fn inputs_get_their_replies(rt: HostRuntime) -> Result<(), Fail> {
         (
             SETUP,
             b"\nEFE70027\"ADM-CID\"0001L0#1234[#1235|1131 01 001]\r",
+            b"\n251F0012\"DUH\"0001L0#1234[]\r",
+            2,
+        ),
+        // A receiver number, and a stamp that is not read.
+        (
+            SETUP,
+            b"\n90F10038\"ADM-CID\"0001R1L2#1234[|1131 01 001]_01:46:40,09-09-2001\r",
+            b"\nC7370014\"ACK\"0001R1L2#1234[]\r",
+            3,
+        ),
+        // SIA data and a further block.
+        (
+            b"account 12345A\n",
+            b"\n1FDE003B\"SIA-DCS\"0001L0#12345A[#12345A|NFA129][S123Main St., 55123]\r",
+            b"\n7C360014\"ACK\"0001L0#12345A[]\r",
+            3,
+        ),
+        // A heartbeat.
+        (
+            SETUP,
+            b"\n1EF20013\"NULL\"0000L0#1234[]\r",
+            b"\nDE900012\"ACK\"0000L0#1234[]\r",
+            3,
+        ),
+        // A token that is not read.
+        (
+            SETUP,
+            b"\n8D080012\"ABC\"0001L0#1234[]\r",
             b"\n251F0012\"DUH\"0001L0#1234[]\r",
             2,
         ),
@@ -233,45 +261,16 @@ fn the_32nd_message_back_still_counts(rt: HostRuntime) -> Result<(), Fail> {
     Ok(())
 }
 
-// A frame of so many bytes of body, of which the header can be read. The length digits are of that number modulo 4,096.
-fn long_frame(alloc: Global, size: usize, length: &str) -> Result<Vec<u8>, Fail> {
-    let mut body = b"\"ADM-CID\"0001L0#1234[".to_vec(alloc)?;
-    for _ in body.len()..size {
-        body.push(b'x')?;
-    }
-    let sum = check(&body);
-    let head = format!(in alloc; "\n{sum:04X}{length}")?;
-    joined(alloc, &[head.as_bytes(), &body, b"\r"])
-}
-
-// Whether a run over this input has this status and writes this.
-fn ends(rt: &HostRuntime, input: &[u8], status: Status, output: &[u8]) -> Result<bool, Fail> {
-    let ended = ran(rt, SETUP, input, &[1_000_000_000], &NONE)?;
-    Ok(ended.status == status && ended.outside.port.sink.bytes() == output)
-}
-
 #[test]
-fn what_is_not_built_yet_ends_the_run(rt: HostRuntime) -> Result<(), Fail> {
+fn long_inputs_are_served(rt: HostRuntime) -> Result<(), Fail> {
     let alloc = rt.alloc();
-    // The longest body is whole; one byte more is silence.
-    let longest = long_frame(alloc, 4095, "0FFF")?;
-    let input = joined(alloc, &[ALARM, longest.as_slice(), ALARM])?;
-    assert!(rt; ends(&rt, &input, Status::NotBuilt { after: 1 }, ACKNOWLEDGEMENT)?);
-    let longer = long_frame(alloc, 4096, "0000")?;
-    let input = joined(alloc, &[longer.as_slice(), ALARM])?;
-    assert!(rt; ends(&rt, &input, Status::Done, ACKNOWLEDGEMENT)?);
-    // Another token, and an `R` field.
-    let token = b"\n06300021\"SIA-DCS\"0001L0#1234[#1234|NBA01]\r".as_slice();
-    let input = joined(alloc, &[ALARM, ALARM, token, ALARM])?;
-    let twice = joined(alloc, &[ACKNOWLEDGEMENT, ACKNOWLEDGEMENT])?;
-    assert!(rt; ends(&rt, &input, Status::NotBuilt { after: 2 }, &twice)?);
-    let receiver = b"\n3D1B0029\"ADM-CID\"0001R1L2#1234[#1234|1131 01 001]\r".as_slice();
-    assert!(rt; ends(&rt, receiver, Status::NotBuilt { after: 0 }, b"")?);
-    // The most bytes that are served, and one more.
-    let noise = vec![in alloc; b'x'; 65_536]?;
-    assert!(rt; ends(&rt, &noise, Status::Done, b"")?);
-    let too_much = vec![in alloc; b'x'; 65_537]?;
-    assert!(rt; ends(&rt, &too_much, Status::NotBuilt { after: 0 }, b"")?);
+    // A piece that is too long for a frame, over many reads, and then a frame.
+    let noise = vec![in alloc; b'x'; 100_000]?;
+    let input = joined(alloc, &[b"\n", noise.as_slice(), b"\r", ALARM])?;
+    let ended = ran(&rt, SETUP, &input, &[1_000_000_000], &NONE)?;
+    assert_eq!(rt; ended.status, Status::Done);
+    assert_eq!(rt; ended.outside.port.sink.bytes(), ACKNOWLEDGEMENT);
+    assert_eq!(rt; recorded(&ended), Some(3));
     Ok(())
 }
 
@@ -305,8 +304,8 @@ fn each_fault_has_its_status(rt: HostRuntime) -> Result<(), Fail> {
                 before: 0,
                 now: 1,
             },
-            b"",
-            Some(2),
+            ACKNOWLEDGEMENT,
+            Some(3),
         ),
         // The message whose reply was not written stands.
         (
@@ -388,7 +387,7 @@ fn statuses_have_their_numbers_and_texts(rt: HostRuntime) -> Result<(), Fail> {
     };
     let usage: &[u8] =
         b"usage: line | desk | script | report | drill N | serve LINES DESKS SESSIONS\n";
-    let cases: [(Status, u8, &[u8]); 10] = [
+    let cases: [(Status, u8, &[u8]); 11] = [
         (Status::Done, 0, b""),
         (Status::Usage, 1, usage),
         (
@@ -414,7 +413,8 @@ fn statuses_have_their_numbers_and_texts(rt: HostRuntime) -> Result<(), Fail> {
             b"write fault\n",
         ),
         (Status::Memory, 10, b"out of memory\n"),
-        (Status::NotBuilt { after: 5 }, 13, b"not built yet\n"),
+        (Status::Spent, 11, b"input too long\n"),
+        (Status::Worn { count: 1 << 48 }, 12, b"count spent\n"),
     ];
     for (status, number, text) in cases {
         let alloc = rt.alloc();
