@@ -1,0 +1,67 @@
+// What no clause says: that whole sessions succeed, byte for byte.
+ghost use Rattle.std.specs.Prelude.{◌<◌};
+
+mod ends;
+mod panel;
+mod pieces;
+mod refusing;
+mod replies;
+mod sealed;
+
+use super::*;
+use arc_io::{ListClock, ListNoise, MemPort, MemSink, MemSource, Port};
+use centre_core::{RamHall, Setup};
+use std::alloc::Global;
+use std::test::Fail;
+
+// 2001-09-09, 01:46:40 GMT.
+const BEGIN: u64 = 1_000_000_000;
+
+const SETUP: &[u8] = b"account 1234\n";
+
+const ALARM: &[u8] = b"\n2EE70027\"ADM-CID\"0001L0#1234[#1234|1131 01 001]\r";
+
+const ALARM_REPLY: &[u8] = b"\n1BC10012\"ACK\"0001L0#1234[]\r";
+
+const BEAT: &[u8] = b"\n1EF20013\"NULL\"0000L0#1234[]\r";
+
+const BEAT_REPLY: &[u8] = b"\nDE900012\"ACK\"0000L0#1234[]\r";
+
+const DUH: &[u8] = b"\n251F0012\"DUH\"0001L0#1234[]\r";
+
+// How a session ended, and how many entries its hall has recorded then: two of its beginning, and those of the session.
+type Came = (LineEnd, u64);
+
+// A hall that begins with this setup.
+fn hall_of(alloc: Global, setup: &[u8]) -> Result<RamHall, Fail> {
+    let setup = Setup::read(alloc, setup)?;
+    Ok(RamHall::new(alloc, setup, BEGIN)?)
+}
+
+// A port in memory with this input, whose clock stands at a reading.
+fn port_of(alloc: Global, input: &[u8], reading: u64) -> Result<MemPort, Fail>
+    requires { reading < 253_402_300_800 }
+{
+    Ok(MemPort {
+        source: MemSource::new(input.to_vec(alloc)?, Vec::new(alloc)),
+        sink: MemSink::new(alloc, Vec::new(alloc)),
+        clock: ListClock::new([reading].to_vec(alloc)?),
+        noise: ListNoise::new(Vec::new(alloc)),
+    })
+}
+
+// A session over a port, under this setup.
+fn session<P: Port>(alloc: Global, setup: &[u8], port: &mut P) -> Result<Came, Fail> {
+    let mut hall = hall_of(alloc, setup)?;
+    let end = serve_line(alloc, &mut hall, port);
+    Ok((end, hall.into_centre().recorded()))
+}
+
+// These parts, one behind the other.
+fn joined(alloc: Global, parts: &[&[u8]]) -> Result<Vec<u8>, Fail> {
+    let mut all = Vec::new(alloc);
+    for part in parts {
+        all.extend_from_slice(part)?;
+    }
+    Ok(all)
+}
