@@ -1,19 +1,18 @@
 -- What the end of a session says of the whole pieces.
-use Rattle.std.proofs.Common.{◌≡◌, ◌∷◌, ◌++◌, ℕ, List, [], Bool, true, false, Option, Result, Ok, Err, refl, sym, ◌∙◌, ap, subst, append_assoc, append-nil}
-use Rattle.arc_data.specs.Digits.{capitals}
+use Rattle.std.proofs.Common.{◌≡◌, ◌∷◌, ◌++◌, ℕ, List, [], Err, sym, ◌∙◌, ap, subst, append_assoc, append-nil}
 use Rattle.arc_data.specs.declared.event.Event.{Event}
-use Rattle.alarm_rules.specs.Setups.{Setup, key_of}
+use Rattle.alarm_rules.specs.Setups.{Setup}
 use Rattle.centre_core.specs.declared.hall.Stop.{Stop}
 use Rattle.centre_rules.specs.Summary.{Summary}
-use Rattle.centre_rules.specs.History.{Entry, Extends}
+use Rattle.centre_rules.specs.History.{Entry}
 use Rattle.dc09_frame.specs.declared.header.Header.{Header}
 use Rattle.dc09_message.specs.Verdicts.{verdict_of}
 use Rattle.dc09_message.specs.declared.outcome.Verdict.{Verdict}
 use Rattle.dc09_message.specs.declared.outcome.Verdict.TheVariants.{Silence, Nak, Duh, Beat, Numbered}
-use Rattle.line_session.specs.Completeness.{IsReported, IsAcknowledged, IsAnsweredIn, AnswersTurns, IsComplete}
+use Rattle.line_session.specs.Completeness.{IsReported, IsAcknowledged, AnswersTurns, IsComplete}
 use Rattle.line_session.specs.Ports.{PortSeen, Added}
-use Rattle.line_session.specs.Sessions.{IsSession, IsEnd, AnswersAll, IsCutOff, IsStopped}
-use Rattle.line_session.specs.Turns.{Turn, IsAck, IsAnswered, IsTurn, AreTurns, bodies_of, text_of, added_by}
+use Rattle.line_session.specs.Sessions.{IsSession, IsEnd, AnswersAll}
+use Rattle.line_session.specs.Turns.{Turn, IsAck, IsAnswered, AreTurns, bodies_of, text_of}
 use Rattle.line_session.specs.declared.line_end.LineEnd.{LineEnd}
 use Rattle.line_session.specs.declared.line_end.LineEnd.TheVariants.{InputEnded, ReadFault, WriteFault, Spent, Stopped}
 use Rattle.line_session.proofs.Joined.{text-append}

@@ -1,7 +1,6 @@
 -- Sessions behind one another.
-use Rattle.std.proofs.Common.{◌≡◌, ◌<◌, ◌∷◌, ◌++◌, ℕ, List, [], map, take, length, Option, Some, None, Result, Ok, Err, refl, sym, ◌∙◌, ap, subst, append_assoc, append-nil}
+use Rattle.std.proofs.Common.{◌≡◌, ◌∷◌, ◌++◌, ℕ, List, [], take, Option, Result, Ok, Err, sym, ◌∙◌, ap, subst, append_assoc, append-nil}
 use Rattle.std.specs.Prelude.{reverse}
-use Rattle.std.specs.List.{flat_map}
 use Rattle.std.specs.Option.{option_to_list}
 use Rattle.std.proofs.lemmas.List.{reverse-append, map-append}
 use Rattle.std.proofs.lemmas.Grind.{flat_map-append}
@@ -17,7 +16,7 @@ use Rattle.dc09_message.specs.declared.outcome.Verdict.{Verdict}
 use Rattle.dc09_message.specs.declared.outcome.Verdict.TheVariants.{Silence, Nak, Duh, Beat, Numbered}
 use Rattle.dc09_frame.specs.declared.header.Header.{Header}
 use Rattle.line_session.specs.Ports.{PortSeen, Added, Adds}
-use Rattle.line_session.specs.Turns.{Turn, IsAnswered, IsTurn, AreTurns, TakesNothing, TakesEntry, entries_of, bodies_of, text_of, readings_of, noise_of, added_by}
+use Rattle.line_session.specs.Turns.{Turn, IsAnswered, AreTurns, TakesNothing, TakesEntry, entries_of, bodies_of, text_of, readings_of, noise_of, added_by}
 use Rattle.line_session.specs.Sessions.{IsSession, IsEnd, IsCutOff, IsStopped, AnswersAll}
 use Rattle.line_session.specs.declared.line_end.LineEnd.{LineEnd}
 use Rattle.line_session.specs.declared.line_end.LineEnd.TheVariants.{InputEnded, ReadFault, WriteFault, Spent, Stopped}

@@ -1,6 +1,6 @@
 -- Sessions over a port, read piece by piece.
-use Rattle.std.proofs.Common.{◌≡◌, ◌<◌, ◌≤◌, ◌+◌, ◌-◌, ◌∷◌, ◌++◌, ℕ, List, [], length, take, Option, Some, None, Result, Ok, Err, refl, sym, ◌∙◌, ap, subst, append_assoc, append-nil, length-append, arith}
-use Rattle.std.specs.Io.KnownBytes.{append_known, prepend_known, IsAtEnd}
+use Rattle.std.proofs.Common.{◌≡◌, ◌<◌, ◌≤◌, ◌-◌, ◌∷◌, ◌++◌, ℕ, List, [], length, Option, Some, None, Result, Ok, Err, refl, sym, ◌∙◌, ap, append_assoc, append-nil, length-append, arith}
+use Rattle.std.specs.Io.KnownBytes.{prepend_known}
 use Rattle.std.proofs.lemmas.List.{take_all}
 use Rattle.arc_io.specs.Causes.{Rose}
 use Rattle.arc_io.proofs.KnownMore.{known_taken}
@@ -10,8 +10,8 @@ use Rattle.centre_core.specs.declared.hall.Stop.{Stop}
 use Rattle.centre_rules.specs.Summary.{Summary}
 use Rattle.centre_rules.specs.History.{Entry}
 use Rattle.dc09_frame.specs.Frames.{bodies}
-use Rattle.line_session.specs.Lines.{ServesBytes, ServesLine, ReadsNoFurther, IsNotAhead, IsTaken, HasEnded, LineValue, in_limit, input_limit}
-use Rattle.line_session.specs.Ports.{PortSeen, Added, Adds}
+use Rattle.line_session.specs.Lines.{ServesBytes, ServesLine, ReadsNoFurther, IsTaken, HasEnded, LineValue, in_limit, input_limit}
+use Rattle.line_session.specs.Ports.{PortSeen, Added}
 use Rattle.line_session.specs.Sessions.{IsSession, IsEnd}
 use Rattle.line_session.specs.Turns.{Turn, bodies_of}
 use Rattle.line_session.specs.declared.line_end.LineEnd.{LineEnd}

@@ -1,5 +1,5 @@
 -- What a line session over a port has done between two reads.
-use Rattle.std.proofs.Common.{◌≡◌, ◌≤◌, ℕ, List, Ok, Result}
+use Rattle.std.proofs.Common.{◌≡◌, ◌≤◌, ℕ, List, Ok}
 use Rattle.std.specs.Io.KnownBytes.{prepend_known}
 use Rattle.arc_data.specs.declared.event.Event.{Event}
 use Rattle.alarm_rules.specs.Setups.{Setup}

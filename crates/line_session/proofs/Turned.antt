@@ -1,23 +1,23 @@
 -- Sessions over one whole piece, and over none.
-use Rattle.std.proofs.Common.{◌≡◌, ◌<◌, ◌∷◌, ◌++◌, ℕ, List, [], take, length, Bool, true, false, Option, Some, None, Result, Ok, Err, refl, sym, ◌∙◌, ap, subst, append-nil, inl, inr}
+use Rattle.std.proofs.Common.{◌≡◌, ◌∷◌, ◌++◌, ℕ, List, [], take, Bool, true, false, Option, Some, None, Result, Ok, Err, refl, sym, ◌∙◌, ap, subst, append-nil, inr}
 use Rattle.std.specs.Prelude.{reverse}
 use Rattle.std.specs.Io.KnownBytes.{append_known}
 use Rattle.arc_data.specs.declared.event.Event.{Event}
 use Rattle.alarm_rules.specs.Setups.{Setup, meaning}
 use Rattle.centre_core.specs.declared.hall.Stop.{Stop}
 use Rattle.centre_rules.specs.Summary.{Summary}
-use Rattle.centre_rules.specs.History.{Entry, Extends, moment_after}
+use Rattle.centre_rules.specs.History.{Entry, Extends}
 use Rattle.centre_rules.specs.Answers.{IsLegal}
 use Rattle.dc09_frame.specs.Frames.{frame_of}
 use Rattle.dc09_frame.specs.Headers.{echo_body}
 use Rattle.dc09_frame.specs.declared.header.Echo.TheVariants.{Ack}
 use Rattle.dc09_frame.specs.declared.header.Header.{Header}
-use Rattle.line_session.specs.Ports.{PortSeen, Added, Adds}
+use Rattle.line_session.specs.Ports.{PortSeen}
 use Rattle.line_session.specs.Turns.{Turn, IsAckBy, IsAnswered, IsTurn, TakesEntry, event_of, entries_of, added_by}
 use Rattle.dc09_message.specs.Verdicts.{verdict_of}
 use Rattle.dc09_message.specs.declared.outcome.Verdict.{Verdict}
-use Rattle.line_session.specs.Sessions.{IsSession, IsEnd, HasStopped}
-use Rattle.line_session.specs.Replies.{IsSent, SendsAck, TookEvent, LeftEvent, Reports}
+use Rattle.line_session.specs.Sessions.{IsSession, HasStopped}
+use Rattle.line_session.specs.Replies.{IsSent, TookEvent, LeftEvent, Reports}
 use Rattle.line_session.specs.declared.line_end.LineEnd.{LineEnd}
 use Rattle.line_session.specs.declared.line_end.LineEnd.TheVariants.{InputEnded, ReadFault, WriteFault, Spent, Stopped}
 

@@ -1,10 +1,9 @@
 -- What sending a reply does, and what reporting an event to a hall does.
-use Rattle.std.specs.Prelude.{◌≡◌, ◌<◌, ◌⊎◌, ℕ, List, ◌∷◌, Option, Result, Ok, Err, take, length}
+use Rattle.std.specs.Prelude.{◌≡◌, ◌<◌, ℕ, List, ◌∷◌, Option, Result, Ok, Err, take, length}
 use Rattle.std.specs.Io.KnownBytes.{append_known}
 use Rattle.arc_data.specs.declared.event.Event.{Event}
 use Rattle.alarm_rules.specs.Setups.{Setup}
 use Rattle.centre_core.specs.declared.hall.Stop.{Stop}
-use Rattle.centre_core.specs.declared.hall.Stop.TheVariants.{Memory}
 use Rattle.centre_rules.specs.Summary.{Summary}
 use Rattle.centre_rules.specs.History.{Entry, Extends, moment_after}
 use Rattle.centre_rules.specs.Answers.{IsLegal}

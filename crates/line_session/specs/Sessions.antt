@@ -1,5 +1,5 @@
 -- What a line session over whole pieces did, by its end.
-use Rattle.std.specs.Prelude.{◌≡◌, ◌<◌, ◌⊎◌, ◌++◌, ℕ, List, [], ◌∷◌, Option, Some, Result, Ok, Err, reverse, take, length}
+use Rattle.std.specs.Prelude.{◌≡◌, ◌<◌, ◌⊎◌, ◌++◌, ℕ, List, [], ◌∷◌, Some, Result, Ok, Err, reverse, take, length}
 use Rattle.arc_data.specs.declared.event.Event.{Event}
 use Rattle.alarm_rules.specs.Setups.{Setup}
 use Rattle.centre_core.specs.declared.hall.Stop.{Stop}

@@ -1,4 +1,4 @@
-use Rattle.std.proofs.Common.{◌≡◌, ◌∷◌, [], ℕ, List, true, Option, Some, None, refl, sym, ◌∙◌, ap, subst, inl}
+use Rattle.std.proofs.Common.{◌≡◌, [], ℕ, List, true, Option, refl, sym, ◌∙◌, ap, subst, inl}
 use Rattle.std.specs.List.{list_all}
 use Rattle.arc_data.specs.declared.event.Event.TheVariants.{Message as Sent, Beat as Heartbeat}
 use Rattle.alarm_rules.specs.Setups.{meaning}
@@ -9,7 +9,7 @@ use Rattle.dc09_frame.specs.Headers.{echo_body, nak_body}
 use Rattle.dc09_frame.specs.declared.header.Echo.TheVariants.{Duh as DuhWord}
 use Rattle.dc09_message.specs.declared.outcome.Verdict.TheVariants.{Silence, Nak, Duh, Beat, Numbered}
 use Rattle.line_session.specs.Replies.{IsSent, Reports}
-use Rattle.line_session.specs.Turns.{event_of, IsAnswered}
+use Rattle.line_session.specs.Turns.{event_of}
 use Rattle.dc09_crypt.proofs.StampBytes.{stamp_clean}
 use Rattle.line_session.proofs.Turned.{known_none, quiet_turn, session_turn, session_stopped, session_reported, turn_is, verdict_is}
 use Rattle.line_session.proofs.answer.answer.Goals as goal

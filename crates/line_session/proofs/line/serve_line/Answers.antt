@@ -1,8 +1,8 @@
-use Rattle.std.proofs.Common.{◌≡◌, ◌<◌, ◌≤◌, ◌-◌, ◌++◌, [], ℕ, List, length, take, Ok, Err, refl, sym, ◌∙◌, ap, subst, arith, length-append, length-take}
+use Rattle.std.proofs.Common.{◌≤◌, ◌-◌, ◌++◌, [], ℕ, List, length, take, Ok, Err, refl, sym, ◌∙◌, ap, subst, arith, length-take}
 use Rattle.std.specs.Io.KnownBytes.{prepend_known}
 use Rattle.arc_io.specs.Causes.{Rose}
 use Rattle.alarm_rules.specs.Setups.{meaning}
-use Rattle.line_session.specs.Lines.{ServesBytes, IsTaken, input_limit, in_limit}
+use Rattle.line_session.specs.Lines.{input_limit}
 use Rattle.line_session.specs.declared.line_end.LineEnd.TheVariants.{InputEnded, ReadFault}
 use Rattle.line_session.proofs.Ported.{line_rests, line_ends, line_goes, all_in_limit, read_more, prepend_none, rose_earlier, ended_by, serves_under}
 use Rattle.line_session.proofs.Turned.{session_none}

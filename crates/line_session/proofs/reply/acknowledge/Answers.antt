@@ -1,4 +1,4 @@
-use Rattle.std.proofs.Common.{◌≡◌, List, [], ℕ, Option, refl, sym, ◌∙◌, subst}
+use Rattle.std.proofs.Common.{[], sym, ◌∙◌, subst}
 use Rattle.alarm_rules.specs.Setups.{meaning, key_of}
 use Rattle.arc_data.specs.Digits.{capitals}
 use Rattle.dc09_frame.specs.Frames.{frame_of}

@@ -1,5 +1,4 @@
-use Rattle.std.proofs.Common.{◌≡◌, ◌-◌, ℕ, List, length, take, Ok, Err, sym, ◌∙◌, ap, subst}
-use Rattle.alarm_rules.specs.Setups.{meaning}
+use Rattle.std.proofs.Common.{◌≡◌, ◌-◌, length, take, Ok, Err, sym, ◌∙◌, ap, subst}
 use Rattle.dc09_frame.specs.Cutting.{WasFed}
 use Rattle.line_session.specs.Lines.{LineValue, input_limit, in_limit}
 use Rattle.line_session.specs.declared.line_end.LineEnd.TheVariants.{Spent}
