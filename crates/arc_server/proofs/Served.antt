@@ -1,12 +1,10 @@
 -- What a served line shows.
-use Rattle.std.proofs.Common.{◌≡◌, ◌≤◌, ◌^◌, ℕ, List, Err, inl, inr, sym, ◌∙◌, ap, subst}
+use Rattle.std.proofs.Common.{◌≡◌, ◌≤◌, ◌^◌, ℕ, List, Err, inl, inr, sym, subst}
 use Rattle.arc_io.specs.Causes.{Rose}
-use Rattle.arc_data.specs.declared.event.Event.{Event}
 use Rattle.alarm_rules.specs.Setups.{Setup, meaning}
 use Rattle.centre_core.specs.Runs.{begun}
 use Rattle.centre_core.specs.Setting.{IsShown, IsSetFor}
-use Rattle.centre_core.specs.declared.hall.Stop.TheVariants.{Memory, Worn}
-use Rattle.centre_core.specs.declared.hall.Stop.{Stop}
+use Rattle.centre_core.specs.declared.hall.Stop.TheVariants.{Worn}
 use Rattle.centre_rules.specs.Summary.{Summary, nothing}
 use Rattle.centre_rules.specs.History.{Entry}
 use Rattle.centre_rules.specs.State.{State}

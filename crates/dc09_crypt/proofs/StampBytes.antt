@@ -1,5 +1,5 @@
 -- The bytes of stamps.
-use Rattle.std.proofs.Common.{◌≡◌, ℕ, true, false, eqb, length, slice_index_or, refl, arith}
+use Rattle.std.proofs.Common.{◌≡◌, ℕ, true, slice_index_or, refl, arith}
 use Rattle.std.specs.List.{list_all}
 use Rattle.std.proofs.lemmas.Bool.{ne_eqb}
 use Rattle.std.proofs.lemmas.List.Sums.{list_all-from_AllPass}

@@ -4,7 +4,7 @@ use Rattle.std.specs.Prelude.{◌≡◌, ℕ, ◌+◌, ◌-◌, ◌/◌, ◌%◌
 use Rattle.std.specs.List.{list_all, flat_map, position}
 use Rattle.arc_data.specs.Digits.{is_hex, bytes_spelled}
 use Rattle.aes_chain.specs.Chain.{chain_encrypted, chain_decrypted}
-use Rattle.aes_chain.specs.Laws.{IsKey, AreBytes}
+use Rattle.aes_chain.specs.Laws.{IsKey}
 use Rattle.civil_time.specs.Stamp.{stamp, stamp_time, IsMoment}
 use Rattle.dc09_frame.specs.Frames.{digit_of}
 use Rattle.dc09_frame.specs.Headers.{fields}
@@ -75,4 +75,4 @@ pub record OpensAgain (key noise : List ℕ) (t : ℕ) : Type 0 where
   pub opening : opening_of key (sealed_digits key (stamp t) noise) ≡ Text 11 12 t
 
 abbrev pub AcksOpenAgain : Type 0
-AcksOpenAgain = (key noise : List ℕ) (t : ℕ) → IsKey key → length noise ≡ 10 → AreBytes noise → IsMoment t → OpensAgain key noise t
+AcksOpenAgain = (key noise : List ℕ) (t : ℕ) → IsKey key → length noise ≡ 10 → IsMoment t → OpensAgain key noise t

@@ -1,4 +1,4 @@
-use Rattle.std.proofs.Common.{◌≡◌, List, ℕ, refl, ap}
+use Rattle.std.proofs.Common.{refl, ap}
 use Rattle.alarm_rules.specs.Setups.{meaning}
 use Rattle.centre_core.specs.Runs.{begun}
 use Rattle.centre_core.specs.declared.hall.Stop.TheVariants.{Memory, Worn}
