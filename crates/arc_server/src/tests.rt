@@ -93,7 +93,7 @@ fn inputs_get_their_replies(rt: HostRuntime) -> Result<(), Fail> {
         alloc,
         &[b"noise\r\n2EE70027\"ADM", b"\n\n", &ALARM[1..], b"\r\n1BC1"],
     )?;
-    let cases: [(&[u8], &[u8], &[u8], u64); 14] = [
+    let cases: [(&[u8], &[u8], &[u8], u64); 15] = [
         (SETUP, b"", b"", 2),
         (SETUP, twice.as_slice(), both.as_slice(), 3),
         (SETUP, damaged.as_slice(), ACKNOWLEDGEMENT, 3),
@@ -152,6 +152,13 @@ fn inputs_get_their_replies(rt: HostRuntime) -> Result<(), Fail> {
             SETUP,
             b"\n1EF20013\"NULL\"0000L0#1234[]\r",
             b"\nDE900012\"ACK\"0000L0#1234[]\r",
+            3,
+        ),
+        // A sealed message; the pad of its reply is of zeros. The digits are openssl's.
+        (
+            b"account 1234 key 000102030405060708090A0B0C0D0E0F\n",
+            b"\n8D880076\"*ADM-CID\"0001L0#1234[E06EA26A37890BD298E0B3DE6626EBD50BA29CB4E9210580C35A8F55781442D7015DCE57B6320C83BAA2F9F4508E0BC6\r",
+            b"\n45C90052\"*ACK\"0001L0#1234[0F691D7A300E9BDDF73FB56CCB2F8B8EBA22E87A10E3A2B5552E9EE8B22C4F9D\r",
             3,
         ),
         // A token that is not read.
@@ -269,6 +276,13 @@ fn long_inputs_are_served(rt: HostRuntime) -> Result<(), Fail> {
     let input = joined(alloc, &[b"\n", noise.as_slice(), b"\r", ALARM])?;
     let ended = ran(&rt, SETUP, &input, &[1_000_000_000], &NONE)?;
     assert_eq!(rt; ended.status, Status::Done);
+    assert_eq!(rt; ended.outside.port.sink.bytes(), ACKNOWLEDGEMENT);
+    assert_eq!(rt; recorded(&ended), Some(3));
+    // The longest body.
+    let letters = vec![in alloc; b'x'; 4_061]?;
+    let front = b"\nE68D0FFF\"SIA-DCS\"0001L0#1234[#1234|NBA01*".as_slice();
+    let input = joined(alloc, &[front, letters.as_slice(), b"]\r"])?;
+    let ended = ran(&rt, SETUP, &input, &[1_000_000_000], &NONE)?;
     assert_eq!(rt; ended.outside.port.sink.bytes(), ACKNOWLEDGEMENT);
     assert_eq!(rt; recorded(&ended), Some(3));
     Ok(())

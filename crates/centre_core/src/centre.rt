@@ -4,7 +4,7 @@ ghost use Rattle.arc_data.specs.WellFormed.{IsWellFormed};
 ghost use Rattle.arc_data.specs.declared.event.Event.TheVariants.{Message as Sent};
 ghost use Rattle.centre_rules.specs.Summary.{Summary, nothing};
 ghost use Rattle.centre_rules.specs.History.{Entry, moment_after, IsMoment};
-ghost use Rattle.centre_rules.specs.Answers.{answer_over, knows_account};
+ghost use Rattle.centre_rules.specs.Answers.{answer, answer_over, knows_account};
 ghost use Rattle.centre_rules.specs.Marks.{force};
 ghost use Rattle.centre_rules.specs.State.{State, StandsFor, Grows, entry_of};
 ghost use Rattle.centre_core.specs.Kept.{Records, CarriesSetup, IsAdopted};
@@ -91,6 +91,7 @@ impl Centre {
         ensures made { IfOk result (λ r. r.of ≡ self.new) }
         ensures event { IfOk result (λ r. r.event ≡ event) }
         ensures at { IfOk result (λ r. (b : Summary) (h : List Entry) → StandsFor b self.new h → r.at ≡ moment_after b h clock) }
+        ensures reply { IfOk result (λ r. (b : Summary) (h : List Entry) → StandsFor b self.new h → r.reply ≡ answer b h event r.at) }
     {
         let Ok(()) = self.messages.reserve(1) else {
             return Err(Memory);

@@ -65,7 +65,7 @@ pub record ReadsLine (end : LineEnd) (read : List ℕ) (p p' : PortSeen) : Type 
   pub taken : p.left ≡ prepend_known read p'.left
   pub cause : HasEnded end read p p'
 
--- Nothing was read ahead: what was read before the last piece, of at most 4,096 bytes, had its answers before that was read.
+-- Not far ahead: all whole pieces but those that end in the last bytes, at most 4,096 of them, were answered.
 pub record IsNotAhead (read : List ℕ) (answered : List Turn) : Type 0 where
   pub front : List ℕ
   pub last : List ℕ
@@ -74,7 +74,8 @@ pub record IsNotAhead (read : List ℕ) (answered : List Turn) : Type 0 where
   pub short : length last ≤ 4096
   pub before : bodies_of answered ≡ bodies front ++ more
 
--- of the bytes that a session read, where it was cut short: after the fault or the stop nothing was read
+-- Of a session that a write fault or a stop cut short: no body can foresee those, so one that reads further ahead than this, or
+-- reads on after them, is none.
 abbrev pub ReadsNoFurther : LineEnd → List ℕ → List Turn → Type 0
 ReadsNoFurther InputEnded read turns = Unit {0}
 ReadsNoFurther ReadFault read turns = Unit {0}

@@ -73,3 +73,25 @@ IsCutShort (Err ReadFault) = ⊥
 IsCutShort (Err Spent) = ⊥
 IsCutShort (Err WriteFault) = Unit {0}
 IsCutShort (Err (Stopped stop)) = Unit {0}
+
+-- a hall shows a stop for some event at some reading; or memory was wanted
+abbrev pub IsShownFor : (Stop → Event → ℕ → Type 0) → Stop → Type 0
+IsShownFor shows stop = (stop ≡ Memory) ⊎ ((event : Event) × (reading : ℕ) × shows stop event reading)
+
+-- a stop has its cause, whatever is known of the hall's history
+abbrev pub HasShown : (Stop → Event → ℕ → Type 0) → Result (Unit {0}) LineEnd → Type 0
+HasShown shows (Ok done) = Unit {0}
+HasShown shows (Err InputEnded) = Unit {0}
+HasShown shows (Err ReadFault) = Unit {0}
+HasShown shows (Err Spent) = Unit {0}
+HasShown shows (Err WriteFault) = Unit {0}
+HasShown shows (Err (Stopped stop)) = IsShownFor shows stop
+
+-- an end that bytes which are handed in can come to: nothing is read of a source
+abbrev pub ReadsNothing : Result (Unit {0}) LineEnd → Type 0
+ReadsNothing (Ok done) = Unit {0}
+ReadsNothing (Err InputEnded) = ⊥
+ReadsNothing (Err ReadFault) = ⊥
+ReadsNothing (Err Spent) = Unit {0}
+ReadsNothing (Err WriteFault) = Unit {0}
+ReadsNothing (Err (Stopped stop)) = Unit {0}

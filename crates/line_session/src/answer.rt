@@ -5,7 +5,7 @@ ghost use Rattle.alarm_rules.specs.Setups.{meaning};
 ghost use Rattle.centre_rules.specs.Summary.{Summary};
 ghost use Rattle.centre_rules.specs.History.{Entry};
 ghost use Rattle.dc09_frame.specs.Frames.{IsBody};
-ghost use Rattle.line_session.specs.Sessions.{IsSession, IsCutShort};
+ghost use Rattle.line_session.specs.Sessions.{IsSession, HasShown, IsCutShort};
 
 use crate::line_end::LineEnd;
 use crate::reply::send;
@@ -52,6 +52,7 @@ pub(crate) fn answer<H: Hall, P: Port>(
           noise = P.noise port.new;
         }) }
     ensures ends { IsCutShort result }
+    ensures stop { HasShown (H.shows hall.new) result }
     ensures write { result ≡ Err LineEnd.WriteFault → Rose (P.write_faults port.old) (P.write_faults port.new) }
     ensures later { P.write_faults port.old ≤ P.write_faults port.new }
     ensures left { P.left port.new ≡ P.left port.old }

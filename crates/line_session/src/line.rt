@@ -1,10 +1,11 @@
 // A line session over a port.
-ghost use Rattle.std.specs.Prelude.{◌≡◌, ◌≤◌, ◌<◌, List, ℕ, take, IfOk, MatchResult};
+ghost use Rattle.std.specs.Prelude.{◌≡◌, ◌≤◌, ◌<◌, List, ℕ, take, Err, IfOk, MatchResult};
 ghost use Rattle.std.specs.Io.KnownBytes.{prepend_known, IsAtEnd};
 ghost use Rattle.arc_io.specs.Causes.{Rose, HasCause};
 ghost use Rattle.alarm_rules.specs.Setups.{meaning};
 ghost use Rattle.centre_rules.specs.Summary.{Summary};
 ghost use Rattle.centre_rules.specs.History.{Entry};
+ghost use Rattle.line_session.specs.Sessions.{HasShown};
 ghost use Rattle.line_session.specs.Lines.{ReadsLine, ServesLine};
 
 use crate::line_end::LineEnd;
@@ -55,6 +56,7 @@ pub fn serve_line<H: Hall, P: Port>(alloc: Global, hall: &mut H, port: &mut P) -
           readings = P.readings port.new;
           noise = P.noise port.new;
         })) }
+    ensures stop { HasShown (H.shows hall.new) (Err result) }
     ensures read { result ≡ LineEnd.ReadFault → Rose (P.read_faults port.old) (P.read_faults port.new) }
     ensures write { result ≡ LineEnd.WriteFault → Rose (P.write_faults port.old) (P.write_faults port.new) }
 

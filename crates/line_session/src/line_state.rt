@@ -4,6 +4,7 @@ ghost use Rattle.arc_io.specs.Causes.{Rose};
 ghost use Rattle.alarm_rules.specs.Setups.{meaning};
 ghost use Rattle.centre_rules.specs.Summary.{Summary};
 ghost use Rattle.centre_rules.specs.History.{Entry};
+ghost use Rattle.line_session.specs.Sessions.{HasShown, ReadsNothing};
 ghost use Rattle.line_session.specs.Lines.{TookStream, IsTaken, ServesBytes, in_limit, input_limit};
 
 use crate::line_end::LineEnd;
@@ -88,6 +89,8 @@ impl LineState {
               readings = P.readings port.new;
               noise = P.noise port.new;
             }) }
+        ensures ends { ReadsNothing result }
+        ensures stop { HasShown (H.shows hall.new) result }
         ensures write { result ≡ Err LineEnd.WriteFault → Rose (P.write_faults port.old) (P.write_faults port.new) }
 
         ensures ready { H.ready hall.new }

@@ -8,7 +8,7 @@ ghost use Rattle.centre_rules.specs.Summary.{Summary};
 ghost use Rattle.centre_rules.specs.History.{Entry, IsMoment};
 ghost use Rattle.dc09_frame.specs.Headers.{IsHeader};
 ghost use Rattle.dc09_message.specs.Verdicts.{IsSealedAsKeyed};
-ghost use Rattle.line_session.specs.Sessions.{IsCutShort};
+ghost use Rattle.line_session.specs.Sessions.{HasShown, IsCutShort};
 ghost use Rattle.line_session.specs.Replies.{Reports};
 
 use crate::line_end::LineEnd;
@@ -42,6 +42,7 @@ pub(crate) fn report<H: Hall, P: Port>(
         Reports result b (meaning (H.text hall.old)) (H.caller hall.old) h (H.stands hall.new b) (H.own hall.old) (H.own hall.new) (H.shows hall.new)
         header.now event reading (P.written port.old) (P.written port.new) (P.noise port.old) (P.noise port.new) }
     ensures ends { IsCutShort result }
+    ensures stop { HasShown (H.shows hall.new) result }
     ensures write { result ≡ Err LineEnd.WriteFault → Rose (P.write_faults port.old) (P.write_faults port.new) }
     ensures later { P.write_faults port.old ≤ P.write_faults port.new }
     ensures left { P.left port.new ≡ P.left port.old }

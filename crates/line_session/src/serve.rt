@@ -6,7 +6,7 @@ ghost use Rattle.centre_rules.specs.Summary.{Summary};
 ghost use Rattle.centre_rules.specs.History.{Entry};
 ghost use Rattle.dc09_frame.specs.Cutting.{WasFed};
 ghost use Rattle.line_session.specs.Lines.{ServesBytes};
-ghost use Rattle.line_session.specs.Sessions.{IsCutShort};
+ghost use Rattle.line_session.specs.Sessions.{HasShown, IsCutShort};
 
 use crate::answer::answer;
 use crate::line_end::LineEnd;
@@ -46,6 +46,7 @@ pub(crate) fn serve<H: Hall, P: Port>(
           noise = P.noise port.new;
         }) }
     ensures ends { IsCutShort result }
+    ensures stop { HasShown (H.shows hall.new) result }
     ensures ready { H.ready hall.new }
     ensures text { H.text hall.new ≡ H.text hall.old }
     ensures caller { H.caller hall.new ≡ H.caller hall.old }

@@ -4,7 +4,8 @@ use crate::LineEnd;
 use arc_io::ListNoise;
 use std::test::Fail;
 
-const SETUP: &[u8] = b"account 1234 key 000102030405060708090A0B0C0D0E0F\n";
+const SETUP: &[u8] =
+    b"account 1234 key 000102030405060708090A0B0C0D0E0F\naccount 5678 key 101112131415161718191A1B1C1D1E1F\n";
 
 // 2001-09-09, 01:47:20 GMT.
 const NOW: u64 = 1_000_000_040;
@@ -46,10 +47,39 @@ const BEAT_REPLY: &[u8] =
 
 const NAK: &[u8] = b"\n32D10025\"NAK\"0000R0L0A0[]_01:47:20,09-09-2001\r";
 
+// Four messages of sequences 0001 to 0004, `|1131 01 001]` behind 15 letters `A`: 40 seconds old, 41 seconds old, 20 seconds early and
+// 21 seconds early, and the replies to the first and the third.
+const FOUR: [&[u8]; 4] = [
+    b"\n8D880076\"*ADM-CID\"0001L0#1234[E06EA26A37890BD298E0B3DE6626EBD50BA29CB4E9210580C35A8F55781442D7015DCE57B6320C83BAA2F9F4508E0BC6\r",
+    b"\n903F0076\"*ADM-CID\"0002L0#1234[E06EA26A37890BD298E0B3DE6626EBD50BA29CB4E9210580C35A8F55781442D705B176BCA2BBB76375DC10FBA6B672CB\r",
+    b"\nDB590076\"*ADM-CID\"0003L0#1234[E06EA26A37890BD298E0B3DE6626EBD50BA29CB4E9210580C35A8F55781442D73BFAF1EFCF2FD947E5B77EF2F17CD404\r",
+    b"\n5D620076\"*ADM-CID\"0004L0#1234[E06EA26A37890BD298E0B3DE6626EBD50BA29CB4E9210580C35A8F55781442D7AF55F136070E56819EBAF4E54DB2924E\r",
+];
+
+const THIRD_REPLY: &[u8] =
+    b"\nCBD90052\"*ACK\"0003L0#1234[0F691D7A300E9BDDF73FB56CCB2F8B8E215F5C5A4D4FEC49430E218B4ED8530D\r";
+
+// The first of the four, of an account with another key.
+const FOREIGN: &[u8] =
+    b"\n27920076\"*ADM-CID\"0001L0#5678[E06EA26A37890BD298E0B3DE6626EBD50BA29CB4E9210580C35A8F55781442D7015DCE57B6320C83BAA2F9F4508E0BC6\r";
+
+const FOREIGN_REPLY: &[u8] = b"\n522E0012\"DUH\"0001L0#5678[]\r";
+
+// A block of FIPS 197, whose text has no bar.
+const BARLESS: &[u8] = b"\nC7F30036\"*ADM-CID\"0001L0#1234[69C4E0D86A7B0430D8CDB78070B4C55A\r";
+
+const STRANGE: &[u8] = b"\nB2BB0027\"ADM-CID\"0001L0#9999[#9999|1131 01 001]\r";
+
+const STRANGE_REPLY: &[u8] = b"\nB7290012\"DUH\"0001L0#9999[]\r";
+
 #[test]
 fn sealed_frames_have_their_replies(rt: HostRuntime) -> Result<(), Fail> {
     // The frames, their replies, and how many entries are recorded then.
-    let cases: [(&[&[u8]], &[&[u8]], u64); 9] = [
+    let cases: [(&[&[u8]], &[&[u8]], u64); 13] = [
+        (&FOUR, &[FIRST_REPLY, NAK, THIRD_REPLY, NAK], 4),
+        (&[BARLESS], &[DUH], 2),
+        (&[STRANGE], &[STRANGE_REPLY], 2),
+        (&[FOREIGN], &[FOREIGN_REPLY], 2),
         (&[OLD], &[FIRST_REPLY], 3),
         (&[EARLY], &[FIRST_REPLY], 3),
         (&[TOO_OLD], &[NAK], 2),
