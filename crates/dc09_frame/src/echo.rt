@@ -55,10 +55,10 @@ fn quoted_word_of(word: Echo) -> &'static [u8]
     }
 }
 
-/// Puts the header's sequence, `R` field, `L` field and account behind the bytes that stand there, as they came. A frame that
-/// has more to hold than a reply of this crate is made of them: `begin_frame`, then the body's parts, then `end_frame`.
+/// Puts the header's sequence, `R` field, `L` field and account behind the bytes that stand there, as they came, where there is
+/// room. A frame that has more to hold than a reply of this crate is made of them: `begin_frame`, then the body's parts, then `end_frame`.
 pub fn append_fields(header: &Header, out: &mut FrameBuf)
-    requires { length out.old ≤ 4000 }
+    requires { length out.old + length (fields header.now) ≤ 4105 }
     ensures { out.new ≡ out.old ++ fields header.now }
 {
     out.append(&header.seq);
@@ -70,9 +70,8 @@ pub fn append_fields(header: &Header, out: &mut FrameBuf)
 }
 
 fn append_receiver(receiver: &Option<Txt>, out: &mut FrameBuf)
-    requires { length out.old ≤ 4004 }
+    requires { length out.old + length (receiver_field receiver.now) ≤ 4105 }
     ensures value { out.new ≡ out.old ++ receiver_field receiver.now }
-    ensures room { length out.new ≤ length out.old + 33 }
 {
     if let Some(digits) = receiver {
         out.append(b"R");
