@@ -16,7 +16,7 @@ use Rattle.line_session.specs.Sessions.{IsSession, HasStopped}
 use Rattle.line_session.specs.declared.line_end.LineEnd.TheVariants.{Stopped}
 
 worn_by : (setup : Setup) (state : State) (count : ℕ) (body : List ℕ) (reading : ℕ) → HasStopped setup (λ stop event reading. IsShown state stop) (Worn count) body reading → (count ≡ state.entries) × (2 ^ 48 ≤ count)
-worn_by setup state count body reading (inl memory) = absurd (cc)
+worn_by setup state count body reading (inl (is, wanted)) = absurd (cc)
 worn_by setup state count body reading (inr shown) = shown.2
 
 -- a hall in memory that was worn has so many entries

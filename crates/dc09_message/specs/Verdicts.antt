@@ -73,6 +73,14 @@ IsGood (Duh h why) = IsHeader h
 IsGood (Beat h account) = IsHeader h × IsWellFormed (Heard account)
 IsGood (Numbered h m) = IsHeader h × IsMessage m
 
+-- only a numbered message takes memory
+abbrev pub TakesMemory : Verdict → Type 0
+TakesMemory Silence = ⊥
+TakesMemory Nak = ⊥
+TakesMemory (Duh h why) = ⊥
+TakesMemory (Beat h account) = ⊥
+TakesMemory (Numbered h m) = Unit {0}
+
 -- A message that is taken is sealed exactly where its account has a key.
 abbrev pub IsSealedAsKeyed : Setup → Header → Type 0
 IsSealedAsKeyed setup h = h.sealed ≡ is_some (key_of setup (capitals h.account))

@@ -1,5 +1,5 @@
 // The verdict on a body.
-ghost use Rattle.std.specs.Prelude.{◌≡◌, ◌≤◌, ◌-◌, IfOk, length, true};
+ghost use Rattle.std.specs.Prelude.{◌≡◌, ◌≤◌, ◌-◌, IfOk, IfErr, length, true};
 ghost use Rattle.arc_data.specs.Digits.{dec_value, is_run, is_digit};
 ghost use Rattle.arc_data.specs.WellFormed.{IsMessage};
 ghost use Rattle.alarm_rules.specs.Setups.{meaning, key_of};
@@ -10,7 +10,7 @@ ghost use Rattle.dc09_frame.specs.Headers.{IsHeader};
 ghost use Rattle.dc09_crypt.specs.Sealed.{text_under, opening_of};
 ghost use Rattle.dc09_message.specs.Contents.{kind_of, content_in as content_found};
 ghost use Rattle.dc09_message.specs.Reading.{on_key};
-ghost use Rattle.dc09_message.specs.Verdicts.{message_of, on_blocks, on_opening, on_kind, verdict_of, IsGood, IsKeyed};
+ghost use Rattle.dc09_message.specs.Verdicts.{message_of, on_blocks, on_opening, on_kind, verdict_of, IsGood, IsKeyed, TakesMemory};
 
 use crate::content::content_in;
 use crate::kind::MessageKind;
@@ -36,6 +36,7 @@ pub fn verdict(
     requires body { IsBody body.now }
     requires now { IsMoment now }
     ensures exact { IfOk result (λ v. v ≡ verdict_of (meaning setup.now) now body.now) }
+    ensures memory { IfErr result (λ _. TakesMemory (verdict_of (meaning setup.now) now body.now)) }
     ensures good { IfOk result IsGood }
     ensures keyed { IfOk result (IsKeyed (meaning setup.now)) }
 {
@@ -58,6 +59,7 @@ fn by_token(
     requires size { length rest.now ≤ 4095 }
     requires now { IsMoment now }
     ensures exact { IfOk result (λ v. v ≡ on_kind (meaning setup.now) now header.now rest.now (kind_of header.now.token)) }
+    ensures memory { IfErr result (λ _. TakesMemory (on_kind (meaning setup.now) now header.now rest.now (kind_of header.now.token))) }
     ensures good { IfOk result IsGood }
 {
     let Some(kind) = kind_of(&header.token) else {
@@ -83,6 +85,7 @@ fn by_key(
     requires size { length rest.now ≤ 4095 }
     requires now { IsMoment now }
     ensures exact { IfOk result (λ v. v ≡ on_key now header.now kind rest.now (key_of (meaning setup.now) (capitals header.now.account))) }
+    ensures memory { IfErr result (λ _. TakesMemory (on_key now header.now kind rest.now (key_of (meaning setup.now) (capitals header.now.account)))) }
     ensures good { IfOk result IsGood }
 {
     match setup.key(&account_of(header)) {
@@ -107,6 +110,7 @@ fn by_opening(
     requires size { length digits.now ≤ 4095 }
     requires now { IsMoment now }
     ensures exact { IfOk result (λ v. v ≡ on_opening now header.now kind (text_under key.now digits.now) (opening_of key.now digits.now)) }
+    ensures memory { IfErr result (λ _. TakesMemory (on_opening now header.now kind (text_under key.now digits.now) (opening_of key.now digits.now))) }
     ensures good { IfOk result IsGood }
 {
     match open_body(key, digits, room) {
@@ -132,6 +136,7 @@ fn by_blocks(
     requires header { IsHeader header.now }
     requires size { length bytes.now ≤ 4095 }
     ensures exact { IfOk result (λ v. v ≡ on_blocks header.now kind (content_found kind header.now bytes.now)) }
+    ensures memory { IfErr result (λ _. TakesMemory (on_blocks header.now kind (content_found kind header.now bytes.now))) }
     ensures good { IfOk result IsGood }
 {
     let Some(content) = content_in(kind, header, bytes) else {

@@ -7,7 +7,7 @@ use Rattle.centre_core.specs.declared.hall.Stop.TheVariants.{Memory}
 use Rattle.centre_rules.specs.Summary.{Summary}
 use Rattle.centre_rules.specs.History.{Entry}
 use Rattle.centre_rules.specs.Answers.{IsLegal}
-use Rattle.dc09_message.specs.Verdicts.{verdict_of}
+use Rattle.dc09_message.specs.Verdicts.{verdict_of, TakesMemory}
 use Rattle.line_session.specs.Ports.{PortSeen, Added, Adds}
 use Rattle.line_session.specs.Turns.{Turn, event_of, AreTurns, entries_of, bodies_of, text_of, readings_of, noise_of, added_by}
 use Rattle.line_session.specs.declared.line_end.LineEnd.{LineEnd}
@@ -27,9 +27,9 @@ pub record IsCutOff (ts : List Turn) (a : Added) : Type 0 where
   pub short : count < length last.reply
   pub added : a ≡ record { text = text_of front ++ take count last.reply; readings = readings_of ts; noise = noise_of ts }
 
--- the hall showed a stop for the event of the piece's verdict; or memory was wanted
+-- the hall showed a stop for the event of the piece's verdict; or memory was wanted for a numbered message
 abbrev pub HasStopped : Setup → (Stop → Event → ℕ → Type 0) → Stop → List ℕ → ℕ → Type 0
-HasStopped setup shows stop body reading = (stop ≡ Memory) ⊎ ((event : Event) × (event_of (verdict_of setup reading body) ≡ Some event) × shows stop event reading)
+HasStopped setup shows stop body reading = ((stop ≡ Memory) × TakesMemory (verdict_of setup reading body)) ⊎ ((event : Event) × (event_of (verdict_of setup reading body) ≡ Some event) × shows stop event reading)
 
 -- The next whole piece took its reading, but was stopped: it has no turn and no reply.
 pub record IsStopped (setup : Setup) (shows : Stop → Event → ℕ → Type 0) (stop : Stop) (turns : List Turn) (a : Added) (rest : List (List ℕ)) : Type 0 where

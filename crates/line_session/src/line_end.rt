@@ -12,6 +12,6 @@ pub enum LineEnd {
     WriteFault,
     /// 1,099,511,627,776 bytes (2^40) were taken, which is the limit of a session.
     Spent,
-    /// The hall did not take an event, or memory was wanted for a frame. That frame has no reply.
+    /// The hall did not take an event, or memory was wanted for a message. That frame has no reply.
     Stopped(Stop),
 }

@@ -7,6 +7,7 @@ use Rattle.civil_time.specs.Stamp.{stamp}
 use Rattle.dc09_frame.specs.Frames.{frame_of, is_clean}
 use Rattle.dc09_frame.specs.Headers.{echo_body, nak_body}
 use Rattle.dc09_frame.specs.declared.header.Echo.TheVariants.{Duh as DuhWord}
+use Rattle.dc09_message.specs.Verdicts.{verdict_of, TakesMemory}
 use Rattle.dc09_message.specs.declared.outcome.Verdict.TheVariants.{Silence, Nak, Duh, Beat, Numbered}
 use Rattle.line_session.specs.Replies.{IsSent, Reports}
 use Rattle.line_session.specs.Turns.{event_of}
@@ -19,8 +20,9 @@ write_nak-requires g c = subst (λ (s : List ℕ). list_all is_clean s ≡ true)
 
 pub returns-in-Err-clause-session : goal.returns-in-Err-clause-session
 returns-in-Err-clause-session g c b h s =
+    let wanted = subst (λ (t : List ℕ). TakesMemory (verdict_of (meaning t) c.now-reading.result c.args.body.now)) c.setup.ensures c.in-Err.ensures.memory in
     session_stopped Memory b (meaning (g.H.Hall.text c.args.hall.now)) (g.H.Hall.caller c.args.hall.now) h h _ _ _ _ _ _ c.args.body.now c.now-reading.result
-    ([], refl) s (g.met.H.Hall.legal c.args.hall.now b h s) refl (inl refl) c.now-reading.ensures.written c.now-reading.ensures.tells c.now-reading.ensures.noise
+    ([], refl) s (g.met.H.Hall.legal c.args.hall.now b h s) refl (inl (refl, wanted)) c.now-reading.ensures.written c.now-reading.ensures.tells c.now-reading.ensures.noise
 
 pub returns-in-Ok-Silence-clause-session : goal.returns-in-Ok-Silence-clause-session
 returns-in-Ok-Silence-clause-session g c b h s =
