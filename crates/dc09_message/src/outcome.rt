@@ -19,7 +19,7 @@ pub enum Why {
     NoBar,
     /// The decrypted text does not end with a readable stamp.
     NoStamp,
-    /// The blocks, an account in them, the tail of a plain message, or the data cannot be read.
+    /// The blocks, an account in them, the tail, or the data cannot be read.
     BadBlocks,
 }
 
