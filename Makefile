@@ -12,7 +12,7 @@ build:
 demo: build
 	@tools/demo $(PROGRAM)
 
-# proves and tests everything, from nothing
+# proves and tests everything; what passed before on this machine is proved again only where it changed
 test:
 	@.ci/run
 
