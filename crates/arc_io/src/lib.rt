@@ -11,6 +11,7 @@ mod tests;
 mod traits;
 mod whole;
 
+pub use adapters::{FileDisk, FileSource, RealClock, RealNoise, StdPort};
 pub use disk::{Area, Disk};
 pub use disk_synced::write_synced;
 pub use memory::{Fill, ListClock, ListNoise, MemDisk, MemPort, MemSink, MemSource};
