@@ -3,3 +3,4 @@ pub mod Setups
 pub mod SiaCodes
 pub mod SiaGrammar
 pub mod Signals
+pub mod Weeks
