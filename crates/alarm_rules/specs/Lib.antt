@@ -1,4 +1,5 @@
 pub mod ContactId
+pub mod Plans
 pub mod Setups
 pub mod SiaCodes
 pub mod SiaGrammar
