@@ -1,4 +1,7 @@
 pub mod Classes
 pub mod Digits
 pub mod Field
+pub mod Incidents
+pub mod Steps
 pub mod WellFormed
+pub mod Words
