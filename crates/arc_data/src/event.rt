@@ -34,7 +34,7 @@ pub enum Event {
 }
 
 /// What the centre answers.
-#[derive(Clone, Copy, Debug, PartialEq, Eq)]
+#[derive(Debug, Drop)]
 pub enum Reply {
     Adopted,
     Started,
