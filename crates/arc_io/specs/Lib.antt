@@ -3,3 +3,9 @@ pub mod Told
 pub mod Lists
 pub mod Memory
 pub mod Seconds
+pub mod Areas
+pub mod Crashes
+pub mod KeptCalls
+pub mod MemoryDisk
+pub mod DiskClock
+pub mod Replays
