@@ -6,7 +6,8 @@ use Rattle.arc_data.specs.Steps.{same_step}
 use Rattle.arc_data.specs.declared.plan.Planned.{Planned}
 use Rattle.arc_data.specs.declared.plan.PlanWord.{PlanWord}
 use Rattle.arc_data.specs.declared.plan.PlanWord.TheVariants.{Premises as CallPremises, Holders, Police as SendPolice}
-use Rattle.arc_data.specs.declared.plan.PlanWord.TheVariants.{Fire as SendFire, Ambulance as SendAmbulance, Guard as SendGuard, Note as WriteNote}
+use Rattle.arc_data.specs.declared.plan.PlanWord.TheVariants.{Fire as SendFire, Ambulance as SendAmbulance, Guard as SendGuard}
+use Rattle.arc_data.specs.declared.plan.PlanWord.TheVariants.{Note as WriteNote}
 use Rattle.arc_data.specs.declared.step.Acted.{Acted}
 use Rattle.arc_data.specs.declared.step.Outcome.{Outcome}
 use Rattle.arc_data.specs.declared.step.Outcome.TheVariants.{Reached, NoAnswer, Done}
