@@ -1,5 +1,6 @@
 ghost use Rattle.std.specs.Prelude.{◌≡◌};
 ghost use Rattle.std.specs.Io.{ReadsAtMost};
+ghost use Rattle.arc_io.specs.Seen.{untold};
 
 use crate::{Ends, Failed, Source};
 use std::io::Read;
@@ -19,7 +20,7 @@ pub struct FileSource<'a, R: Files> {
 impl<'a, R: Files> FileSource<'a, R> {
     /// The file of this path. Nothing is opened yet.
     pub fn new(rt: R, path: &'a str) -> Self
-        ensures { ⟦<FileSource<'a, R> as Ends>⟧.read_faults result ≡ 0 }
+        ensures { (⟦<FileSource<'a, R> as Ends>⟧.seen result).read_faults ≡ 0 }
     {
         FileSource {
             rt,
@@ -31,7 +32,7 @@ impl<'a, R: Files> FileSource<'a, R> {
 }
 
 impl<'a, R: Files> Ends for FileSource<'a, R> {
-    ghost read_faults = { λ s. s.faults };
+    ghost seen = { λ s. record untold { read_faults = s.faults } };
 }
 
 impl<'a, R: Files> Source for FileSource<'a, R> {

@@ -36,26 +36,20 @@ impl MemSource {
 }
 
 impl Ends for MemSource {
-    ghost use Rattle.std.specs.Prelude.{Some};
-    ghost use Rattle.arc_io.specs.Memory.{source_left, source_faults};
+    ghost use Rattle.arc_io.specs.Memory.{source_seen};
 
-    ghost left = { λ s. Some (source_left s) };
-
-    ghost read_faults = { source_faults };
+    ghost seen = { source_seen };
 }
 
 impl Source for MemSource {
-    ghost use Rattle.std.specs.Prelude.{Some};
     ghost use Rattle.std.specs.Io.{ReadsAtMost};
-    ghost use Rattle.arc_io.specs.Causes.{HasCause};
-    ghost use Rattle.arc_io.specs.Told.{GivesNext};
-    ghost use Rattle.arc_io.specs.Memory.{source_left, source_faults, SourceRead};
+    ghost use Rattle.arc_io.specs.Told.{Reads};
+    ghost use Rattle.arc_io.specs.Memory.{source_seen, SourceRead};
 
     /// Gives as many bytes as are left and have room, in each call that does not fail.
     fn read(&mut self, buf: &mut [u8]) -> Result<usize, Failed>
         ensures bound { ReadsAtMost result buf.new }
-        ensures bytes { GivesNext (Some (source_left self.old)) (Some (source_left self.new)) result buf.new }
-        ensures cause { HasCause (source_faults self.old) (source_faults self.new) result }
+        ensures told { Reads (source_seen self.old) (source_seen self.new) result buf.new }
         ensures exact { SourceRead self.old self.new result buf.old buf.new }
     {
         self.calls = self.calls.saturating_add(1);
