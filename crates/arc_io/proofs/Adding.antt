@@ -15,6 +15,7 @@ adds_by : (p q : PortSeen) (a : Added) → q.written ≡ append_known p.written 
 adds_by p q a w r n d m = record {
   told = λ i. record {
     left = q.left;
+    ended = q.ended;
     read_faults = q.read_faults;
     written = w i;
     write_faults = q.write_faults;

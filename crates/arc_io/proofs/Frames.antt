@@ -7,7 +7,7 @@ use Rattle.arc_io.specs.Seen.{PortSeen}
 use Rattle.arc_io.specs.Told.{OnlyReads, OnlyWrites, Puts, after_reading, after_noise}
 
 pub reads_more : {p q r : PortSeen} → OnlyReads p q → OnlyReads q r → OnlyReads p r
-reads_more {p} {q} {r} first next = record { rest = next.rest ∙ ap (λ (x : PortSeen). record x { left = r.left; read_faults = r.read_faults }) first.rest }
+reads_more {p} {q} {r} first next = record { rest = next.rest ∙ ap (λ (x : PortSeen). record x { left = r.left; ended = r.ended; read_faults = r.read_faults }) first.rest }
 
 pub writes_more : {p q r : PortSeen} → OnlyWrites p q → OnlyWrites q r → OnlyWrites p r
 writes_more {p} {q} {r} first next = record { rest = next.rest ∙ ap (λ (x : PortSeen). record x { written = r.written; write_faults = r.write_faults }) first.rest }

@@ -18,6 +18,7 @@ both a c = record { text = a.text ++ c.text; readings = a.readings ++ c.readings
 pub record Adds (p p' : PortSeen) (a : Added) : Type 0 where
   pub told : p' ≡ record p {
     left = p'.left;
+    ended = p'.ended;
     read_faults = p'.read_faults;
     written = append_known p.written a.text;
     write_faults = p'.write_faults;

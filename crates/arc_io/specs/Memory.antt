@@ -1,5 +1,6 @@
 -- What the forms in memory tell, and what each of their calls does.
-use Rattle.std.specs.Prelude.{◌≡◌, ◌↔◌, ℕ, ◌+◌, min, List, ◌++◌, length, take, drop, Contains, Some, Result, IfOk, OnErr, IsErr, is_err, if◌then◌else◌}
+use Rattle.std.specs.Prelude.{◌≡◌, ◌↔◌, ◌⊎◌, ℕ, ◌+◌, min, List, ◌++◌, length, take, drop, Contains, Bool, true, Some}
+use Rattle.std.specs.Prelude.{Result, IfOk, OnErr, IsErr, is_err, if◌then◌else◌}
 use Rattle.arc_io.specs.Causes.{next_count}
 use Rattle.arc_io.specs.Seen.{PortSeen, untold}
 use Rattle.arc_io.specs.Lists.{reading_at, readings_of, ten_at, noise_of}
@@ -25,14 +26,19 @@ source_calls s = s.calls
 abbrev pub source_faults : MemSource → ℕ
 source_faults s = s.faults
 
-abbrev pub source_seen : MemSource → PortSeen
-source_seen s = record untold { left = Some (source_left s); read_faults = source_faults s }
+-- a call has met the end
+abbrev pub source_ended : MemSource → Bool
+source_ended s = s.ended
 
--- a call of `read`: it fails exactly where its number is listed, and otherwise gives as many bytes as are left and have room
+abbrev pub source_seen : MemSource → PortSeen
+source_seen s = record untold { left = Some (source_left s); ended = source_ended s; read_faults = source_faults s }
+
+-- A call of `read`: it fails exactly where its number is listed or an earlier call has met the end, and otherwise gives as many
+-- bytes as are left and have room.
 pub record SourceRead (before after : MemSource) (result : Result ℕ Failed) (was buf : List ℕ) : Type 0 where
   pub failing : source_failing after ≡ source_failing before
   pub calls : source_calls after ≡ next_count (source_calls before)
-  pub fails : IsErr result ↔ Contains (source_failing before) (source_calls after)
+  pub fails : IsErr result ↔ (Contains (source_failing before) (source_calls after) ⊎ (source_ended before ≡ true))
   pub faults : source_faults after ≡ (if is_err result then next_count (source_faults before) else source_faults before)
   pub count : IfOk result (λ n. n ≡ min (length buf) (length (source_left before)))
   pub given : IfOk result (λ n. source_left before ≡ take n buf ++ source_left after)
@@ -112,6 +118,7 @@ pub record NoiseDraw (before after : ListNoise) (ten : List ℕ) : Type 0 where
 abbrev pub port_seen : MemPort → PortSeen
 port_seen p = record untold {
   left = Some (source_left p.source);
+  ended = source_ended p.source;
   read_faults = source_faults p.source;
   written = Some (sink_bytes p.sink);
   write_faults = sink_faults p.sink;

@@ -1,10 +1,12 @@
 -- What an object of the outside tells at one moment.
-use Rattle.std.specs.Prelude.{ℕ, List, Option, None}
+use Rattle.std.specs.Prelude.{ℕ, List, Bool, false, Option, None}
 
 -- All that clauses know of it. A list that it does not tell is None, before and after each call.
 pub record PortSeen : Type 0 where
   -- the bytes that are left to read
   pub left : Option (List ℕ)
+  -- a read has met the end of the input
+  pub ended : Bool
   -- how often a read has failed
   pub read_faults : ℕ
   -- the bytes that were written
@@ -24,6 +26,7 @@ pub record PortSeen : Type 0 where
 abbrev pub untold : PortSeen
 untold = record {
   left = None;
+  ended = false;
   read_faults = 0;
   written = None;
   write_faults = 0;

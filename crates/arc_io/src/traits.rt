@@ -1,5 +1,5 @@
 // The traits of the outside.
-ghost use Rattle.std.specs.Prelude.{◌≡◌, ◌<◌, [], IfOk};
+ghost use Rattle.std.specs.Prelude.{◌≡◌, ◌<◌, [], false, IfOk};
 ghost use Rattle.std.specs.Io.{ReadsAtMost, WritesAtMost};
 ghost use Rattle.arc_io.specs.Seen.{PortSeen, untold};
 ghost use Rattle.arc_io.specs.Told.{Reads, Writes, after_reading, after_noise};
@@ -18,8 +18,9 @@ pub trait Ends {
 /// Bytes that come in.
 pub trait Source: Ends {
     /// Gives the next bytes, at most as many as the buffer has room for, and answers how many. 0 on a
-    /// buffer that is not empty is the end of the input.
+    /// buffer that is not empty is the end of the input. Behind that nothing may be read: a terminal would ask again.
     fn read(&mut self, buf: &mut [u8]) -> Result<usize, Failed>
+        requires { (Self.seen self.old).ended ≡ false }
         ensures bound { ReadsAtMost result buf.new }
         ensures told { Reads (Self.seen self.old) (Self.seen self.new) result buf.new };
 

@@ -1,8 +1,8 @@
 // Reading and writing over many calls.
-ghost use Rattle.std.specs.Prelude.{◌≡◌, ◌<◌, ◌≤◌, List, ℕ, OnErr, IfOk, length, vec_len};
-ghost use Rattle.std.specs.Io.KnownBytes.{prepend_known, IsAtEnd};
+ghost use Rattle.std.specs.Prelude.{◌≡◌, ◌<◌, ◌≤◌, List, ℕ, false, OnErr, IfOk, length, vec_len};
+ghost use Rattle.std.specs.Io.KnownBytes.{prepend_known};
 ghost use Rattle.arc_io.specs.Causes.{Rose};
-ghost use Rattle.arc_io.specs.Told.{OnlyReads, Puts};
+ghost use Rattle.arc_io.specs.Told.{IsReadOut, OnlyReads, Puts};
 
 use crate::{Failed, Sink, Source};
 use std::alloc::Global;
@@ -34,11 +34,14 @@ pub enum ReadEnd {
 /// the limit is taken from the source.
 #[tactic(auto, using(crate::proofs::KnownMore::known_taken))]
 pub fn read_all<S: Source>(alloc: Global, source: &mut S, limit: usize) -> Result<Vec<u8>, ReadEnd>
+    requires { (S.seen source.old).ended ≡ false }
     ensures all { IfOk result (λ v. (S.seen source.old).left ≡ prepend_known v.items (S.seen source.new).left) }
     ensures limit { IfOk result (λ v. vec_len v ≤ limit) }
-    ensures ended { IfOk result (λ v. vec_len v < limit → IsAtEnd (S.seen source.new).left) }
+    ensures ended { IfOk result (λ v. vec_len v < limit → IsReadOut (S.seen source.new)) }
+    ensures not_ended { IfOk result (λ v. limit ≤ vec_len v → (S.seen source.new).ended ≡ false) }
     ensures part { OnErr result ((bytes : List ℕ) × (length bytes ≤ limit)
         × ((S.seen source.old).left ≡ prepend_known bytes (S.seen source.new).left)) }
+    ensures part_not_ended { OnErr result ((S.seen source.new).ended ≡ false) }
 
     // A failed read is the one cause of Failed.
     ensures failed { result ≡ Err ReadEnd.Failed → Rose (S.seen source.old).read_faults (S.seen source.new).read_faults }

@@ -1,10 +1,10 @@
-ghost use Rattle.std.specs.Prelude.{◌≡◌, ◌+◌, ◌++◌, [], ◌<◌, ◌≤◌, vec_len, drop, take, length, min};
+ghost use Rattle.std.specs.Prelude.{◌≡◌, ◌+◌, ◌++◌, false, ◌≤◌, vec_len, drop, take, length, min};
 
 use super::is_listed;
 use crate::{Ends, Failed, Source};
 
 /// Bytes in memory, read call by call. The calls of `read` are numbered from 1, those that fail
-/// included; a number stays at the last value of `u64`.
+/// included; a number stays at the last value of `u64`. Once a call has met the end, each further one fails.
 #[derive(Drop)]
 pub struct MemSource {
     bytes: Vec<u8>,
@@ -12,11 +12,12 @@ pub struct MemSource {
     failing: Vec<u64>,
     calls: u64,
     faults: u64,
+    ended: bool,
     ghost within: { at ≤ vec_len bytes },
 }
 
 impl MemSource {
-    ghost use Rattle.arc_io.specs.Memory.{source_left, source_failing, source_calls, source_faults};
+    ghost use Rattle.arc_io.specs.Memory.{source_left, source_failing, source_calls, source_faults, source_ended};
 
     /// A source of these bytes. Its calls of the numbers in `failing` fail, and no others do.
     pub fn new(bytes: Vec<u8>, failing: Vec<u64>) -> Self
@@ -24,6 +25,7 @@ impl MemSource {
         ensures failing { source_failing result ≡ failing.items }
         ensures calls { source_calls result ≡ 0 }
         ensures faults { source_faults result ≡ 0 }
+        ensures ended { source_ended result ≡ false }
     {
         MemSource {
             bytes,
@@ -31,6 +33,7 @@ impl MemSource {
             failing,
             calls: 0,
             faults: 0,
+            ended: false,
         }
     }
 }
@@ -53,12 +56,13 @@ impl Source for MemSource {
         ensures exact { SourceRead self.old self.new result buf.old buf.new }
     {
         self.calls = self.calls.saturating_add(1);
-        if is_listed(&self.failing, self.calls) {
+        if self.ended || is_listed(&self.failing, self.calls) {
             self.faults = self.faults.saturating_add(1);
             return Err(Failed);
         }
         let count = read_from(&self.bytes, self.at, buf);
         self.at += count;
+        self.ended = count == 0 && !buf.is_empty();
         Ok(count)
     }
 
