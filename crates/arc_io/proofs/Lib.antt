@@ -4,3 +4,7 @@ pub mod Frames
 pub mod FrontOfList
 pub mod KnownMore
 pub mod ListLemmas
+pub mod Moments
+pub mod Deeds
+pub mod Stops
+pub mod Replaying

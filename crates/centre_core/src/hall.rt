@@ -53,7 +53,7 @@ pub trait Hall {
     ghost legal: { (hall : Self) (b : Summary) (h : List Entry) → (seen hall).stands b h → IsLegal b h };
 
     /// After each history for which it stands the setup of its text is in force.
-    ghost in_force: { (hall : Self) (b : Summary) (h : List Entry) → (seen hall).stands b h → force b (marks h) ≡ Some (meaning (seen hall).text) };
+    ghost in_force: { (hall : Self) (b : Summary) (h : List Entry) → (seen hall).stands b h → force b (marks b h) ≡ Some (meaning (seen hall).text) };
 }
 
 /// A centre in memory, of which a run has begun. Contracts see the centre's state.
