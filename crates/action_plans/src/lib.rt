@@ -1,0 +1,7 @@
+//! What operators have to do for an incident: the plans of setup texts, their steps, and which steps are met.
+#![tactic(auto)]
+
+mod plan;
+
+pub use arc_data::{Acted, Acts, Outcome, PlanWord, Planned, Step, StepList, Txt};
+pub use plan::Plan;
