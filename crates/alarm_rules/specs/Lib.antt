@@ -1,5 +1,8 @@
+pub use Rattle.civil_time.specs.LocalTime
 pub mod ContactId
+pub mod Plans
 pub mod Setups
 pub mod SiaCodes
 pub mod SiaGrammar
 pub mod Signals
+pub mod Weeks

@@ -8,6 +8,14 @@ pub enum Token {
     AdmCid,
 }
 
+/// Why an incident is closed: a real alarm, a false one, or a test.
+#[derive(Clone, Copy, Debug, PartialEq, Eq)]
+pub enum CloseCode {
+    Real,
+    False,
+    Test,
+}
+
 /// A numbered message of a panel. The account is in capitals; the digits of the `R` and the `L` field stand as they
 /// came; the sequence is at most 9999; the content has at most 4,095 bytes.
 #[derive(Drop)]
@@ -34,7 +42,7 @@ pub enum Event {
 }
 
 /// What the centre answers.
-#[derive(Clone, Copy, Debug, PartialEq, Eq)]
+#[derive(Debug, Drop)]
 pub enum Reply {
     Adopted,
     Started,

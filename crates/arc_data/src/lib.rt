@@ -1,18 +1,32 @@
 //! The plain data of the station, which several crates speak of: texts and byte lists, messages, signals, events,
-//! replies and entries, and the faults of a setup text.
+//! replies and entries, steps and incidents, opening hours, and the faults of a setup text.
 #![tactic(auto)]
 
+mod acts;
 mod blob;
 mod event;
+mod incident;
+mod listing;
+mod plan;
 mod setup_fault;
 mod signal;
+mod step;
+mod step_list;
 mod txt;
+mod window;
 
+pub use acts::Acts;
 pub use blob::{Blob, Memory};
-pub use event::{Entry, Event, Message, Past, Reply, Token};
+pub use event::{CloseCode, Entry, Event, Message, Past, Reply, Token};
+pub use incident::{Carried, Incident, Opened};
+pub use listing::{Listing, Row, View};
+pub use plan::{PlanWord, Planned};
 pub use setup_fault::{LineKind, SetupFault};
 pub use signal::{Class, Kind, Signal, Signals};
+pub use step::{Acted, Outcome, Step};
+pub use step_list::StepList;
 pub use txt::Txt;
+pub use window::Window;
 
 #[cfg(test)]
 mod tests;

@@ -50,3 +50,58 @@ fn blobs(rt: HostRuntime) -> Result<(), Fail> {
     }
     Ok(())
 }
+
+#[test]
+fn ten_steps_and_ten_acts(rt: HostRuntime) {
+    let mut steps = StepList::new();
+    let mut acts = Acts::new();
+    for number in 0..11u8 {
+        let acted = Acted {
+            step: Step::Holder(number),
+            outcome: Outcome::Reached,
+            at: u64::from(number),
+            operator: Txt::question(),
+        };
+        assert_eq!(rt; steps.push(acted.step), number < 10);
+        assert_eq!(rt; acts.push(acted), number < 10);
+    }
+    assert_eq!(rt; (steps.count(), acts.count()), (10, 10));
+    let (steps, acts) = (steps.copy(), acts.copy());
+    let (first, last) = (acts.items()[0], acts.items()[9]);
+    assert_eq!(rt; (first.step, last.step), (Step::Holder(0), Step::Holder(9)));
+    assert_eq!(rt; (first.at, last.at), (0, 9));
+    assert_eq!(rt; steps.items()[9] == Step::Holder(9), true);
+}
+
+#[test]
+fn sixteen_rows(rt: HostRuntime) {
+    let mut listing = Listing::new(17);
+    for number in 0..17u64 {
+        let row = Row {
+            number,
+            class: Class::Gas,
+            account: Txt::question(),
+            holder: None,
+        };
+        assert_eq!(rt; listing.push(row), number < 16);
+    }
+    assert_eq!(rt; (listing.total, listing.count()), (17, 16));
+}
+
+#[test]
+fn steps_and_words_told_apart(rt: HostRuntime) {
+    for (one, other, same) in [
+        (Step::Premises, Step::Premises, true),
+        (Step::Holder(1), Step::Holder(1), true),
+        (Step::Holder(1), Step::Holder(4), false),
+        (Step::Note, Step::Holder(0), false),
+    ] {
+        assert_eq!(rt; one == other, same);
+    }
+    for (one, other, same) in [
+        (PlanWord::Holders, PlanWord::Holders, true),
+        (PlanWord::Guard, PlanWord::Note, false),
+    ] {
+        assert_eq!(rt; one == other, same);
+    }
+}

@@ -1,0 +1,123 @@
+// What an operator is shown of open incidents.
+ghost use Rattle.std.specs.Prelude.{◌≡◌, ◌<◌, ◌↔◌, ◌++◌, ◌∷◌, [], length, slice_get, Some, IsTrue, if◌then◌else◌};
+
+use crate::{Class, Step, Txt};
+use std::marker::Model;
+
+/// An incident as it is shown. The moment is in seconds since 1970, GMT; the step is the first that is not met.
+#[derive(Clone, Copy, Debug, PartialEq, Eq)]
+pub struct View {
+    pub number: u64,
+    pub class: Class,
+    pub account: Txt,
+    pub code: Txt,
+    pub at: u64,
+    pub signals: u64,
+    pub restored: bool,
+    pub holder: Option<Txt>,
+    pub expected: Option<Step>,
+}
+
+/// An incident in a list.
+#[derive(Clone, Copy, Debug, PartialEq, Eq)]
+pub struct Row {
+    pub number: u64,
+    pub class: Class,
+    pub account: Txt,
+    pub holder: Option<Txt>,
+}
+
+/// At most 16 rows, in a room of their own. Contracts see them as a list.
+#[derive(Debug, Drop)]
+pub struct Rows {
+    items: [Row; 16],
+    len: usize,
+}
+
+impl Model for Rows {
+    ghost use Rattle.std.specs.Prelude.{List, take, length, ◌≤◌, ◌≡◌};
+    ghost use Rattle.arc_data.specs.declared.listing.Row.{Row};
+
+    ghost Value = { List Row };
+
+    ghost view = { λ s. take s.len s.items };
+
+    ghost invariant = { λ s. (s.len ≤ 16) × (length s.items ≡ 16) };
+}
+
+impl Rows {
+    fn new() -> Rows
+        ensures { result ≡ [] }
+    {
+        let unused = Row {
+            number: 0,
+            class: Class::Unlisted,
+            account: Txt::empty(),
+            holder: None,
+        };
+        Rows {
+            items: [unused; 16],
+            len: 0,
+        }
+    }
+
+    fn push(&mut self, row: Row) -> bool
+        ensures room { IsTrue result ↔ (length self.old < 16) }
+        ensures pushed { self.new ≡ (if result then self.old ++ row ∷ [] else self.old) }
+    {
+        if self.len == 16 {
+            return false;
+        }
+        self.items[self.len] = row;
+        self.len += 1;
+        true
+    }
+
+    fn items(&self) -> &[Row]
+        ensures { result.now ≡ self.now }
+    {
+        &self.items[..self.len]
+    }
+}
+
+/// How many incidents are open, and rows of the first of them, at most 16. It takes no memory.
+#[derive(Debug, Drop)]
+pub struct Listing {
+    pub total: u64,
+    rows: Rows,
+}
+
+impl Listing {
+    /// A list without rows.
+    pub fn new(total: u64) -> Listing
+        ensures { result ≡ record { total = total; rows = [] } }
+    {
+        Listing {
+            total,
+            rows: Rows::new(),
+        }
+    }
+
+    /// Puts the row last. False exactly where 16 are there, and then nothing changes.
+    pub fn push(&mut self, row: Row) -> bool
+        ensures room { IsTrue result ↔ (length self.old.rows < 16) }
+        ensures pushed { self.new ≡ record self.old { rows = if result then self.old.rows ++ row ∷ [] else self.old.rows } }
+    {
+        self.rows.push(row)
+    }
+
+    /// How many rows there are.
+    pub fn count(&self) -> usize
+        ensures { result ≡ length self.now.rows }
+    {
+        self.rows.items().len()
+    }
+
+    /// The row at a place below the count.
+    pub fn row(&self, i: usize) -> Row
+        requires { i < length self.now.rows }
+        ensures { slice_get self.now.rows i ≡ Some result }
+    {
+        self.rows.items()[i]
+    }
+}
