@@ -53,7 +53,7 @@ body_of piece = drop 8 piece
 abbrev pub has_length : List ℕ → Bool
 has_length piece =
     nat_le 9 (length piece) && (slice_index piece 4 == 48) && do_spell (take 4 (drop 4 piece)) (length (body_of piece))
-      && (slice_index piece 8 == 34)
+    && (slice_index piece 8 == 34)
 
 -- the first four bytes spell the check of the body
 abbrev pub has_check : List ℕ → Bool

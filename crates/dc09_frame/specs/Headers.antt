@@ -85,9 +85,15 @@ header_at body = do
   rest ← after_byte 91 account.1
   Some (
     record {
-      sealed = (star_at after_quote).0; token = token.0; seq = sequence.0; receiver = receiver.0; line = line.0; account = account.0
+      sealed = (star_at after_quote).0;
+      token = token.0;
+      seq = sequence.0;
+      receiver = receiver.0;
+      line = line.0;
+      account = account.0;
     },
-    length body - length rest)
+    length body - length rest,
+  )
 
 -- What is read is spelled so.
 pub record IsReadFrom (body : List ℕ) (h : Header) (n : ℕ) : Type 0 where
