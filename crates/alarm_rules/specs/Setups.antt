@@ -1,5 +1,6 @@
 -- What a setup text means.
-use Rattle.std.specs.Prelude.{ℕ, ◌==◌, ◌&&◌, ◌||◌, List, [], ◌∷◌, ◌++◌, Bool, true, false, if◌then◌else◌, Option, Some, None, is_some, option_and_then, Result, Ok, Err, nat_lt, length, codes}
+use Rattle.std.specs.Prelude.{ℕ, ◌==◌, ◌&&◌, ◌||◌, List, [], ◌∷◌, ◌++◌, Bool, true, false, if◌then◌else◌, nat_lt, length, codes}
+use Rattle.std.specs.Prelude.{Option, Some, None, is_some, option_and_then, Result, Ok, Err}
 use Rattle.std.specs.List.{find, filter_map, enumerate_from, position, list_all, slice_split}
 use Rattle.std.specs.Option.{option_map}
 use Rattle.std.specs.Result.{result_unwrap_or}
@@ -48,7 +49,9 @@ keyed_account number digits = record { number = capitals number; key = Some (byt
 -- account has a key, `key` and the key's digits
 abbrev pub account_of_words : List (List ℕ) → Option Account
 account_of_words (word ∷ number ∷ []) = if bytes_eq word (codes "account") && is_account number then Some (plain_account number) else None
-account_of_words (word ∷ number ∷ mark ∷ digits ∷ []) = if bytes_eq word (codes "account") && is_account number && bytes_eq mark (codes "key") && is_key digits then Some (keyed_account number digits) else None
+account_of_words (word ∷ number ∷ mark ∷ digits ∷ []) =
+    if bytes_eq word (codes "account") && is_account number && bytes_eq mark (codes "key") && is_key digits
+    then Some (keyed_account number digits) else None
 account_of_words other = None
 
 -- the account that a line declares, where it declares one
@@ -78,7 +81,9 @@ fault_of_form earlier line (Some account) = fault_of_account line.0 (line_declar
 -- the fault of a line, after the lines before it: too long, also where it would be skipped; of no known form; or an
 -- account that stands already
 abbrev pub fault_at : List (ℕ × List ℕ) → ℕ × List ℕ → Option SetupFault
-fault_at earlier line = if nat_lt 1024 (length line.1) then Some (BadLine line.0 Form) else fault_of_form earlier line (declared_account line.1)
+fault_at earlier line =
+    if nat_lt 1024 (length line.1) then Some (BadLine line.0 Form)
+    else fault_of_form earlier line (declared_account line.1)
 
 abbrev pub or_later : Option SetupFault → Option SetupFault → Option SetupFault
 or_later None later = later
@@ -100,7 +105,9 @@ unless (Some fault) setup = Err fault
 -- The setup that a text means, or its fault: that it has more than 4,194,304 bytes, and otherwise the fault of the first
 -- line that has one.
 unfoldable pub setup_of : List ℕ → Result Setup SetupFault
-setup_of text = if nat_lt 4194304 (length text) then Err TooLarge else unless (first_fault [] (numbered_lines text)) (setup_of_lines (lines text))
+setup_of text =
+    if nat_lt 4194304 (length text) then Err TooLarge
+    else unless (first_fault [] (numbered_lines text)) (setup_of_lines (lines text))
 
 -- What is asked of a setup.
 
