@@ -22,18 +22,24 @@ is_qualifier b = (b == 49) || (b == 51) || (b == 54)
 abbrev pub is_contact_id : List ℕ → Bool
 is_contact_id (q ∷ c1 ∷ c2 ∷ c3 ∷ s1 ∷ g1 ∷ g2 ∷ s2 ∷ z1 ∷ z2 ∷ z3 ∷ []) =
     is_qualifier q && is_hex c1 && is_hex c2 && is_hex c3 && (s1 == 32) && is_hex g1 && is_hex g2 && (s2 == 32)
-      && is_hex z1 && is_hex z2 && is_hex z3
+    && is_hex z1 && is_hex z2 && is_hex z3
 is_contact_id other = false
 
 -- The codes of each class. This assignment is the project's own.
 unfoldable pub contact_id_table : List (Class × List (List ℕ))
 contact_id_table =
     (Medical, codes "100" ∷ codes "101" ∷ codes "102" ∷ [])
-    ∷ (Fire, codes "110" ∷ codes "111" ∷ codes "112" ∷ codes "113" ∷ codes "114" ∷ codes "115" ∷ codes "116" ∷ codes "117"
-      ∷ codes "118" ∷ [])
+    ∷ (
+      Fire,
+      codes "110" ∷ codes "111" ∷ codes "112" ∷ codes "113" ∷ codes "114" ∷ codes "115" ∷ codes "116" ∷ codes "117"
+          ∷ codes "118" ∷ [],
+    )
     ∷ (Panic, codes "120" ∷ codes "121" ∷ codes "122" ∷ codes "123" ∷ [])
-    ∷ (Burglary, codes "130" ∷ codes "131" ∷ codes "132" ∷ codes "133" ∷ codes "134" ∷ codes "135" ∷ codes "136"
-      ∷ codes "138" ∷ codes "139" ∷ codes "140" ∷ [])
+    ∷ (
+      Burglary,
+      codes "130" ∷ codes "131" ∷ codes "132" ∷ codes "133" ∷ codes "134" ∷ codes "135" ∷ codes "136"
+          ∷ codes "138" ∷ codes "139" ∷ codes "140" ∷ [],
+    )
     ∷ (Tamper, codes "137" ∷ codes "144" ∷ codes "145" ∷ codes "383" ∷ [])
     ∷ (Gas, codes "151" ∷ codes "162" ∷ [])
     ∷ (Environment, codes "150" ∷ codes "154" ∷ codes "158" ∷ codes "159" ∷ [])

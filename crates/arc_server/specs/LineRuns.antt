@@ -12,7 +12,8 @@ use Rattle.centre_rules.specs.Summary.{nothing}
 use Rattle.centre_rules.specs.State.{State}
 use Rattle.line_session.specs.Lines.{ReadsLine, ServesLine}
 use Rattle.line_session.specs.declared.line_end.LineEnd.{LineEnd}
-use Rattle.line_session.specs.declared.line_end.LineEnd.TheVariants.{InputEnded, ReadFault as NotRead, WriteFault as NotWritten, Spent as InputSpent, Stopped}
+use Rattle.line_session.specs.declared.line_end.LineEnd.TheVariants.{InputEnded, ReadFault as NotRead, WriteFault as NotWritten}
+use Rattle.line_session.specs.declared.line_end.LineEnd.TheVariants.{Spent as InputSpent, Stopped}
 use Rattle.arc_server.specs.declared.status.Status.{Status}
 use Rattle.arc_server.specs.declared.status.Status.TheVariants.{Done, Usage, SetupBad, ReadFault, WriteFault, Memory, Spent, Worn}
 use Rattle.arc_server.specs.declared.status.Which.TheVariants.{Setup, Input}

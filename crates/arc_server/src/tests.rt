@@ -1,5 +1,6 @@
 // Whole runs over forms in memory, byte for byte.
-ghost use Rattle.std.specs.Prelude.{◌<◌, All};
+ghost use Rattle.std.specs.Prelude.{◌≡◌, ◌<◌, All, false, IfOk};
+ghost use Rattle.arc_io.specs.Memory.{port_seen, source_seen};
 
 use crate::run::{Ended, Outside, run};
 use crate::status::{Status, Which};
@@ -29,7 +30,30 @@ const NONE: Failing<'static> = Failing {
     writes: &[],
 };
 
-// A run of `line` over this setup, this input and these readings.
+// This setup, this input and these readings.
+fn outside_of(
+    alloc: Global,
+    setup: &[u8],
+    input: &[u8],
+    readings: &[u64],
+    failing: &Failing,
+) -> Result<Outside<MemSource, MemPort>, Fail>
+    requires { All (λ r. r < 253_402_300_800) readings.now }
+    ensures setup { IfOk result (λ outside. (source_seen outside.setup).ended ≡ false) }
+    ensures port { IfOk result (λ outside. (port_seen outside.port).ended ≡ false) }
+{
+    Ok(Outside {
+        setup: MemSource::new(setup.to_vec(alloc)?, failing.setup.to_vec(alloc)?),
+        port: MemPort {
+            source: MemSource::new(input.to_vec(alloc)?, failing.reads.to_vec(alloc)?),
+            sink: MemSink::new(alloc, failing.writes.to_vec(alloc)?),
+            clock: ListClock::new(readings.to_vec(alloc)?),
+            noise: ListNoise::new(Vec::new(alloc)),
+        },
+    })
+}
+
+// A run of `line` over them.
 fn ran(
     rt: &HostRuntime,
     setup: &[u8],
@@ -41,15 +65,7 @@ fn ran(
 {
     let alloc = rt.alloc();
     let word = Txt::of(b"line").ok_or("a short word")?;
-    let outside = Outside {
-        setup: MemSource::new(setup.to_vec(alloc)?, failing.setup.to_vec(alloc)?),
-        port: MemPort {
-            source: MemSource::new(input.to_vec(alloc)?, failing.reads.to_vec(alloc)?),
-            sink: MemSink::new(alloc, failing.writes.to_vec(alloc)?),
-            clock: ListClock::new(readings.to_vec(alloc)?),
-            noise: ListNoise::new(Vec::new(alloc)),
-        },
-    };
+    let outside = outside_of(alloc, setup, input, readings, failing)?;
     Ok(run(rt, alloc, &[word], outside))
 }
 
@@ -443,23 +459,14 @@ fn statuses_have_their_numbers_and_texts(rt: HostRuntime) -> Result<(), Fail> {
 #[test]
 fn other_words_are_refused(rt: HostRuntime) -> Result<(), Fail> {
     let alloc = rt.alloc();
-    let outside = Outside {
-        setup: MemSource::new(SETUP.to_vec(alloc)?, Vec::new(alloc)),
-        port: MemPort {
-            source: MemSource::new(ALARM.to_vec(alloc)?, Vec::new(alloc)),
-            sink: MemSink::new(alloc, Vec::new(alloc)),
-            clock: ListClock::new(Vec::new(alloc)),
-            noise: ListNoise::new(Vec::new(alloc)),
-        },
-    };
     let line = Txt::of(b"line").ok_or("a short word")?;
-    let ended = run(&rt, alloc, &[line, line], outside);
-    assert_eq!(rt; ended.status, Status::Usage);
-    assert_eq!(rt; recorded(&ended), None);
-    let ended = run(&rt, alloc, &[], ended.outside);
-    assert_eq!(rt; ended.status, Status::Usage);
-    let ended = run(&rt, alloc, &[line], ended.outside);
-    assert_eq!(rt; ended.status, Status::Done);
-    assert_eq!(rt; ended.outside.port.sink.bytes(), ACKNOWLEDGEMENT);
+    let desk = Txt::of(b"desk").ok_or("a short word")?;
+    let cases: [&[Txt]; 3] = [&[], &[line, line], &[desk]];
+    for words in cases {
+        let outside = outside_of(alloc, SETUP, ALARM, &[], &NONE)?;
+        let ended = run(&rt, alloc, words, outside);
+        assert_eq!(rt; ended.status, Status::Usage);
+        assert_eq!(rt; recorded(&ended), None);
+    }
     Ok(())
 }

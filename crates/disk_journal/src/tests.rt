@@ -253,28 +253,41 @@ fn is_full_at_its_limits(rt: HostRuntime) -> Result<(), Fail> {
     Ok(())
 }
 
-#[test]
-fn the_longest_body_goes_in_and_comes_back(rt: HostRuntime) -> Result<(), Fail> {
-    let alloc = rt.alloc();
-    let longest = vec![in alloc; b'x'; 4_194_400]?;
+// So many letters.
+fn letters(alloc: Global, count: usize) -> Result<Vec<u8>, Fail> {
+    Ok(vec![in alloc; b'x'; count]?)
+}
+
+// A new journal's area, to which this body was appended.
+fn appended(alloc: Global, body: &[u8]) -> Result<MemDisk, Fail> {
+    if body.is_empty() || body.len() > 4_194_400 {
+        return Err("no body".into());
+    }
     let disk = MemDisk::new(alloc, Vec::new(alloc));
     let Ok((mut journal, _)) = Journal::open(alloc, disk, SHIPPED) else {
         return Err("not opened".into());
     };
-    journal.reserve(4_194_405)?;
-    assert_eq!(rt; journal.append(&longest), Ok(()));
-    assert_eq!(rt; journal.append(b"y"), Ok(()));
-    assert_eq!(rt; (journal.used(), journal.records()), (4_194_428, 2));
-    let Ok((_, bodies)) = Journal::open(alloc, journal.close(), SHIPPED) else {
-        return Err("not opened".into());
-    };
-    assert_eq!(rt; bodies.count(), 2);
-    if bodies.count() == 2 {
-        assert!(rt;
-            bodies.at(0) == longest.as_slice(),
-            "the long one is another"
-        );
-        assert_eq!(rt; bodies.at(1), b"y".as_slice());
+    journal.reserve(5 + body.len() as u64)?;
+    match journal.append(body) {
+        Ok(()) => Ok(journal.close()),
+        Err(_) => Err("not appended".into()),
+    }
+}
+
+#[test]
+fn the_longest_body_goes_in_and_comes_back(rt: HostRuntime) -> Result<(), Fail> {
+    let alloc = rt.alloc();
+    for count in [1, 4_194_399, 4_194_400] {
+        let longest = letters(alloc, count)?;
+        let disk = appended(alloc, &longest)?;
+        let Ok((journal, bodies)) = Journal::open(alloc, disk, SHIPPED) else {
+            return Err("not opened".into());
+        };
+        let rest = journal.used().saturating_sub(count as u64);
+        assert_eq!(rt; (rest, bodies.count()), (22, 1));
+        if bodies.count() == 1 {
+            assert!(rt; bodies.at(0) == longest.as_slice(), "at {count}");
+        }
     }
     Ok(())
 }
@@ -282,7 +295,10 @@ fn the_longest_body_goes_in_and_comes_back(rt: HostRuntime) -> Result<(), Fail> 
 #[test]
 fn a_body_of_one_byte_more_is_damage(rt: HostRuntime) -> Result<(), Fail> {
     let alloc = rt.alloc();
-    let mut area = vec![in alloc; b'x'; 4_194_423]?;
+    let mut area = letters(alloc, 4_194_423)?;
+    if area.len() < 21 {
+        return Err("too short".into());
+    }
     area[..21].copy_from_slice(b"ARC JOURNAL 0001\x01\0\x40\0\x60");
     let Ok((_, bodies)) = Journal::open(alloc, disk_of(alloc, &area)?, SHIPPED) else {
         return Err("not opened".into());

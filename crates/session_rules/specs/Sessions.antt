@@ -39,7 +39,8 @@ pub record IsCutOff {T : Type 0} (kind : Kind T) (turns behind : List T) (a : Ad
 
 -- The next piece took its reading, but was stopped: it has no turn and no reply. The turns behind those that were answered took
 -- their readings, but no noise, and have no reply.
-pub record IsStopped {T : Type 0} (kind : Kind T) (IsCause : List ℕ → ℕ → Type 0) (turns behind : List T) (a : Added) (rest : List (List ℕ)) : Type 0 where
+pub record IsStopped {T : Type 0} (kind : Kind T) (IsCause : List ℕ → ℕ → Type 0) (turns behind : List T) (a : Added)
+    (rest : List (List ℕ)) : Type 0 where
   pub front : List T
   pub piece : List ℕ
   pub more : List (List ℕ)
@@ -101,5 +102,6 @@ pub record IsNotAhead {T : Type 0} (kind : Kind T) (cut : List ℕ → List (Lis
 -- reads on after them, is none.
 abbrev pub ReadsNoFurther : {T : Type 0} → Kind T → (List ℕ → List (List ℕ)) → Ending → List ℕ → List T → List T → Type 0
 ReadsNoFurther {T} kind cut answered read turns behind = Unit {0}
-ReadsNoFurther {T} kind cut cut_off read turns behind = (front : List T) × (last : T) × (turns ≡ front ++ last ∷ behind) × IsNotAhead kind cut read front
+ReadsNoFurther {T} kind cut cut_off read turns behind =
+    (front : List T) × (last : T) × (turns ≡ front ++ last ∷ behind) × IsNotAhead kind cut read front
 ReadsNoFurther {T} kind cut (stopped stop) read turns behind = (front : List T) × (turns ≡ front ++ behind) × IsNotAhead kind cut read front
