@@ -4,6 +4,7 @@ use Rattle.std.specs.Prelude.{◌≡◌, ℕ, ◌+◌, ◌/◌, ◌%◌, ◌≤�
 use Rattle.std.specs.Prelude.{nat_lt, nat_le, length, take, drop, filter, map, slice_index}
 use Rattle.std.specs.List.{list_all}
 use Rattle.arc_data.specs.Digits.{is_hex, hex_value}
+use Rattle.dc09_frame.specs.declared.limits.TheConstants.{BODY_LIMIT, PIECE_LIMIT}
 use Rattle.dc09_frame.specs.declared.cut.Cut.{Cut}
 use Rattle.dc09_frame.specs.declared.cut.Cut.TheVariants.{Whole, BadCheck, BadLength, TooLong}
 use Rattle.dc09_frame.specs.Check.{check_of}
@@ -24,7 +25,7 @@ is_clean b = not (b == 10) && not (b == 13)
 -- a body: 1 to 4,095 bytes, of which the first is a double quote and none a line feed or a carriage return
 pub record IsBody (body : List ℕ) : Type 0 where
   pub some : 1 ≤ length body
-  pub size : length body ≤ 4095
+  pub size : length body ≤ BODY_LIMIT
   pub quote : slice_index body 0 ≡ 34
   pub clean : list_all is_clean body ≡ true
 
@@ -62,7 +63,7 @@ has_check piece = do_spell (take 4 piece) (check_of (body_of piece))
 -- what a piece is: the first of these that holds
 unfoldable pub cut : List ℕ → Cut
 cut piece =
-    if nat_lt 4103 (length piece) then TooLong
+    if nat_lt PIECE_LIMIT (length piece) then TooLong
     else if not (has_length piece) then BadLength
     else if not (has_check piece) then BadCheck
     else Whole

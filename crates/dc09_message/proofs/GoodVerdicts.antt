@@ -8,6 +8,7 @@ use Rattle.arc_data.specs.declared.event.Token.{Token}
 use Rattle.alarm_rules.specs.Setups.{Setup, Account, account_of, has_account, key_of}
 use Rattle.civil_time.specs.Stamp.{is_fresh}
 use Rattle.dc09_frame.specs.Headers.{IsHeader}
+use Rattle.dc09_frame.specs.declared.limits.TheConstants.{BODY_LIMIT}
 use Rattle.dc09_frame.specs.declared.header.Header.{Header}
 use Rattle.dc09_crypt.specs.Sealed.{text_under, opening_of}
 use Rattle.dc09_crypt.specs.declared.opening.Opening.{Opening}
@@ -22,7 +23,7 @@ use Rattle.dc09_message.specs.declared.outcome.Why.{Why}
 use Rattle.dc09_message.proofs.ContentSignals.{content_signals}
 use Rattle.dc09_message.proofs.DigitLemmas.{capital_run, four_digits_spell}
 
-pub good_message : (token : Token) (h : Header) (content : List ℕ) → IsHeader h → length content ≤ 4095 → AreBytes content → IsMessage (message_of token h content)
+pub good_message : (token : Token) (h : Header) (content : List ℕ) → IsHeader h → length content ≤ BODY_LIMIT → AreBytes content → IsMessage (message_of token h content)
 good_message token h content w size bytes = record {
   account = capital_run 3 16 h.account w.account;
   receiver = w.receiver;

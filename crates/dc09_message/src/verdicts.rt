@@ -20,7 +20,7 @@ use aes_chain::Key;
 use arc_data::{Blob, Memory, Message, Token, Txt};
 use civil_time::fresh;
 use dc09_crypt::{Opening, open_body};
-use dc09_frame::{FrameBuf, Header};
+use dc09_frame::{BODY_LIMIT, FrameBuf, Header};
 use std::alloc::Global;
 
 /// The verdict on the body of an undamaged frame, at a reading of the clock in seconds since 1970: the first case that holds.
@@ -57,7 +57,7 @@ fn by_token(
     room: &mut FrameBuf,
 ) -> Result<Verdict, Memory>
     requires header { IsHeader header.now }
-    requires size { length rest.now ≤ 4095 }
+    requires size { length rest.now ≤ BODY_LIMIT }
     requires now { IsMoment now }
     ensures exact { IfOk result (λ v. v ≡ on_kind (meaning setup.now) now header.now rest.now (kind_of header.now.token)) }
     ensures memory { IfErr result (λ _. TakesMemory (on_kind (meaning setup.now) now header.now rest.now (kind_of header.now.token))) }
@@ -83,7 +83,7 @@ fn by_key(
     room: &mut FrameBuf,
 ) -> Result<Verdict, Memory>
     requires header { IsHeader header.now }
-    requires size { length rest.now ≤ 4095 }
+    requires size { length rest.now ≤ BODY_LIMIT }
     requires now { IsMoment now }
     ensures exact { IfOk result (λ v. v ≡ on_key now header.now kind rest.now (key_of (meaning setup.now) (capitals header.now.account))) }
     ensures memory { IfErr result (λ _. TakesMemory (on_key now header.now kind rest.now (key_of (meaning setup.now) (capitals header.now.account)))) }
@@ -108,7 +108,7 @@ fn by_opening(
     room: &mut FrameBuf,
 ) -> Result<Verdict, Memory>
     requires header { IsHeader header.now }
-    requires size { length digits.now ≤ 4095 }
+    requires size { length digits.now ≤ BODY_LIMIT }
     requires now { IsMoment now }
     ensures exact { IfOk result (λ v. v ≡ on_opening now header.now kind (text_under key.now digits.now) (opening_of key.now digits.now)) }
     ensures memory { IfErr result (λ _. TakesMemory (on_opening now header.now kind (text_under key.now digits.now) (opening_of key.now digits.now))) }
@@ -135,7 +135,7 @@ fn by_blocks(
     bytes: &[u8],
 ) -> Result<Verdict, Memory>
     requires header { IsHeader header.now }
-    requires size { length bytes.now ≤ 4095 }
+    requires size { length bytes.now ≤ BODY_LIMIT }
     ensures exact { IfOk result (λ v. v ≡ on_blocks header.now kind (content_found kind header.now bytes.now)) }
     ensures memory { IfErr result (λ _. TakesMemory (on_blocks header.now kind (content_found kind header.now bytes.now))) }
     ensures good { IfOk result IsGood }
@@ -183,7 +183,7 @@ fn message_from(
     content: &[u8],
 ) -> Result<Message, Memory>
     requires header { IsHeader header.now }
-    requires size { length content.now ≤ 4095 }
+    requires size { length content.now ≤ BODY_LIMIT }
     ensures exact { IfOk result (λ m. m ≡ message_of token header.now content.now) }
     ensures good { IfOk result IsMessage }
 {

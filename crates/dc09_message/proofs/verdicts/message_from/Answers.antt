@@ -1,7 +1,7 @@
 use Rattle.arc_data.specs.Digits.{AreBytes}
 use Rattle.arc_data.proofs.ByteLemmas.{are_bytes}
 use Rattle.dc09_message.proofs.GoodVerdicts.{good_message}
-use Rattle.dc09_message.proofs.reading.message_from.Goals as goal
+use Rattle.dc09_message.proofs.verdicts.message_from.Goals as goal
 
 pub returns-clause-good : goal.returns-clause-good
 returns-clause-good c =
