@@ -131,5 +131,8 @@ fn nothing_is_put_without_a_call(rt: HostRuntime) {
         fails_at: 1,
         faults: 0,
     };
-    assert_eq!(rt; (put(&mut sink, b""), sink.calls, sink.faults), (Ok(()), 0, 0));
+    assert_eq!(rt;
+        (put(&mut sink, b""), sink.calls, sink.faults),
+        (Ok(()), 0, 0)
+    );
 }

@@ -13,12 +13,12 @@ pub(crate) struct Refusing {
 
 impl Hall for Refusing {
     ghost seen = { λ s. record {
-        ready = Unit {0};
-        text = s.setup;
-        caller = 0;
-        stands = λ b h. ⊥;
-        own = λ h. h;
-        shows = λ stop event clock. Unit {0};
+      ready = Unit {0};
+      text = s.setup;
+      caller = 0;
+      stands = λ b h. ⊥;
+      own = λ h. h;
+      shows = λ stop event clock. Unit {0};
     } };
 
     ghost legal = { λ s b h w. absurd w };
