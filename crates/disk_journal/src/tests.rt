@@ -207,18 +207,24 @@ fn area_of(alloc: Global, digits: &str) -> Result<Vec<u8>, Fail> {
     Ok(area)
 }
 
+// How many bodies are opened, or the fault that is shown.
+fn count_opened(alloc: Global, disk: MemDisk) -> Result<usize, OpenFault> {
+    match Journal::open(alloc, disk, SHIPPED) {
+        Ok((_, bodies)) => Ok(bodies.count()),
+        Err(refused) => Err(refused.fault),
+    }
+}
+
 #[test]
 fn opens_or_says_where_it_is_damaged(rt: HostRuntime) -> Result<(), Fail> {
     let alloc = rt.alloc();
     for row in AREAS.lines() {
         let (want, digits) = row.split_once(';').ok_or("a row without its answer")?;
         let disk = disk_of(alloc, &area_of(alloc, digits)?)?;
-        let got = match Journal::open(alloc, disk, SHIPPED) {
-            Ok((_, bodies)) => format!(in alloc; "{} bodies", bodies.count())?,
-            Err(refused) => match refused.fault {
-                OpenFault::Damaged { at } => format!(in alloc; "damaged at {at}")?,
-                _ => format!(in alloc; "another fault")?,
-            },
+        let got = match count_opened(alloc, disk) {
+            Ok(count) => format!(in alloc; "{count} bodies")?,
+            Err(OpenFault::Damaged { at }) => format!(in alloc; "damaged at {at}")?,
+            Err(fault) => format!(in alloc; "{fault:?}")?,
         };
         assert_eq!(rt; got.as_str(), want, "at {digits}");
     }
