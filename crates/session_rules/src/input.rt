@@ -33,7 +33,11 @@ pub fn up_to(bytes: &[u8], most: u64) -> &[u8]
 
 /// Reads the next piece, of at most so many bytes, to the front of the buffer, and answers how many bytes it has: none only at
 /// the input's end.
-pub fn read_piece<P: Port>(port: &mut P, buffer: &mut [u8; PIECE], most: usize) -> Result<usize, Failed>
+pub fn read_piece<P: Port>(
+    port: &mut P,
+    buffer: &mut [u8; PIECE],
+    most: usize,
+) -> Result<usize, Failed>
     requires some { 0 < most }
     requires fits { most ≤ 4096 }
     requires not_ended { (P.seen port.old).ended ≡ false }

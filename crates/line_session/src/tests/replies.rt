@@ -7,7 +7,8 @@ use std::test::Fail;
 
 // A row is an account, how many entries are recorded at the end, the frames that a panel sends, without their line feeds and
 // carriage returns, and those that it is due, with a `;` between these and a `~` between frames. A line without a `;` is a remark.
-const ROWS: &str = r##"1234;3;2EE70027"ADM-CID"0001L0#1234[#1234|1131 01 001];1BC10012"ACK"0001L0#1234[]
+const ROWS: &str =
+    r##"1234;3;2EE70027"ADM-CID"0001L0#1234[#1234|1131 01 001];1BC10012"ACK"0001L0#1234[]
 # a receiver, no account in the block, and a tail
 1234;3;90F10038"ADM-CID"0001R1L2#1234[|1131 01 001]_01:46:40,09-09-2001;C7370014"ACK"0001R1L2#1234[]
 # heartbeats are recorded each time
