@@ -13,7 +13,7 @@ use centre_core::{Centre, RamHall, Setup, Stop};
 use line_session::{LineEnd, serve_line};
 use std::alloc::Global;
 
-/// How many bytes of a setup text are read at most: one more than a setup may have.
+// How many bytes of a setup text are read at most: one more than a setup may have.
 const SETUP_READ: usize = 4_194_305;
 
 /// What a run is handed: the source of the setup text, and the port of the line.

@@ -97,6 +97,7 @@ fn put_setup<K: Sink>(out: &mut K, fault: SetupFault) -> Result<(), Failed>
     }
 }
 
+// The text of a line that is none of a setup.
 #[tactic(auto, using(arc_io::proofs::KnownMore::known_both))]
 fn put_bad_line<K: Sink>(out: &mut K, line: u64) -> Result<(), Failed>
     ensures all { OnOk result ((K.seen out.new).written ≡ append_known (K.seen out.old).written (bad_line_text line)) }
@@ -106,6 +107,7 @@ fn put_bad_line<K: Sink>(out: &mut K, line: u64) -> Result<(), Failed>
     put(out, b": not a setup line\n")
 }
 
+// The text of a line that declares what an earlier one does.
 #[tactic(auto, using(arc_io::proofs::KnownMore::known_both))]
 fn put_two_same<K: Sink>(out: &mut K, line: u64, first: u64) -> Result<(), Failed>
     ensures all { OnOk result ((K.seen out.new).written ≡ append_known (K.seen out.old).written (two_same_text line first)) }
@@ -117,8 +119,8 @@ fn put_two_same<K: Sink>(out: &mut K, line: u64, first: u64) -> Result<(), Faile
     put(out, b"\n")
 }
 
-#[tactic(auto, using(arc_io::proofs::KnownMore::known_both))]
 // The front of such a line, up to the line's number.
+#[tactic(auto, using(arc_io::proofs::KnownMore::known_both))]
 fn put_line<K: Sink>(out: &mut K, line: u64) -> Result<(), Failed>
     ensures all { OnOk result ((K.seen out.new).written ≡ append_known (K.seen out.old).written (at_line line)) }
     ensures cause { HasCause (K.seen out.old).write_faults (K.seen out.new).write_faults result }
@@ -127,6 +129,7 @@ fn put_line<K: Sink>(out: &mut K, line: u64) -> Result<(), Failed>
     put_number(out, line)
 }
 
+// A number in decimal.
 fn put_number<K: Sink>(out: &mut K, number: u64) -> Result<(), Failed>
     ensures all { OnOk result ((K.seen out.new).written ≡ append_known (K.seen out.old).written (decimal number)) }
     ensures cause { HasCause (K.seen out.old).write_faults (K.seen out.new).write_faults result }

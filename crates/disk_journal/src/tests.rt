@@ -181,40 +181,52 @@ fn each_byte_of_the_head_counts(rt: HostRuntime) -> Result<(), Fail> {
     Ok(())
 }
 
+// What is opened of an area, by what stands behind its head in hexadecimal digits.
+const AREAS: &str = "\
+0 bodies;00 01
+0 bodies;ff 00 00 00 01 78 00
+damaged at 16;01 00
+damaged at 16;01 00 00 00 01
+damaged at 16;01 00 00 00 00 00 00
+damaged at 16;01 00 40 00 61 78 00
+damaged at 16;01 ff 00 00 01 78 00
+damaged at 16;01 00 00 00 01 78
+damaged at 16;01 00 00 00 02 78 00
+1 bodies;01 00 00 00 02 78 79 00
+1 bodies;01 00 00 00 01 78 02 00 00
+2 bodies;01 00 00 00 01 78 01 00 00 00 01 79 00
+damaged at 22;01 00 00 00 01 78 01 00
+damaged at 22;01 00 00 00 01 78 01 00 00 00 01 79";
+
+// The area that a row of the table shows.
+fn area_of(alloc: Global, digits: &str) -> Result<Vec<u8>, Fail> {
+    let mut area = b"ARC JOURNAL 0001".to_vec(alloc)?;
+    for pair in digits.split(' ') {
+        area.push(u8::from_str_radix(pair, 16)?)?;
+    }
+    Ok(area)
+}
+
+// How many bodies are opened, or the fault that is shown.
+fn count_opened(alloc: Global, disk: MemDisk) -> Result<usize, OpenFault> {
+    match Journal::open(alloc, disk, SHIPPED) {
+        Ok((_, bodies)) => Ok(bodies.count()),
+        Err(refused) => Err(refused.fault),
+    }
+}
+
 #[test]
 fn opens_or_says_where_it_is_damaged(rt: HostRuntime) -> Result<(), Fail> {
     let alloc = rt.alloc();
-    let damaged = |at: u64| Err(OpenFault::Damaged { at });
-    let cases: [(&[u8], Result<usize, OpenFault>); 14] = [
-        (
-            b"XXXXXXXXXXXXXXXXXX",
-            Err(OpenFault::NotJournal { byte: 0 }),
-        ),
-        (
-            b"ARC JOURNAL 0009\0\0",
-            Err(OpenFault::WrongVersion { found: *b"0009" }),
-        ),
-        // Any gate but 01 is closed, and what follows means nothing.
-        (b"ARC JOURNAL 0001\0\x01", Ok(0)),
-        (b"ARC JOURNAL 0001\xff\0\0\0\x01x\0", Ok(0)),
-        // The area ends within the length.
-        (b"ARC JOURNAL 0001\x01\0", damaged(16)),
-        (b"ARC JOURNAL 0001\x01\0\0\0\x01", damaged(16)),
-        // A length of 0, one that is too long, and one far past the end.
-        (b"ARC JOURNAL 0001\x01\0\0\0\0\0\0", damaged(16)),
-        (b"ARC JOURNAL 0001\x01\0\x40\0\x61x\0", damaged(16)),
-        (b"ARC JOURNAL 0001\x01\xff\0\0\x01x\0", damaged(16)),
-        // The body ends with the area, and the next gate with it.
-        (b"ARC JOURNAL 0001\x01\0\0\0\x01x", damaged(16)),
-        (b"ARC JOURNAL 0001\x01\0\0\0\x02x\0", damaged(16)),
-        (b"ARC JOURNAL 0001\x01\0\0\0\x02xy\0", Ok(0)),
-        // A whole record, and a damaged one behind it.
-        (b"ARC JOURNAL 0001\x01\0\0\0\x01x\x01\0", damaged(22)),
-        (AREA, Ok(3)),
-    ];
-    for (area, want) in cases {
-        let disk = disk_of(alloc, area)?;
-        assert_eq!(rt; opened(alloc, disk), want, "at {area:?}");
+    for row in AREAS.lines() {
+        let (want, digits) = row.split_once(';').ok_or("a row without its answer")?;
+        let disk = disk_of(alloc, &area_of(alloc, digits)?)?;
+        let got = match count_opened(alloc, disk) {
+            Ok(count) => format!(in alloc; "{count} bodies")?,
+            Err(OpenFault::Damaged { at }) => format!(in alloc; "damaged at {at}")?,
+            Err(fault) => format!(in alloc; "{fault:?}")?,
+        };
+        assert_eq!(rt; got.as_str(), want, "at {digits}");
     }
     Ok(())
 }

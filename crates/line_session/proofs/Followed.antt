@@ -36,6 +36,7 @@ module _ (b : Summary) (setup : Setup) (caller : ℕ) where
     by = n.by;
     of = n.of;
     at = n.at;
+    known = n.known;
     reply = n.reply;
   }
 

@@ -13,7 +13,8 @@ use Rattle.dc09_frame.specs.Frames.{bodies}
 use Rattle.session_rules.specs.Sessions.{answered}
 use Rattle.session_rules.proofs.Ahead.{reads_no_further}
 use Rattle.session_rules.proofs.Joined.{session_read, session_then, all_pieces}
-use Rattle.line_session.specs.Lines.{ServesBytes, ServesLine, IsTaken, HasEnded, LineValue, in_limit, input_limit}
+use Rattle.session_rules.specs.Inputs.{in_limit, input_limit}
+use Rattle.line_session.specs.Lines.{ServesBytes, ServesLine, IsTaken, HasEnded, LineValue}
 use Rattle.line_session.specs.Sessions.{IsLine, ending_of, line_rules}
 use Rattle.line_session.specs.Turns.{line_turns}
 use Rattle.line_session.specs.declared.line_end.LineEnd.{LineEnd}

@@ -70,7 +70,7 @@ module _ (b : Summary) (h : List Entry) (hall hall' : HallSeen) (p p' : PortSeen
         let t : Turn = record { body = body; reading = r.reading; noise = told.sends.taken; entry = Some entry; reply = told.sends.reply } in
         session_turn end x t
         (turn_is b (meaning hall.text) hall.caller h x v t is
-        (turn x t (record { before = goes.before; entry = entry; extends = goes.extends; is = refl; taken = refl; by = told.took.by; of = told.took.of; at = goes.at; reply = told.sends.ack })))
+        (turn x t (record { before = goes.before; entry = entry; extends = goes.extends; is = refl; taken = refl; by = told.took.by; of = told.took.of; at = goes.at; known = told.known; reply = told.sends.ack })))
         goes.holds goes.legal goes.own told.sends.put ends
 
     left_it : (stop : Stop) → event_of v ≡ Some r.event → LeftEvent stop b hall hall' h r.event r.reading → p' ≡ after_reading r.reading p → IsLine (stopped stop) b (body ∷ []) h hall hall' p p'

@@ -1,5 +1,5 @@
 -- What a line's state keeps of the bytes that it took, and what a session over a port did.
-use Rattle.std.specs.Prelude.{◌≡◌, ◌<◌, ◌≤◌, ◌↔◌, ◌-◌, ◌^◌, ◌++◌, ℕ, List, true, Result, Ok, Err, take, length}
+use Rattle.std.specs.Prelude.{◌≡◌, ◌<◌, ◌≤◌, ◌↔◌, ◌++◌, ℕ, List, true, Result, Ok, Err, length}
 use Rattle.std.specs.Io.KnownBytes.{prepend_known, IsAtEnd}
 use Rattle.alarm_rules.specs.Setups.{meaning}
 use Rattle.arc_io.specs.Causes.{Rose}
@@ -9,16 +9,13 @@ use Rattle.centre_rules.specs.Summary.{Summary}
 use Rattle.centre_rules.specs.History.{Entry}
 use Rattle.dc09_frame.specs.Cutting.{CutterValue, WasFed}
 use Rattle.dc09_frame.specs.Frames.{bodies}
+use Rattle.session_rules.specs.Inputs.{input_limit}
 use Rattle.session_rules.specs.Sessions.{ReadsNoFurther}
 use Rattle.line_session.specs.Completeness.{IsComplete}
 use Rattle.line_session.specs.Sessions.{IsLine, ending_of}
 use Rattle.line_session.specs.Turns.{line_turns}
 use Rattle.line_session.specs.declared.line_end.LineEnd.{LineEnd}
 use Rattle.line_session.specs.declared.line_end.LineEnd.TheVariants.{InputEnded, ReadFault, WriteFault, Spent, Stopped}
-
--- how many bytes of an input are taken at most
-abbrev pub input_limit : ℕ
-input_limit = 2 ^ 40
 
 -- what a line's state keeps: its cutter, and how many bytes it took
 pub record LineValue : Type 0 where
@@ -30,10 +27,6 @@ pub record TookStream (stream : List ℕ) (s : LineValue) : Type 0 where
   pub fed : WasFed stream s.cutter
   pub count : s.count ≡ length stream
   pub short : length stream < input_limit
-
--- the bytes of a piece that are taken behind a stream: as many as the limit leaves
-abbrev pub in_limit : List ℕ → List ℕ → List ℕ
-in_limit stream piece = take (input_limit - length stream) piece
 
 -- What is left of a state that took a piece behind a stream, by what it answered. Of one that answered an end nothing is left.
 abbrev pub IsTaken : Result (Unit {0}) LineEnd → List ℕ → List ℕ → LineValue → Type 0

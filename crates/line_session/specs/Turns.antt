@@ -1,8 +1,9 @@
 -- The turns of a line session: one for each whole piece of the bytes read.
-use Rattle.std.specs.Prelude.{◌≡◌, ℕ, List, [], ◌∷◌, Bool, true, false, Option, Some, None, length}
+use Rattle.std.specs.Prelude.{◌≡◌, ◌≢◌, ℕ, List, [], ◌∷◌, Bool, true, false, Option, Some, None, length}
 use Rattle.arc_data.specs.Digits.{capitals}
 use Rattle.arc_data.specs.declared.event.Event.{Event}
 use Rattle.arc_data.specs.declared.event.Event.TheVariants.{Message as Sent, Beat as Heartbeat}
+use Rattle.arc_data.specs.declared.event.Reply.TheVariants.{Unknown}
 use Rattle.alarm_rules.specs.Setups.{Setup, key_of}
 use Rattle.centre_rules.specs.Summary.{Summary}
 use Rattle.centre_rules.specs.History.{Entry, Extends, moment_after}
@@ -60,7 +61,7 @@ pub record TakesNothing (h x : List Entry) (t : Turn) (text : List ℕ) : Type 0
   pub reply : t.reply ≡ text
 
 -- From the history h on, to x: other entries, and then the turn's entry. It is the caller's, of this event, at the moment that
--- the turn's reading has there, and the turn gives the acknowledgement.
+-- the turn's reading has there; the centre answered it by another reply than Unknown; and the turn gives the acknowledgement.
 pub record TakesEntry (b : Summary) (setup : Setup) (caller : ℕ) (h x : List Entry) (t : Turn) (header : Header) (event : Event)
     : Type 0 where
   pub before : List Entry
@@ -71,6 +72,7 @@ pub record TakesEntry (b : Summary) (setup : Setup) (caller : ℕ) (h x : List E
   pub by : entry.caller ≡ caller
   pub of : entry.event ≡ event
   pub at : entry.at ≡ moment_after b before t.reading
+  pub known : entry.reply ≢ Unknown
   pub reply : IsAck setup header t.reading t.noise t.reply
 
 -- The turn of each verdict, from the history h on, to x: silence gives nothing; NAK gives its frame with the stamp of the

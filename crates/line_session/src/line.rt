@@ -1,7 +1,6 @@
 // A line session over a port.
-ghost use Rattle.std.specs.Prelude.{◌≡◌, ◌≤◌, ◌<◌, List, ℕ, false, Err, IfOk};
+ghost use Rattle.std.specs.Prelude.{◌≡◌, ◌≤◌, List, ℕ, false, Err};
 ghost use Rattle.arc_io.specs.Causes.{Rose};
-ghost use Rattle.arc_io.specs.Told.{Reads};
 ghost use Rattle.centre_core.specs.Halls.{IsKept};
 ghost use Rattle.centre_rules.specs.Summary.{Summary};
 ghost use Rattle.centre_rules.specs.History.{Entry};
@@ -13,10 +12,8 @@ use crate::line_end::LineEnd;
 use crate::line_state::LineState;
 use arc_io::{Failed, Port};
 use centre_core::Hall;
+use session_rules::{PIECE, read_piece};
 use std::alloc::Global;
-
-// How many bytes a read is asked for at most.
-const PIECE: usize = 4096;
 
 /// Serves one line over a port: reads it piece by piece, each of at most 4,096 bytes, and answers the whole frames of a piece
 /// before it reads the next. `InputEnded` comes at the input's end, `ReadFault` where a read failed, `Spent` after 2^40 bytes, and
@@ -49,16 +46,4 @@ pub fn serve_line<H: Hall, P: Port>(alloc: Global, hall: &mut H, port: &mut P) -
             }
         }
     }
-}
-
-// Reads the next piece, of at most so many bytes, to the front of the buffer, and answers how many bytes it has: none only at
-// the input's end.
-fn read_piece<P: Port>(port: &mut P, buffer: &mut [u8; PIECE], most: usize) -> Result<usize, Failed>
-    requires some { 0 < most }
-    requires fits { most ≤ 4096 }
-    requires not_ended { (P.seen port.old).ended ≡ false }
-    ensures bound { IfOk result (λ n. n ≤ most) }
-    ensures told { Reads (P.seen port.old) (P.seen port.new) result buffer.new }
-{
-    port.read(&mut buffer[..most])
 }

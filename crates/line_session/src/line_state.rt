@@ -1,22 +1,21 @@
 // A line whose bytes are handed in.
-ghost use Rattle.std.specs.Prelude.{◌≡◌, ◌≤◌, ◌-◌, [], Err, List, ℕ, length, take};
+ghost use Rattle.std.specs.Prelude.{◌≡◌, ◌-◌, [], Err, List, ℕ};
 ghost use Rattle.arc_io.specs.Added.{Answers};
 ghost use Rattle.centre_core.specs.Halls.{IsKept};
 ghost use Rattle.centre_rules.specs.Summary.{Summary};
 ghost use Rattle.centre_rules.specs.History.{Entry};
+ghost use Rattle.session_rules.specs.Inputs.{in_limit, input_limit};
 ghost use Rattle.session_rules.specs.Sessions.{HasShown};
 ghost use Rattle.line_session.specs.Sessions.{ReadsNothing, ending_of};
-ghost use Rattle.line_session.specs.Lines.{TookStream, IsTaken, ServesBytes, in_limit, input_limit};
+ghost use Rattle.line_session.specs.Lines.{TookStream, IsTaken, ServesBytes};
 
 use crate::line_end::LineEnd;
 use crate::pieces::Pieces;
 use arc_io::Port;
 use centre_core::Hall;
+use session_rules::{room_behind, up_to};
 use std::alloc::Global;
 use std::marker::Model;
-
-// How many bytes of an input are taken at most.
-const INPUT_LIMIT: u64 = 1 << 40;
 
 /// The state of a line between two pieces of its bytes: what is open of a frame, and how many bytes were taken. It takes no
 /// memory, and has room for the longest frame.
@@ -28,7 +27,8 @@ pub struct LineState {
 
 impl Model for LineState {
     ghost use Rattle.std.specs.Prelude.{◌≤◌};
-    ghost use Rattle.line_session.specs.Lines.{LineValue, input_limit};
+    ghost use Rattle.session_rules.specs.Inputs.{input_limit};
+    ghost use Rattle.line_session.specs.Lines.{LineValue};
 
     ghost Value = { LineValue };
 
@@ -52,7 +52,7 @@ impl LineState {
     pub(crate) fn room(&self) -> u64
         ensures { result ≡ input_limit - self.now.count }
     {
-        INPUT_LIMIT - self.count
+        room_behind(self.count)
     }
 
     /// Takes the next piece of the line's bytes, and answers each whole frame that ends in it. It reads nothing of the port's
@@ -74,24 +74,12 @@ impl LineState {
         ensures stop { HasShown (H.seen hall.new) (ending_of result) }
         ensures port { Answers (result ≡ Err LineEnd.WriteFault) (P.seen port.old) (P.seen port.new) }
     {
-        let bytes = up_to(piece, INPUT_LIMIT - self.count);
+        let bytes = up_to(piece, room_behind(self.count));
         self.count += bytes.len() as u64;
         self.pieces.answer_whole(alloc, hall, port, bytes)?;
-        if self.count == INPUT_LIMIT {
+        if room_behind(self.count) == 0 {
             return Err(LineEnd::Spent);
         }
         Ok(())
-    }
-}
-
-// The first bytes, at most so many.
-fn up_to(bytes: &[u8], most: u64) -> &[u8]
-    ensures value { result.now ≡ take most bytes.now }
-    ensures short { length result.now ≤ most }
-{
-    if bytes.len() as u64 <= most {
-        bytes
-    } else {
-        &bytes[..most as usize]
     }
 }

@@ -69,3 +69,21 @@ fn joined(alloc: Global, parts: &[&[u8]]) -> Result<Vec<u8>, Fail> {
     }
     Ok(all)
 }
+
+// The three parts of a row.
+fn row_of(row: &str) -> Option<(&str, &str, &str)> {
+    let (first, rest) = row.split_once(';')?;
+    let (second, third) = rest.split_once(';')?;
+    Some((first, second, third))
+}
+
+// The frames of a row, as they go over a line.
+fn framed(alloc: Global, frames: &str) -> Result<Vec<u8>, Fail> {
+    let mut all = Vec::new(alloc);
+    for frame in frames.split('~') {
+        all.push(b'\n')?;
+        all.extend_from_slice(frame.as_bytes())?;
+        all.push(b'\r')?;
+    }
+    Ok(all)
+}

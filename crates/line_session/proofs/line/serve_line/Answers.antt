@@ -4,7 +4,7 @@ use Rattle.arc_io.specs.Causes.{Rose}
 use Rattle.arc_io.specs.Seen.{PortSeen}
 use Rattle.arc_io.proofs.KnownMore.{prepend_none}
 use Rattle.session_rules.proofs.Made.{session_none}
-use Rattle.line_session.specs.Lines.{input_limit}
+use Rattle.session_rules.specs.Inputs.{input_limit}
 use Rattle.line_session.specs.Sessions.{line_rules}
 use Rattle.line_session.specs.Turns.{line_turns}
 use Rattle.line_session.specs.declared.line_end.LineEnd.TheVariants.{InputEnded, ReadFault}

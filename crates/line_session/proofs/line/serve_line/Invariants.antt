@@ -1,6 +1,6 @@
 use Rattle.std.proofs.Common.{◌-◌}
 use Rattle.centre_core.specs.Halls.{IsKept}
-use Rattle.line_session.specs.Lines.{input_limit}
+use Rattle.session_rules.specs.Inputs.{input_limit}
 use Rattle.line_session.proofs.SoFar.{SoFar}
 use Rattle.line_session.proofs.line.serve_line.Given as goal
 
