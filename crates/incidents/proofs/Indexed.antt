@@ -11,7 +11,7 @@ use Rattle.arc_data.specs.Classes.{same_class, same_class_equiv}
 use Rattle.arc_data.specs.declared.incident.Incident.{Incident}
 use Rattle.arc_data.specs.declared.signal.Class.{Class}
 use Rattle.arc_data.specs.Incidents.{is_of, Each}
-use Rattle.incidents.specs.Index.{IndexValue, number_in, Tells, TellsAlike}
+use Rattle.incidents.specs.Index.{IndexValue, Tells}
 use Rattle.incidents.specs.Tables.{IsIndexed, IsSingle, number_of, held}
 use Rattle.incidents.proofs.Places.{IsAlike, none_found}
 

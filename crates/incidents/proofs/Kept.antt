@@ -1,11 +1,11 @@
 -- What a table keeps, over each change.
-use Rattle.std.proofs.Common.{◌≡◌, ◌<◌, ◌≤◌, ℕ, ◌+◌, ◌-◌, List, [], ◌∷◌, ◌++◌, length, get_or, set, map, Option, Some, None, ap, ◌∙◌, subst, arith}
+use Rattle.std.proofs.Common.{◌≡◌, ◌<◌, ◌≤◌, ℕ, ◌+◌, ◌-◌, List, [], ◌∷◌, ◌++◌, length, set, map, Some, None, subst}
 use Rattle.std.specs.List.{find, remove}
 use Rattle.arc_data.specs.Incidents.{is_of}
 use Rattle.arc_data.specs.declared.incident.Incident.{Incident}
-use Rattle.incidents.specs.Index.{IndexValue, Tells, TellsAlike}
+use Rattle.incidents.specs.Index.{IndexValue, Tells}
 use Rattle.incidents.specs.Tables.{IsKept, held}
-use Rattle.incidents.proofs.Indexed.{set_indexed, more_indexed, less_indexed, released_indexed, alike_indexed}
+use Rattle.incidents.proofs.Indexed.{set_indexed, more_indexed, less_indexed, released_indexed}
 use Rattle.incidents.proofs.Places.{IsAt, IsAlike, changed_table, more_table, less_table, released_table}
 
 pub changed_kept : (n opened room memory : ℕ) (index : IndexValue) (is : List Incident) (place : ℕ) (x y : Incident) → IsKept opened is room memory index → IsAt n is place x → IsAlike y x → IsKept opened (set is place y) room memory index

@@ -1,5 +1,5 @@
 -- What a map tells after a change, said of an account and a class.
-use Rattle.std.proofs.Common.{◌≡◌, ℕ, List, Bool, true, false, cond, ap, ◌∙◌, Option, Some, None}
+use Rattle.std.proofs.Common.{◌≡◌, ℕ, List, cond, ap, ◌∙◌, Option}
 use Rattle.std.specs.Prelude.{Result, Ok, Err, OnOk, IsOk, ◌&&◌}
 use Rattle.std.specs.Map.{lookup}
 use Rattle.std.specs.Str.{bytes_eq}

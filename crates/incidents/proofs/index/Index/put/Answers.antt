@@ -1,6 +1,6 @@
 -- The map has the new number, since there was memory for it.
-use Rattle.std.proofs.Common.{◌≡◌, ◌<◌, ap, Some}
-use Rattle.incidents.specs.Index.{IndexValue, key_of}
+use Rattle.std.proofs.Common.{Some}
+use Rattle.incidents.specs.Index.{key_of}
 use Rattle.incidents.proofs.Told.{told, when_ok}
 use Rattle.incidents.proofs.index.Index.put.Goals as goal
 

@@ -1,5 +1,5 @@
 -- The map has the number no more.
-use Rattle.std.proofs.Common.{◌≡◌, None}
+use Rattle.std.proofs.Common.{None}
 use Rattle.incidents.specs.Index.{key_of}
 use Rattle.incidents.proofs.Told.{told}
 use Rattle.incidents.proofs.index.Index.remove.Goals as goal
