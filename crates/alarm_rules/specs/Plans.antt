@@ -7,7 +7,8 @@ use Rattle.arc_data.specs.Steps.{same_step}
 use Rattle.arc_data.specs.declared.plan.Planned.{Planned}
 use Rattle.arc_data.specs.declared.plan.PlanWord.{PlanWord}
 use Rattle.arc_data.specs.declared.plan.PlanWord.TheVariants.{Premises as CallPremises, Holders, Police as SendPolice}
-use Rattle.arc_data.specs.declared.plan.PlanWord.TheVariants.{Fire as SendFire, Ambulance as SendAmbulance, Guard as SendGuard, Note as WriteNote}
+use Rattle.arc_data.specs.declared.plan.PlanWord.TheVariants.{Fire as SendFire, Ambulance as SendAmbulance}
+use Rattle.arc_data.specs.declared.plan.PlanWord.TheVariants.{Guard as SendGuard, Note as WriteNote}
 use Rattle.arc_data.specs.declared.step.Acted.{Acted}
 use Rattle.arc_data.specs.declared.step.Step.{Step}
 use Rattle.arc_data.specs.declared.step.Step.TheVariants.{Premises, Holder, Police, Fire, Ambulance, Guard, Note}
