@@ -1,5 +1,5 @@
 -- What the centre answers to an event after a history.
-use Rattle.std.specs.Prelude.{◌≡◌, ◌≤◌, ◌+◌, ◌==◌, ◌&&◌, ℕ, List, [], ◌∷◌, Bool, true, false, Option, Some, None, is_ok, is_some, nat_le, take}
+use Rattle.std.specs.Prelude.{◌≡◌, ◌≤◌, ◌+◌, ◌==◌, ◌&&◌, ℕ, List, [], ◌∷◌, Bool, true, false, Option, Some, None, is_ok, nat_le, take}
 use Rattle.std.specs.List.{find}
 use Rattle.std.specs.Option.{option_map}
 use Rattle.std.specs.Str.{bytes_eq}
@@ -12,7 +12,7 @@ use Rattle.arc_data.specs.declared.event.Reply.TheVariants.{Adopted, Started, Ta
 use Rattle.arc_data.specs.declared.event.Token.{Token}
 use Rattle.arc_data.specs.declared.event.Token.TheVariants.{SiaDcs, AdmCid}
 use Rattle.alarm_rules.specs.Setups.{Setup, setup_of, has_account}
-use Rattle.alarm_rules.specs.Signals.{signals}
+use Rattle.alarm_rules.specs.Signals.{has_signals}
 use Rattle.centre_rules.specs.Summary.{Summary, Past}
 use Rattle.centre_rules.specs.Marks.{Mark, force, messages}
 use Rattle.centre_rules.specs.History.{Entry, last, marks, IsMoment}
@@ -21,10 +21,6 @@ use Rattle.centre_rules.specs.History.{Entry, last, marks, IsMoment}
 abbrev pub knows_account : Option Setup → List ℕ → Bool
 knows_account None account = false
 knows_account (Some setup) account = has_account setup account
-
--- the message has signals: its data is in the grammar of its token
-abbrev pub has_signals : Message → Bool
-has_signals m = is_some (signals m.token m.content)
 
 -- Repeats.
 
@@ -68,7 +64,7 @@ if_known false reply = Unknown
 abbrev pub answer_over : Summary → List Mark → Event → ℕ → Reply
 answer_over s ms (Adopt text) at = if_known (is_ok (setup_of text)) Adopted
 answer_over s ms Start at = Started
-answer_over s ms (Sent m) at = if_known (knows_account (force s ms) m.account && has_signals m) (taken_or (repeat_of s ms m at))
+answer_over s ms (Sent m) at = if_known (knows_account (force s ms) m.account && has_signals m.token m.content) (taken_or (repeat_of s ms m at))
 answer_over s ms (Beat account) at = if_known (knows_account (force s ms) account) Heard
 
 abbrev pub answer : Summary → List Entry → Event → ℕ → Reply

@@ -1,11 +1,12 @@
 -- The verdict on an undamaged frame: the first case that holds.
-use Rattle.std.specs.Prelude.{◌≡◌, ℕ, List, if◌then◌else◌, Option, Some, None, is_some, drop, slice_range}
+use Rattle.std.specs.Prelude.{◌≡◌, ℕ, List, if◌then◌else◌, true, Option, Some, None, is_some, drop, slice_range}
 use Rattle.arc_data.specs.Digits.{capitals, dec_value}
 use Rattle.arc_data.specs.WellFormed.{IsMessage, IsWellFormed}
 use Rattle.arc_data.specs.declared.event.Event.TheVariants.{Beat as Heard}
 use Rattle.arc_data.specs.declared.event.Message.{Message}
 use Rattle.arc_data.specs.declared.event.Token.{Token}
-use Rattle.alarm_rules.specs.Setups.{Setup, Account, account_of, key_of}
+use Rattle.alarm_rules.specs.Setups.{Setup, Account, account_of, has_account, key_of}
+use Rattle.alarm_rules.specs.Signals.{has_signals}
 use Rattle.civil_time.specs.Stamp.{is_fresh}
 use Rattle.dc09_frame.specs.Headers.{header_at, IsHeader}
 use Rattle.dc09_frame.specs.declared.header.Header.{Header}
@@ -91,3 +92,16 @@ IsKeyed setup Nak = Unit {0}
 IsKeyed setup (Duh h why) = Unit {0}
 IsKeyed setup (Beat h account) = IsSealedAsKeyed setup h
 IsKeyed setup (Numbered h m) = IsSealedAsKeyed setup h
+
+-- What a centre needs to take a message: the setup has its account, and its content has signals.
+pub record IsReadable (setup : Setup) (m : Message) : Type 0 where
+  pub account : has_account setup m.account ≡ true
+  pub content : has_signals m.token m.content ≡ true
+
+-- What is taken is not unknown to a centre of that setup.
+abbrev pub IsKnown : Setup → Verdict → Type 0
+IsKnown setup Silence = Unit {0}
+IsKnown setup Nak = Unit {0}
+IsKnown setup (Duh h why) = Unit {0}
+IsKnown setup (Beat h account) = has_account setup account ≡ true
+IsKnown setup (Numbered h m) = IsReadable setup m

@@ -1,8 +1,8 @@
 // What a message keeps of its blocks.
-ghost use Rattle.std.specs.Prelude.{◌≡◌, ◌&&◌, ◌≤◌, length, is_some, IfSome};
+ghost use Rattle.std.specs.Prelude.{◌≡◌, ◌&&◌, ◌≤◌, length, IfSome};
 ghost use Rattle.std.specs.Str.{bytes_eq};
 ghost use Rattle.arc_data.specs.Digits.{capitals};
-ghost use Rattle.alarm_rules.specs.Signals.{signals};
+ghost use Rattle.alarm_rules.specs.Signals.{has_signals};
 ghost use Rattle.dc09_frame.specs.Reading.{Gives};
 ghost use Rattle.dc09_message.specs.Contents.{is_tail, fits_tail, begins_account, after_account, after_bar, data_behind, content_in};
 ghost use Rattle.dc09_message.specs.Reading.{data_in};
@@ -123,7 +123,7 @@ fn is_account_of(header: &Header, digits: &[u8]) -> bool
 }
 
 fn has_signals(token: Token, contents: &[u8]) -> bool
-    ensures { result ≡ is_some (signals token contents.now) }
+    ensures { result ≡ has_signals token contents.now }
 {
     match token {
         Token::AdmCid => contact_id::read(contents).is_some(),

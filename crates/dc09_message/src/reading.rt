@@ -10,7 +10,7 @@ ghost use Rattle.dc09_frame.specs.Headers.{IsHeader};
 ghost use Rattle.dc09_crypt.specs.Sealed.{text_under, opening_of};
 ghost use Rattle.dc09_message.specs.Contents.{kind_of, content_in as content_found};
 ghost use Rattle.dc09_message.specs.Reading.{on_key};
-ghost use Rattle.dc09_message.specs.Verdicts.{message_of, on_blocks, on_opening, on_kind, verdict_of, IsGood, IsKeyed, TakesMemory};
+ghost use Rattle.dc09_message.specs.Verdicts.{message_of, on_blocks, on_opening, on_kind, verdict_of, IsGood, IsKeyed, IsKnown, TakesMemory};
 
 use crate::content::content_in;
 use crate::kind::MessageKind;
@@ -39,6 +39,7 @@ pub fn verdict(
     ensures memory { IfErr result (λ _. TakesMemory (verdict_of (meaning setup.now) now body.now)) }
     ensures good { IfOk result IsGood }
     ensures keyed { IfOk result (IsKeyed (meaning setup.now)) }
+    ensures known { IfOk result (IsKnown (meaning setup.now)) }
 {
     match Header::read(body) {
         None => Ok(Verdict::Silence),
