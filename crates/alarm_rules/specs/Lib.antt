@@ -4,3 +4,4 @@ pub mod Setups
 pub mod SiaCodes
 pub mod SiaGrammar
 pub mod Signals
+pub mod Weeks

@@ -1,5 +1,5 @@
 //! The plain data of the station, which several crates speak of: texts and byte lists, messages, signals, events,
-//! replies and entries, steps and incidents, and the faults of a setup text.
+//! replies and entries, steps and incidents, opening hours, and the faults of a setup text.
 #![tactic(auto)]
 
 mod acts;
@@ -14,6 +14,7 @@ mod signal;
 mod step;
 mod step_list;
 mod txt;
+mod window;
 
 pub use acts::Acts;
 pub use blob::{Blob, Memory};
@@ -27,6 +28,7 @@ pub use signal::{Class, Kind, Signal, Signals};
 pub use step::{Acted, Outcome, Step};
 pub use step_list::StepList;
 pub use txt::Txt;
+pub use window::Window;
 
 #[cfg(test)]
 mod tests;
