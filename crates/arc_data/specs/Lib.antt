@@ -3,6 +3,7 @@ pub mod Digits
 pub mod Field
 pub mod Incidents
 pub mod Listings
+pub mod Moments
 pub mod Steps
 pub mod WellFormed
 pub mod Words

@@ -72,7 +72,7 @@ pub trait Hall {
     ghost legal: { (hall : Self) (b : Summary) (h : List Entry) → stands hall b h → IsLegal b h };
 
     /// After each history for which it stands the setup of its text is in force.
-    ghost in_force: { (hall : Self) (b : Summary) (h : List Entry) → stands hall b h → force b (marks h) ≡ Some (meaning (text hall)) };
+    ghost in_force: { (hall : Self) (b : Summary) (h : List Entry) → stands hall b h → force b (marks b h) ≡ Some (meaning (text hall)) };
 }
 
 /// A centre in memory, of which a run has begun. Contracts see the centre's state.

@@ -1,26 +1,36 @@
 -- What the centre answers to an event after a history.
-use Rattle.std.specs.Prelude.{◌≡◌, ◌≤◌, ◌+◌, ◌==◌, ◌&&◌, ℕ, List, [], ◌∷◌, Bool, true, false, Option, Some, None, is_ok, nat_le, take}
+use Rattle.std.specs.Prelude.{◌≡◌, ◌≤◌, ◌+◌, ◌==◌, ◌&&◌, ℕ, List, [], ◌∷◌, Bool, true, false, take, length}
+use Rattle.std.specs.Prelude.{Option, Some, None, is_ok, nat_le}
 use Rattle.std.specs.List.{find}
 use Rattle.std.specs.Option.{option_map}
 use Rattle.std.specs.Str.{bytes_eq}
 use Rattle.arc_data.specs.WellFormed.{IsWellFormed}
 use Rattle.arc_data.specs.declared.event.Event.{Event}
-use Rattle.arc_data.specs.declared.event.Event.TheVariants.{Adopt, Start, Message as Sent, Beat}
+use Rattle.arc_data.specs.declared.event.Event.TheVariants.{Adopt, Start, Message as Sent, Beat, Tick, Claim, Next, Act as Do}
+use Rattle.arc_data.specs.declared.event.Event.TheVariants.{Release, Close, Show, List as Rows}
 use Rattle.arc_data.specs.declared.event.Message.{Message}
-use Rattle.arc_data.specs.declared.event.Reply.{Reply}
-use Rattle.arc_data.specs.declared.event.Reply.TheVariants.{Adopted, Started, Taken, Repeat, Heard, Unknown}
+use Rattle.arc_data.specs.declared.reply.Reply.{Reply}
+use Rattle.arc_data.specs.declared.reply.Reply.TheVariants.{Adopted, Started, Taken, Repeat, Heard, Raised, Unknown}
 use Rattle.arc_data.specs.declared.event.Token.{Token}
 use Rattle.arc_data.specs.declared.event.Token.TheVariants.{SiaDcs, AdmCid}
-use Rattle.alarm_rules.specs.Setups.{Setup, setup_of, has_account}
+use Rattle.alarm_rules.specs.Setups.{Setup, setup_of, has_account, has_operator}
 use Rattle.alarm_rules.specs.Signals.{has_signals}
 use Rattle.centre_rules.specs.Summary.{Summary, Past}
 use Rattle.centre_rules.specs.Marks.{Mark, force, messages}
-use Rattle.centre_rules.specs.History.{Entry, last, marks, IsMoment}
+use Rattle.centre_rules.specs.Cases.{incidents}
+use Rattle.centre_rules.specs.Carrying.{raised}
+use Rattle.centre_rules.specs.History.{Entry, last, marks, acted_by}
+use Rattle.centre_rules.specs.Desks.{on_claim, on_next, on_act, on_release, on_close, on_show, on_list}
 
--- before the first Adopt every account is lacking
+-- before the first Adopt every account and every operator is lacking
+
 abbrev pub knows_account : Option Setup → List ℕ → Bool
 knows_account None account = false
 knows_account (Some setup) account = has_account setup account
+
+abbrev pub knows_operator : Option Setup → List ℕ → Bool
+knows_operator None name = false
+knows_operator (Some setup) name = has_operator setup name
 
 -- Repeats.
 
@@ -38,7 +48,9 @@ same_option (Some a) None = false
 
 -- they agree in `R` field, `L` field, sequence, token and content
 abbrev pub same_message : Message → Message → Bool
-same_message a b = same_option a.receiver b.receiver && bytes_eq a.line b.line && (a.seq == b.seq) && same_token a.token b.token && bytes_eq a.content b.content
+same_message a b =
+    same_option a.receiver b.receiver && bytes_eq a.line b.line && (a.seq == b.seq) && same_token a.token b.token
+    && bytes_eq a.content b.content
 
 -- the recorded message makes this one, at this moment, a repeat: they agree, and it is at most 300 seconds older
 abbrev pub repeats : Message → ℕ → Past → Bool
@@ -56,6 +68,8 @@ abbrev pub taken_or : Option ℕ → Reply
 taken_or None = Taken
 taken_or (Some first) = Repeat first
 
+-- Answers.
+
 abbrev pub if_known : Bool → Reply → Reply
 if_known true reply = reply
 if_known false reply = Unknown
@@ -64,11 +78,24 @@ if_known false reply = Unknown
 abbrev pub answer_over : Summary → List Mark → Event → ℕ → Reply
 answer_over s ms (Adopt text) at = if_known (is_ok (setup_of text)) Adopted
 answer_over s ms Start at = Started
-answer_over s ms (Sent m) at = if_known (knows_account (force s ms) m.account && has_signals m.token m.content) (taken_or (repeat_of s ms m at))
+answer_over s ms (Sent m) at =
+    if_known (knows_account (force s ms) m.account && has_signals m.token m.content) (taken_or (repeat_of s ms m at))
 answer_over s ms (Beat account) at = if_known (knows_account (force s ms) account) Heard
+answer_over s ms Tick at = Raised (length (raised s ms at))
+answer_over s ms (Claim operator number) at =
+    if_known (knows_operator (force s ms) operator) (on_claim operator number (incidents s ms))
+answer_over s ms (Next operator) at = if_known (knows_operator (force s ms) operator) (on_next operator (incidents s ms))
+answer_over s ms (Do operator number step outcome) at =
+    if_known (knows_operator (force s ms) operator) (on_act (acted_by operator step outcome at) number (incidents s ms))
+answer_over s ms (Release operator number) at =
+    if_known (knows_operator (force s ms) operator) (on_release operator number (incidents s ms))
+answer_over s ms (Close operator number code) at =
+    if_known (knows_operator (force s ms) operator) (on_close operator number (incidents s ms))
+answer_over s ms (Show number) at = on_show number (incidents s ms)
+answer_over s ms Rows at = on_list (incidents s ms)
 
 abbrev pub answer : Summary → List Entry → Event → ℕ → Reply
-answer s h e at = answer_over s (marks h) e at
+answer s h e at = answer_over s (marks s h) e at
 
 -- what each entry of a legal history is, after the entries before it: its event is well formed, its reply is the answer,
 -- and its moment is at least that of the last recorded entry
@@ -76,7 +103,6 @@ pub record IsNext (s : Summary) (h : List Entry) (e : Entry) : Type 0 where
   pub event : IsWellFormed e.event
   pub reply : e.reply ≡ answer s h e.event e.at
   pub late : last s h ≤ e.at
-  pub moment : IsMoment e.at
 
 abbrev pub IsLegal : Summary → List Entry → Type 0
 IsLegal s [] = Unit {0}

@@ -5,7 +5,8 @@ use Rattle.centre_rules.specs.History.{Entry, Extends, moment_after}
 use Rattle.centre_rules.specs.Answers.{IsLegal}
 
 -- From h on, the hall stands for a history that ends with the entry of this event. before is that history without the entry.
-pub record GoesOn (b : Summary) (stands : List Entry → Type 0) (own_new own_old : List Entry → List Entry) (h : List Entry) (clock : ℕ) (e : Entry) : Type 0 where
+pub record GoesOn (b : Summary) (stands : List Entry → Type 0) (own_new own_old : List Entry → List Entry)
+    (h : List Entry) (clock : ℕ) (e : Entry) : Type 0 where
   pub before : List Entry
   pub extends : Extends h before
   pub holds : stands (e ∷ before)
@@ -14,7 +15,8 @@ pub record GoesOn (b : Summary) (stands : List Entry → Type 0) (own_new own_ol
   pub own : own_new (e ∷ before) ≡ e ∷ own_old h
 
 -- From h on, the hall stands for a legal history to which this call added nothing.
-pub record Waits (b : Summary) (stands : List Entry → Type 0) (own_new own_old : List Entry → List Entry) (h : List Entry) : Type 0 where
+pub record Waits (b : Summary) (stands : List Entry → Type 0) (own_new own_old : List Entry → List Entry)
+    (h : List Entry) : Type 0 where
   pub now : List Entry
   pub extends : Extends h now
   pub holds : stands now

@@ -1,11 +1,8 @@
 -- The stamp of a moment, `_HH:MM:SS,MM-DD-YYYY` in GMT, as ANSI/SIA DC-09 writes it. A moment is a number of seconds since
 -- the beginning of 1970.
-use Rattle.std.specs.Prelude.{◌≡◌, ℕ, zero, suc, ◌+◌, ◌/◌, ◌%◌, ◌<◌, Bool, ◌&&◌, nat_le, if◌then◌else◌, Option, Some, None, List, [], ◌∷◌, ◌++◌, codes, bytes_eq}
+use Rattle.std.specs.Prelude.{◌≡◌, ℕ, zero, suc, ◌+◌, ◌/◌, ◌%◌, Bool, ◌&&◌, nat_le, if◌then◌else◌, Option, Some, None, List, [], ◌∷◌, ◌++◌, codes, bytes_eq}
+pub use Rattle.arc_data.specs.Moments.{IsMoment}
 use Rattle.civil_time.specs.Calendar.{CivilDate, date_of}
-
--- the second lies before the year 10000
-abbrev pub IsMoment : ℕ → Type 0
-IsMoment t = t < 253_402_300_800
 
 -- the number in two decimal digits
 abbrev pub two_digits : ℕ → List ℕ
