@@ -1,5 +1,8 @@
 pub mod ContactId
+pub mod FirstFrom
 pub mod Plans
+pub mod SetupLines
+pub mod SetupWords
 pub mod Setups
 pub mod SiaCodes
 pub mod SiaGrammar

@@ -1,0 +1,5 @@
+pub mod Numbers
+pub mod Holders
+pub mod Closings
+pub mod Repeats
+pub mod Summaries

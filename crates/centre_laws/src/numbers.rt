@@ -1,0 +1,7 @@
+// The numbers of open incidents.
+ghost use Rattle.centre_laws.specs.Numbers.{NumbersRise};
+
+/// The open incidents of a history stand in order of number, and no number is greater than how many were opened.
+pub fn law_numbers()
+    ensures { NumbersRise }
+{}
