@@ -1,3 +1,4 @@
+pub use Rattle.civil_time.specs.LocalTime
 pub mod ContactId
 pub mod FirstFrom
 pub mod Plans

@@ -285,10 +285,10 @@ fn tell_hall<H: Hall>(
     account: Txt,
     clock: u64,
 ) -> Result<(bool, Reply), Stop>
-    requires ready { H.ready hall.old }
+    requires ready { (H.seen hall.old).ready }
     requires account { is_run is_capital_hex 3 16 account ≡ true }
     requires clock { IsMoment clock }
-    ensures { IfOk result (λ r. (b : Summary) (h : List Entry) → H.stands hall.old b h → r.1 ≡ if_known r.0 Reply.Heard) }
+    ensures { IfOk result (λ r. (b : Summary) (h : List Entry) → (H.seen hall.old).stands b h → r.1 ≡ if_known r.0 Reply.Heard) }
 {
     let done = hall.submit(alloc, Event::Beat { account }, clock)?;
     let known = hall.setup().knows(&account);

@@ -1,6 +1,7 @@
 -- The stamp of a moment, `_HH:MM:SS,MM-DD-YYYY` in GMT, as ANSI/SIA DC-09 writes it. A moment is a number of seconds since
 -- the beginning of 1970.
-use Rattle.std.specs.Prelude.{◌≡◌, ℕ, zero, suc, ◌+◌, ◌/◌, ◌%◌, Bool, ◌&&◌, nat_le, if◌then◌else◌, Option, Some, None, List, [], ◌∷◌, ◌++◌, codes, bytes_eq}
+use Rattle.std.specs.Prelude.{◌≡◌, ℕ, zero, suc, ◌+◌, ◌/◌, ◌%◌, Bool, ◌&&◌, nat_le, if◌then◌else◌, Option, Some, None, List, []}
+use Rattle.std.specs.Prelude.{◌∷◌, ◌++◌, codes, bytes_eq}
 pub use Rattle.arc_data.specs.Moments.{IsMoment}
 use Rattle.civil_time.specs.Calendar.{CivilDate, date_of}
 

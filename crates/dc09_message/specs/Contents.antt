@@ -1,6 +1,7 @@
 -- What a message keeps of its blocks. A plain message is all that stands behind the header. Of a sealed one it is what the
 -- decrypted text has between its first bar and its stamp.
-use Rattle.std.specs.Prelude.{◌≡◌, ℕ, ◌+◌, ◌==◌, ◌&&◌, ◌++◌, ◌⊎◌, List, [], ◌∷◌, Bool, true, false, if◌then◌else◌, Option, Some, None, length, take, codes}
+use Rattle.std.specs.Prelude.{◌≡◌, ℕ, ◌+◌, ◌==◌, ◌&&◌, ◌++◌, ◌⊎◌, List, [], ◌∷◌, Bool, true, false, if◌then◌else◌, Option, Some}
+use Rattle.std.specs.Prelude.{None, length, take, codes}
 use Rattle.std.specs.List.{list_all}
 use Rattle.std.specs.Str.{bytes_eq}
 use Rattle.arc_data.specs.Digits.{capitals, is_account, is_hex}
@@ -66,7 +67,8 @@ kept_if token contents further = if has_signals token contents then Some (kept c
 -- what is kept of the blocks: of a heartbeat nothing, of a report its data and further blocks, where the data has signals
 unfoldable pub content_of : MessageKind → Header → Blocks → Option (List ℕ)
 content_of Heartbeat h blocks = Some []
-content_of (Report token) h blocks = after_bar h blocks.first >>= (λ rest. data_behind h rest >>= (λ contents. kept_if token contents blocks.further))
+content_of (Report token) h blocks =
+    after_bar h blocks.first >>= (λ rest. data_behind h rest >>= (λ contents. kept_if token contents blocks.further))
 
 -- the content that a message keeps, where its blocks can be read
 unfoldable pub content_in : MessageKind → Header → List ℕ → Option (List ℕ)
@@ -120,8 +122,12 @@ IsContent (Report token) h bytes content = IsReport token h bytes content
 
 -- What is read is written so.
 abbrev pub ContentIsWritten : Type 0
-ContentIsWritten = (kind : MessageKind) (h : Header) (bytes content : List ℕ) → content_in kind h bytes ≡ Some content → IsContent kind h bytes content
+ContentIsWritten =
+    (kind : MessageKind) (h : Header) (bytes content : List ℕ) → content_in kind h bytes ≡ Some content →
+    IsContent kind h bytes content
 
 -- What is written so is read.
 abbrev pub WrittenContentIsRead : Type 0
-WrittenContentIsRead = (kind : MessageKind) (h : Header) (bytes content : List ℕ) → IsContent kind h bytes content → content_in kind h bytes ≡ Some content
+WrittenContentIsRead =
+    (kind : MessageKind) (h : Header) (bytes content : List ℕ) → IsContent kind h bytes content →
+    content_in kind h bytes ≡ Some content

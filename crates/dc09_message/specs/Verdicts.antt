@@ -18,11 +18,19 @@ use Rattle.dc09_message.specs.declared.kind.MessageKind.{MessageKind}
 use Rattle.dc09_message.specs.declared.kind.MessageKind.TheVariants.{Heartbeat, Report}
 use Rattle.dc09_message.specs.declared.outcome.Verdict.{Verdict}
 use Rattle.dc09_message.specs.declared.outcome.Verdict.TheVariants.{Silence, Nak, Duh, Beat, Numbered}
-use Rattle.dc09_message.specs.declared.outcome.Why.TheVariants.{UnknownToken, UnknownAccount, PlainButKeyed, SealedButKeyless, NotCipher, NoBar, NoStamp, BadBlocks}
+use Rattle.dc09_message.specs.declared.outcome.Why.TheVariants.{UnknownToken, UnknownAccount, PlainButKeyed, SealedButKeyless}
+use Rattle.dc09_message.specs.declared.outcome.Why.TheVariants.{NotCipher, NoBar, NoStamp, BadBlocks}
 
 -- the message of a header and what it keeps: the account in capitals, the digits of the fields as they came
 abbrev pub message_of : Token → Header → List ℕ → Message
-message_of token h content = record { account = capitals h.account; receiver = h.receiver; line = h.line; seq = dec_value h.seq; token = token; content = content }
+message_of token h content = record {
+  account = capitals h.account;
+  receiver = h.receiver;
+  line = h.line;
+  seq = dec_value h.seq;
+  token = token;
+  content = content;
+}
 
 -- where the blocks can be read or not
 abbrev pub on_blocks : Header → MessageKind → Option (List ℕ) → Verdict
@@ -35,7 +43,8 @@ abbrev pub on_opening : ℕ → Header → MessageKind → List ℕ → Opening 
 on_opening now h kind text NoCipher = Duh h NotCipher
 on_opening now h kind text LacksBar = Duh h NoBar
 on_opening now h kind text LacksStamp = Duh h NoStamp
-on_opening now h kind text (Text from to t) = if is_fresh t now then on_blocks h kind (content_in kind h (slice_range text from to)) else Nak
+on_opening now h kind text (Text from to t) =
+    if is_fresh t now then on_blocks h kind (content_in kind h (slice_range text from to)) else Nak
 
 -- of a sealed message, by the account's key
 abbrev pub on_sealed : ℕ → Header → MessageKind → List ℕ → Option (List ℕ) → Verdict

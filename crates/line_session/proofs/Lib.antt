@@ -1,5 +1,5 @@
 pub mod Turned
-pub mod Joined
+pub mod Followed
 pub mod Fed
 pub mod Served
 pub mod Completed

@@ -70,7 +70,9 @@ struct Drip {
 }
 
 impl Ends for Drip {
-    ghost write_faults = { λ d. d.faults };
+    ghost use Rattle.arc_io.specs.Seen.{untold};
+
+    ghost seen = { λ d. record untold { write_faults = d.faults } };
 }
 
 impl Sink for Drip {

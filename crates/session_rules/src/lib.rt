@@ -1,0 +1,3 @@
+//! What sessions of all kinds share: a session is a list of turns over what a hall and a port told. Definitions, and the
+//! lemmas that put one session behind another.
+#![tactic(auto)]
