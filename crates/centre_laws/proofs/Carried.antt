@@ -8,7 +8,7 @@ use Rattle.arc_data.specs.declared.signal.Signal.{Signal}
 use Rattle.alarm_rules.specs.Setups.{Setup, Account, account_of, steps_of}
 use Rattle.centre_rules.specs.Summary.{Summary}
 use Rattle.centre_rules.specs.Marks.{Mark, Carried, force}
-use Rattle.centre_rules.specs.Carrying.{carried, own_signal, if_in_force, is_irregular, carried_sent, sent, is_silent, is_late, raised_where, raised}
+use Rattle.centre_rules.specs.Carrying.{carried, own_signal, if_in_force, is_irregular, carried_sent, sent, is_silent, is_late, raised}
 
 -- a signal has this moment, and steps by the setup in force
 pub record IsBy (force : Option Setup) (moment : ℕ) (x : Carried) : Type 0 where
@@ -52,5 +52,5 @@ pub raised_by : (s : Summary) (ms : List Mark) (at : ℕ) → AllBy (force s ms)
 raised_by s ms at =
     all_under at (force s ms) (force s ms) _ refl
     (λ setup e. all_append (force s ms) at _ _
-        (all_accounts (force s ms) at setup e CommFail (filter (is_silent s ms at) setup.accounts))
-        (all_accounts (force s ms) at setup e LateClose (filter (is_late s ms at) setup.accounts)))
+    (all_accounts (force s ms) at setup e CommFail (filter (is_silent s ms at) setup.accounts))
+    (all_accounts (force s ms) at setup e LateClose (filter (is_late s ms at) setup.accounts)))

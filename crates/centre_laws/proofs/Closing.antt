@@ -1,8 +1,7 @@
 -- An incident is closed only when each of its steps is met.
-use Rattle.std.proofs.Common.{◌≡◌, ℕ, List, ◌∷◌, ◌++◌, Bool, true, false, cond, refl, sym, ap, ◌∙◌, Option, Some, None, subst, inl, inr}
+use Rattle.std.proofs.Common.{◌≡◌, ℕ, List, ◌++◌, Bool, true, false, cond, refl, sym, ap, ◌∙◌, Option, Some, None, subst, inl, inr}
 use Rattle.std.specs.Prelude.{◌⊎◌}
 use Rattle.std.proofs.lemmas.Bool.{false≢true}
-use Rattle.arc_data.specs.declared.event.CloseCode.{CloseCode}
 use Rattle.arc_data.specs.declared.event.Event.{Event}
 use Rattle.arc_data.specs.declared.event.Event.TheVariants.{Close}
 use Rattle.arc_data.specs.declared.reply.Reply.{Reply}
@@ -17,7 +16,7 @@ use Rattle.centre_rules.specs.History.{Entry, marks}
 use Rattle.centre_rules.specs.Desks.{numbered, holds, close_when, close_of}
 use Rattle.centre_rules.specs.Answers.{if_known, knows_operator, answer_over}
 use Rattle.centre_rules.proofs.Tables.{numbered_number}
-use Rattle.centre_laws.specs.Numbers.{IsNumbered, NumbersRise}
+use Rattle.centre_laws.specs.Numbers.{NumbersRise}
 use Rattle.centre_laws.specs.Closings.{closed_number, acts_recorded, MeetAll, IsDoneSince, IsDoneFrom, ClosesDone}
 use Rattle.centre_laws.proofs.Replies.{may_answer, answer_may}
 use Rattle.centre_laws.proofs.Eaches.{each_found}

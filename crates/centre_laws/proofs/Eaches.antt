@@ -1,9 +1,9 @@
 -- What is known of each open incident, after a mark.
-use Rattle.std.proofs.Common.{◌≡◌, ◌≤◌, ℕ, ◌+◌, List, [], ◌∷◌, ◌++◌, map, Bool, true, false, cond, refl, sym, ap, ◌∙◌, Option, Some, None, arith, subst}
+use Rattle.std.proofs.Common.{◌≡◌, ℕ, ◌+◌, List, [], ◌∷◌, ◌++◌, map, Bool, true, false, cond, refl, Option, Some, subst}
 use Rattle.std.specs.Prelude.{not}
-use Rattle.std.specs.List.{filter, find}
+use Rattle.std.specs.List.{filter}
 use Rattle.arc_data.specs.Incidents.{Each}
-use Rattle.centre_rules.specs.Marks.{Mark, Carries, Closes, Carried}
+use Rattle.centre_rules.specs.Marks.{Mark, Carries, Closes}
 use Rattle.centre_rules.specs.Cases.{Incident, opens, fresh, has_number}
 use Rattle.centre_rules.specs.Tables.{touched_by, with_opened, without_closed, table_after}
 use Rattle.centre_rules.specs.Desks.{numbered}

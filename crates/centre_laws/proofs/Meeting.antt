@@ -1,5 +1,5 @@
 -- Where no step is expected, each is met.
-use Rattle.std.proofs.Common.{◌≡◌, ◌<◌, ◌≤◌, ℕ, zero, suc, ◌+◌, List, [], ◌∷◌, length, Bool, true, false, cond, refl, sym, ap, ◌∙◌, Option, Some, None, arith, subst, inl, inr, get_or}
+use Rattle.std.proofs.Common.{◌≡◌, ◌<◌, ◌≤◌, ℕ, zero, suc, ◌+◌, List, ◌∷◌, length, Bool, true, false, cond, refl, sym, ap, ◌∙◌, Option, None, arith, inl, inr}
 use Rattle.std.specs.Prelude.{◌⊎◌, not, option_and_then, slice_get}
 use Rattle.std.specs.List.{filter, range_with_len}
 use Rattle.std.proofs.Math.Nat.{eq-or-lt_of_le}

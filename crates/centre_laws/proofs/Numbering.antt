@@ -1,12 +1,12 @@
 -- The numbers of open incidents rise over a history.
-use Rattle.std.proofs.Common.{◌≡◌, List, [], ◌∷◌, Bool, true, false, cond}
+use Rattle.std.proofs.Common.{List, [], ◌∷◌, Bool, true, false, cond}
 use Rattle.centre_rules.specs.Summary.{Summary}
 use Rattle.centre_rules.specs.Marks.{Mark}
 use Rattle.centre_rules.specs.Cases.{Ascends, incidents, opened}
-use Rattle.centre_rules.specs.History.{Entry, marks, marks_of, onto, is_recorded}
+use Rattle.centre_rules.specs.History.{marks, marks_of, onto, is_recorded}
 use Rattle.centre_rules.proofs.Steps.{incidents_begin, incidents_step, opened_step}
 use Rattle.centre_rules.proofs.Tables.{ascends_table}
-use Rattle.centre_laws.specs.Numbers.{IsNumbered, NumbersRise}
+use Rattle.centre_laws.specs.Numbers.{NumbersRise}
 
 rise_onto : (s : Summary) (xs ms : List Mark) → Ascends 0 (incidents s ms) (opened s ms) → Ascends 0 (incidents s (onto xs ms)) (opened s (onto xs ms))
 rise_onto s [] ms a = a

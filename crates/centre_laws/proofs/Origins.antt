@@ -1,5 +1,5 @@
 -- Each open incident was opened by an entry, or at the beginning, and has the acts that were recorded since.
-use Rattle.std.proofs.Common.{◌≡◌, ◌<◌, ◌≤◌, ℕ, ◌+◌, List, [], ◌∷◌, ◌++◌, map, Bool, true, false, cond, refl, sym, ap, ◌∙◌, Option, Some, None, arith, subst, inl, inr, append_assoc}
+use Rattle.std.proofs.Common.{◌≡◌, ◌<◌, ◌≤◌, ℕ, ◌+◌, List, [], ◌∷◌, ◌++◌, map, Bool, true, false, cond, refl, sym, ap, ◌∙◌, Some, arith, subst, inl, inr, append_assoc}
 use Rattle.std.specs.Prelude.{◌⊎◌, ◌==◌}
 use Rattle.std.proofs.lemmas.Bool.{false≢true}
 use Rattle.std.proofs.lemmas.List.{append-nil}
@@ -13,7 +13,7 @@ use Rattle.arc_data.specs.declared.step.Step.{Step}
 use Rattle.alarm_rules.specs.Setups.{Setup, steps_of}
 use Rattle.centre_rules.specs.Summary.{Summary}
 use Rattle.centre_rules.specs.Marks.{Mark, Carries, Acts, Carried, force}
-use Rattle.centre_rules.specs.Cases.{Incident, incidents, opened, opens, fresh, acts_at}
+use Rattle.centre_rules.specs.Cases.{Incident, incidents, opened, opens, acts_at}
 use Rattle.centre_rules.specs.Tables.{touched_by, opened_after}
 use Rattle.centre_rules.specs.Carrying.{sent, raised}
 use Rattle.centre_rules.specs.History.{Entry, marks, marks_of, onto, is_recorded, claim_marks, act_marks, release_marks, close_marks, acted_by}
@@ -224,8 +224,8 @@ module _ (s : Summary) (e : Entry) (h : List Entry) where
   each_entry true is w =
       each_onto (marks_of s (marks s h) e.event e.at e.reply) (marks s h) (open_entry e.event e.reply) (omega arith)
       (each_weaker (OriginOf s h) (Going (marks_of s (marks s h) e.event e.at e.reply))
-          (λ i o. inl (record { acts = i.acts; origin = o; ahead = ap (λ (xs : List Acted). i.acts ++ xs) (acts_of_entry s (marks s h) i.number e.event e.at e.reply) }))
-          (incidents s (marks s h)) w)
+      (λ i o. inl (record { acts = i.acts; origin = o; ahead = ap (λ (xs : List Acted). i.acts ++ xs) (acts_of_entry s (marks s h) i.number e.event e.at e.reply) }))
+      (incidents s (marks s h)) w)
   each_entry false is w =
       each_weaker (OriginOf s h) (Going [])
       (λ i o. inl (record { acts = i.acts; origin = o; ahead = ap (λ (xs : List Acted). i.acts ++ xs) (sym (none_quiet i.number e.event e.at e.reply is)) }))

@@ -1,6 +1,5 @@
 -- Which replies an event may get.
 use Rattle.std.proofs.Common.{◌≡◌, ℕ, List, [], Bool, true, false, cond, refl, Option, Some, None}
-use Rattle.std.specs.Prelude.{is_ok, ◌&&◌}
 use Rattle.std.specs.Str.{bytes_eq}
 use Rattle.arc_data.specs.Steps.{same_step}
 use Rattle.arc_data.specs.declared.event.Event.{Event}

@@ -1,6 +1,6 @@
 -- A summary tells what its history tells.
-use Rattle.std.proofs.Common.{◌≡◌, ◌≤◌, ℕ, zero, suc, ◌+◌, List, [], ◌∷◌, ◌++◌, map, length, take, Bool, true, false, cond, refl, sym, ap, ◌∙◌, Option, Some, None, arith, subst}
-use Rattle.std.specs.Prelude.{◌↔◌, ◌||◌, ◌&&◌}
+use Rattle.std.proofs.Common.{◌≡◌, ◌≤◌, ℕ, zero, suc, ◌+◌, List, [], ◌∷◌, ◌++◌, map, length, take, Bool, true, false, cond, refl, sym, ap, ◌∙◌, Some, None, arith, subst}
+use Rattle.std.specs.Prelude.{◌||◌, ◌&&◌}
 use Rattle.std.specs.Cmp.Lexicographic.{slice_cmp}
 use Rattle.std.specs.List.{find, list_any}
 use Rattle.std.specs.Option.{option_map}
@@ -11,8 +11,7 @@ use Rattle.std.proofs.lemmas.Slice.Eq.{bytes_eq-Decides}
 use Rattle.arc_data.specs.Classes.{same_class}
 use Rattle.arc_data.specs.declared.signal.Class.TheVariants.{CommFail}
 use Rattle.centre_rules.specs.Summary.{Summary, AccountRow, Past, row_of, row_or}
-use Rattle.centre_rules.specs.Marks.{Mark, Starts, Sends, Hears, Carries, text, start, heard, failed, opening, messages, is_raised}
-use Rattle.centre_rules.specs.Cases.{opened, incidents}
+use Rattle.centre_rules.specs.Marks.{Mark, Starts, Sends, Hears, Carries, start, heard, failed, opening, messages, is_raised}
 use Rattle.centre_rules.specs.History.{Entry, marks, last, recorded, is_recorded}
 use Rattle.centre_rules.specs.Desks.{best}
 use Rattle.centre_rules.specs.Answers.{repeats, IsLegal}

@@ -2,5 +2,6 @@ pub mod Steps
 pub mod Sames
 pub mod Grown
 pub mod Quiet
-pub mod Taken
+pub mod Marked
 pub mod Tables
+pub mod Standing

@@ -1,17 +1,16 @@
 -- What tells the same goes on to tell the same.
-use Rattle.std.proofs.Common.{◌≡◌, ℕ, zero, suc, ◌+◌, List, [], ◌∷◌, map, take, Bool, true, false, cond, refl, sym, ap, ◌∙◌, Option, Some, None}
+use Rattle.std.proofs.Common.{◌≡◌, ℕ, zero, suc, List, [], ◌∷◌, map, take, Bool, true, false, cond, refl, sym, ap, ◌∙◌, Option, Some, None}
 use Rattle.std.specs.Prelude.{not, ◌&&◌, option_and_then}
 use Rattle.std.specs.Result.{result_ok}
 use Rattle.std.specs.Str.{bytes_eq}
 use Rattle.arc_data.specs.declared.event.Event.{Event}
-use Rattle.arc_data.specs.declared.event.Event.TheVariants.{Adopt, Start, Message as Sent, Beat, Tick, Claim, Next, Act as Do, Release, Close, Show, List as Rows}
+use Rattle.arc_data.specs.declared.event.Event.TheVariants.{Adopt, Start, Message as Sent, Beat, Tick, Show, List as Rows}
 use Rattle.arc_data.specs.declared.reply.Reply.{Reply}
-use Rattle.alarm_rules.specs.Setups.{Setup, Account, setup_of}
+use Rattle.alarm_rules.specs.Setups.{Account, setup_of}
 use Rattle.centre_rules.specs.Summary.{Summary, Past}
-use Rattle.centre_rules.specs.Marks.{Mark, Sends, Carries, Carried, text_at, start_at, messages_at, heard_at, failed_at, opening_at, force, messages, heard, failed, opening}
-use Rattle.centre_rules.specs.Cases.{opened, incidents}
+use Rattle.centre_rules.specs.Marks.{Mark, Sends, Carries, text_at, start_at, messages_at, heard_at, failed_at, opening_at, force, messages, heard, failed}
 use Rattle.centre_rules.specs.Tables.{opened_after, table_after}
-use Rattle.centre_rules.specs.Carrying.{if_in_force, is_past, is_silent, closes_late, is_late, raised_where, raised, sent}
+use Rattle.centre_rules.specs.Carrying.{is_past, is_silent, closes_late, is_late, raised}
 use Rattle.centre_rules.specs.History.{marks_of, onto}
 use Rattle.centre_rules.specs.Answers.{answer_over}
 use Rattle.centre_rules.specs.State.{Same}

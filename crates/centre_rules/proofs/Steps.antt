@@ -1,10 +1,10 @@
 -- A mark changes the open incidents in place.
-use Rattle.std.proofs.Common.{◌≡◌, ℕ, ◌+◌, List, [], ◌∷◌, ◌++◌, map, Bool, true, false, cond, refl, sym, ap, ◌∙◌}
+use Rattle.std.proofs.Common.{◌≡◌, ℕ, ◌+◌, List, [], ◌∷◌, ◌++◌, map, Bool, true, false, cond, refl, ap, ◌∙◌}
 use Rattle.std.specs.Prelude.{not}
 use Rattle.std.specs.List.{filter}
 use Rattle.centre_rules.specs.Summary.{Summary}
 use Rattle.centre_rules.specs.Marks.{Mark, Carries, Closes, Carried}
-use Rattle.centre_rules.specs.Cases.{Incident, Case, Cases, begun, gone_on, incident_of, opened_by, left_by, cases_after, cases, opened, incidents, opens, fresh, has_number}
+use Rattle.centre_rules.specs.Cases.{Incident, Case, Cases, begun, gone_on, incident_of, opened_by, left_by, cases, opened, incidents, opens, fresh, has_number}
 use Rattle.centre_rules.specs.Tables.{touched_by, opened_after, with_opened, without_closed, table_after, opened_marked, table_marked}
 use Rattle.centre_rules.specs.History.{onto}
 

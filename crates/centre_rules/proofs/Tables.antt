@@ -1,7 +1,7 @@
 -- What a mark leaves of the open incidents.
-use Rattle.std.proofs.Common.{◌≡◌, ◌<◌, ◌≤◌, ℕ, ◌+◌, List, [], ◌∷◌, ◌++◌, map, Bool, true, false, cond, eqb, refl, sym, ap, ◌∙◌, Option, Some, None, arith, subst}
-use Rattle.std.specs.Prelude.{not, ◌&&◌, ◌||◌, is_some, is_none, ◌==◌}
-use Rattle.std.specs.List.{filter, find, list_any}
+use Rattle.std.proofs.Common.{◌≡◌, ◌<◌, ◌≤◌, ℕ, ◌+◌, List, [], ◌∷◌, ◌++◌, map, Bool, true, false, cond, refl, sym, ap, ◌∙◌, Option, Some, None, arith, subst}
+use Rattle.std.specs.Prelude.{not, is_some, ◌==◌}
+use Rattle.std.specs.List.{filter}
 use Rattle.std.proofs.lemmas.Bool.{eqb-true, eq-eqb, false≢true}
 use Rattle.arc_data.specs.Incidents.{Each}
 use Rattle.centre_rules.specs.Marks.{Mark, Starts, Carries, Claims, Releases, Closes, Carried}

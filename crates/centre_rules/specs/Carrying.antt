@@ -50,7 +50,7 @@ abbrev pub carried_sent : Setup → List ℕ → ℕ → Signal → List Carried
 carried_sent setup account at signal =
     carried setup account at false signal
     ∷ (if is_irregular (account_of setup account) signal.kind at
-        then carried setup account at false (own_signal Irregular) ∷ [] else [])
+    then carried setup account at false (own_signal Irregular) ∷ [] else [])
 
 abbrev pub sent : Summary → List Mark → Message → ℕ → List Carried
 sent s ms m at =

@@ -35,7 +35,7 @@ signals_of i (m ∷ ms) = signals_at i m (signals_of i ms)
 abbrev pub restored_at : Incident → Mark → Bool → Bool
 restored_at i (Carries x) before =
     if is_of x.account x.signal.class i && (is_new x.signal.kind || is_restore x.signal.kind)
-        then is_restore x.signal.kind else before
+    then is_restore x.signal.kind else before
 restored_at i m before = before
 
 abbrev pub restored_of : Incident → List Mark → Bool
@@ -129,7 +129,7 @@ fresh number x = record {
 abbrev pub opened_by : Mark → Cases → Cases
 opened_by (Carries x) c =
     if opens x (map incident_of c.cases)
-        then record { opened = c.opened + 1; cases = c.cases ++ begun (fresh (c.opened + 1) x) ∷ [] } else c
+    then record { opened = c.opened + 1; cases = c.cases ++ begun (fresh (c.opened + 1) x) ∷ [] } else c
 opened_by m c = c
 
 -- without the one that the mark closes

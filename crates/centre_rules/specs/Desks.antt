@@ -1,5 +1,5 @@
 -- What operators are answered, from the open incidents.
-use Rattle.std.specs.Prelude.{ℕ, List, [], ◌∷◌, ◌++◌, ◌==◌, ◌&&◌, ◌||◌, Bool, true, false, if◌then◌else◌, map, take, length}
+use Rattle.std.specs.Prelude.{ℕ, List, [], ◌∷◌, ◌++◌, ◌==◌, ◌&&◌, ◌||◌, Bool, false, if◌then◌else◌, map, take, length}
 use Rattle.std.specs.Prelude.{Option, Some, None, is_none, nat_lt}
 use Rattle.std.specs.List.{filter, find}
 use Rattle.std.specs.Str.{bytes_eq}

@@ -14,10 +14,12 @@ pub fn is_recorded(reply: &Reply) -> bool
     match reply {
         Reply::Adopted | Reply::Started | Reply::Taken | Reply::Heard => true,
         Reply::Raised { count } => *count > 0,
-        Reply::Claimed { .. } | Reply::Recorded { .. } | Reply::Released { .. } | Reply::Closed { .. } => true,
+        Reply::Claimed { .. } | Reply::Recorded { .. } => true,
+        Reply::Released { .. } | Reply::Closed { .. } => true,
         Reply::Repeat { .. } | Reply::Unknown => false,
         Reply::Shown(_) | Reply::Listed(_) => false,
-        Reply::NotOpen { .. } | Reply::HeldBy { .. } | Reply::BusyWith { .. } | Reply::NotYours { .. } => false,
-        Reply::Expected { .. } | Reply::Missing { .. } | Reply::NoneWaiting => false,
+        Reply::NotOpen { .. } | Reply::HeldBy { .. } => false,
+        Reply::BusyWith { .. } | Reply::NotYours { .. } | Reply::NoneWaiting => false,
+        Reply::Expected { .. } | Reply::Missing { .. } => false,
     }
 }
