@@ -1,7 +1,6 @@
 -- What calls do to a table of open incidents.
-use Rattle.std.specs.Prelude.{◌≡◌, ◌≤◌, ℕ, ◌+◌, List, [], ◌∷◌, ◌++◌, Bool, true, false, not, if◌then◌else◌}
-use Rattle.std.specs.Prelude.{Option, None, is_some, length, map, nat_lt}
-use Rattle.std.specs.List.{filter}
+use Rattle.std.specs.Prelude.{◌≡◌, ◌≤◌, ℕ, ◌+◌, List, [], ◌∷◌, ◌++◌, Bool, true, false, not, if◌then◌else◌, Option, None, is_some, length, map, nat_lt}
+use Rattle.std.specs.List.{filter, find}
 use Rattle.std.specs.List.Sorted.{IsPartitionPoint}
 use Rattle.std.specs.Option.{option_map}
 use Rattle.arc_data.specs.Incidents.{has_number, is_of, Ascends, Each}
@@ -9,12 +8,16 @@ use Rattle.arc_data.specs.declared.incident.Incident.{Incident}
 use Rattle.arc_data.specs.declared.signal.Class.{Class}
 use Rattle.arc_data.specs.declared.step.Acted.{Acted}
 use Rattle.arc_data.specs.declared.step.Step.{Step}
+use Rattle.incidents.specs.Index.{IndexValue, number_in}
 
 -- how many incidents were opened, those that are open, and for how many there is memory, the open ones included
 pub record TableValue : Type 0 where
   pub opened : ℕ
   pub incidents : List Incident
   pub room : ℕ
+
+abbrev pub number_of : Option Incident → Option ℕ
+number_of found = option_map (λ i. i.number) found
 
 -- no two are of one account and class
 abbrev pub IsSingle : List Incident → Type 0
@@ -27,6 +30,15 @@ pub record IsTable (opened : ℕ) (incidents : List Incident) (room memory : ℕ
   pub single : IsSingle incidents
   pub within : length incidents ≤ room
   pub kept : room ≤ memory
+
+-- the index tells the number of each open incident by its account and class, and has memory for the rest of the room
+pub record IsIndexed (index : IndexValue) (incidents : List Incident) (room : ℕ) : Type 0 where
+  pub tells : (account : List ℕ) (class : Class) → number_in index account class ≡ number_of (find (is_of account class) incidents)
+  pub memory : room ≤ length incidents + index.spare
+
+pub record IsKept (opened : ℕ) (incidents : List Incident) (room memory : ℕ) (index : IndexValue) : Type 0 where
+  pub table : IsTable opened incidents room memory
+  pub indexed : IsIndexed index incidents room
 
 -- Numbers.
 
@@ -80,6 +92,3 @@ raised number account class code at steps = record {
   steps = steps;
   acts = [];
 }
-
-abbrev pub number_of : Option Incident → Option ℕ
-number_of found = option_map (λ i. i.number) found

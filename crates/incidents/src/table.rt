@@ -7,6 +7,7 @@ ghost use Rattle.std.specs.Option.{option_map};
 ghost use Rattle.arc_data.specs.Incidents.{has_number, is_of, Ascends};
 ghost use Rattle.incidents.specs.Tables.{IsCut, IsSingle, Rise, is_below, at_number, without, attached, restored, held, acted, raised, number_of};
 
+use crate::index::Index;
 use arc_data::{Acted, Acts, Class, Incident, Memory, Outcome, Step, StepList, Txt};
 use std::alloc::Global;
 use std::marker::Model;
@@ -19,17 +20,18 @@ pub struct Table {
     opened: u64,
     room: usize,
     items: Vec<Incident>,
+    index: Index,
 }
 
 impl Model for Table {
     ghost use Rattle.std.specs.Prelude.{vec_capacity};
-    ghost use Rattle.incidents.specs.Tables.{TableValue, IsTable};
+    ghost use Rattle.incidents.specs.Tables.{TableValue, IsKept};
 
     ghost Value = { TableValue };
 
     ghost view = { λ t. record { opened = t.opened; incidents = t.items.items; room = t.room } };
 
-    ghost invariant = { λ t. IsTable t.opened t.items.items t.room (vec_capacity t.items) };
+    ghost invariant = { λ t. IsKept t.opened t.items.items t.room (vec_capacity t.items) t.index };
 }
 
 impl Table {
@@ -41,6 +43,7 @@ impl Table {
             opened: 0,
             room: 0,
             items: Vec::new(alloc),
+            index: Index::new(alloc),
         }
     }
 
@@ -54,6 +57,7 @@ impl Table {
         let Ok(()) = self.items.reserve(more) else {
             return Err(Memory);
         };
+        self.index.reserve(more)?;
         let wanted = self
             .items
             .capacity()
@@ -97,14 +101,7 @@ impl Table {
     pub fn find(&self, account: &Txt, class: Class) -> Option<u64>
         ensures { result ≡ number_of (find (is_of account.now class) self.now.incidents) }
     {
-        match self
-            .items
-            .iter()
-            .find(|i| i.account == *account && i.class == class)
-        {
-            Some(i) => Some(i.number),
-            None => None,
-        }
+        self.index.find(account, class)
     }
 
     /// The open incident of a number.
@@ -128,6 +125,7 @@ impl Table {
         ensures room { self.new.room ≡ self.old.room }
     {
         self.opened += 1;
+        self.index.put(&account, class, self.opened);
         self.items.push_reserved(Incident {
             number: self.opened,
             account,
@@ -210,8 +208,10 @@ impl Table {
         ensures left { self.new ≡ record self.old { incidents = without number self.old.incidents; room = self.old.room - 1 } }
     {
         let place = open_place(&self.items, number);
+        let incident = self.items.remove(place);
+        self.index.remove(&incident.account, incident.class);
         self.room -= 1;
-        self.items.remove(place)
+        incident
     }
 }
 

@@ -8,7 +8,7 @@ use Rattle.incidents.proofs.Places.{there, find_there, find_at_none}
 use Rattle.incidents.proofs.table.Table.get.Goals as goal
 
 pub place_of-requires : goal.place_of-requires
-place_of-requires c = (c.self.inside.opened, subst (λ (l : List Incident). Ascends 0 l c.self.inside.opened) (sym c.deref.ensures.value) c.self.invariant.ascends)
+place_of-requires c = (c.self.inside.opened, subst (λ (l : List Incident). Ascends 0 l c.self.inside.opened) (sym c.deref.ensures.value) c.self.invariant.table.ascends)
 
 pub returns-in-Some : goal.returns-in-Some
 returns-in-Some c =
