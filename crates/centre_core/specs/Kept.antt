@@ -1,7 +1,7 @@
 -- What a centre keeps, beside its state.
 use Rattle.std.specs.Prelude.{◌≡◌, ◌<◌, ◌≤◌, ◌^◌, ◌+◌, ◌*◌, ℕ, List, [], true, length, Option, Some, None, IsOk, IsErr, IfSome}
 use Rattle.arc_data.specs.declared.event.Event.{Event}
-use Rattle.arc_data.specs.declared.event.Event.TheVariants.{Adopt}
+use Rattle.arc_data.specs.declared.event.Event.TheVariants.{Adopt, Message as Sent, Tick}
 use Rattle.arc_data.specs.declared.reply.Reply.{Reply}
 use Rattle.alarm_rules.specs.Setups.{setup_of}
 use Rattle.centre_rules.specs.Summary.{Summary}
@@ -38,6 +38,12 @@ IsAdopted event setup = setup ≡ None
 abbrev pub CarriesSetup : Event → Option (List ℕ) → Type 0
 CarriesSetup (Adopt text) setup = (setup ≡ Some text) × IsOk (setup_of text)
 CarriesSetup event setup = Unit {0}
+
+-- neither a Message nor a Tick, which carry signals
+abbrev pub IsPlain : Event → Type 0
+IsPlain (Sent m) = ⊥
+IsPlain Tick = ⊥
+IsPlain event = Unit {0}
 
 -- Room.
 

@@ -62,7 +62,7 @@ none_taken v t = record {
 
 -- a mark of the rows leaves the table
 
-map_same : (m : Mark) → ((i : Incident) → touched_by m i ≡ i) → (is : List Incident) → map (touched_by m) is ≡ is
+pub map_same : (m : Mark) → ((i : Incident) → touched_by m i ≡ i) → (is : List Incident) → map (touched_by m) is ≡ is
 map_same m same [] = refl
 map_same m same (i ∷ is) = λ k. same i k ∷ map_same m same is k
 

@@ -8,5 +8,3 @@ pub use arc_data::{Carried, Event, Message, Outcome, Reply, Step, Txt};
 pub use incidents::Table;
 pub use marks::mark;
 
-#[cfg(test)]
-mod tests;

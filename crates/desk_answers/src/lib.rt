@@ -9,5 +9,3 @@ pub use incidents::Table;
 pub use listing::list;
 pub use orders::{act, claim, close, next, release, show};
 
-#[cfg(test)]
-mod tests;
