@@ -52,6 +52,16 @@ impl Plan {
         self.len += 1;
         true
     }
+
+    /// A copy. Takes no memory.
+    pub fn copy(&self) -> Plan
+        ensures { result ≡ self.now }
+    {
+        Plan {
+            words: self.words,
+            len: self.len,
+        }
+    }
 }
 
 // Whether the word is among these.

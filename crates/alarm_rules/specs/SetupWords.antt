@@ -1,8 +1,8 @@
 -- The words of a setup text.
 use Rattle.std.specs.Prelude.{ℕ, ◌+◌, ◌-◌, ◌/◌, ◌%◌, ◌==◌, ◌&&◌, ◌||◌, ℤ, pos, neg_ℤ, Bool, true, false, if◌then◌else◌}
-use Rattle.std.specs.Prelude.{List, [], ◌∷◌, ◌++◌, Option, Some, None, length, map, codes, decimal}
+use Rattle.std.specs.Prelude.{List, [], ◌∷◌, ◌++◌, Option, Some, None, length, codes, decimal}
 use Rattle.std.specs.List.{find, list_all, position}
-use Rattle.std.specs.Option.{option_map}
+use Rattle.std.specs.Option.{option_map, option_or}
 use Rattle.std.specs.Str.{bytes_eq}
 use Rattle.civil_time.specs.Stamp.{two_digits}
 use Rattle.arc_data.specs.Classes.{name_of}
@@ -112,15 +112,14 @@ name_of_word Note = codes "note"
 abbrev pub all_words : List PlanWord
 all_words = Premises ∷ Holders ∷ Police ∷ Fire ∷ Ambulance ∷ Guard ∷ Note ∷ []
 
--- the words of plans without their mark, and then with it
+-- a word of a plan, by its name and then a mark, which may be nothing
+abbrev pub word_named : List ℕ → List ℕ → Option PlanWord
+word_named mark text = find (λ word. bytes_eq text (name_of_word word ++ mark)) all_words
+
 abbrev pub with_mark : Bool → PlanWord → Planned
 with_mark closed word = record { word = word; closed = closed }
 
-abbrev pub all_planned : List Planned
-all_planned = map (with_mark false) all_words ++ map (with_mark true) all_words
-
-abbrev pub spelling : Planned → List ℕ
-spelling p = name_of_word p.word ++ (if p.closed then codes "@closed" else [])
-
+-- a word of a plan, without or with the mark `@closed`
 abbrev pub planned_named : List ℕ → Option Planned
-planned_named word = find (λ p. bytes_eq word (spelling p)) all_planned
+planned_named text =
+    option_or (option_map (with_mark false) (word_named [] text)) (option_map (with_mark true) (word_named (codes "@closed") text))
