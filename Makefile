@@ -1,10 +1,11 @@
-# What a user runs. It needs the kit's rt on PATH, make, bash, grep, sed and coreutils; test also needs openssl.
+# What a user runs. It needs the kit's rt on PATH, make, bash, grep, sed and coreutils; test also needs openssl and script.
 PREFIX = /usr/local
 PROGRAM = crates/arc_server/out/arc_server
 
 .PHONY: build demo test install clean
 
-# proves and builds the program, and says where it stands
+# proves and builds the program, a line for each crate, and says where it stands; what was proved before is proved again only
+# where it has changed
 build:
 	@tools/build
 
@@ -12,7 +13,7 @@ build:
 demo: build
 	@tools/demo $(PROGRAM)
 
-# proves and tests everything; what passed before on this machine is proved again only where it changed
+# proves and tests everything from nothing, and checks the built program
 test:
 	@.ci/run
 
@@ -21,4 +22,4 @@ install: build
 	install -D -m 755 $(PROGRAM) '$(DESTDIR)$(PREFIX)/bin/arc'
 
 clean:
-	rm -rf crates/*/out
+	rm -rf out crates/*/out

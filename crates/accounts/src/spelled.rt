@@ -2,9 +2,9 @@
 ghost use Rattle.std.specs.Prelude.{◌≡◌, ◌<◌, ◌≤◌, ℕ, IfSome};
 ghost use Rattle.std.specs.List.{list_all};
 ghost use Rattle.jiff_core.specs.Calendar.{IsWithin};
-ghost use Rattle.arc_data.specs.Digits.{is_run, is_digit};
+ghost use Rattle.arc_data.specs.Digits.{is_run, is_digit, is_name_byte, is_name};
 ghost use Rattle.alarm_rules.specs.SetupWords.{account_named, key_spelled, seconds_spelled, minutes_spelled, number_between};
-ghost use Rattle.alarm_rules.specs.SetupWords.{is_name_byte, is_name, is_phone, is_pin, word_that};
+ghost use Rattle.alarm_rules.specs.SetupWords.{is_phone, is_pin, word_that};
 
 use aes_chain::Key;
 use alarm_rules::is_account;

@@ -1,5 +1,6 @@
 -- Key expansion (FIPS 197, 5.2). A word is a list of four bytes.
-use Rattle.std.specs.Prelude.{ℕ, zero, suc, ◌+◌, ◌-◌, ◌*◌, ◌/◌, ◌%◌, ◌==◌, ◌&&◌, List, [], ◌∷◌, ◌++◌, length, slice_index, slice_index_or, bit_xor, if◌then◌else◌}
+use Rattle.std.specs.Prelude.{ℕ, zero, suc, ◌+◌, ◌-◌, ◌*◌, ◌/◌, ◌%◌, ◌==◌, ◌&&◌, List, [], ◌∷◌, ◌++◌, length, slice_index}
+use Rattle.std.specs.Prelude.{slice_index_or, bit_xor, if◌then◌else◌}
 use Rattle.aes_chain.specs.Field.{times, s_box}
 use Rattle.aes_chain.specs.State.{state}
 

@@ -1,11 +1,14 @@
 -- Contact ID data (DC-05).
-use Rattle.std.specs.Prelude.{ℕ, List, [], ◌∷◌, Bool, false, ◌&&◌, ◌||◌, ◌==◌, if◌then◌else◌, Option, Some, None, codes, slice_index, slice_range}
+use Rattle.std.specs.Prelude.{ℕ, List, [], ◌∷◌, Bool, false, ◌&&◌, ◌||◌, ◌==◌, if◌then◌else◌, Option, Some, None, codes}
+use Rattle.std.specs.Prelude.{slice_index, slice_range}
 use Rattle.std.specs.List.{find, list_any}
 use Rattle.std.specs.Option.{option_map_or}
 use Rattle.std.specs.Str.{bytes_eq}
 use Rattle.arc_data.specs.Digits.{is_hex}
 use Rattle.arc_data.specs.declared.signal.Class.{Class}
-use Rattle.arc_data.specs.declared.signal.Class.TheVariants.{Fire, Medical, Panic, Gas, Burglary, Tamper, Environment, CommFail, Trouble, LateClose, Unlisted, Test, OpenClose, Bypass, Cancel, Program}
+use Rattle.arc_data.specs.declared.signal.Class.TheVariants.{Fire, Medical, Panic, Gas, Burglary, Tamper, Environment, CommFail}
+use Rattle.arc_data.specs.declared.signal.Class.TheVariants.{Trouble, LateClose, Unlisted, Test, OpenClose, Bypass, Cancel}
+use Rattle.arc_data.specs.declared.signal.Class.TheVariants.{Program}
 use Rattle.arc_data.specs.declared.signal.Kind.{Kind}
 use Rattle.arc_data.specs.declared.signal.Kind.TheVariants.{New, Again, Restore, Opening, Closing, LogOnly}
 use Rattle.arc_data.specs.declared.signal.Signal.{Signal}
@@ -18,16 +21,25 @@ is_qualifier b = (b == 49) || (b == 51) || (b == 54)
 -- three hexadecimal digits (the zone or user).
 abbrev pub is_contact_id : List ℕ → Bool
 is_contact_id (q ∷ c1 ∷ c2 ∷ c3 ∷ s1 ∷ g1 ∷ g2 ∷ s2 ∷ z1 ∷ z2 ∷ z3 ∷ []) =
-    is_qualifier q && is_hex c1 && is_hex c2 && is_hex c3 && (s1 == 32) && is_hex g1 && is_hex g2 && (s2 == 32) && is_hex z1 && is_hex z2 && is_hex z3
+    is_qualifier q && is_hex c1 && is_hex c2 && is_hex c3 && (s1 == 32) && is_hex g1 && is_hex g2 && (s2 == 32)
+    && is_hex z1 && is_hex z2 && is_hex z3
 is_contact_id other = false
 
 -- The codes of each class. This assignment is the project's own.
 unfoldable pub contact_id_table : List (Class × List (List ℕ))
 contact_id_table =
     (Medical, codes "100" ∷ codes "101" ∷ codes "102" ∷ [])
-    ∷ (Fire, codes "110" ∷ codes "111" ∷ codes "112" ∷ codes "113" ∷ codes "114" ∷ codes "115" ∷ codes "116" ∷ codes "117" ∷ codes "118" ∷ [])
+    ∷ (
+      Fire,
+      codes "110" ∷ codes "111" ∷ codes "112" ∷ codes "113" ∷ codes "114" ∷ codes "115" ∷ codes "116" ∷ codes "117"
+          ∷ codes "118" ∷ [],
+    )
     ∷ (Panic, codes "120" ∷ codes "121" ∷ codes "122" ∷ codes "123" ∷ [])
-    ∷ (Burglary, codes "130" ∷ codes "131" ∷ codes "132" ∷ codes "133" ∷ codes "134" ∷ codes "135" ∷ codes "136" ∷ codes "138" ∷ codes "139" ∷ codes "140" ∷ [])
+    ∷ (
+      Burglary,
+      codes "130" ∷ codes "131" ∷ codes "132" ∷ codes "133" ∷ codes "134" ∷ codes "135" ∷ codes "136"
+          ∷ codes "138" ∷ codes "139" ∷ codes "140" ∷ [],
+    )
     ∷ (Tamper, codes "137" ∷ codes "144" ∷ codes "145" ∷ codes "383" ∷ [])
     ∷ (Gas, codes "151" ∷ codes "162" ∷ [])
     ∷ (Environment, codes "150" ∷ codes "154" ∷ codes "158" ∷ codes "159" ∷ [])

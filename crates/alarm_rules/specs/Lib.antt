@@ -1,3 +1,4 @@
+pub use Rattle.arc_data.specs.LocalTime
 pub mod ContactId
 pub mod FirstFrom
 pub mod Plans

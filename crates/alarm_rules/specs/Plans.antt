@@ -1,15 +1,15 @@
 -- The steps of a plan, and which of them are met.
-use Rattle.std.specs.Prelude.{ℕ, ◌&&◌, ◌||◌, List, [], ◌∷◌, Bool, true, false, not, if◌then◌else◌, Option, option_and_then}
+use Rattle.std.specs.Prelude.{ℕ, ◌&&◌, ◌||◌, List, [], ◌∷◌, Bool, not, Option, option_and_then}
 use Rattle.std.specs.Prelude.{length, map, take, slice_get, slice_index_or}
-use Rattle.std.specs.List.{filter, flat_map, list_any, range_with_len}
+use Rattle.std.specs.List.{filter, find, flat_map, list_any, range_with_len}
+pub use Rattle.arc_data.specs.Steps.{is_call, is_reached, fits}
 use Rattle.arc_data.specs.Steps.{same_step}
 use Rattle.arc_data.specs.declared.plan.Planned.{Planned}
 use Rattle.arc_data.specs.declared.plan.PlanWord.{PlanWord}
 use Rattle.arc_data.specs.declared.plan.PlanWord.TheVariants.{Premises as CallPremises, Holders, Police as SendPolice}
-use Rattle.arc_data.specs.declared.plan.PlanWord.TheVariants.{Fire as SendFire, Ambulance as SendAmbulance, Guard as SendGuard, Note as WriteNote}
+use Rattle.arc_data.specs.declared.plan.PlanWord.TheVariants.{Fire as SendFire, Ambulance as SendAmbulance}
+use Rattle.arc_data.specs.declared.plan.PlanWord.TheVariants.{Guard as SendGuard, Note as WriteNote}
 use Rattle.arc_data.specs.declared.step.Acted.{Acted}
-use Rattle.arc_data.specs.declared.step.Outcome.{Outcome}
-use Rattle.arc_data.specs.declared.step.Outcome.TheVariants.{Reached, NoAnswer, Done}
 use Rattle.arc_data.specs.declared.step.Step.{Step}
 use Rattle.arc_data.specs.declared.step.Step.TheVariants.{Premises, Holder, Police, Fire, Ambulance, Guard, Note}
 
@@ -37,32 +37,6 @@ is_counted in_hours planned = not (planned.closed && in_hours)
 unfoldable pub steps_in : Bool → ℕ → List Planned → List Step
 steps_in in_hours holders words = flat_map (λ p. steps_of_word holders p.word) (filter (is_counted in_hours) words)
 
--- Outcomes.
-
--- the steps that are calls: of the premises and of keyholders
-abbrev pub is_call : Step → Bool
-is_call Premises = true
-is_call (Holder number) = true
-is_call Police = false
-is_call Fire = false
-is_call Ambulance = false
-is_call Guard = false
-is_call Note = false
-
-abbrev pub is_reached : Outcome → Bool
-is_reached Reached = true
-is_reached NoAnswer = false
-is_reached Done = false
-
-abbrev pub is_done : Outcome → Bool
-is_done Reached = false
-is_done NoAnswer = false
-is_done Done = true
-
--- calls are recorded as reached or unanswered, all other steps as done
-abbrev pub fits : Step → Outcome → Bool
-fits step outcome = if is_call step then not (is_done outcome) else is_done outcome
-
 -- Which steps are met.
 
 -- the step is recorded
@@ -78,17 +52,21 @@ was_reached acts step = is_call step && list_any (λ a. same_step a.step step &&
 abbrev pub is_met : List Acted → List Step → Step → Bool
 is_met acts earlier step = was_done acts step || (is_call step && list_any (was_reached acts) earlier)
 
--- the step at a place of the list of steps is met
-abbrev pub is_met_at : List Step → List Acted → ℕ → Bool
-is_met_at steps acts place = is_met acts (take place steps) (slice_index_or steps place Note)
+-- the step at a place of the list of steps is not met
+abbrev pub is_unmet : List Step → List Acted → ℕ → Bool
+is_unmet steps acts place = not (is_met acts (take place steps) (slice_index_or steps place Note))
 
--- the places of the steps that are not met, in order
+-- the places of the steps, in order
+abbrev pub places : List Step → List ℕ
+places steps = range_with_len 0 (length steps)
+
+-- the places of the steps that are not met
 unfoldable pub unmet : List Step → List Acted → List ℕ
-unmet steps acts = filter (λ place. not (is_met_at steps acts place)) (range_with_len 0 (length steps))
+unmet steps acts = filter (is_unmet steps acts) (places steps)
 
 -- the place of the first step that is not met
 abbrev pub remaining : List Step → List Acted → Option ℕ
-remaining steps acts = slice_get (unmet steps acts) 0
+remaining steps acts = find (is_unmet steps acts) (places steps)
 
 -- the first step that is not met: the one that is expected next
 abbrev pub expected_step : List Step → List Acted → Option Step

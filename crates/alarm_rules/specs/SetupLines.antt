@@ -4,12 +4,13 @@ use Rattle.std.specs.Prelude.{List, [], ◌∷◌, Option, Some, None, option_an
 use Rattle.std.specs.List.{slice_split}
 use Rattle.std.specs.Option.{option_map, unwrap_or}
 use Rattle.std.specs.Str.{bytes_eq}
+use Rattle.arc_data.specs.Digits.{is_name}
 use Rattle.arc_data.specs.Words.{has_word}
 use Rattle.arc_data.specs.declared.plan.Planned.{Planned}
 use Rattle.arc_data.specs.declared.signal.Class.{Class}
 use Rattle.arc_data.specs.declared.window.Window.{Window}
 use Rattle.alarm_rules.specs.SetupWords.{word_that, account_named, key_spelled, seconds_spelled, minutes_spelled, day_named, minute_named}
-use Rattle.alarm_rules.specs.SetupWords.{is_name, is_phone, is_pin, class_named, planned_named}
+use Rattle.alarm_rules.specs.SetupWords.{is_phone, is_pin, class_named, planned_named}
 
 -- an account: its number in capitals, the bytes of its key and the seconds of its interval, where it has them, and the minutes
 -- that its local time is ahead of GMT

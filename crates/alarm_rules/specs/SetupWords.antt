@@ -4,9 +4,8 @@ use Rattle.std.specs.Prelude.{List, [], ◌∷◌, ◌++◌, Option, Some, None,
 use Rattle.std.specs.List.{find, list_all, position}
 use Rattle.std.specs.Option.{option_map, option_or}
 use Rattle.std.specs.Str.{bytes_eq}
-use Rattle.civil_time.specs.Stamp.{two_digits}
 use Rattle.arc_data.specs.Classes.{name_of}
-use Rattle.arc_data.specs.Digits.{bytes_spelled, capitals, is_account, is_between, is_digit, is_hex, is_run}
+use Rattle.arc_data.specs.Digits.{bytes_spelled, capitals, is_account, is_digit, is_hex, is_run, two_digits}
 use Rattle.arc_data.specs.declared.plan.Planned.{Planned}
 use Rattle.arc_data.specs.declared.plan.PlanWord.{PlanWord}
 use Rattle.arc_data.specs.declared.plan.PlanWord.TheVariants.{Premises, Holders, Police, Fire, Ambulance, Guard, Note}
@@ -66,17 +65,7 @@ time_text minute = two_digits (minute / 60) ++ codes ":" ++ two_digits (minute %
 abbrev pub minute_named : ℕ → List ℕ → Option ℕ
 minute_named last word = first_from (λ minute. bytes_eq word (time_text minute)) 0 (last + 1)
 
--- Names of people.
-
-abbrev pub is_letter : ℕ → Bool
-is_letter b = is_between 65 90 b || is_between 97 122 b
-
--- letters, digits, `.`, `_` and `-`
-abbrev pub is_name_byte : ℕ → Bool
-is_name_byte b = is_letter b || is_digit b || (b == 46) || (b == 95) || (b == 45)
-
-abbrev pub is_name : List ℕ → Bool
-is_name word = is_run is_name_byte 1 16 word
+-- Telephone numbers and PINs.
 
 -- the digits of a telephone number
 abbrev pub is_dialled : List ℕ → Bool

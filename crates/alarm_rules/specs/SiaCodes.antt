@@ -1,11 +1,13 @@
 -- SIA data (a profile of DC-03).
-use Rattle.std.specs.Prelude.{ℕ, suc, ◌+◌, ◌==◌, ◌&&◌, ◌||◌, ◌++◌, List, [], ◌∷◌, Bool, if◌then◌else◌, Option, Some, None, option_and_then, length, take, drop, codes}
+use Rattle.std.specs.Prelude.{ℕ, suc, ◌+◌, ◌==◌, ◌&&◌, ◌||◌, ◌++◌, List, [], ◌∷◌, Bool, if◌then◌else◌, Option, Some, None}
+use Rattle.std.specs.Prelude.{option_and_then, length, take, drop, codes}
 use Rattle.std.specs.List.{find, filter_map, list_any, take_while, before_first}
 use Rattle.std.specs.Option.{option_map, option_map_or}
 use Rattle.std.specs.Str.{bytes_eq}
 use Rattle.arc_data.specs.Digits.{is_between, is_digit, is_capital_hex}
 use Rattle.arc_data.specs.declared.signal.Class.{Class}
-use Rattle.arc_data.specs.declared.signal.Class.TheVariants.{Fire, Medical, Panic, Gas, Burglary, Tamper, Environment, CommFail, Trouble, LateClose, Unlisted, Test, OpenClose, Bypass, Cancel}
+use Rattle.arc_data.specs.declared.signal.Class.TheVariants.{Fire, Medical, Panic, Gas, Burglary, Tamper, Environment, CommFail}
+use Rattle.arc_data.specs.declared.signal.Class.TheVariants.{Trouble, LateClose, Unlisted, Test, OpenClose, Bypass, Cancel}
 use Rattle.arc_data.specs.declared.signal.Kind.{Kind}
 use Rattle.arc_data.specs.declared.signal.Kind.TheVariants.{New, Restore, Opening, Closing, LogOnly}
 use Rattle.arc_data.specs.declared.signal.Signal.{Signal}
@@ -68,7 +70,8 @@ item_before item later = option_map (λ items. item ∷ items) later
 -- the items of a text that is at its end or at an item: nothing, or an item and those after it
 abbrev pub items_from : (List ℕ → Option (List Item)) → List ℕ → Option (List Item)
 items_from items_after [] = Some []
-items_from items_after (b ∷ rest) = option_and_then (λ item. item_before item (items_after (drop (length (item_bytes item)) (b ∷ rest)))) (item_at (b ∷ rest))
+items_from items_after (b ∷ rest) =
+    option_and_then (λ item. item_before item (items_after (drop (length (item_bytes item)) (b ∷ rest)))) (item_at (b ∷ rest))
 
 -- the items of a text, where there are fewer than so many
 unfoldable pub items_below : ℕ → List ℕ → Option (List Item)

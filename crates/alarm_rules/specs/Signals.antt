@@ -1,5 +1,5 @@
 -- The signals of a message's content.
-use Rattle.std.specs.Prelude.{ℕ, List, [], ◌∷◌, ◌==◌, Option}
+use Rattle.std.specs.Prelude.{ℕ, List, [], ◌∷◌, ◌==◌, Bool, Option, is_some}
 use Rattle.std.specs.List.{before_first}
 use Rattle.std.specs.Option.{option_map}
 use Rattle.arc_data.specs.declared.event.Token.{Token}
@@ -16,3 +16,7 @@ data_of content = before_first (λ b. b == 93) content
 abbrev pub signals : Token → List ℕ → Option (List Signal)
 signals AdmCid content = option_map (λ signal. signal ∷ []) (contact_id_signal (data_of content))
 signals SiaDcs content = sia_signals (data_of content)
+
+-- the content has signals: its data is in its grammar
+abbrev pub has_signals : Token → List ℕ → Bool
+has_signals token content = is_some (signals token content)

@@ -1,7 +1,7 @@
 -- Weekly opening hours. A moment is a number of seconds since the beginning of 1970 in GMT.
 use Rattle.std.specs.Prelude.{◌≡◌, ◌<◌, ◌≤◌, ◌+◌, ◌-◌, ◌==◌, ◌&&◌, ℕ, ℤ, Bool, true, not, nat_le, nat_lt, List, Option}
 use Rattle.std.specs.List.{list_any}
-use Rattle.civil_time.specs.LocalTime.{local_weekday, local_minute}
+use Rattle.arc_data.specs.LocalTime.{local_weekday, local_minute}
 use Rattle.alarm_rules.specs.FirstFrom.{first_from}
 use Rattle.arc_data.specs.declared.window.Window.{Window}
 

@@ -2,7 +2,9 @@
 use Rattle.std.specs.Prelude.{ℕ, Bool, List, nat_eq, codes}
 use Rattle.std.specs.Cmp.{IsEquivalence, on_equiv, nat_eq_equiv}
 use Rattle.arc_data.specs.declared.signal.Class.{Class}
-use Rattle.arc_data.specs.declared.signal.Class.TheVariants.{Fire, Medical, Panic, Gas, Burglary, Tamper, Environment, CommFail, Trouble, Irregular, LateClose, Unlisted, Test, OpenClose, Bypass, Cancel, Program}
+use Rattle.arc_data.specs.declared.signal.Class.TheVariants.{Fire, Medical, Panic, Gas, Burglary, Tamper, Environment, CommFail}
+use Rattle.arc_data.specs.declared.signal.Class.TheVariants.{Trouble, Irregular, LateClose, Unlisted, Test, OpenClose, Bypass}
+use Rattle.arc_data.specs.declared.signal.Class.TheVariants.{Cancel, Program}
 
 -- 1 is the most urgent, 4 the least; 0 is none: signals of these classes open no incident
 abbrev pub priority_of : Class → ℕ

@@ -1,5 +1,6 @@
 -- Digits and letters as bytes, and the numbers that digits spell.
-use Rattle.std.specs.Prelude.{ℕ, ◌+◌, ◌-◌, ◌*◌, ◌^◌, ◌<◌, List, [], ◌∷◌, Bool, ◌&&◌, ◌||◌, if◌then◌else◌, nat_le, length, map}
+use Rattle.std.specs.Prelude.{ℕ, ◌+◌, ◌-◌, ◌*◌, ◌/◌, ◌%◌, ◌^◌, ◌<◌, List, [], ◌∷◌, Bool, ◌&&◌, ◌||◌, ◌==◌}
+use Rattle.std.specs.Prelude.{if◌then◌else◌, nat_le, length, map}
 use Rattle.std.specs.Char.{to_ascii_uppercase}
 use Rattle.std.specs.List.{list_all, AllByRecursion}
 
@@ -18,6 +19,10 @@ is_hex b = is_digit b || is_between 65 70 b || is_between 97 102 b
 -- `0` to `9` and `A` to `F`
 abbrev pub is_capital_hex : ℕ → Bool
 is_capital_hex b = is_digit b || is_between 65 70 b
+
+-- a byte of a name: a letter, a digit, `.`, `_` or `-`
+abbrev pub is_name_byte : ℕ → Bool
+is_name_byte b = is_between 65 90 b || is_between 97 122 b || is_digit b || (b == 46) || (b == 95) || (b == 45)
 
 -- what a hexadecimal digit stands for
 abbrev pub digit_value : ℕ → ℕ
@@ -39,6 +44,10 @@ unfoldable pub dec_value : List ℕ → ℕ
 dec_value [] = 0
 dec_value (b ∷ bs) = (b - 48) * 10 ^ length bs + dec_value bs
 
+-- a number below 100 in two decimal digits
+abbrev pub two_digits : ℕ → List ℕ
+two_digits n = (48 + n / 10) ∷ (48 + n % 10) ∷ []
+
 -- the text in capitals
 abbrev pub capitals : List ℕ → List ℕ
 capitals text = map to_ascii_uppercase text
@@ -46,6 +55,10 @@ capitals text = map to_ascii_uppercase text
 -- between so many and so many bytes that each pass the test
 abbrev pub is_run : (ℕ → Bool) → ℕ → ℕ → List ℕ → Bool
 is_run test low high text = is_between low high (length text) && list_all test text
+
+-- a name of an operator or a keyholder: 1 to 16 such bytes
+abbrev pub is_name : List ℕ → Bool
+is_name text = is_run is_name_byte 1 16 text
 
 -- an account: 3 to 16 hexadecimal digits, in either case
 abbrev pub is_account : List ℕ → Bool

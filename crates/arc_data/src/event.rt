@@ -42,7 +42,7 @@ pub enum Event {
 }
 
 /// What the centre answers.
-#[derive(Clone, Copy, Debug, PartialEq, Eq)]
+#[derive(Debug, Drop)]
 pub enum Reply {
     Adopted,
     Started,

@@ -1,8 +1,17 @@
 -- Bytes that are written and read piece by piece.
-use Rattle.std.proofs.Common.{◌≡◌, ℕ, ◌+◌, List, ◌++◌, take, drop, Option, Some, None, refl, sym, ◌∙◌, ap}
+use Rattle.std.proofs.Common.{◌≡◌, ℕ, ◌+◌, List, [], ◌++◌, take, drop, Option, Some, None, refl, sym, ◌∙◌, ap, append-nil}
 use Rattle.std.proofs.lemmas.List.{append_assoc}
 use Rattle.std.specs.Io.KnownBytes.{append_known, prepend_known}
 use Rattle.std.proofs.Math.Seq.{take-add}
+
+-- no bytes
+pub known_none : (known : Option (List ℕ)) → append_known known [] ≡ known
+known_none None = refl
+known_none (Some xs) = ap Some (append-nil xs)
+
+pub prepend_none : (known : Option (List ℕ)) → known ≡ prepend_known [] known
+prepend_none None = refl
+prepend_none (Some xs) = refl
 
 -- a piece of the bytes after those that were taken
 pub known_more : (known : Option (List ℕ)) (bytes : List ℕ) (done n : ℕ)

@@ -1,4 +1,10 @@
+pub mod Adding
 pub mod EmptyStruct
+pub mod Frames
 pub mod FrontOfList
 pub mod KnownMore
 pub mod ListLemmas
+pub mod Moments
+pub mod Deeds
+pub mod Stops
+pub mod Replaying

@@ -1,5 +1,13 @@
 pub mod Causes
+pub mod Seen
 pub mod Told
+pub mod Added
 pub mod Lists
 pub mod Memory
 pub mod Seconds
+pub mod Areas
+pub mod Crashes
+pub mod KeptCalls
+pub mod MemoryDisk
+pub mod DiskClock
+pub mod Replays

@@ -3,13 +3,17 @@
 
 mod adapters;
 mod count;
+mod disk;
+mod disk_synced;
 mod memory;
 #[cfg(test)]
 mod tests;
 mod traits;
 mod whole;
 
-pub use adapters::{FileSource, RealClock, RealNoise, StdPort};
-pub use memory::{ListClock, ListNoise, MemPort, MemSink, MemSource};
+pub use adapters::{FileDisk, FileSource, RealClock, RealNoise, StdPort};
+pub use disk::{Area, Disk};
+pub use disk_synced::write_synced;
+pub use memory::{Fill, ListClock, ListNoise, MemDisk, MemPort, MemSink, MemSource};
 pub use traits::{Clock, Ends, Failed, Noise, Port, Sink, Source};
 pub use whole::{ReadEnd, put, read_all};

@@ -2,12 +2,17 @@
 ghost use Rattle.std.specs.Prelude.{◌↔◌, IsTrue, Contains};
 
 mod clock;
+mod disk;
+mod disk_kept;
+mod disk_stop;
 mod noise;
 mod port;
 mod sink;
 mod source;
 
 pub use clock::ListClock;
+pub use disk::MemDisk;
+pub use disk_kept::Fill;
 pub use noise::ListNoise;
 pub use port::MemPort;
 pub use sink::MemSink;

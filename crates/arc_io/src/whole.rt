@@ -1,20 +1,15 @@
-ghost use Rattle.std.specs.Prelude.{◌≡◌, ◌<◌, ◌≤◌, List, ℕ, take, OnOk, OnErr, IfOk, length, vec_len};
-ghost use Rattle.std.specs.Io.KnownBytes.{append_known, prepend_known, IsAtEnd};
-ghost use Rattle.arc_io.specs.Causes.{Rose, HasCause};
+// Reading and writing over many calls.
+ghost use Rattle.std.specs.Prelude.{◌≡◌, ◌<◌, ◌≤◌, List, ℕ, false, OnErr, IfOk, length, vec_len};
+ghost use Rattle.std.specs.Io.KnownBytes.{prepend_known};
+ghost use Rattle.arc_io.specs.Causes.{Rose};
+ghost use Rattle.arc_io.specs.Told.{IsReadOut, OnlyReads, Puts};
 
 use crate::{Failed, Sink, Source};
 use std::alloc::Global;
 
 /// Writes all of the bytes, in as many calls as the sink asks for.
 pub fn put<K: Sink>(sink: &mut K, bytes: &[u8]) -> Result<(), Failed>
-    ensures all { OnOk result (K.written sink.new ≡ append_known (K.written sink.old) bytes.now) }
-    ensures part { OnErr result ((n : ℕ) × (n < length bytes.now)
-        × (K.written sink.new ≡ append_known (K.written sink.old) (take n bytes.now))) }
-    ensures cause { HasCause (K.write_faults sink.old) (K.write_faults sink.new) result }
-    ensures left { K.left sink.new ≡ K.left sink.old }
-    ensures read_faults { K.read_faults sink.new ≡ K.read_faults sink.old }
-    ensures readings { K.readings sink.new ≡ K.readings sink.old }
-    ensures noise { K.noise sink.new ≡ K.noise sink.old }
+    ensures { Puts (K.seen sink.old) (K.seen sink.new) result bytes.now }
 {
     let mut done = 0;
     while done < bytes.len() {
@@ -39,20 +34,20 @@ pub enum ReadEnd {
 /// the limit is taken from the source.
 #[tactic(auto, using(crate::proofs::KnownMore::known_taken))]
 pub fn read_all<S: Source>(alloc: Global, source: &mut S, limit: usize) -> Result<Vec<u8>, ReadEnd>
-    ensures all { IfOk result (λ v. S.left source.old ≡ prepend_known v.items (S.left source.new)) }
+    requires { (S.seen source.old).ended ≡ false }
+    ensures all { IfOk result (λ v. (S.seen source.old).left ≡ prepend_known v.items (S.seen source.new).left) }
     ensures limit { IfOk result (λ v. vec_len v ≤ limit) }
-    ensures ended { IfOk result (λ v. vec_len v < limit → IsAtEnd (S.left source.new)) }
+    ensures ended { IfOk result (λ v. vec_len v < limit → IsReadOut (S.seen source.new)) }
+    ensures not_ended { IfOk result (λ v. limit ≤ vec_len v → (S.seen source.new).ended ≡ false) }
     ensures part { OnErr result ((bytes : List ℕ) × (length bytes ≤ limit)
-        × (S.left source.old ≡ prepend_known bytes (S.left source.new))) }
+        × ((S.seen source.old).left ≡ prepend_known bytes (S.seen source.new).left)) }
+    ensures part_not_ended { OnErr result ((S.seen source.new).ended ≡ false) }
 
     // A failed read is the one cause of Failed.
-    ensures failed { result ≡ Err ReadEnd.Failed → Rose (S.read_faults source.old) (S.read_faults source.new) }
-    ensures later { S.read_faults source.old ≤ S.read_faults source.new }
+    ensures failed { result ≡ Err ReadEnd.Failed → Rose (S.seen source.old).read_faults (S.seen source.new).read_faults }
+    ensures later { (S.seen source.old).read_faults ≤ (S.seen source.new).read_faults }
 
-    ensures written { S.written source.new ≡ S.written source.old }
-    ensures write_faults { S.write_faults source.new ≡ S.write_faults source.old }
-    ensures readings { S.readings source.new ≡ S.readings source.old }
-    ensures noise { S.noise source.new ≡ S.noise source.old }
+    ensures others { OnlyReads (S.seen source.old) (S.seen source.new) }
 {
     let mut bytes = Vec::new(alloc);
     let mut piece = [0; PIECE];

@@ -1,35 +1,28 @@
 -- What a run of `line` did, by its status.
-use Rattle.std.specs.Prelude.{◌≡◌, ◌≤◌, ◌^◌, ◌⊎◌, ℕ, List, [], ◌∷◌, Option, Some, None, Err, IsOk, length}
-use Rattle.std.specs.Io.KnownBytes.{append_known, prepend_known, IsAtEnd}
+use Rattle.std.specs.Prelude.{◌≡◌, ◌≤◌, ◌^◌, ◌⊎◌, ℕ, List, Option, Some, None, Err, IsOk, length}
+use Rattle.std.specs.Io.KnownBytes.{prepend_known}
 use Rattle.arc_io.specs.Causes.{Rose}
-use Rattle.alarm_rules.specs.Setups.{setup_of, meaning}
+use Rattle.arc_io.specs.Seen.{PortSeen}
+use Rattle.arc_io.specs.Told.{IsReadOut, after_reading}
+use Rattle.alarm_rules.specs.Setups.{setup_of}
 use Rattle.centre_core.specs.Runs.{begun}
-use Rattle.centre_core.specs.Setting.{IsSetFor, IsShown}
+use Rattle.centre_core.specs.Setting.{IsSetFor, ram_seen, text_of}
 use Rattle.centre_core.specs.declared.hall.Stop.TheVariants.{Memory as MemoryWanted, Worn as HallWorn}
 use Rattle.centre_rules.specs.Summary.{nothing}
 use Rattle.centre_rules.specs.State.{State}
 use Rattle.line_session.specs.Lines.{ReadsLine, ServesLine}
-use Rattle.line_session.specs.Ports.{PortSeen}
 use Rattle.line_session.specs.declared.line_end.LineEnd.{LineEnd}
-use Rattle.line_session.specs.declared.line_end.LineEnd.TheVariants.{InputEnded, ReadFault as NotRead, WriteFault as NotWritten, Spent as InputSpent, Stopped}
+use Rattle.line_session.specs.declared.line_end.LineEnd.TheVariants.{InputEnded, ReadFault as NotRead, WriteFault as NotWritten}
+use Rattle.line_session.specs.declared.line_end.LineEnd.TheVariants.{Spent as InputSpent, Stopped}
 use Rattle.arc_server.specs.declared.status.Status.{Status}
 use Rattle.arc_server.specs.declared.status.Status.TheVariants.{Done, Usage, SetupBad, ReadFault, WriteFault, Memory, Spent, Worn}
 use Rattle.arc_server.specs.declared.status.Which.TheVariants.{Setup, Input}
 
--- What is told of the setup's source at one moment: its bytes left, and how often a read of it failed.
-pub record SetupSeen : Type 0 where
-  pub left : Option (List ℕ)
-  pub faults : ℕ
-
--- the port after one more reading
-abbrev pub after_reading : ℕ → PortSeen → PortSeen
-after_reading clock p = record p { readings = append_known p.readings (clock ∷ []) }
-
 -- This text was read of the setup's source: all of it, or 4,194,305 bytes.
-pub record ReadsText (q q' : SetupSeen) (text : List ℕ) : Type 0 where
+pub record ReadsText (q q' : PortSeen) (text : List ℕ) : Type 0 where
   pub taken : q.left ≡ prepend_known text q'.left
   pub size : length text ≤ 4194305
-  pub whole : length text ≤ 4194304 → IsAtEnd q'.left
+  pub whole : length text ≤ 4194304 → IsReadOut q'
 
 -- a reading that stopped took no more than this many bytes
 abbrev pub ReadsPart : ℕ → Option (List ℕ) → Option (List ℕ) → Type 0
@@ -44,9 +37,12 @@ pub record HasRisen (first second entry end : ℕ) : Type 0 where
 -- A line was served to this end, from the beginning of the run on, an Adopt of the setup's text and a Start. The centre that is
 -- handed back stands for the history that the session ended with.
 pub record ServesRun (end : LineEnd) (text : List ℕ) (clock : ℕ) (p p' : PortSeen) (state : State) : Type 0 where
+  pub first : State
+  pub begins : IsSetFor nothing first (begun text clock)
+  pub under : text_of first ≡ text
   pub read : List ℕ
   pub reads : ReadsLine end read p p'
-  pub line : ServesLine end read nothing (meaning text) 0 (begun text clock) (λ x. IsSetFor nothing state x) (λ x. x) (λ x. x) (λ stop event reading. IsShown state stop) p p'
+  pub line : ServesLine end read nothing (begun text clock) (ram_seen first) (ram_seen state) p p'
 
 -- What a status shows where a run began, at this reading of the clock: a centre in this state is handed back.
 abbrev pub IsServed : Status → List ℕ → ℕ → PortSeen → PortSeen → State → Type 0
@@ -54,17 +50,20 @@ IsServed Done text clock p p' state = ServesRun InputEnded text clock p p' state
 IsServed Usage text clock p p' state = ⊥
 IsServed (SetupBad fault) text clock p p' state = ⊥
 IsServed (ReadFault Setup before now) text clock p p' state = ⊥
-IsServed (ReadFault Input before now) text clock p p' state = HasRisen before now p.read_faults p'.read_faults × ServesRun NotRead text clock p p' state
-IsServed (WriteFault before now) text clock p p' state = HasRisen before now p.write_faults p'.write_faults × ServesRun NotWritten text clock p p' state
+IsServed (ReadFault Input before now) text clock p p' state =
+    HasRisen before now p.read_faults p'.read_faults × ServesRun NotRead text clock p p' state
+IsServed (WriteFault before now) text clock p p' state =
+    HasRisen before now p.write_faults p'.write_faults × ServesRun NotWritten text clock p p' state
 IsServed Memory text clock p p' state = ServesRun (Stopped MemoryWanted) text clock p p' state
 IsServed Spent text clock p p' state = ServesRun InputSpent text clock p p' state
-IsServed (Worn count) text clock p p' state = (count ≡ state.entries) × (2 ^ 48 ≤ count) × ServesRun (Stopped (HallWorn count)) text clock p p' state
+IsServed (Worn count) text clock p p' state =
+    (count ≡ state.entries) × (2 ^ 48 ≤ count) × ServesRun (Stopped (HallWorn count)) text clock p p' state
 
 -- What a status shows where the setup was not read or is none.
-abbrev pub IsSetupEnd : Status → SetupSeen → SetupSeen → Type 0
+abbrev pub IsSetupEnd : Status → PortSeen → PortSeen → Type 0
 IsSetupEnd Memory q q' = ReadsPart 4194305 q.left q'.left
 IsSetupEnd (SetupBad fault) q q' = (text : List ℕ) × ReadsText q q' text × (setup_of text ≡ Err fault)
-IsSetupEnd (ReadFault Setup before now) q q' = HasRisen before now q.faults q'.faults × ReadsPart 4194305 q.left q'.left
+IsSetupEnd (ReadFault Setup before now) q q' = HasRisen before now q.read_faults q'.read_faults × ReadsPart 4194305 q.left q'.left
 IsSetupEnd (ReadFault Input before now) q q' = ⊥
 IsSetupEnd Done q q' = ⊥
 IsSetupEnd Usage q q' = ⊥
@@ -73,17 +72,20 @@ IsSetupEnd Spent q q' = ⊥
 IsSetupEnd (Worn count) q q' = ⊥
 
 -- the setup was read, and memory was wanted for the beginning of the run, whose one reading was taken
-abbrev pub DoesNotBegin : SetupSeen → SetupSeen → PortSeen → PortSeen → Type 0
-DoesNotBegin q q' p p' = (text : List ℕ) × (clock : ℕ) × ReadsText q q' text × IsOk (setup_of text) × (p' ≡ after_reading clock p)
+abbrev pub DoesNotBegin : PortSeen → PortSeen → PortSeen → PortSeen → Type 0
+DoesNotBegin q q' p p' =
+    (text : List ℕ) × (clock : ℕ) × ReadsText q q' text × IsOk (setup_of text) × (p' ≡ after_reading clock p)
 
 -- What a status shows where no run began: the words were at fault and nothing was touched; or the setup was not read or is none,
 -- and the port was not touched; or memory was wanted for the beginning.
-abbrev pub EndsEarly : Status → SetupSeen → SetupSeen → PortSeen → PortSeen → Type 0
+abbrev pub EndsEarly : Status → PortSeen → PortSeen → PortSeen → PortSeen → Type 0
 EndsEarly Usage q q' p p' = (q' ≡ q) × (p' ≡ p)
 EndsEarly Memory q q' p p' = (IsSetupEnd Memory q q' × (p' ≡ p)) ⊎ DoesNotBegin q q' p p'
 EndsEarly status q q' p p' = IsSetupEnd status q q' × (p' ≡ p)
 
 -- What a run did: no centre was made, or a setup was read, a run began at the first reading, and its centre is handed back.
-abbrev pub IsRun : Status → SetupSeen → SetupSeen → PortSeen → PortSeen → Option State → Type 0
+abbrev pub IsRun : Status → PortSeen → PortSeen → PortSeen → PortSeen → Option State → Type 0
 IsRun status q q' p p' None = EndsEarly status q q' p p'
-IsRun status q q' p p' (Some state) = (text : List ℕ) × (clock : ℕ) × ReadsText q q' text × IsOk (setup_of text) × IsServed status text clock (after_reading clock p) p' state
+IsRun status q q' p p' (Some state) =
+    (text : List ℕ) × (clock : ℕ) × ReadsText q q' text × IsOk (setup_of text)
+    × IsServed status text clock (after_reading clock p) p' state

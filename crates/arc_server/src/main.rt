@@ -36,7 +36,7 @@ fn main(rt: HostRuntime) -> ExitCode {
     let _output = fs::open(&rt, ".");
     let _errors = fs::open(&rt, ".");
     let status = match words(&rt) {
-        Ok(words) => serve(&rt, &words),
+        Ok(words) => run_over_machine(&rt, &words),
         Err(_) => Status::Memory,
     };
     let mut errors = StdPort::new(
@@ -50,7 +50,7 @@ fn main(rt: HostRuntime) -> ExitCode {
 }
 
 // Runs over the real setup file and the real standard streams.
-fn serve(rt: &HostRuntime, words: &[Txt]) -> Status {
+fn run_over_machine(rt: &HostRuntime, words: &[Txt]) -> Status {
     let port = StdPort::new(
         rt.reader(),
         io::writer(rt),

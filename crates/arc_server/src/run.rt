@@ -1,5 +1,5 @@
 // The top call.
-ghost use Rattle.std.specs.Prelude.{◌≡◌, ◌≢◌, ◌↔◌, ◌∷◌, [], List, ℕ, Some, IsTrue, IsOk, IfOk, IfErr, codes};
+ghost use Rattle.std.specs.Prelude.{◌≡◌, ◌≢◌, ◌↔◌, ◌∷◌, [], List, ℕ, Some, false, IsTrue, IsOk, IfOk, IfErr, codes};
 ghost use Rattle.alarm_rules.specs.Setups.{setup_of};
 ghost use Rattle.centre_rules.specs.Summary.{nothing};
 ghost use Rattle.centre_core.specs.Runs.{begun};
@@ -13,7 +13,7 @@ use centre_core::{Centre, RamHall, Setup, Stop};
 use line_session::{LineEnd, serve_line};
 use std::alloc::Global;
 
-/// How many bytes of a setup text are read at most: one more than a setup may have.
+// How many bytes of a setup text are read at most: one more than a setup may have.
 const SETUP_READ: usize = 4_194_305;
 
 /// What a run is handed: the source of the setup text, and the port of the line.
@@ -39,27 +39,11 @@ pub fn run<R, S: Source, P: Port>(
     words: &[Txt],
     outside: Outside<S, P>,
 ) -> Ended<S, P>
+    requires setup { (S.seen outside.setup).ended ≡ false }
+    requires port { (P.seen outside.port).ended ≡ false }
     ensures usage { (result.status ≡ Status.Usage) ↔ (words.now ≢ codes "line" ∷ []) }
     ensures untouched { result.status ≡ Status.Usage → result.outside ≡ outside }
-    ensures line { IsRun result.status
-        (record { left = S.left outside.setup; faults = S.read_faults outside.setup })
-        (record { left = S.left result.outside.setup; faults = S.read_faults result.outside.setup })
-        (record {
-          left = P.left outside.port;
-          read_faults = P.read_faults outside.port;
-          written = P.written outside.port;
-          write_faults = P.write_faults outside.port;
-          readings = P.readings outside.port;
-          noise = P.noise outside.port;
-        })
-        (record {
-          left = P.left result.outside.port;
-          read_faults = P.read_faults result.outside.port;
-          written = P.written result.outside.port;
-          write_faults = P.write_faults result.outside.port;
-          readings = P.readings result.outside.port;
-          noise = P.noise result.outside.port;
-        })
+    ensures line { IsRun result.status (S.seen outside.setup) (S.seen result.outside.setup) (P.seen outside.port) (P.seen result.outside.port)
         result.centre }
 {
     if !is_line(words) {
@@ -91,26 +75,10 @@ fn is_line(words: &[Txt]) -> bool
 
 // Reads the setup, begins a run, and serves the line.
 fn line<S: Source, P: Port>(alloc: Global, source: &mut S, port: &mut P) -> (Status, Option<Centre>)
+    requires setup { (S.seen source.old).ended ≡ false }
+    requires port { (P.seen port.old).ended ≡ false }
     ensures usage { result.0 ≢ Status.Usage }
-    ensures line { IsRun result.0
-        (record { left = S.left source.old; faults = S.read_faults source.old })
-        (record { left = S.left source.new; faults = S.read_faults source.new })
-        (record {
-          left = P.left port.old;
-          read_faults = P.read_faults port.old;
-          written = P.written port.old;
-          write_faults = P.write_faults port.old;
-          readings = P.readings port.old;
-          noise = P.noise port.old;
-        })
-        (record {
-          left = P.left port.new;
-          read_faults = P.read_faults port.new;
-          written = P.written port.new;
-          write_faults = P.write_faults port.new;
-          readings = P.readings port.new;
-          noise = P.noise port.new;
-        })
+    ensures line { IsRun result.0 (S.seen source.old) (S.seen source.new) (P.seen port.old) (P.seen port.new)
         result.1 }
 {
     let setup = match read_setup(alloc, source) {
@@ -121,18 +89,15 @@ fn line<S: Source, P: Port>(alloc: Global, source: &mut S, port: &mut P) -> (Sta
     let Ok(mut hall) = RamHall::new(alloc, setup, clock) else {
         return (Status::Memory, None);
     };
-    let status = serve(alloc, &mut hall, port);
+    let status = status_of_line(alloc, &mut hall, port);
     (status, Some(hall.into_centre()))
 }
 
 // Reads the setup text, and what it means. An error is the status that it makes.
 fn read_setup<S: Source>(alloc: Global, source: &mut S) -> Result<Setup, Status>
-    ensures read { IfOk result (λ setup. ReadsText
-        (record { left = S.left source.old; faults = S.read_faults source.old })
-        (record { left = S.left source.new; faults = S.read_faults source.new }) setup × IsOk (setup_of setup)) }
-    ensures refused { IfErr result (λ status. IsSetupEnd status
-        (record { left = S.left source.old; faults = S.read_faults source.old })
-        (record { left = S.left source.new; faults = S.read_faults source.new })) }
+    requires { (S.seen source.old).ended ≡ false }
+    ensures read { IfOk result (λ setup. ReadsText (S.seen source.old) (S.seen source.new) setup × IsOk (setup_of setup)) }
+    ensures refused { IfErr result (λ status. IsSetupEnd status (S.seen source.old) (S.seen source.new)) }
 {
     let before = source.read_faults();
     match read_all(alloc, source, SETUP_READ) {
@@ -151,26 +116,11 @@ fn read_setup<S: Source>(alloc: Global, source: &mut S) -> Result<Setup, Status>
 }
 
 // Serves the line. The status is the end that this makes.
-fn serve<P: Port>(alloc: Global, hall: &mut RamHall, port: &mut P) -> Status
+fn status_of_line<P: Port>(alloc: Global, hall: &mut RamHall, port: &mut P) -> Status
+    requires { (P.seen port.old).ended ≡ false }
     ensures begun { result ≢ Status.Usage }
     ensures served { (text : List ℕ) (clock : ℕ) → IsSetFor nothing hall.old (begun text clock) → text_of hall.old ≡ text →
-        IsServed result text clock
-        (record {
-          left = P.left port.old;
-          read_faults = P.read_faults port.old;
-          written = P.written port.old;
-          write_faults = P.write_faults port.old;
-          readings = P.readings port.old;
-          noise = P.noise port.old;
-        })
-        (record {
-          left = P.left port.new;
-          read_faults = P.read_faults port.new;
-          written = P.written port.new;
-          write_faults = P.write_faults port.new;
-          readings = P.readings port.new;
-          noise = P.noise port.new;
-        }) hall.new }
+        IsServed result text clock (P.seen port.old) (P.seen port.new) hall.new }
 {
     let reads = port.read_faults();
     let writes = port.write_faults();

@@ -56,10 +56,10 @@ impl Status {
     }
 
     /// Writes the text of the status: one line with LF, and nothing for Done. Failed comes only where the sink failed.
-    #[tactic(auto, using(line_session::proofs::Turned::known_none), unfolding(crate::specs::Statuses::text_of_status))]
+    #[tactic(auto, using(arc_io::proofs::KnownMore::known_none), unfolding(crate::specs::Statuses::text_of_status))]
     pub fn text<K: Sink>(&self, out: &mut K) -> Result<(), Failed>
-        ensures all { OnOk result (K.written out.new ≡ append_known (K.written out.old) (text_of_status self.now)) }
-        ensures cause { HasCause (K.write_faults out.old) (K.write_faults out.new) result }
+        ensures all { OnOk result ((K.seen out.new).written ≡ append_known (K.seen out.old).written (text_of_status self.now)) }
+        ensures cause { HasCause (K.seen out.old).write_faults (K.seen out.new).write_faults result }
     {
         match self {
             Status::Done => Ok(()),
@@ -86,8 +86,8 @@ impl Status {
 
 // The line that tells what is wrong with the setup.
 fn put_setup<K: Sink>(out: &mut K, fault: SetupFault) -> Result<(), Failed>
-    ensures all { OnOk result (K.written out.new ≡ append_known (K.written out.old) (setup_text fault)) }
-    ensures cause { HasCause (K.write_faults out.old) (K.write_faults out.new) result }
+    ensures all { OnOk result ((K.seen out.new).written ≡ append_known (K.seen out.old).written (setup_text fault)) }
+    ensures cause { HasCause (K.seen out.old).write_faults (K.seen out.new).write_faults result }
 {
     match fault {
         SetupFault::TooLarge => put(out, b"setup: too large\n"),
@@ -97,19 +97,21 @@ fn put_setup<K: Sink>(out: &mut K, fault: SetupFault) -> Result<(), Failed>
     }
 }
 
+// The text of a line that is none of a setup.
 #[tactic(auto, using(arc_io::proofs::KnownMore::known_both))]
 fn put_bad_line<K: Sink>(out: &mut K, line: u64) -> Result<(), Failed>
-    ensures all { OnOk result (K.written out.new ≡ append_known (K.written out.old) (bad_line_text line)) }
-    ensures cause { HasCause (K.write_faults out.old) (K.write_faults out.new) result }
+    ensures all { OnOk result ((K.seen out.new).written ≡ append_known (K.seen out.old).written (bad_line_text line)) }
+    ensures cause { HasCause (K.seen out.old).write_faults (K.seen out.new).write_faults result }
 {
     put_line(out, line)?;
     put(out, b": not a setup line\n")
 }
 
+// The text of a line that declares what an earlier one does.
 #[tactic(auto, using(arc_io::proofs::KnownMore::known_both))]
 fn put_two_same<K: Sink>(out: &mut K, line: u64, first: u64) -> Result<(), Failed>
-    ensures all { OnOk result (K.written out.new ≡ append_known (K.written out.old) (two_same_text line first)) }
-    ensures cause { HasCause (K.write_faults out.old) (K.write_faults out.new) result }
+    ensures all { OnOk result ((K.seen out.new).written ≡ append_known (K.seen out.old).written (two_same_text line first)) }
+    ensures cause { HasCause (K.seen out.old).write_faults (K.seen out.new).write_faults result }
 {
     put_line(out, line)?;
     put(out, b": same as line ")?;
@@ -117,19 +119,20 @@ fn put_two_same<K: Sink>(out: &mut K, line: u64, first: u64) -> Result<(), Faile
     put(out, b"\n")
 }
 
-#[tactic(auto, using(arc_io::proofs::KnownMore::known_both))]
 // The front of such a line, up to the line's number.
+#[tactic(auto, using(arc_io::proofs::KnownMore::known_both))]
 fn put_line<K: Sink>(out: &mut K, line: u64) -> Result<(), Failed>
-    ensures all { OnOk result (K.written out.new ≡ append_known (K.written out.old) (at_line line)) }
-    ensures cause { HasCause (K.write_faults out.old) (K.write_faults out.new) result }
+    ensures all { OnOk result ((K.seen out.new).written ≡ append_known (K.seen out.old).written (at_line line)) }
+    ensures cause { HasCause (K.seen out.old).write_faults (K.seen out.new).write_faults result }
 {
     put(out, b"setup: line ")?;
     put_number(out, line)
 }
 
+// A number in decimal.
 fn put_number<K: Sink>(out: &mut K, number: u64) -> Result<(), Failed>
-    ensures all { OnOk result (K.written out.new ≡ append_known (K.written out.old) (decimal number)) }
-    ensures cause { HasCause (K.write_faults out.old) (K.write_faults out.new) result }
+    ensures all { OnOk result ((K.seen out.new).written ≡ append_known (K.seen out.old).written (decimal number)) }
+    ensures cause { HasCause (K.seen out.old).write_faults (K.seen out.new).write_faults result }
 {
     let mut buffer = Buffer::new();
     put(out, buffer.format(number).as_bytes())

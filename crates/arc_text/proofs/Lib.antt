@@ -1,2 +1,4 @@
 pub mod Decimals
+pub mod LineCutterLaws
+pub mod LineLaws
 pub mod Words

@@ -1,5 +1,7 @@
 use super::*;
 
+mod lines;
+
 #[test]
 fn reads_numbers(rt: HostRuntime) {
     let table = [

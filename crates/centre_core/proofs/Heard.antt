@@ -17,7 +17,7 @@ same_if true ms = refl
 same_if false ms = refl
 
 -- whether the setup in force has the account
-pub heard_is : (b : Summary) (h : List Entry) (caller at : ℕ) (account : List ℕ) (reply : Reply) (setup : Setup) → IsLegal b (beat_entry caller account at reply ∷ h) → force b (marks (beat_entry caller account at reply ∷ h)) ≡ Some setup
+pub heard_is : (b : Summary) (h : List Entry) (caller at : ℕ) (account : List ℕ) (reply : Reply) (setup : Setup) → IsLegal b (beat_entry caller account at reply ∷ h) → force b (marks b (beat_entry caller account at reply ∷ h)) ≡ Some setup
     → reply ≡ if_known (has_account setup account) Heard
 heard_is b h caller at account reply setup legal setup_is =
-    legal.0.reply ∙ ap (λ (o : Option Setup). if_known (knows_account o account) Heard) (ap (force b) (sym (same_if (is_recorded reply) (marks h))) ∙ setup_is)
+    legal.0.reply ∙ ap (λ (o : Option Setup). if_known (knows_account o account) Heard) (ap (force b) (sym (same_if (is_recorded reply) (marks b h))) ∙ setup_is)

@@ -6,7 +6,8 @@ use Rattle.std.specs.Str.{bytes_eq}
 use Rattle.std.proofs.lemmas.Slice.Eq.{bytes_eq-Decides}
 use Rattle.arc_data.specs.declared.event.Event.TheVariants.{Message as Sent}
 use Rattle.arc_data.specs.declared.event.Message.{Message}
-use Rattle.centre_rules.specs.Answers.{answer_over, has_signals, knows_account, repeat_of, taken_or}
+use Rattle.alarm_rules.specs.Signals.{has_signals}
+use Rattle.centre_rules.specs.Answers.{answer_over, knows_account, repeat_of, taken_or}
 use Rattle.centre_rules.specs.Marks.{force}
 use Rattle.centre_rules.specs.Summary.{Past, AccountRow, Summary, row_or}
 use Rattle.centre_core.specs.Kept.{messages_of, row_in, rows_of}
@@ -49,5 +50,5 @@ row_messages a ps = in_rows a ps ps ∙ or_none a ps (has_some a ps) refl
 pub repeat_is : (s : Summary) (ps : List Past) (m : Message) (at : ℕ) → s.rows ≡ rows_of ps → repeat_of s [] m at ≡ scan m at 32 (messages_of m.account ps)
 repeat_is s ps m at rows = ap (scan m at 32) (ap (in_row m.account) rows ∙ row_messages m.account ps)
 
-pub taken_is : (s : Summary) (m : Message) (at : ℕ) (o : Option ℕ) → knows_account (force s []) m.account ≡ true → has_signals m ≡ true → repeat_of s [] m at ≡ o → taken_or o ≡ answer_over s [] (Sent m) at
+pub taken_is : (s : Summary) (m : Message) (at : ℕ) (o : Option ℕ) → knows_account (force s []) m.account ≡ true → has_signals m.token m.content ≡ true → repeat_of s [] m at ≡ o → taken_or o ≡ answer_over s [] (Sent m) at
 taken_is s m at o known signals is = rw (known, signals, is) refl

@@ -1,8 +1,10 @@
 -- What a centre keeps, beside its state.
-use Rattle.std.specs.Prelude.{◌≡◌, ◌≤◌, ◌+◌, ◌++◌, ℕ, List, [], ◌∷◌, map, if◌then◌else◌, Option, Some, None, IsOk, IsErr, IfSome}
+use Rattle.std.specs.Prelude.{◌≡◌, ◌≤◌, ◌+◌, ◌++◌, ℕ, List, [], ◌∷◌, map, if◌then◌else◌}
+use Rattle.std.specs.Prelude.{Option, Some, None, IsOk, IsErr, IfSome}
 use Rattle.std.specs.Str.{bytes_eq}
 use Rattle.arc_data.specs.declared.event.Event.{Event}
 use Rattle.arc_data.specs.declared.event.Event.TheVariants.{Adopt, Start, Message as Sent, Beat}
+use Rattle.arc_data.specs.declared.event.Reply.{Reply}
 use Rattle.alarm_rules.specs.Setups.{setup_of}
 use Rattle.centre_rules.specs.Summary.{Past, AccountRow}
 use Rattle.centre_rules.specs.History.{marks_of, onto, IsMoment}
@@ -54,4 +56,4 @@ pub record Records (s t : State) (event : Event) (at : ℕ) : Type 0 where
   pub entries : t.entries ≡ s.entries
   pub recorded : t.sum.recorded ≡ s.sum.recorded + 1
   pub last : t.sum.last ≡ at
-  pub same : Same t.sum [] s.sum (onto (marks_of event at) [])
+  pub same : (reply : Reply) → Same t.sum [] s.sum (onto (marks_of s.sum [] event at reply) [])

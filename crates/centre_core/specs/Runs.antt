@@ -7,7 +7,9 @@ use Rattle.centre_rules.specs.History.{Entry}
 
 -- an Adopt of the setup's text, and then a Start, both at the one reading (the newest entry stands first)
 abbrev pub begun : List ℕ → ℕ → List Entry
-begun text clock = record { caller = 0; event = Start; at = clock; reply = Started } ∷ record { caller = 0; event = Adopt text; at = clock; reply = Adopted } ∷ []
+begun text clock =
+    record { caller = 0; event = Start; at = clock; reply = Started }
+    ∷ record { caller = 0; event = Adopt text; at = clock; reply = Adopted } ∷ []
 
 -- neither an Adopt nor a Start, which only the beginning of a run submits
 abbrev pub IsSubmitted : Event → Type 0

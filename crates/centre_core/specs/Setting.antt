@@ -4,6 +4,7 @@ use Rattle.alarm_rules.specs.Setups.{setup_of}
 use Rattle.centre_rules.specs.Summary.{Summary}
 use Rattle.centre_rules.specs.History.{Entry}
 use Rattle.centre_rules.specs.State.{State, StandsFor}
+use Rattle.centre_core.specs.Halls.{HallSeen}
 use Rattle.centre_core.specs.declared.hall.Stop.{Stop}
 use Rattle.centre_core.specs.declared.hall.Stop.TheVariants.{Memory, Worn}
 
@@ -25,3 +26,14 @@ pub record IsSetFor (b : Summary) (s : State) (h : List Entry) : Type 0 where
 abbrev pub IsShown : State → Stop → Type 0
 IsShown s Memory = Unit {0}
 IsShown s (Worn count) = (count ≡ s.entries) × (2 ^ 48 ≤ count)
+
+-- what it tells: its caller has the number 0, and made all of each history
+abbrev pub ram_seen : State → HallSeen
+ram_seen s = record {
+  ready = Unit {0};
+  text = text_of s;
+  caller = 0;
+  stands = λ b h. IsSetFor b s h;
+  own = λ h. h;
+  shows = λ stop event clock. IsShown s stop;
+}

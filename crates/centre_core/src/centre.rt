@@ -1,12 +1,12 @@
 // What is kept of a history.
-ghost use Rattle.std.specs.Prelude.{◌≡◌, ◌<◌, ◌^◌, ◌∷◌, [], List, ℕ, IfOk};
+ghost use Rattle.std.specs.Prelude.{◌≡◌, ◌<◌, ◌≤◌, ◌^◌, ◌∷◌, [], List, ℕ, IfOk, OnOk};
 ghost use Rattle.arc_data.specs.WellFormed.{IsWellFormed};
 ghost use Rattle.arc_data.specs.declared.event.Event.TheVariants.{Message as Sent};
 ghost use Rattle.centre_rules.specs.Summary.{Summary, nothing};
 ghost use Rattle.centre_rules.specs.History.{Entry, moment_after, IsMoment};
 ghost use Rattle.centre_rules.specs.Answers.{answer, answer_over, knows_account};
 ghost use Rattle.centre_rules.specs.Marks.{force};
-ghost use Rattle.centre_rules.specs.State.{State, StandsFor, Grows, entry_of};
+ghost use Rattle.centre_rules.specs.State.{State, StandsFor, HasRoomFor, Grows, entry_of};
 ghost use Rattle.centre_core.specs.Kept.{Records, CarriesSetup, IsAdopted};
 ghost use Rattle.std.specs.Option.{option_map};
 
@@ -26,6 +26,8 @@ pub struct Centre {
     entries: u64,
     recorded: u64,
     last: u64,
+    // The moment of the last Start.
+    start: Option<u64>,
     setup: Option<Setup>,
     // The recorded messages, the oldest first.
     messages: Vec<Past>,
@@ -39,7 +41,7 @@ impl Model for Centre {
 
     ghost use Rattle.centre_core.specs.Kept.{IsKept, rows_of};
 
-    ghost view = { λ c. record { entries = c.entries; sum = record { last = c.last; recorded = c.recorded; text = c.setup; rows = rows_of c.messages.items }; kept = length c.messages.items; room = vec_capacity c.messages } };
+    ghost view = { λ c. record { entries = c.entries; sum = record { last = c.last; recorded = c.recorded; start = c.start; text = c.setup; rows = rows_of c.messages.items }; kept = length c.messages.items; room = vec_capacity c.messages } };
 
     ghost invariant = { λ c. IsKept c.entries c.recorded c.last c.setup };
 }
@@ -53,6 +55,7 @@ impl Centre {
             entries: 0,
             recorded: 0,
             last: 0,
+            start: None,
             setup: None,
             messages: Vec::new(alloc),
         }
@@ -80,22 +83,23 @@ impl Centre {
     }
 
     /// Works out the answer to an event that is submitted at a reading of the clock (seconds since 1970), and takes all
-    /// the memory that applying it needs. What the centre stands for stays. The error is want of memory.
+    /// the memory that applying it needs. What is kept stays, and there is never less room than before. The error is
+    /// want of memory.
     pub fn prepare(&mut self, alloc: Global, event: Event, clock: u64) -> Result<Ready, Memory>
         requires formed { IsWellFormed event }
         requires clock { IsMoment clock }
         requires few { self.old.entries < 2 ^ 48 }
         ensures entries { self.new.entries ≡ self.old.entries }
         ensures sum { self.new.sum ≡ self.old.sum }
+        ensures kept { self.new.kept ≡ self.old.kept }
+        ensures room { self.old.room ≤ self.new.room }
         ensures stays { (b : Summary) (h : List Entry) → StandsFor b self.old h → StandsFor b self.new h }
         ensures made { IfOk result (λ r. r.of ≡ self.new) }
         ensures event { IfOk result (λ r. r.event ≡ event) }
         ensures at { IfOk result (λ r. (b : Summary) (h : List Entry) → StandsFor b self.new h → r.at ≡ moment_after b h clock) }
         ensures reply { IfOk result (λ r. (b : Summary) (h : List Entry) → StandsFor b self.new h → r.reply ≡ answer b h event r.at) }
     {
-        let Ok(()) = self.messages.reserve(1) else {
-            return Err(Memory);
-        };
+        self.make_room(&event)?;
         let at = clock.max(self.last);
         let setup = adopted(alloc, &event)?;
         let reply = self.reply(&event, &setup, at);
@@ -108,32 +112,52 @@ impl Centre {
         })
     }
 
-    /// Makes the entry that was worked out. It takes no memory and cannot fail.
+    // Takes the memory that an event's entry needs.
+    fn make_room(&mut self, event: &Event) -> Result<(), Memory>
+        ensures entries { self.new.entries ≡ self.old.entries }
+        ensures sum { self.new.sum ≡ self.old.sum }
+        ensures kept { self.new.kept ≡ self.old.kept }
+        ensures room { self.old.room ≤ self.new.room }
+        ensures enough { OnOk result (HasRoomFor event.now self.new) }
+    {
+        if let Event::Message(_) = event {
+            let Ok(()) = self.messages.reserve(1) else {
+                return Err(Memory);
+            };
+        }
+        Ok(())
+    }
+
+    /// Makes the entry that was worked out. What is kept must be as it was then, and there may be more room; so other
+    /// answers may have been worked out and given up since. It takes no memory and cannot fail.
     pub fn apply(&mut self, ready: Ready) -> Done
-        requires { ready.of ≡ self.old }
+        requires entries { self.old.entries ≡ ready.of.entries }
+        requires sum { self.old.sum ≡ ready.of.sum }
+        requires kept { self.old.kept ≡ ready.of.kept }
+        requires room { ready.of.room ≤ self.old.room }
         ensures grows { Grows self.old self.new (entry_of 0 ready) }
         ensures entry { (b : Summary) (h : List Entry) (caller : ℕ) → StandsFor b self.old h → StandsFor b self.new (entry_of caller ready ∷ h) }
         ensures caller { result.caller ≡ 0 }
         ensures at { result.at ≡ ready.at }
         ensures reply { result.reply ≡ ready.reply }
     {
-        let done = Done {
-            caller: 0,
-            at: ready.at,
-            reply: ready.reply,
-        };
-        self.entries += 1;
-        if ready.quiet() {
-            ready.discard();
-            return done;
-        }
+        let quiet = ready.quiet();
         let Ready {
             event,
             at,
-            reply: _,
+            reply,
             setup,
             of: _,
         } = ready;
+        let done = Done {
+            caller: 0,
+            at,
+            reply,
+        };
+        self.entries += 1;
+        if quiet {
+            return done;
+        }
         self.record(event, at, setup);
         done
     }
@@ -142,7 +166,7 @@ impl Centre {
     fn record(&mut self, event: Event, at: u64, setup: Option<Setup>)
         requires few { self.old.sum.recorded < self.old.entries }
         requires moment { IsMoment at }
-        requires room { self.old.kept < self.old.room }
+        requires room { HasRoomFor event self.old }
         requires setup { CarriesSetup event setup }
         ensures { Records self.old self.new event at }
     {
@@ -150,7 +174,8 @@ impl Centre {
         self.last = at;
         match event {
             Event::Adopt { .. } => self.setup = setup,
-            Event::Start | Event::Beat { .. } => {}
+            Event::Start => self.start = Some(at),
+            Event::Beat { .. } => {}
             Event::Message(message) => self.messages.push_reserved(Past { message, at }),
         }
     }

@@ -6,7 +6,6 @@ ghost use Rattle.centre_rules.specs.Summary.{Summary, nothing};
 ghost use Rattle.centre_rules.specs.Marks.{force};
 ghost use Rattle.centre_rules.specs.History.{Entry, IsMoment, marks};
 ghost use Rattle.centre_rules.specs.Answers.{IsLegal};
-ghost use Rattle.centre_rules.specs.Halls.{GoesOn, Waits};
 ghost use Rattle.centre_core.specs.Runs.{begun, IsSubmitted};
 
 use crate::centre::Centre;
@@ -27,52 +26,34 @@ pub enum Stop {
 
 /// Where a session submits its events: a centre of its own, or one that it shares with others.
 pub trait Hall {
-    ghost use Rattle.arc_data.specs.declared.event.Event.{Event};
-    ghost use Rattle.centre_core.specs.declared.hall.Stop.{Stop};
+    ghost use Rattle.centre_core.specs.Halls.{HallSeen, IsKept, GoesOn, Waits};
 
-    /// Whether calls may be made.
-    ghost ready: { Self → Type 0 };
-
-    /// The text of the setup in force.
-    ghost text: { Self → List ℕ };
-
-    /// The number under which its entries stand.
-    ghost caller: { Self → ℕ };
-
-    /// The histories, over a beginning, for which it stands.
-    ghost stands: { Self → Summary → List Entry → Type 0 };
-
-    /// The part of such a history that its caller made.
-    ghost own: { Self → List Entry → List Entry };
-
-    /// What it shows after a stop of this event, at this reading of the clock: that the stop had its cause.
-    ghost shows: { Self → Stop → Event → ℕ → Type 0 };
+    /// What it tells at a moment.
+    ghost seen: { Self → HallSeen };
 
     /// Submits an event at a reading of the clock (seconds since 1970), which gets one entry. After a Stop it has none.
     fn submit(&mut self, alloc: Global, event: Event, clock: u64) -> Result<Done, Stop>
-        requires ready { ready self.old }
+        requires ready { (seen self.old).ready }
         requires submitted { IsSubmitted event }
         requires formed { IsWellFormed event }
         requires clock { IsMoment clock }
-        ensures ready { ready self.new }
-        ensures done { IfOk result (λ d. (b : Summary) (h : List Entry) → stands self.old b h →
-            GoesOn b (stands self.new b) (own self.new) (own self.old) h clock (record { caller = d.caller; event = event; at = d.at; reply = d.reply })) }
-        ensures by { IfOk result (λ d. d.caller ≡ caller self.old) }
-        ensures stop { OnErr result ((b : Summary) (h : List Entry) → stands self.old b h → Waits b (stands self.new b) (own self.new) (own self.old) h) }
-        ensures cause { IfErr result (λ s. shows self.new s event clock) }
-        ensures text { text self.new ≡ text self.old }
-        ensures caller { caller self.new ≡ caller self.old };
+        ensures kept { IsKept (seen self.old) (seen self.new) }
+        ensures done { IfOk result (λ d. (b : Summary) (h : List Entry) → (seen self.old).stands b h →
+            GoesOn b (seen self.old) (seen self.new) h clock (record { caller = d.caller; event = event; at = d.at; reply = d.reply })) }
+        ensures by { IfOk result (λ d. d.caller ≡ (seen self.old).caller) }
+        ensures stop { OnErr result ((b : Summary) (h : List Entry) → (seen self.old).stands b h → Waits b (seen self.old) (seen self.new) h) }
+        ensures cause { IfErr result (λ s. (seen self.new).shows s event clock) };
 
     /// The setup in force.
     fn setup(&self) -> &Setup
-        requires { ready self.now }
-        ensures { result.now ≡ text self.now };
+        requires { (seen self.now).ready }
+        ensures { result.now ≡ (seen self.now).text };
 
     /// It stands for legal histories alone.
-    ghost legal: { (hall : Self) (b : Summary) (h : List Entry) → stands hall b h → IsLegal b h };
+    ghost legal: { (hall : Self) (b : Summary) (h : List Entry) → (seen hall).stands b h → IsLegal b h };
 
     /// After each history for which it stands the setup of its text is in force.
-    ghost in_force: { (hall : Self) (b : Summary) (h : List Entry) → stands hall b h → force b (marks h) ≡ Some (meaning (text hall)) };
+    ghost in_force: { (hall : Self) (b : Summary) (h : List Entry) → (seen hall).stands b h → force b (marks b h) ≡ Some (meaning (seen hall).text) };
 }
 
 /// A centre in memory, of which a run has begun. Contracts see the centre's state.
@@ -121,20 +102,11 @@ impl RamHall {
 }
 
 impl Hall for RamHall {
-    ghost use Rattle.centre_core.specs.Setting.{IsSetFor, IsShown, text_of};
+    ghost use Rattle.centre_core.specs.Halls.{IsKept, GoesOn, Waits};
+    ghost use Rattle.centre_core.specs.Setting.{IsSetFor, IsShown, ram_seen};
     ghost use Rattle.centre_core.specs.InForce.{in_force};
 
-    ghost ready = { λ s. Unit {0} };
-
-    ghost text = { text_of };
-
-    ghost caller = { λ s. 0 };
-
-    ghost stands = { λ s b h. IsSetFor b s h };
-
-    ghost own = { λ s h. h };
-
-    ghost shows = { λ s stop event clock. IsShown s stop };
+    ghost seen = { ram_seen };
 
     ghost legal = { λ s b h w. w.stands.legal };
 
@@ -146,10 +118,11 @@ impl Hall for RamHall {
         requires submitted { IsSubmitted event }
         requires formed { IsWellFormed event }
         requires clock { IsMoment clock }
+        ensures kept { IsKept (ram_seen self.old) (ram_seen self.new) }
         ensures done { IfOk result (λ d. (b : Summary) (h : List Entry) → IsSetFor b self.old h →
-            GoesOn b (IsSetFor b self.new) (λ x. x) (λ x. x) h clock (record { caller = d.caller; event = event; at = d.at; reply = d.reply })) }
+            GoesOn b (ram_seen self.old) (ram_seen self.new) h clock (record { caller = d.caller; event = event; at = d.at; reply = d.reply })) }
         ensures by { IfOk result (λ d. d.caller ≡ 0) }
-        ensures stop { OnErr result ((b : Summary) (h : List Entry) → IsSetFor b self.old h → Waits b (IsSetFor b self.new) (λ x. x) (λ x. x) h) }
+        ensures stop { OnErr result ((b : Summary) (h : List Entry) → IsSetFor b self.old h → Waits b (ram_seen self.old) (ram_seen self.new) h) }
         ensures cause { IfErr result (IsShown self.new) }
         ensures text { self.new.sum.text ≡ self.old.sum.text }
         ensures worn { (2 ^ 48 ≤ self.old.entries) ↔ (result ≡ Err (Stop.Worn self.old.entries)) }

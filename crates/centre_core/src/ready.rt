@@ -65,7 +65,7 @@ impl Ready {
 }
 
 /// What a caller is told of its entry.
-#[derive(Clone, Copy, Debug, PartialEq, Eq)]
+#[derive(Debug, Drop)]
 pub struct Done {
     /// The number of the caller, 0 where there is one thread.
     pub caller: u64,

@@ -1,16 +1,12 @@
 // Whether a message reports anything.
 ghost use Rattle.std.specs.Prelude.{◌≡◌};
-ghost use Rattle.centre_rules.specs.Answers.{has_signals};
+ghost use Rattle.alarm_rules.specs.Signals.{has_signals};
 
-use arc_data::{Message, Token};
+use arc_data::Message;
 
 /// Whether the content of the message has signals: its data is in the grammar of its token.
 pub fn has_signals(message: &Message) -> bool
-    ensures { result ≡ has_signals message.now }
+    ensures { result ≡ has_signals message.now.token message.now.content }
 {
-    let content = message.content.bytes();
-    match message.token {
-        Token::SiaDcs => sia_codes::read(content).is_some(),
-        Token::AdmCid => contact_id::read(content).is_some(),
-    }
+    alarm_data::signals(message.token, message.content.bytes()).is_some()
 }

@@ -3,18 +3,21 @@ use Rattle.std.proofs.Common.{◌≡◌, ◌≤◌, ℕ, ◌+◌, List, [], ◌�
 use Rattle.arc_data.specs.WellFormed.{IsWellFormed}
 use Rattle.centre_rules.specs.Summary.{Summary}
 use Rattle.centre_rules.specs.Marks.{Mark}
-use Rattle.centre_rules.specs.History.{Entry, marks, marks_of, onto, is_recorded, recorded, last, IsMoment}
+use Rattle.centre_rules.specs.History.{Entry, marks, marks_of, marked, onto, is_recorded, recorded, last}
 use Rattle.centre_rules.specs.Answers.{answer_over}
 use Rattle.centre_rules.specs.State.{Same, State, StandsFor, Grows}
-use Rattle.centre_rules.proofs.Sames.{same_refl, same_trans, same_onto, answer_same}
+use Rattle.centre_rules.proofs.Sames.{same_refl, same_trans, same_onto, marks_of_same, answer_same}
 
-more_if : {s t : Summary} {ms ns : List Mark} → (e : Entry) (b : Bool) → Same s ms t ns → Same s (cond b (onto (marks_of e.event e.at) ms) ms) t (cond b (onto (marks_of e.event e.at) ns) ns)
-more_if e true w = same_onto (marks_of e.event e.at) w
+more_if : {s t : Summary} {ms ns : List Mark} → (e : Entry) (b : Bool) → Same s ms t ns
+    → Same s (cond b (onto (marks_of s ms e.event e.at e.reply) ms) ms) t (cond b (onto (marks_of t ns e.event e.at e.reply) ns) ns)
+more_if {s} {t} {ms} {ns} e true w =
+    subst (λ (xs : List Mark). Same s (onto (marks_of s ms e.event e.at e.reply) ms) t (onto xs ns))
+    (marks_of_same w e.event e.at e.reply) (same_onto (marks_of s ms e.event e.at e.reply) w)
 more_if e false w = w
 
 -- the same entry after both
-pub same_more : {s t : Summary} → (g h : List Entry) (e : Entry) → Same s (marks g) t (marks h) → Same s (marks (e ∷ g)) t (marks (e ∷ h))
-same_more g h e w = more_if e (is_recorded e.reply) w
+pub same_more : {s t : Summary} {ms ns : List Mark} → (e : Entry) → Same s ms t ns → Same s (marked s e ms) t (marked t e ns)
+same_more e w = more_if e (is_recorded e.reply) w
 
 length_if : (b : Bool) (e : Entry) (h : List Entry) (n : ℕ) → n + length (recorded h) + length (cond b (e ∷ []) []) ≡ n + length (cond b (e ∷ recorded h) (recorded h))
 length_if true e h n = omega arith
@@ -24,21 +27,20 @@ last_if : (b : Bool) (x y at : ℕ) → x ≡ y → cond b at x ≡ cond b at y
 last_if true x y at e = refl
 last_if false x y at e = e
 
-pub grown : (b : Summary) (s t : State) (h : List Entry) (e : Entry) → StandsFor b s h → Grows s t e → IsWellFormed e.event → e.reply ≡ answer_over s.sum [] e.event e.at → s.sum.last ≤ e.at → IsMoment e.at → StandsFor b t (e ∷ h)
-grown b s t h e w g formed r late moment = record {
+pub grown : (b : Summary) (s t : State) (h : List Entry) (e : Entry) → StandsFor b s h → Grows s t e → IsWellFormed e.event → e.reply ≡ answer_over s.sum [] e.event e.at → s.sum.last ≤ e.at → StandsFor b t (e ∷ h)
+grown b s t h e w g formed r late = record {
   legal = (
     record {
       event = formed;
       reply = r ∙ answer_same w.same e.event e.at;
       late = subst (λ (n : ℕ). n ≤ e.at) w.last late;
-      moment = moment;
     },
     w.legal,
   );
   entries = omega (arith, g.entries, w.entries);
   recorded = g.recorded ∙ ap (λ n. n + length (recorded (e ∷ []))) w.recorded ∙ length_if (is_recorded e.reply) e h b.recorded;
   last = g.last ∙ last_if (is_recorded e.reply) s.sum.last (last b h) e.at w.last;
-  same = same_trans g.same (same_more [] h e w.same);
+  same = same_trans g.same (same_more e w.same);
 }
 
 -- A state grows by a quiet entry that only counts.

@@ -1,5 +1,6 @@
 -- What the centre answers to an event after a history.
-use Rattle.std.specs.Prelude.{◌≡◌, ◌≤◌, ◌+◌, ◌==◌, ◌&&◌, ℕ, List, [], ◌∷◌, Bool, true, false, Option, Some, None, is_ok, is_some, nat_le, take}
+use Rattle.std.specs.Prelude.{◌≡◌, ◌≤◌, ◌+◌, ◌==◌, ◌&&◌, ℕ, List, [], ◌∷◌, Bool, true, false, take}
+use Rattle.std.specs.Prelude.{Option, Some, None, is_ok, nat_le}
 use Rattle.std.specs.List.{find}
 use Rattle.std.specs.Option.{option_map}
 use Rattle.std.specs.Str.{bytes_eq}
@@ -12,19 +13,15 @@ use Rattle.arc_data.specs.declared.event.Reply.TheVariants.{Adopted, Started, Ta
 use Rattle.arc_data.specs.declared.event.Token.{Token}
 use Rattle.arc_data.specs.declared.event.Token.TheVariants.{SiaDcs, AdmCid}
 use Rattle.alarm_rules.specs.Setups.{Setup, setup_of, has_account}
-use Rattle.alarm_rules.specs.Signals.{signals}
+use Rattle.alarm_rules.specs.Signals.{has_signals}
 use Rattle.centre_rules.specs.Summary.{Summary, Past}
 use Rattle.centre_rules.specs.Marks.{Mark, force, messages}
-use Rattle.centre_rules.specs.History.{Entry, last, marks, IsMoment}
+use Rattle.centre_rules.specs.History.{Entry, last, marks}
 
 -- before the first Adopt every account is lacking
 abbrev pub knows_account : Option Setup → List ℕ → Bool
 knows_account None account = false
 knows_account (Some setup) account = has_account setup account
-
--- the message has signals: its data is in the grammar of its token
-abbrev pub has_signals : Message → Bool
-has_signals m = is_some (signals m.token m.content)
 
 -- Repeats.
 
@@ -42,7 +39,9 @@ same_option (Some a) None = false
 
 -- they agree in `R` field, `L` field, sequence, token and content
 abbrev pub same_message : Message → Message → Bool
-same_message a b = same_option a.receiver b.receiver && bytes_eq a.line b.line && (a.seq == b.seq) && same_token a.token b.token && bytes_eq a.content b.content
+same_message a b =
+    same_option a.receiver b.receiver && bytes_eq a.line b.line && (a.seq == b.seq) && same_token a.token b.token
+    && bytes_eq a.content b.content
 
 -- the recorded message makes this one, at this moment, a repeat: they agree, and it is at most 300 seconds older
 abbrev pub repeats : Message → ℕ → Past → Bool
@@ -68,11 +67,12 @@ if_known false reply = Unknown
 abbrev pub answer_over : Summary → List Mark → Event → ℕ → Reply
 answer_over s ms (Adopt text) at = if_known (is_ok (setup_of text)) Adopted
 answer_over s ms Start at = Started
-answer_over s ms (Sent m) at = if_known (knows_account (force s ms) m.account && has_signals m) (taken_or (repeat_of s ms m at))
+answer_over s ms (Sent m) at =
+    if_known (knows_account (force s ms) m.account && has_signals m.token m.content) (taken_or (repeat_of s ms m at))
 answer_over s ms (Beat account) at = if_known (knows_account (force s ms) account) Heard
 
 abbrev pub answer : Summary → List Entry → Event → ℕ → Reply
-answer s h e at = answer_over s (marks h) e at
+answer s h e at = answer_over s (marks s h) e at
 
 -- what each entry of a legal history is, after the entries before it: its event is well formed, its reply is the answer,
 -- and its moment is at least that of the last recorded entry
@@ -80,7 +80,6 @@ pub record IsNext (s : Summary) (h : List Entry) (e : Entry) : Type 0 where
   pub event : IsWellFormed e.event
   pub reply : e.reply ≡ answer s h e.event e.at
   pub late : last s h ≤ e.at
-  pub moment : IsMoment e.at
 
 abbrev pub IsLegal : Summary → List Entry → Type 0
 IsLegal s [] = Unit {0}

@@ -9,13 +9,14 @@ use Rattle.centre_rules.specs.Summary.{Summary, Past, row_of}
 
 pub data Mark : Type 0 where
   Adopts : (text : List ℕ) → Mark
+  Starts : (at : ℕ) → Mark
   Sends : (message : Message) (at : ℕ) → Mark
 
 -- The setup in force: that of the last Adopt.
 
 abbrev pub text_at : Mark → Option (List ℕ) → Option (List ℕ)
 text_at (Adopts text) before = Some text
-text_at (Sends message at) before = before
+text_at m before = before
 
 abbrev pub text : Summary → List Mark → Option (List ℕ)
 text s [] = s.text
@@ -24,11 +25,22 @@ text s (m ∷ ms) = text_at m (text s ms)
 abbrev pub force : Summary → List Mark → Option Setup
 force s ms = option_and_then (λ t. result_ok (setup_of t)) (text s ms)
 
+-- The last Start.
+
+abbrev pub start_at : Mark → Option ℕ → Option ℕ
+start_at (Starts at) before = Some at
+start_at m before = before
+
+abbrev pub start : Summary → List Mark → Option ℕ
+start s [] = s.start
+start s (m ∷ ms) = start_at m (start s ms)
+
 -- The recorded messages of an account, the newest first.
 
 abbrev pub messages_at : List ℕ → Mark → List Past → List Past
-messages_at account (Adopts text) before = before
-messages_at account (Sends message at) before = if bytes_eq message.account account then record { message = message; at = at } ∷ before else before
+messages_at account (Sends message at) before =
+    if bytes_eq message.account account then record { message = message; at = at } ∷ before else before
+messages_at account m before = before
 
 abbrev pub messages : Summary → List Mark → List ℕ → List Past
 messages s [] account = (row_of s account).messages

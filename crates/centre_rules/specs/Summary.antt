@@ -9,15 +9,17 @@ pub record AccountRow : Type 0 where
   pub account : List ℕ
   pub messages : List Past
 
--- the moment of the last recorded entry, how many are recorded, the setup text in force, and the accounts
+-- the moment of the last recorded entry, how many are recorded, the moment of the last Start, the setup text in force, and
+-- the accounts
 pub record Summary : Type 0 where
   pub last : ℕ
   pub recorded : ℕ
+  pub start : Option ℕ
   pub text : Option (List ℕ)
   pub rows : List AccountRow
 
 abbrev pub nothing : Summary
-nothing = record { last = 0; recorded = 0; text = None; rows = [] }
+nothing = record { last = 0; recorded = 0; start = None; text = None; rows = [] }
 
 -- of an account without a row nothing is known
 abbrev pub row_or : Option AccountRow → List ℕ → AccountRow

@@ -1,15 +1,10 @@
 -- The stamp of a moment, `_HH:MM:SS,MM-DD-YYYY` in GMT, as ANSI/SIA DC-09 writes it. A moment is a number of seconds since
 -- the beginning of 1970.
-use Rattle.std.specs.Prelude.{◌≡◌, ℕ, zero, suc, ◌+◌, ◌/◌, ◌%◌, ◌<◌, Bool, ◌&&◌, nat_le, if◌then◌else◌, Option, Some, None, List, [], ◌∷◌, ◌++◌, codes, bytes_eq}
+use Rattle.std.specs.Prelude.{◌≡◌, ℕ, zero, suc, ◌+◌, ◌/◌, ◌%◌, Bool, ◌&&◌, nat_le, if◌then◌else◌, Option, Some, None, List, []}
+use Rattle.std.specs.Prelude.{◌∷◌, ◌++◌, codes, bytes_eq}
+pub use Rattle.arc_data.specs.Digits.{two_digits}
+pub use Rattle.arc_data.specs.Moments.{IsMoment}
 use Rattle.civil_time.specs.Calendar.{CivilDate, date_of}
-
--- the second lies before the year 10000
-abbrev pub IsMoment : ℕ → Type 0
-IsMoment t = t < 253_402_300_800
-
--- the number in two decimal digits
-abbrev pub two_digits : ℕ → List ℕ
-two_digits n = (48 + n / 10) ∷ (48 + n % 10) ∷ []
 
 -- the number in four decimal digits
 abbrev pub four_digits : ℕ → List ℕ

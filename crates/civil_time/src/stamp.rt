@@ -1,7 +1,8 @@
 ghost use Rattle.std.specs.Prelude.{◌≡◌, ◌↔◌, ◌+◌, ◌*◌, ◌/◌, ◌%◌, ◌<◌, ◌≤◌, ℕ, pos, IsTrue, IfSome, IfNone, length, slice_index, slice_set};
 ghost use Rattle.jiff_core.specs.Calendar.{IsCivilDate, days_from_civil};
 ghost use Rattle.jiff_core.specs.Date.{epoch_day};
-ghost use Rattle.civil_time.specs.Stamp.{IsMoment, IsStampOf, stamp, stamp_time, is_fresh};
+ghost use Rattle.arc_data.specs.Moments.{IsMoment};
+ghost use Rattle.civil_time.specs.Stamp.{IsStampOf, stamp, stamp_time, is_fresh};
 
 use jiff::civil::Date;
 use jiff_core::civil;

@@ -1,6 +1,7 @@
 -- Sealed messages. Their layout is this project's own profile of DC-09's encryption: the bytes after the header are
 -- hexadecimal digits, which spell chained AES blocks; the text is a pad, a bar, the rest and a stamp.
-use Rattle.std.specs.Prelude.{◌≡◌, ℕ, ◌+◌, ◌-◌, ◌/◌, ◌%◌, ◌≤◌, ◌==◌, ◌&&◌, ◌++◌, nat_le, List, [], ◌∷◌, Bool, if◌then◌else◌, Option, Some, None, length, drop, map, codes}
+use Rattle.std.specs.Prelude.{◌≡◌, ℕ, ◌+◌, ◌-◌, ◌/◌, ◌%◌, ◌≤◌, ◌==◌, ◌&&◌, ◌++◌, nat_le, List, [], ◌∷◌, Bool, if◌then◌else◌}
+use Rattle.std.specs.Prelude.{Option, Some, None, length, drop, map, codes}
 use Rattle.std.specs.List.{list_all, flat_map, position}
 use Rattle.arc_data.specs.Digits.{is_hex, bytes_spelled}
 use Rattle.aes_chain.specs.Chain.{chain_encrypted, chain_decrypted}

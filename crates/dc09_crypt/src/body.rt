@@ -6,7 +6,7 @@ ghost use Rattle.dc09_crypt.specs.Sealed.{is_cipher, text_under, opening_of, Lie
 
 use crate::opening::Opening;
 use aes_chain::{Key, chain_decrypt};
-use dc09_frame::FrameBuf;
+use dc09_frame::{BODY_LIMIT, FrameBuf};
 
 /// The digits of a block.
 const BLOCK_DIGITS: usize = 32;
@@ -18,7 +18,7 @@ const LONGEST: usize = 2032;
 /// start vector of zeros, of a text that has a pad, `|`, the rest and a stamp. `out` gets the decrypted text, in which
 /// `Text`'s places lie, and is empty where nothing could be decrypted.
 pub fn open_body(key: &Key, digits: &[u8], out: &mut FrameBuf) -> Opening
-    requires { length digits.now ≤ 4095 }
+    requires { length digits.now ≤ BODY_LIMIT }
     ensures opening { result ≡ opening_of key.now digits.now }
     ensures text { is_cipher digits.now ≡ true → out.new ≡ text_under key.now digits.now }
     ensures none { is_cipher digits.now ≡ false → out.new ≡ [] }

@@ -1,8 +1,13 @@
 // Cipher digits are from `openssl enc -aes-*-cbc -nopad` with a vector of zeros, and the first from FIPS 197, appendix C.
+ghost use Rattle.std.specs.Prelude.{◌≡◌, true};
+ghost use Rattle.std.specs.List.{list_all};
+ghost use Rattle.dc09_frame.specs.Frames.{is_clean};
 
 use super::*;
 use aes_chain::Key;
-use dc09_frame::{FrameBuf, Header};
+use dc09_frame::{BODY_LIMIT, FrameBuf, Header};
+use std::alloc::Global;
+use std::test::Fail;
 
 // The keys of FIPS 197, appendix C, are the first 16, 24 and 32 of these.
 const KEY: &[u8; 32] = &[
@@ -15,123 +20,95 @@ const FIPS: &[u8] = b"\x00\x11\x22\x33\x44\x55\x66\x77\x88\x99\xAA\xBB\xCC\xDD\x
 // The last stamp of the tables, `_01:47:20,09-09-2001`.
 const MOMENT: u64 = 1_000_000_040;
 
-#[test]
-fn opens_bodies(rt: HostRuntime) {
-    let text = |from, to| Opening::Text {
-        from,
-        to,
-        stamp: MOMENT,
-    };
-    let table: [(usize, &str, Opening, &[u8]); 16] = [
-        (16, "69C4E0D86A7B0430D8CDB78070B4C55A", Opening::NoBar, FIPS),
-        (16, "69c4e0d86a7b0430d8cdb78070b4c55a", Opening::NoBar, FIPS),
-        (24, "DDA97CA4864CDFE06EAF70A0EC0D7191", Opening::NoBar, FIPS),
-        (32, "8EA2B7CA516745BFEAFC49904B496089", Opening::NoBar, FIPS),
-        (
-            16,
-            "A2721EA32E74E992CC9F6A52C916F10262DE4DFF860EAFC1F3361A05F82D1FEA",
-            Opening::NoBar,
-            b"QWERTYUIOPAS_01:47:20,09-09-2001",
-        ),
-        (
-            16,
-            "3F1E0DF5E62BED2CA66E4FBCF2EB27F8",
-            Opening::NoStamp,
-            b"QWERTYUIOPASDFG|",
-        ),
-        (
-            16,
-            "674052541957870FB1E0F7A44B3C2F307EF842A2D596F4C1A3357D66525EC0B4",
-            Opening::NoStamp,
-            b"QWERTYUIOPAS|01:47:20,09-09-2001",
-        ),
-        (
-            16,
-            "ABFEF34E7D0BBB849EC2501BD73432B5B5B9254E3BF00320BD551162285B05BE",
-            Opening::NoStamp,
-            b"Q|#1234|NRP]_01:47:60,09-09-2001",
-        ),
-        (
-            16,
-            "ABFEF34E7D0BBB849EC2501BD73432B59CA37F2FBF63667E28EF85FAFB7CC1FB",
-            Opening::NoStamp,
-            b"Q|#1234|NRP]_01:47:20.09-09-2001",
-        ),
-        (
-            16,
-            "AEA9E16A15E57FEA0045388A069301928BBEF5B4C4A63BFF9BFF7DF9D14C2970",
-            text(1, 12),
-            b"|#1234|NRP0]_01:47:20,09-09-2001",
-        ),
-        (
-            16,
-            "ABFEF34E7D0BBB849EC2501BD73432B54158C402AF100EFE4A880A5B443BD7FF",
-            text(2, 12),
-            b"Q|#1234|NRP]_01:47:20,09-09-2001",
-        ),
-        (
-            16,
-            "abfef34e7d0bbb849ec2501bd73432b54158c402af100efe4a880a5b443bd7ff",
-            text(2, 12),
-            b"Q|#1234|NRP]_01:47:20,09-09-2001",
-        ),
-        (
-            24,
-            "8104D44E490CEB2E1BCCAD4118032687F4CD8FFECCA651103DB3ACF46C26CF71",
-            text(2, 12),
-            b"Q|#1234|NRP]_01:47:20,09-09-2001",
-        ),
-        (
-            32,
-            "3FBD1193AC3B085FDDC8A59C42A838237117D6EFA71CFCA2D9549257A810BDDA",
-            text(2, 12),
-            b"Q|#1234|NRP]_01:47:20,09-09-2001",
-        ),
-        (
-            16,
-            "3F1E0DF5E62BED2CA66E4FBCF2EB27F8FA4E326D789D47B79228D5A4744EF9A323FB53D783A52A5C81E180743F22EA47",
-            text(16, 28),
-            b"QWERTYUIOPASDFG|1234|NRP000]_01:47:20,09-09-2001",
-        ),
-        (
-            16,
-            "452026C2502A83018E12D1000600702C430E7DD0C4B44321D7B0B6F11AA2D23D",
-            text(12, 12),
-            b"QWERTYUIOPA|_01:47:20,09-09-2001",
-        ),
-    ];
-    let mut out = FrameBuf::new();
-    for (size, digits, want, text) in table {
-        let key = Key::new(&KEY[..size]).expect(&rt, "a key");
-        assert!(rt; digits.len() <= 4095);
-        let opening = open_body(&key, digits.as_bytes(), &mut out);
-        assert_eq!(rt; opening, want, "at {digits}");
-        assert_eq!(rt; out.bytes(), text, "at {digits}");
-    }
+// The key of so many bytes, in decimal.
+fn key_of(size: &str) -> Result<Key, Fail> {
+    let bytes = KEY.get(..size.parse()?).ok_or("no such key")?;
+    Ok(Key::new(bytes).ok_or("no key")?)
 }
 
+// Opens digits under the key of so many bytes, and says how they open.
+fn open_at(alloc: Global, size: &str, digits: &str, out: &mut FrameBuf) -> Result<String, Fail> {
+    let key = key_of(size)?;
+    if digits.len() > BODY_LIMIT {
+        return Err("digits of no body")?;
+    }
+    Ok(match open_body(&key, digits.as_bytes(), out) {
+        Opening::NotCipher => format!(in alloc; "NotCipher")?,
+        Opening::NoBar => format!(in alloc; "NoBar")?,
+        Opening::NoStamp => format!(in alloc; "NoStamp")?,
+        Opening::Text { from, to, stamp } => format!(in alloc; "{stamp} {from} {to}")?,
+    })
+}
+
+// How digits open, the text that they hold, how many bytes the key has, and the digits.
+const OPENINGS: &str = "\
+NoBar;QWERTYUIOPAS_01:47:20,09-09-2001;16;A2721EA32E74E992CC9F6A52C916F10262DE4DFF860EAFC1F3361A05F82D1FEA
+NoStamp;QWERTYUIOPASDFG|;16;3F1E0DF5E62BED2CA66E4FBCF2EB27F8
+NoStamp;QWERTYUIOPAS|01:47:20,09-09-2001;16;674052541957870FB1E0F7A44B3C2F307EF842A2D596F4C1A3357D66525EC0B4
+NoStamp;Q|#1234|NRP]_01:47:60,09-09-2001;16;ABFEF34E7D0BBB849EC2501BD73432B5B5B9254E3BF00320BD551162285B05BE
+NoStamp;Q|#1234|NRP]_01:47:20.09-09-2001;16;ABFEF34E7D0BBB849EC2501BD73432B59CA37F2FBF63667E28EF85FAFB7CC1FB
+1000000040 1 12;|#1234|NRP0]_01:47:20,09-09-2001;16;AEA9E16A15E57FEA0045388A069301928BBEF5B4C4A63BFF9BFF7DF9D14C2970
+1000000040 2 12;Q|#1234|NRP]_01:47:20,09-09-2001;16;ABFEF34E7D0BBB849EC2501BD73432B54158C402AF100EFE4A880A5B443BD7FF
+1000000040 2 12;Q|#1234|NRP]_01:47:20,09-09-2001;16;abfef34e7d0bbb849ec2501bd73432b54158c402af100efe4a880a5b443bd7ff
+1000000040 2 12;Q|#1234|NRP]_01:47:20,09-09-2001;24;8104D44E490CEB2E1BCCAD4118032687F4CD8FFECCA651103DB3ACF46C26CF71
+1000000040 2 12;Q|#1234|NRP]_01:47:20,09-09-2001;32;3FBD1193AC3B085FDDC8A59C42A838237117D6EFA71CFCA2D9549257A810BDDA
+1000000040 16 28;QWERTYUIOPASDFG|1234|NRP000]_01:47:20,09-09-2001;16;3F1E0DF5E62BED2CA66E4FBCF2EB27F8FA4E326D789D47B79228D5A4744EF9A323FB53D783A52A5C81E180743F22EA47
+1000000040 12 12;QWERTYUIOPA|_01:47:20,09-09-2001;16;452026C2502A83018E12D1000600702C430E7DD0C4B44321D7B0B6F11AA2D23D";
+
 #[test]
-fn opens_no_other_digits(rt: HostRuntime) {
-    let table = [
-        "",
-        "69C4E0D86A7B0430",
-        "69C4E0D86A7B0430D8CDB78070B4C55",
-        "69C4E0D86A7B0430D8CDB78070B4C55A6",
-        "69C4E0D86A7B0430D8CDB78070B4C55A69C4E0D86A7B0430",
-        "/9C4E0D86A7B0430D8CDB78070B4C55A",
-        ":9C4E0D86A7B0430D8CDB78070B4C55A",
-        "69C4E0D86A7B0430D8CDB78070B4C55G",
-        "69c4e0d86a7b0430d8cdb78070b4c55`",
-        "69C4E0D86A7B0430D8CDB78070B4C55]",
-    ];
-    let key = Key::new(&KEY[..16]).expect(&rt, "a key");
+fn opens_bodies(rt: HostRuntime) -> Result<(), Fail> {
     let mut out = FrameBuf::new();
-    for digits in table {
-        assert!(rt; digits.len() <= 4095);
-        let opening = open_body(&key, digits.as_bytes(), &mut out);
-        assert_eq!(rt; opening, Opening::NotCipher, "at {digits}");
+    for row in OPENINGS.lines() {
+        let (want, rest) = row.split_once(';').ok_or("no row")?;
+        let (text, rest) = rest.split_once(';').ok_or("no row")?;
+        let (size, digits) = rest.split_once(';').ok_or("no row")?;
+        let told = open_at(rt.alloc(), size, digits, &mut out)?;
+        assert_eq!(rt; told.as_str(), want, "{row}");
+        assert_eq!(rt; out.bytes(), text.as_bytes(), "{row}");
+    }
+    Ok(())
+}
+
+// A size of a key, and the block of FIPS 197 under it, which has no bar.
+const BLOCKS: &str = "\
+16;69C4E0D86A7B0430D8CDB78070B4C55A
+16;69c4e0d86a7b0430d8cdb78070b4c55a
+24;DDA97CA4864CDFE06EAF70A0EC0D7191
+32;8EA2B7CA516745BFEAFC49904B496089";
+
+#[test]
+fn opens_a_block(rt: HostRuntime) -> Result<(), Fail> {
+    let mut out = FrameBuf::new();
+    for row in BLOCKS.lines() {
+        let (size, digits) = row.split_once(';').ok_or("no row")?;
+        let told = open_at(rt.alloc(), size, digits, &mut out)?;
+        assert_eq!(rt; told.as_str(), "NoBar", "{row}");
+        assert_eq!(rt; out.bytes(), FIPS, "{row}");
+    }
+    Ok(())
+}
+
+// Texts that are no digits of blocks.
+const NO_DIGITS: &str = "\n\
+69C4E0D86A7B0430
+69C4E0D86A7B0430D8CDB78070B4C55
+69C4E0D86A7B0430D8CDB78070B4C55A6
+69C4E0D86A7B0430D8CDB78070B4C55A69C4E0D86A7B0430
+/9C4E0D86A7B0430D8CDB78070B4C55A
+:9C4E0D86A7B0430D8CDB78070B4C55A
+69C4E0D86A7B0430D8CDB78070B4C55G
+69c4e0d86a7b0430d8cdb78070b4c55`
+69C4E0D86A7B0430D8CDB78070B4C55]";
+
+#[test]
+fn opens_no_other_digits(rt: HostRuntime) -> Result<(), Fail> {
+    let mut out = FrameBuf::new();
+    for digits in NO_DIGITS.lines() {
+        let told = open_at(rt.alloc(), "16", digits, &mut out)?;
+        assert_eq!(rt; told.as_str(), "NotCipher", "at {digits}");
         assert!(rt; out.bytes().is_empty(), "at {digits}");
     }
+    Ok(())
 }
 
 // A pad of 1,900 bytes: 118 equal blocks, and 12 bytes more.
@@ -163,39 +140,55 @@ fn opens_behind_a_long_pad(rt: HostRuntime) {
     );
 }
 
-#[test]
-fn seals_acknowledgements(rt: HostRuntime) {
-    let table = [
-        (
-            16,
-            "\"*ADM-CID\"0001L0#1234[",
-            b"_01:47:20,09-09-2001",
-            [0, 1, 2, 3, 4, 5, 6, 7, 8, 9],
-            "\n71E20052\"*ACK\"0001L0#1234[AF397A7C3356E88ECA05A507CF0B250F8887B41FECB1B15FF7BA41C2FB10E14D\r",
-        ),
-        (
-            24,
-            "\"*ADM-CID\"0007RaBcDeFL01234f#12ab[",
-            b"_01:47:20,09-09-2001",
-            [25, 26, 51, 52, 77, 78, 255, 254, 128, 130],
-            "\nFF59005E\"*ACK\"0007RaBcDeFL01234f#12ab[5090E9F28F250863ACEBEAB89499DA71B46711FECCA9BB7F449AEFCA1300B808\r",
-        ),
-        (
-            32,
-            "\"*NULL\"9999R123456L123456#0123456789abcdef[",
-            b"_23:59:59,12-31-9999",
-            [255; 10],
-            "\n34ED006A\"*ACK\"9999R123456L123456#0123456789abcdef[9C48D49D3421D75F4F2FDA4368EEFB6FAF7AE756610D9DCB7C4228D553969ED7\r",
-        ),
-    ];
+// The acknowledgement of a body is this frame, under the key of so many bytes.
+fn is_sealed(
+    size: &str,
+    body: &str,
+    stamp: &[u8; 20],
+    noise: &[u8; 10],
+    frame: &str,
+) -> Result<bool, Fail>
+    requires { list_all is_clean stamp.now ≡ true }
+{
     let mut out = FrameBuf::new();
-    for (size, body, stamp, noise, frame) in table {
-        let key = Key::new(&KEY[..size]).expect(&rt, "a key");
-        let Some((header, _)) = Header::read(body.as_bytes()) else {
-            panic!(rt; "no header at {body}");
-        };
-        seal_ack(&key, &header, stamp, &noise, &mut out);
-        assert_eq!(rt; out.bytes(), frame.as_bytes(), "at {body}");
-    }
+    let key = key_of(size)?;
+    let (header, _) = Header::read(body.as_bytes()).ok_or("no header")?;
+    seal_ack(&key, &header, stamp, noise, &mut out);
+    Ok(out.bytes() == frame.as_bytes())
+}
+
+#[test]
+fn seals_acknowledgements(rt: HostRuntime) -> Result<(), Fail> {
+    let stamp = b"_01:47:20,09-09-2001";
+    let noise = [0, 1, 2, 3, 4, 5, 6, 7, 8, 9];
+    let frame =
+        "\n71E20052\"*ACK\"0001L0#1234[AF397A7C3356E88ECA05A507CF0B250F8887B41FECB1B15FF7BA41C2FB10E14D\r";
+    assert!(rt; is_sealed("16", "\"*ADM-CID\"0001L0#1234[", stamp, &noise, frame)?);
+    let noise = [25, 26, 51, 52, 77, 78, 255, 254, 128, 130];
+    let frame =
+        "\nFF59005E\"*ACK\"0007RaBcDeFL01234f#12ab[5090E9F28F250863ACEBEAB89499DA71B46711FECCA9BB7F449AEFCA1300B808\r";
+    assert!(rt;
+        is_sealed(
+            "24",
+            "\"*ADM-CID\"0007RaBcDeFL01234f#12ab[",
+            stamp,
+            &noise,
+            frame
+        )?
+    );
+    let stamp = b"_23:59:59,12-31-9999";
+    let noise = [255; 10];
+    let frame =
+        "\n34ED006A\"*ACK\"9999R123456L123456#0123456789abcdef[9C48D49D3421D75F4F2FDA4368EEFB6FAF7AE756610D9DCB7C4228D553969ED7\r";
+    assert!(rt;
+        is_sealed(
+            "32",
+            "\"*NULL\"9999R123456L123456#0123456789abcdef[",
+            stamp,
+            &noise,
+            frame
+        )?
+    );
     law_acks_open_again();
+    Ok(())
 }

@@ -5,6 +5,7 @@ use Rattle.std.specs.List.{list_all, list_any, filter, AllByRecursion}
 use Rattle.std.proofs.lemmas.Bool.{eqb-true, ltb-false, leb-true, and_parts, and_from, or_parts, or_from, not_from_false}
 use Rattle.std.proofs.lemmas.List.{map-append, get_or-drop}
 use Rattle.std.proofs.lemmas.List.Elements.{filter-append}
+use Rattle.dc09_frame.specs.declared.limits.TheConstants.{PIECE_LIMIT}
 use Rattle.dc09_frame.specs.declared.cut.Cut.{Cut}
 use Rattle.dc09_frame.specs.declared.cut.Cut.TheVariants.{Whole, BadCheck, BadLength, TooLong}
 use Rattle.dc09_frame.specs.Pieces.{up_to_return, pieces}
@@ -66,22 +67,22 @@ drop_clean (suc n) (x ∷ p) none = drop_clean n p (or_parts (is_end x) (list_an
 
 -- what a whole piece passed
 record IsWholePiece (p : List ℕ) : Type 0 where
-  short : length p ≤ 4103
+  short : length p ≤ PIECE_LIMIT
   long : 9 ≤ length p
   quote : get_or p 8 0 ≡ 34
 
-whole_step : (p : List ℕ) (t l c : Bool) → ltb 4103 (length p) ≡ t → has_length p ≡ l → cond t TooLong (cond (not l) BadLength (cond (not c) BadCheck Whole)) ≡ Whole → IsWholePiece p
+whole_step : (p : List ℕ) (t l c : Bool) → ltb PIECE_LIMIT (length p) ≡ t → has_length p ≡ l → cond t TooLong (cond (not l) BadLength (cond (not c) BadCheck Whole)) ≡ Whole → IsWholePiece p
 whole_step p true l c et el is = absurd cc
 whole_step p false false c et el is = absurd cc
 whole_step p false true c et el is =
     let outer = and_parts (leb 9 (length p) && eqb (get_or p 4 0) 48 && do_spell (take 4 (drop 4 p)) (length (body_of p))) (eqb (get_or p 8 0) 34) el in
     let inner = and_parts (leb 9 (length p) && eqb (get_or p 4 0) 48) (do_spell (take 4 (drop 4 p)) (length (body_of p))) outer.0 in
     let first = and_parts (leb 9 (length p)) (eqb (get_or p 4 0) 48) inner.0 in
-    record { short = ltb-false 4103 (length p) et; long = leb-true 9 (length p) first.0; quote = eqb-true (get_or p 8 0) 34 outer.1 }
+    record { short = ltb-false PIECE_LIMIT (length p) et; long = leb-true 9 (length p) first.0; quote = eqb-true (get_or p 8 0) 34 outer.1 }
 
 whole_parts : (p : List ℕ) → cut p ≡ Whole → IsWholePiece p
 unfolding cut
-whole_parts p is = whole_step p (ltb 4103 (length p)) (has_length p) (has_check p) refl refl is
+whole_parts p is = whole_step p (ltb PIECE_LIMIT (length p)) (has_length p) (has_check p) refl refl is
 
 pub whole_is_body : (p : List ℕ) → HasNoEnd p → cut p ≡ Whole → IsBody (body_of p)
 whole_is_body p none is =
@@ -151,5 +152,5 @@ held_body Open len bytes t held is whole = whole_is_body (take len bytes) held.c
 held_body Overlong len bytes t held is whole = let same : TooLong ≡ t = some_is TooLong t is in absurd (let no : TooLong ≡ Whole = same ∙ whole in cc)
 
 -- what is held and a run without an end are held
-pub held_more : (len end : ℕ) (bytes field run : List ℕ) → IsHeld len bytes → take end field ≡ take len bytes ++ run → end ≤ 4103 → list_any is_end run ≡ false → IsHeld end field
+pub held_more : (len end : ℕ) (bytes field run : List ℕ) → IsHeld len bytes → take end field ≡ take len bytes ++ run → end ≤ PIECE_LIMIT → list_any is_end run ≡ false → IsHeld end field
 held_more len end bytes field run held is short none = record { short = short; clear = ap (list_any is_end) is ∙ list_any-append is_end (take len bytes) run ∙ or_from _ _ held.clear none }

@@ -7,6 +7,7 @@ use Rattle.std.proofs.lemmas.List.Sums.{prefix_len-le-length, prefix_len_stops}
 use Rattle.std.proofs.lemmas.List.{take_more, take_rest, get_or-drop, length-drop}
 use Rattle.std.proofs.Math.Seq.{take-add}
 use Rattle.std.proofs.lemmas.Bool.{cases_lt, lt-ltb, le-ltb, ltb-true, eqb-true, not-false, or_cases}
+use Rattle.dc09_frame.specs.declared.limits.TheConstants.{PIECE_LIMIT}
 use Rattle.dc09_frame.specs.declared.cut.Cut.{Cut}
 use Rattle.dc09_frame.specs.declared.cut.Cut.TheVariants.{TooLong}
 use Rattle.dc09_frame.specs.declared.cutter.Piece.{Piece}
@@ -33,29 +34,29 @@ chosen_outside false q is = cc
 
 is_within : (o : Option (List ℕ)) (p : List ℕ) → Within p ≡ kept_of o → o ≡ Some p
 is_within None p is = absurd cc
-is_within (Some q) p is = ap Some (chosen_within (ltb 4103 (length q)) p q is)
+is_within (Some q) p is = ap Some (chosen_within (ltb PIECE_LIMIT (length q)) p q is)
 
-is_beyond : (o : Option (List ℕ)) → Beyond ≡ kept_of o → (q : List ℕ) × (o ≡ Some q) × (4103 < length q)
+is_beyond : (o : Option (List ℕ)) → Beyond ≡ kept_of o → (q : List ℕ) × (o ≡ Some q) × (PIECE_LIMIT < length q)
 is_beyond None is = absurd cc
-is_beyond (Some q) is = (q, refl, ltb-true 4103 (length q) (chosen_beyond (ltb 4103 (length q)) q is))
+is_beyond (Some q) is = (q, refl, ltb-true PIECE_LIMIT (length q) (chosen_beyond (ltb PIECE_LIMIT (length q)) q is))
 
 is_outside : (o : Option (List ℕ)) → Outside ≡ kept_of o → o ≡ None
 is_outside None is = refl
-is_outside (Some q) is = absurd (chosen_outside (ltb 4103 (length q)) q is)
+is_outside (Some q) is = absurd (chosen_outside (ltb PIECE_LIMIT (length q)) q is)
 
-kept_short : (p : List ℕ) → length p ≤ 4103 → Within p ≡ kept_of (Some p)
-kept_short p le = rw (le-ltb 4103 (length p) le) refl
+kept_short : (p : List ℕ) → length p ≤ PIECE_LIMIT → Within p ≡ kept_of (Some p)
+kept_short p le = rw (le-ltb PIECE_LIMIT (length p) le) refl
 
-kept_long : (p : List ℕ) → 4103 < length p → Beyond ≡ kept_of (Some p)
-kept_long p lt = rw (lt-ltb 4103 (length p) lt) refl
+kept_long : (p : List ℕ) → PIECE_LIMIT < length p → Beyond ≡ kept_of (Some p)
+kept_long p lt = rw (lt-ltb PIECE_LIMIT (length p) lt) refl
 
 -- A run.
 
-pub within_after : (stream run p more : List ℕ) → list_any is_end run ≡ false → Within p ≡ kept_of (open_piece stream) → more ≡ p ++ run → length more ≤ 4103 → Within more ≡ kept_of (open_piece (stream ++ run))
+pub within_after : (stream run p more : List ℕ) → list_any is_end run ≡ false → Within p ≡ kept_of (open_piece stream) → more ≡ p ++ run → length more ≤ PIECE_LIMIT → Within more ≡ kept_of (open_piece (stream ++ run))
 within_after stream run p more none is whole le =
     rw (open_piece-append_run stream run none, is_within (open_piece stream) p is, ← whole) (kept_short more le)
 
-pub beyond_after : (stream run p : List ℕ) → list_any is_end run ≡ false → Within p ≡ kept_of (open_piece stream) → 4103 < length p + length run → Beyond ≡ kept_of (open_piece (stream ++ run))
+pub beyond_after : (stream run p : List ℕ) → list_any is_end run ≡ false → Within p ≡ kept_of (open_piece stream) → PIECE_LIMIT < length p + length run → Beyond ≡ kept_of (open_piece (stream ++ run))
 beyond_after stream run p none is lt =
     rw (open_piece-append_run stream run none, is_within (open_piece stream) p is) (kept_long (p ++ run) (omega (arith, length-append p run)))
 
@@ -87,9 +88,9 @@ returned_outside stream c told is =
       pieces = pieces-append_return stream ∙ ap (λ o. pieces stream ++ option_to_list o) none ∙ append-nil (pieces stream);
     }
 
-cut_long : (p : List ℕ) → 4103 < length p → cut p ≡ TooLong
+cut_long : (p : List ℕ) → PIECE_LIMIT < length p → cut p ≡ TooLong
 unfolding cut
-cut_long p lt = rw (lt-ltb 4103 (length p) lt) refl
+cut_long p lt = rw (lt-ltb PIECE_LIMIT (length p) lt) refl
 
 ended : (stream p : List ℕ) → open_piece stream ≡ Some p → Ends stream (13 ∷ []) p
 ended stream p is = record {

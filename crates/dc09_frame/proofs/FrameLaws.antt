@@ -8,6 +8,7 @@ use Rattle.std.proofs.Math.Nat.{pow-succ'}
 use Rattle.std.proofs.lemmas.Bool.{lt-ltb, le-ltb, le-leb, lt-leb, eq-eqb, ne_eqb, leb-true, and_parts, and_from, or_left, cases_lt}
 use Rattle.std.proofs.lemmas.List.Folds.{list_all-append}
 use Rattle.arc_data.specs.Digits.{is_between, is_digit, is_hex, digit_value, hex_value, is_run}
+use Rattle.dc09_frame.specs.declared.limits.TheConstants.{PIECE_LIMIT}
 use Rattle.dc09_frame.specs.declared.cut.Cut.TheVariants.{Whole}
 use Rattle.dc09_frame.specs.Check.{divisor, all_bits, check_of}
 use Rattle.dc09_frame.specs.Polynomial.{remainder, zeros, bits, number}
@@ -111,7 +112,7 @@ length_spelled body is =
 pub piece_whole : (body : List ℕ) → IsBody body → cut (piece_of body) ≡ Whole
 unfolding cut
 piece_whole body is =
-    let short : ltb 4103 (length (piece_of body)) ≡ false = le-ltb 4103 (length (piece_of body)) (omega (arith, is.size)) in
+    let short : ltb PIECE_LIMIT (length (piece_of body)) ≡ false = le-ltb PIECE_LIMIT (length (piece_of body)) (omega (arith, is.size)) in
     let spelled : has_length (piece_of body) ≡ true = length_spelled body is in
     let checked : has_check (piece_of body) ≡ true = four_again (check_of body) (check-lt body) in
     rw (short, spelled, checked) refl

@@ -1,6 +1,7 @@
 -- What a cutter keeps of the stream that it was fed so far.
 use Rattle.std.specs.Prelude.{◌≡◌, ℕ, ◌==◌, ◌||◌, ◌++◌, List, [], ◌∷◌, Bool, if◌then◌else◌, Option, Some, None, nat_lt, length, MatchOption}
 use Rattle.std.specs.List.{list_any}
+use Rattle.dc09_frame.specs.declared.limits.TheConstants.{PIECE_LIMIT}
 use Rattle.dc09_frame.specs.declared.cut.Cut.{Cut}
 use Rattle.dc09_frame.specs.declared.cut.Cut.TheVariants.{Whole, BadCheck, BadLength, TooLong}
 use Rattle.dc09_frame.specs.Pieces.{pieces}
@@ -23,7 +24,7 @@ pub data Kept : Type 0 where
 
 abbrev pub kept_of : Option (List ℕ) → Kept
 kept_of None = Outside
-kept_of (Some piece) = if nat_lt 4103 (length piece) then Beyond else Within piece
+kept_of (Some piece) = if nat_lt PIECE_LIMIT (length piece) then Beyond else Within piece
 
 -- what is kept, and the body of the piece that was cut last, where it was whole
 pub record CutterValue : Type 0 where

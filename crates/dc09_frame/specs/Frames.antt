@@ -1,8 +1,10 @@
 -- Frames (DC-09, the frame): a line feed, four check digits, the digit 0 and three digits of the body's length, the body, a
 -- carriage return.
-use Rattle.std.specs.Prelude.{◌≡◌, ℕ, ◌+◌, ◌/◌, ◌%◌, ◌≤◌, ◌==◌, ◌&&◌, ◌++◌, List, [], ◌∷◌, Bool, true, false, not, if◌then◌else◌, nat_lt, nat_le, length, take, drop, filter, map, slice_index}
+use Rattle.std.specs.Prelude.{◌≡◌, ℕ, ◌+◌, ◌/◌, ◌%◌, ◌≤◌, ◌==◌, ◌&&◌, ◌++◌, List, [], ◌∷◌, Bool, true, false, not, if◌then◌else◌}
+use Rattle.std.specs.Prelude.{nat_lt, nat_le, length, take, drop, filter, map, slice_index}
 use Rattle.std.specs.List.{list_all}
 use Rattle.arc_data.specs.Digits.{is_hex, hex_value}
+use Rattle.dc09_frame.specs.declared.limits.TheConstants.{BODY_LIMIT, PIECE_LIMIT}
 use Rattle.dc09_frame.specs.declared.cut.Cut.{Cut}
 use Rattle.dc09_frame.specs.declared.cut.Cut.TheVariants.{Whole, BadCheck, BadLength, TooLong}
 use Rattle.dc09_frame.specs.Check.{check_of}
@@ -23,7 +25,7 @@ is_clean b = not (b == 10) && not (b == 13)
 -- a body: 1 to 4,095 bytes, of which the first is a double quote and none a line feed or a carriage return
 pub record IsBody (body : List ℕ) : Type 0 where
   pub some : 1 ≤ length body
-  pub size : length body ≤ 4095
+  pub size : length body ≤ BODY_LIMIT
   pub quote : slice_index body 0 ≡ 34
   pub clean : list_all is_clean body ≡ true
 
@@ -50,7 +52,9 @@ body_of piece = drop 8 piece
 -- at least nine bytes, of which the fifth to the eighth are the digit 0 and three digits, which spell how many bytes
 -- follow, and the ninth is a double quote
 abbrev pub has_length : List ℕ → Bool
-has_length piece = nat_le 9 (length piece) && (slice_index piece 4 == 48) && do_spell (take 4 (drop 4 piece)) (length (body_of piece)) && (slice_index piece 8 == 34)
+has_length piece =
+    nat_le 9 (length piece) && (slice_index piece 4 == 48) && do_spell (take 4 (drop 4 piece)) (length (body_of piece))
+    && (slice_index piece 8 == 34)
 
 -- the first four bytes spell the check of the body
 abbrev pub has_check : List ℕ → Bool
@@ -58,7 +62,11 @@ has_check piece = do_spell (take 4 piece) (check_of (body_of piece))
 
 -- what a piece is: the first of these that holds
 unfoldable pub cut : List ℕ → Cut
-cut piece = if nat_lt 4103 (length piece) then TooLong else if not (has_length piece) then BadLength else if not (has_check piece) then BadCheck else Whole
+cut piece =
+    if nat_lt PIECE_LIMIT (length piece) then TooLong
+    else if not (has_length piece) then BadLength
+    else if not (has_check piece) then BadCheck
+    else Whole
 
 abbrev pub is_whole : List ℕ → Bool
 is_whole piece = elim (cut piece) [ Whole ↦ true | BadCheck ↦ false | BadLength ↦ false | TooLong ↦ false ]

@@ -1,5 +1,6 @@
 -- The header of a body (DC-09, the message's fields).
-use Rattle.std.specs.Prelude.{◌≡◌, ℕ, ◌-◌, ◌==◌, ◌||◌, ◌++◌, List, [], ◌∷◌, Bool, true, false, if◌then◌else◌, Option, Some, None, length, drop, codes}
+use Rattle.std.specs.Prelude.{◌≡◌, ℕ, ◌-◌, ◌==◌, ◌||◌, ◌++◌, List, [], ◌∷◌, Bool, true, false, if◌then◌else◌, Option, Some, None}
+use Rattle.std.specs.Prelude.{length, drop, codes}
 use Rattle.std.specs.List.{take_while}
 use Rattle.arc_data.specs.Digits.{is_between, is_digit, is_hex, is_run}
 use Rattle.arc_data.specs.WellFormed.{is_receiver}
@@ -46,7 +47,9 @@ after_byte b (x ∷ xs) = if x == b then Some xs else None
 
 -- the longest run of bytes that pass the test, where it has between so many and so many bytes, and what follows it
 unfoldable pub run_at : (ℕ → Bool) → ℕ → ℕ → List ℕ → Option (List ℕ × List ℕ)
-run_at test low high xs = let run = take_while test xs in if is_between low high (length run) then Some (run, drop (length run) xs) else None
+run_at test low high xs =
+    let run = take_while test xs in
+    if is_between low high (length run) then Some (run, drop (length run) xs) else None
 
 -- the star, where there is one
 abbrev pub star_at : List ℕ → Bool × List ℕ
@@ -80,7 +83,17 @@ header_at body = do
   after_hash ← after_byte 35 line.1
   account ← run_at is_hex 3 16 after_hash
   rest ← after_byte 91 account.1
-  Some (record { sealed = (star_at after_quote).0; token = token.0; seq = sequence.0; receiver = receiver.0; line = line.0; account = account.0 }, length body - length rest)
+  Some (
+    record {
+      sealed = (star_at after_quote).0;
+      token = token.0;
+      seq = sequence.0;
+      receiver = receiver.0;
+      line = line.0;
+      account = account.0;
+    },
+    length body - length rest,
+  )
 
 -- What is read is spelled so.
 pub record IsReadFrom (body : List ℕ) (h : Header) (n : ℕ) : Type 0 where

@@ -1,6 +1,7 @@
 -- What a cutter's fields keep of the open piece.
 use Rattle.std.specs.Prelude.{◌≡◌, ◌≤◌, ℕ, List, [], false, Option, Some, None, take, drop}
 use Rattle.std.specs.List.{list_any}
+use Rattle.dc09_frame.specs.declared.limits.TheConstants.{PIECE_LIMIT}
 use Rattle.dc09_frame.specs.declared.cut.Cut.{Cut}
 use Rattle.dc09_frame.specs.declared.cut.Cut.TheVariants.{TooLong}
 use Rattle.dc09_frame.specs.Frames.{cut}
@@ -28,5 +29,5 @@ cut_of_kept Beyond = Some TooLong
 
 -- the first bytes of the buffer fit in it and have no end
 pub record IsHeld (len : ℕ) (bytes : List ℕ) : Type 0 where
-  pub short : len ≤ 4103
+  pub short : len ≤ PIECE_LIMIT
   pub clear : list_any is_end (take len bytes) ≡ false

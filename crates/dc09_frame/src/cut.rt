@@ -3,6 +3,7 @@ ghost use Rattle.std.specs.Prelude.{◌≡◌, ◌≤◌, length, true};
 ghost use Rattle.dc09_frame.specs.Frames.{cut, do_spell, has_length, has_check};
 
 use crate::checksum::check;
+use crate::limits::PIECE_LIMIT;
 use arc_text::hex_word;
 
 /// What a piece is: the first of TooLong, BadLength and BadCheck that holds, and otherwise Whole.
@@ -25,7 +26,7 @@ impl Cut {
     pub fn of(piece: &[u8]) -> Cut
         ensures { result ≡ cut piece.now }
     {
-        if piece.len() > 4103 {
+        if piece.len() > PIECE_LIMIT {
             return Cut::TooLong;
         }
         if !has_length(piece) {

@@ -6,6 +6,7 @@ ghost use Rattle.dc09_frame.specs.Holding.{cut_of_kept};
 ghost use Rattle.dc09_frame.specs.Frames.{IsBody};
 
 use crate::cut::Cut;
+use crate::limits::PIECE_LIMIT;
 use std::marker::Model;
 
 // Where the stream stands: outside of pieces, in one whose bytes are kept, or in one that is too long for a frame.
@@ -20,7 +21,7 @@ enum Piece {
 /// with no line feed between. It keeps 4,103 bytes at most, however long a piece is.
 #[derive(Drop)]
 pub struct Cutter {
-    bytes: [u8; 4103],
+    bytes: [u8; PIECE_LIMIT],
     len: usize,
     piece: Piece,
 }
@@ -42,7 +43,7 @@ impl Cutter {
         ensures { WasFed [] result }
     {
         Cutter {
-            bytes: [0; 4103],
+            bytes: [0; PIECE_LIMIT],
             len: 0,
             piece: Piece::Closed,
         }
@@ -93,7 +94,7 @@ impl Cutter {
         ensures { (stream : List ℕ) → WasFed stream self.old → WasFed (stream ++ run.now) self.new }
     {
         if let Piece::Open = self.piece {
-            if run.len() > 4103 - self.len {
+            if run.len() > PIECE_LIMIT - self.len {
                 self.piece = Piece::Overlong;
             } else {
                 let end = self.len + run.len();

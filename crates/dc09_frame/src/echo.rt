@@ -6,6 +6,7 @@ ghost use Rattle.std.specs.List.{list_all};
 
 use crate::frame_buf::FrameBuf;
 use crate::header::{Echo, Header};
+use crate::limits::FRAME_LIMIT;
 use arc_text::Txt;
 
 /// Makes `out` the frame of a body.
@@ -58,7 +59,7 @@ fn quoted_word_of(word: Echo) -> &'static [u8]
 /// Puts the header's sequence, `R` field, `L` field and account behind the bytes that stand there, as they came, where there is
 /// room. A frame that has more to hold than a reply of this crate is made of them: `begin_frame`, then the body's parts, then `end_frame`.
 pub fn append_fields(header: &Header, out: &mut FrameBuf)
-    requires { length out.old + length (fields header.now) ≤ 4105 }
+    requires { length out.old + length (fields header.now) ≤ FRAME_LIMIT }
     ensures { out.new ≡ out.old ++ fields header.now }
 {
     out.append(&header.seq);
@@ -70,7 +71,7 @@ pub fn append_fields(header: &Header, out: &mut FrameBuf)
 }
 
 fn append_receiver(receiver: &Option<Txt>, out: &mut FrameBuf)
-    requires { length out.old + length (receiver_field receiver.now) ≤ 4105 }
+    requires { length out.old + length (receiver_field receiver.now) ≤ FRAME_LIMIT }
     ensures value { out.new ≡ out.old ++ receiver_field receiver.now }
 {
     if let Some(digits) = receiver {

@@ -3,23 +3,25 @@ ghost use Rattle.std.specs.Prelude.{◌≡◌, ◌+◌, ◌<◌, ◌≤◌, [], 
 ghost use Rattle.dc09_frame.specs.Frames.{digit_of, head_of, frame_of, IsBody};
 
 use crate::checksum::check;
+use crate::limits::FRAME_LIMIT;
 use std::marker::Model;
 
 /// A buffer of 4,105 bytes with a length, which holds the longest frame. Contracts see it as the list of its bytes.
 #[derive(Drop)]
 pub struct FrameBuf {
-    bytes: [u8; 4105],
+    bytes: [u8; FRAME_LIMIT],
     len: usize,
 }
 
 impl Model for FrameBuf {
     ghost use Rattle.std.specs.Prelude.{ℕ, ◌≤◌, List, take};
+    ghost use Rattle.dc09_frame.specs.declared.limits.TheConstants.{FRAME_LIMIT};
 
     ghost Value = { List ℕ };
 
     ghost view = { λ b. take b.len b.bytes };
 
-    ghost invariant = { λ b. b.len ≤ 4105 };
+    ghost invariant = { λ b. b.len ≤ FRAME_LIMIT };
 }
 
 impl FrameBuf {
@@ -28,7 +30,7 @@ impl FrameBuf {
         ensures { result ≡ [] }
     {
         FrameBuf {
-            bytes: [0; 4105],
+            bytes: [0; FRAME_LIMIT],
             len: 0,
         }
     }
@@ -36,7 +38,7 @@ impl FrameBuf {
     /// Its bytes.
     pub fn bytes(&self) -> &[u8]
         ensures value { result.now ≡ self.now }
-        ensures short { length result.now ≤ 4105 }
+        ensures short { length result.now ≤ FRAME_LIMIT }
     {
         &self.bytes[..self.len]
     }
@@ -50,7 +52,7 @@ impl FrameBuf {
 
     /// Puts bytes behind those that stand there, where there is room.
     pub fn append(&mut self, bytes: &[u8])
-        requires { length self.old + length bytes.now ≤ 4105 }
+        requires { length self.old + length bytes.now ≤ FRAME_LIMIT }
         ensures { self.new ≡ self.old ++ bytes.now }
     {
         let end = self.len + bytes.len();

@@ -8,6 +8,7 @@ mod echo;
 mod frame_buf;
 mod header;
 mod laws;
+mod limits;
 mod reading;
 
 pub use checksum::check;
@@ -20,6 +21,7 @@ pub use laws::{
     law_bodies_are_fed, law_check_divides, law_frames_are_cut_again, law_read_is_spelled,
     law_spelled_is_read,
 };
+pub use limits::{BODY_LIMIT, FRAME_LIMIT, PIECE_LIMIT};
 pub use reading::{Alphabet, after_byte, run_at};
 
 #[cfg(test)]

@@ -1,3 +1,4 @@
+// The check, cuts, headers, replies and streams, with bytes worked out by hand or by other programs.
 use super::*;
 use std::alloc::{AllocError, Global};
 use std::process::Abort;
@@ -16,61 +17,45 @@ fn checks(rt: HostRuntime) {
     }
 }
 
+// Pieces, and before a `;` what each is cut as.
+const PIECES: &str = r##"Whole;2EE70027"ADM-CID"0001L0#1234[#1234|1131 01 001]
+Whole;2ee70027"ADM-CID"0001L0#1234[#1234|1131 01 001]
+Whole;1BC10012"ACK"0001L0#1234[]
+Whole;1EF20013"NULL"0000L0#1234[]
+Whole;DE900012"ACK"0000L0#1234[]
+Whole;dC4a001E"ACK"0007RaBcDeFL01234f#12ab[]
+Whole;DC4A001e"ACK"0007RaBcDeFL01234f#12ab[]
+Whole;19800001"
+BadCheck;2EE80027"ADM-CID"0001L0#1234[#1234|1131 01 001]
+BadCheck;2EG70027"ADM-CID"0001L0#1234[#1234|1131 01 001]
+BadCheck;+EE70027"ADM-CID"0001L0#1234[#1234|1131 01 001]
+BadCheck;1BC10012"ACK"0001L0#1235[]
+BadLength;2EE70028"ADM-CID"0001L0#1234[#1234|1131 01 001]
+BadLength;2EE70026"ADM-CID"0001L0#1234[#1234|1131 01 001]
+BadLength;2EE71027"ADM-CID"0001L0#1234[#1234|1131 01 001]
+BadLength;2EE70G27"ADM-CID"0001L0#1234[#1234|1131 01 001]
+BadLength;0000002x
+BadLength;00000000
+BadLength;BB3D0009123456789
+BadLength;FFFFFFFFF
+BadLength;"##;
+
+fn word_of(cut: Cut) -> &'static str {
+    match cut {
+        Cut::Whole => "Whole",
+        Cut::BadCheck => "BadCheck",
+        Cut::BadLength => "BadLength",
+        Cut::TooLong => "TooLong",
+    }
+}
+
 #[test]
 fn cuts_pieces(rt: HostRuntime) {
-    let table: [(&[u8], Cut); 22] = [
-        (
-            b"2EE70027\"ADM-CID\"0001L0#1234[#1234|1131 01 001]",
-            Cut::Whole,
-        ),
-        (
-            b"2ee70027\"ADM-CID\"0001L0#1234[#1234|1131 01 001]",
-            Cut::Whole,
-        ),
-        (b"1BC10012\"ACK\"0001L0#1234[]", Cut::Whole),
-        (b"1EF20013\"NULL\"0000L0#1234[]", Cut::Whole),
-        (b"DE900012\"ACK\"0000L0#1234[]", Cut::Whole),
-        (b"dC4a001E\"ACK\"0007RaBcDeFL01234f#12ab[]", Cut::Whole),
-        (b"DC4A001e\"ACK\"0007RaBcDeFL01234f#12ab[]", Cut::Whole),
-        (b"19800001\"", Cut::Whole),
-        (
-            b"2EE80027\"ADM-CID\"0001L0#1234[#1234|1131 01 001]",
-            Cut::BadCheck,
-        ),
-        (
-            b"2EG70027\"ADM-CID\"0001L0#1234[#1234|1131 01 001]",
-            Cut::BadCheck,
-        ),
-        (
-            b"+EE70027\"ADM-CID\"0001L0#1234[#1234|1131 01 001]",
-            Cut::BadCheck,
-        ),
-        (b"1BC10012\"ACK\"0001L0#1235[]", Cut::BadCheck),
-        (
-            b"2EE70028\"ADM-CID\"0001L0#1234[#1234|1131 01 001]",
-            Cut::BadLength,
-        ),
-        (
-            b"2EE70026\"ADM-CID\"0001L0#1234[#1234|1131 01 001]",
-            Cut::BadLength,
-        ),
-        (
-            b"2EE71027\"ADM-CID\"0001L0#1234[#1234|1131 01 001]",
-            Cut::BadLength,
-        ),
-        (
-            b"2EE70G27\"ADM-CID\"0001L0#1234[#1234|1131 01 001]",
-            Cut::BadLength,
-        ),
-        (b"0000002x", Cut::BadLength),
-        (b"00000000", Cut::BadLength),
-        (b"C0C10001\x01", Cut::BadLength),
-        (b"BB3D0009123456789", Cut::BadLength),
-        (b"FFFFFFFFF", Cut::BadLength),
-        (b"", Cut::BadLength),
-    ];
-    for (piece, want) in table {
-        assert_eq!(rt; Cut::of(piece), want, "at {piece:?}");
+    for row in PIECES.lines() {
+        if let Some((want, piece)) = row.split_once(';') {
+            let cut = word_of(Cut::of(piece.as_bytes()));
+            assert_eq!(rt; cut, want, "at {piece}");
+        }
     }
 }
 
@@ -100,239 +85,140 @@ fn cuts_the_longest(rt: HostRuntime) -> Result<(), Fail> {
     Ok(())
 }
 
-#[test]
-fn reads_headers(rt: HostRuntime) {
-    // the body; sealed, token, sequence, `R` digits, `L` digits, account, and how many bytes the header has
-    type Row = (
-        &'static str,
-        bool,
-        &'static str,
-        &'static str,
-        &'static str,
-        &'static str,
-        &'static str,
-        usize,
-    );
-    let table: [Row; 9] = [
-        (
-            "\"ADM-CID\"0001L0#1234[#1234|1131 01 001]",
-            false,
-            "ADM-CID",
-            "0001",
-            "-",
-            "0",
-            "1234",
-            21,
-        ),
-        (
-            "\"*SIA-DCS\"9999R1L2#12345A[69C4",
-            true,
-            "SIA-DCS",
-            "9999",
-            "1",
-            "2",
-            "12345A",
-            26,
-        ),
-        (
-            "\"NULL\"0000L0#1234[]_01:46:40,09-09-2001",
-            false,
-            "NULL",
-            "0000",
-            "-",
-            "0",
-            "1234",
-            18,
-        ),
-        ("\"A\"0000L0#123[", false, "A", "0000", "-", "0", "123", 14),
-        (
-            "\"ABCDEFGHIJ-01239\"0000L0#123[]",
-            false,
-            "ABCDEFGHIJ-01239",
-            "0000",
-            "-",
-            "0",
-            "123",
-            29,
-        ),
-        (
-            "\"Z\"0000RaL0#123[]",
-            false,
-            "Z",
-            "0000",
-            "a",
-            "0",
-            "123",
-            16,
-        ),
-        (
-            "\"Z\"0000R09afAFL0#123[]",
-            false,
-            "Z",
-            "0000",
-            "09afAF",
-            "0",
-            "123",
-            21,
-        ),
-        (
-            "\"Z\"0000L09afAF#123[]",
-            false,
-            "Z",
-            "0000",
-            "-",
-            "09afAF",
-            "123",
-            19,
-        ),
-        (
-            "\"Z\"0000L0#0123456789abcDEF[]",
-            false,
-            "Z",
-            "0000",
-            "-",
-            "0",
-            "0123456789abcDEF",
-            27,
-        ),
-    ];
-    for (body, sealed, token, seq, receiver, line, account, count) in table {
-        let Some((header, read)) = Header::read(body.as_bytes()) else {
-            panic!(rt; "no header at {body}");
-        };
-        assert_eq!(rt; read, count, "at {body}");
-        assert_eq!(rt; header.sealed, sealed, "at {body}");
-        assert_eq!(rt; header.token.bytes(), token.as_bytes(), "at {body}");
-        assert_eq!(rt; header.seq.as_slice(), seq.as_bytes(), "at {body}");
-        match &header.receiver {
-            Some(digits) => assert_eq!(rt; digits.bytes(), receiver.as_bytes(), "at {body}"),
-            None => assert_eq!(rt; receiver, "-", "at {body}"),
-        }
-        assert_eq!(rt; header.line.bytes(), line.as_bytes(), "at {body}");
-        assert_eq!(rt; header.account.bytes(), account.as_bytes(), "at {body}");
+// Bodies that begin with a header, and before a `;` whether it is sealed, how many bytes it has, its token, sequence, `R` digits, `L`
+// digits and account.
+const HEADERS: &str = r##"false 21/ADM-CID/0001//0/1234;"ADM-CID"0001L0#1234[#1234|1131 01 001]
+true 26/SIA-DCS/9999/1/2/12345A;"*SIA-DCS"9999R1L2#12345A[69C4
+false 18/NULL/0000//0/1234;"NULL"0000L0#1234[]_01:46:40,09-09-2001
+false 14/A/0000//0/123;"A"0000L0#123[
+false 29/ABCDEFGHIJ-01239/0000//0/123;"ABCDEFGHIJ-01239"0000L0#123[]
+false 16/Z/0000/a/0/123;"Z"0000RaL0#123[]
+false 21/Z/0000/09afAF/0/123;"Z"0000R09afAFL0#123[]
+false 19/Z/0000//09afAF/123;"Z"0000L09afAF#123[]
+false 27/Z/0000//0/0123456789abcDEF;"Z"0000L0#0123456789abcDEF[]"##;
+
+// The header of a body, as the rows have it.
+fn told_at(alloc: Global, body: &str) -> Result<Vec<u8>, Fail> {
+    let (header, length) = Header::read(body.as_bytes()).ok_or("no header")?;
+    let mut told = format!(in alloc; "{} {length}", header.sealed)?.into_bytes();
+    add_fields(&mut told, &header)?;
+    Ok(told)
+}
+
+fn add_fields(told: &mut Vec<u8>, header: &Header) -> Result<(), AllocError> {
+    add(told, header.token.bytes())?;
+    add(told, header.seq.as_slice())?;
+    match &header.receiver {
+        Some(digits) => add(told, digits.bytes())?,
+        None => add(told, b"")?,
     }
+    add(told, header.line.bytes())?;
+    add(told, header.account.bytes())
+}
+
+fn add(told: &mut Vec<u8>, field: &[u8]) -> Result<(), AllocError> {
+    told.push(b'/')?;
+    told.extend_from_slice(field)
 }
 
 #[test]
+fn reads_headers(rt: HostRuntime) -> Result<(), Fail> {
+    for row in HEADERS.lines() {
+        if let Some((want, body)) = row.split_once(';') {
+            let told = told_at(rt.alloc(), body)?;
+            assert_eq!(rt; told.as_slice(), want.as_bytes(), "at {body}");
+        }
+    }
+    Ok(())
+}
+
+// Bodies that begin with no header.
+const NO_HEADERS: &str = r##"
+"
+ADM-CID"0001L0#1234[]
+""0001L0#1234[]
+"*"0001L0#1234[]
+"**NULL"0001L0#1234[]
+"ABCDEFGHIJ-012345"0001L0#1234[]
+"null"0001L0#1234[]
+"NULL 1"0001L0#1234[]
+"NULL0001L0#1234[]
+"NULL"001L0#1234[]
+"NULL"00001L0#1234[]
+"NULL"000AL0#1234[]
+"NULL"0001RL0#1234[]
+"NULL"0001R1234567L0#1234[]
+"NULL"0001R1R2L0#1234[]
+"NULL"0001#1234[]
+"NULL"0001L#1234[]
+"NULL"0001L1234567#1234[]
+"NULL"0001L0R1#1234[]
+"NULL"0001l0#1234[]
+"NULL"0001L01234[]
+"NULL"0001L0#12[]
+"NULL"0001L0#01234567890123456[]
+"NULL"0001L0#123G[]
+"NULL"0001L0#1234
+"NULL"0001L0#1234]"##;
+
+#[test]
 fn reads_no_headers(rt: HostRuntime) {
-    let table = [
-        "",
-        "\"",
-        "ADM-CID\"0001L0#1234[]",
-        "\"\"0001L0#1234[]",
-        "\"*\"0001L0#1234[]",
-        "\"**NULL\"0001L0#1234[]",
-        "\"ABCDEFGHIJ-012345\"0001L0#1234[]",
-        "\"null\"0001L0#1234[]",
-        "\"NULL 1\"0001L0#1234[]",
-        "\"NULL0001L0#1234[]",
-        "\"NULL\"001L0#1234[]",
-        "\"NULL\"00001L0#1234[]",
-        "\"NULL\"000AL0#1234[]",
-        "\"NULL\"0001RL0#1234[]",
-        "\"NULL\"0001R1234567L0#1234[]",
-        "\"NULL\"0001R1R2L0#1234[]",
-        "\"NULL\"0001#1234[]",
-        "\"NULL\"0001L#1234[]",
-        "\"NULL\"0001L1234567#1234[]",
-        "\"NULL\"0001L0R1#1234[]",
-        "\"NULL\"0001l0#1234[]",
-        "\"NULL\"0001L01234[]",
-        "\"NULL\"0001L0#12[]",
-        "\"NULL\"0001L0#01234567890123456[]",
-        "\"NULL\"0001L0#123G[]",
-        "\"NULL\"0001L0#1234",
-        "\"NULL\"0001L0#1234]",
-    ];
-    for body in table {
+    for body in NO_HEADERS.lines() {
         assert!(rt; Header::read(body.as_bytes()).is_none(), "at {body}");
+    }
+}
+
+// Whether the buffer holds the frame of this piece.
+fn is_frame(out: &FrameBuf, piece: &str) -> bool {
+    match out.bytes() {
+        [b'\n', held @ .., b'\r'] => held == piece.as_bytes(),
+        _ => false,
     }
 }
 
 #[test]
 fn writes_frames(rt: HostRuntime) {
-    let table: [(&[u8], &[u8]); 4] = [
-        (
-            b"\"ADM-CID\"0001L0#1234[#1234|1131 01 001]",
-            b"\n2EE70027\"ADM-CID\"0001L0#1234[#1234|1131 01 001]\r",
-        ),
-        (
-            b"\"NULL\"0000L0#1234[]",
-            b"\n1EF20013\"NULL\"0000L0#1234[]\r",
-        ),
-        (
-            b"\"SIA-DCS\"0001L0#12345A[#12345A|NFA129][S123Main St., 55123]",
-            b"\n1FDE003B\"SIA-DCS\"0001L0#12345A[#12345A|NFA129][S123Main St., 55123]\r",
-        ),
-        (b"\"", b"\n19800001\"\r"),
-    ];
     let mut out = FrameBuf::new();
     assert!(rt; out.bytes().is_empty());
-    for (body, frame) in table {
-        write_frame(body, &mut out);
-        assert_eq!(rt; out.bytes(), frame, "at {body:?}");
-    }
+    write_frame(b"\"ADM-CID\"0001L0#1234[#1234|1131 01 001]", &mut out);
+    assert!(rt; is_frame(&out, "2EE70027\"ADM-CID\"0001L0#1234[#1234|1131 01 001]"));
+    write_frame(b"\"", &mut out);
+    assert!(rt; is_frame(&out, "19800001\""));
     out.clear();
     assert!(rt; out.bytes().is_empty());
 }
 
-#[test]
-fn writes_echoes(rt: HostRuntime) {
-    let table = [
-        (
-            "\"ADM-CID\"0001L0#1234[",
-            Echo::Ack,
-            "\n1BC10012\"ACK\"0001L0#1234[]\r",
-        ),
-        (
-            "\"ADM-CID\"0001L0#1234[",
-            Echo::Duh,
-            "\n251F0012\"DUH\"0001L0#1234[]\r",
-        ),
-        (
-            "\"*ADM-CID\"0001L0#9999[",
-            Echo::Duh,
-            "\nB7290012\"DUH\"0001L0#9999[]\r",
-        ),
-        (
-            "\"NULL\"0000L0#1234[",
-            Echo::Ack,
-            "\nDE900012\"ACK\"0000L0#1234[]\r",
-        ),
-        (
-            "\"ADM-CID\"0001R1L2#1234[",
-            Echo::Ack,
-            "\nC7370014\"ACK\"0001R1L2#1234[]\r",
-        ),
-        (
-            "\"SIA-DCS\"0002L0#12345A[",
-            Echo::Ack,
-            "\n78320014\"ACK\"0002L0#12345A[]\r",
-        ),
-        (
-            "\"X\"0007RaBcDeFL01234f#12ab[",
-            Echo::Ack,
-            "\nDC4A001E\"ACK\"0007RaBcDeFL01234f#12ab[]\r",
-        ),
-        (
-            "\"X\"0007RaBcDeFL01234f#12ab[",
-            Echo::Duh,
-            "\n5DAA001E\"DUH\"0007RaBcDeFL01234f#12ab[]\r",
-        ),
-        (
-            "\"X\"9999R123456L123456#0123456789abcdef[",
-            Echo::Ack,
-            "\nA415002A\"ACK\"9999R123456L123456#0123456789abcdef[]\r",
-        ),
-    ];
-    let mut out = FrameBuf::new();
-    for (body, word, frame) in table {
-        let Some((header, _)) = Header::read(body.as_bytes()) else {
-            panic!(rt; "no header at {body}");
-        };
-        write_echo(word, &header, &mut out);
-        assert_eq!(rt; out.bytes(), frame.as_bytes(), "at {body}");
+// Pieces of replies, and before a `;` the body whose header each echoes.
+const ECHOES: &str = r##""ADM-CID"0001L0#1234[;1BC10012"ACK"0001L0#1234[]
+"ADM-CID"0001L0#1234[;251F0012"DUH"0001L0#1234[]
+"*ADM-CID"0001L0#9999[;B7290012"DUH"0001L0#9999[]
+"NULL"0000L0#1234[;DE900012"ACK"0000L0#1234[]
+"ADM-CID"0001R1L2#1234[;C7370014"ACK"0001R1L2#1234[]
+"SIA-DCS"0002L0#12345A[;78320014"ACK"0002L0#12345A[]
+"X"0007RaBcDeFL01234f#12ab[;DC4A001E"ACK"0007RaBcDeFL01234f#12ab[]
+"X"0007RaBcDeFL01234f#12ab[;5DAA001E"DUH"0007RaBcDeFL01234f#12ab[]
+"X"9999R123456L123456#0123456789abcdef[;A415002A"ACK"9999R123456L123456#0123456789abcdef[]"##;
+
+// The word of a piece that is a reply.
+fn echo_of(piece: &str) -> Echo {
+    if piece.contains("DUH") {
+        Echo::Duh
+    } else {
+        Echo::Ack
     }
+}
+
+#[test]
+fn writes_echoes(rt: HostRuntime) -> Result<(), Fail> {
+    let mut out = FrameBuf::new();
+    for row in ECHOES.lines() {
+        if let Some((body, piece)) = row.split_once(';') {
+            let (header, _) = Header::read(body.as_bytes()).ok_or("no header")?;
+            write_echo(echo_of(piece), &header, &mut out);
+            assert!(rt; is_frame(&out, piece), "at {body}");
+        }
+    }
+    Ok(())
 }
 
 #[test]

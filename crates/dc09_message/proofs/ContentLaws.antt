@@ -1,5 +1,5 @@
 -- The content that is read is written so, and what is written so is read.
-use Rattle.std.proofs.Common.{◌≡◌, ◌+◌, ℕ, suc, List, [], ◌∷◌, ◌++◌, length, take, Bool, true, false, cond, eqb, Option, Some, None, is_some, refl, sym, ◌∙◌, ap, arith, append_assoc, inl, inr}
+use Rattle.std.proofs.Common.{◌≡◌, ◌+◌, ℕ, suc, List, [], ◌∷◌, ◌++◌, length, take, Bool, true, false, cond, eqb, Option, Some, None, refl, sym, ◌∙◌, ap, arith, append_assoc, inl, inr}
 use Rattle.std.specs.Prelude.{◌⊎◌, not, ◌==◌}
 use Rattle.std.specs.List.{list_all, prefix_len}
 use Rattle.std.specs.Str.{bytes_eq}
@@ -12,7 +12,7 @@ use Rattle.arc_data.specs.declared.event.Token.{Token}
 use Rattle.arc_data.specs.declared.event.Token.TheVariants.{SiaDcs, AdmCid}
 use Rattle.alarm_rules.specs.ContactId.{is_contact_id, contact_id_signal}
 use Rattle.alarm_rules.specs.SiaCodes.{sia_signals}
-use Rattle.alarm_rules.specs.Signals.{data_of, signals}
+use Rattle.alarm_rules.specs.Signals.{data_of, signals, has_signals}
 use Rattle.dc09_frame.specs.Headers.{◌>>=◌, after_byte, run_at}
 use Rattle.dc09_frame.specs.declared.header.Header.{Header}
 use Rattle.dc09_frame.proofs.HeaderLaws.{bind_some, some_if, some_is, after_byte_takes, run_takes, run_again}
@@ -133,7 +133,7 @@ unfolding contact_id_signal sia_signals
 no_signals AdmCid rest = rw (hash_data rest, no_contact_id (data_of rest)) refl
 no_signals SiaDcs rest = rw (hash_data rest) refl
 
-no_hash : (token : Token) (contents : List ℕ) → is_some (signals token contents) ≡ true → begins_account contents ≡ false
+no_hash : (token : Token) (contents : List ℕ) → has_signals token contents ≡ true → begins_account contents ≡ false
 no_hash token [] has = refl
 no_hash token (b ∷ rest) has = step (eqb b 35) refl
   where
@@ -180,7 +180,7 @@ unfolding content_of
 report_written token h blocks tail bytes content w fits e =
     let r = bind_some (after_bar h blocks.first) (from_data token blocks.further h) content e in
     let d = bind_some (data_behind h r.0) (λ contents. kept_if token contents blocks.further) content r.2 in
-    let k = some_if (is_some (signals token d.0)) (kept d.0 blocks.further) content d.2 in
+    let k = some_if (has_signals token d.0) (kept d.0 blocks.further) content d.2 in
     let f = bar_takes h blocks.first r.0 r.1 in
     let a = data_takes h r.0 d.0 d.1 in
     let first : blocks.first ≡ f.0 ++ (a.0 ++ d.0) = f.2 ∙ ap (λ (l : List ℕ). f.0 ++ l) a.2 in
@@ -196,7 +196,7 @@ report_written token h blocks tail bytes content w fits e =
       contents_free = free;
       further_free = w.further_free;
       tail_fits = fits;
-      has_signals = k.0;
+      contents_signal = k.0;
       spelled = w.spelled ∙ ap (λ (l : List ℕ). l ++ 93 ∷ blocks_bytes blocks.further ++ tail) (first ∙ sym (append_assoc f.0 a.0 d.0));
       keeps = ap (λ (l : List ℕ). l ++ 93 ∷ []) (sym k.1) ∙ kept_closed d.0 blocks.further;
     }
@@ -231,8 +231,8 @@ report_again token h bytes content w =
     ap (λ (o : Option (Blocks × List ℕ)). o >>= from_blocks (Report token) h) (blocks_again bytes blocks w.tail is (tail_ends h w.tail w.tail_fits))
     ∙ ap (λ (t : Bool). cond t (content_of (Report token) h blocks) None) w.tail_fits
     ∙ ap (λ (o : Option (List ℕ)). o >>= from_data token w.further h) (bar_again h w.front behind w.front_is)
-    ∙ ap (λ (o : Option (List ℕ)). o >>= (λ contents. kept_if token contents w.further)) (data_again h w.echo w.contents w.echo_is (no_hash token w.contents w.has_signals))
-    ∙ ap (λ (t : Bool). cond t (Some (kept w.contents w.further)) None) w.has_signals
+    ∙ ap (λ (o : Option (List ℕ)). o >>= (λ contents. kept_if token contents w.further)) (data_again h w.echo w.contents w.echo_is (no_hash token w.contents w.contents_signal))
+    ∙ ap (λ (t : Bool). cond t (Some (kept w.contents w.further)) None) w.contents_signal
     ∙ ap (λ (l : List ℕ). Some l) (kept_alone content w.contents w.further w.keeps)
 
 heartbeat_again : (h : Header) (bytes : List ℕ) → IsHeartbeat h bytes → content_in Heartbeat h bytes ≡ Some []

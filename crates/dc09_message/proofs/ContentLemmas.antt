@@ -1,9 +1,9 @@
 -- The content that a message keeps, by the parts of its blocks.
-use Rattle.std.proofs.Common.{◌≡◌, ◌≤◌, ◌+◌, ◌-◌, ℕ, List, [], ◌∷◌, ◌++◌, length, take, drop, Bool, true, false, cond, Option, Some, None, is_some, refl, sym, ◌∙◌, ap, arith, append_assoc, length-append, length-drop}
+use Rattle.std.proofs.Common.{◌≡◌, ◌≤◌, ◌+◌, ◌-◌, ℕ, List, [], ◌∷◌, ◌++◌, length, take, drop, Bool, true, false, cond, Option, Some, None, refl, sym, ◌∙◌, ap, arith, append_assoc, length-append, length-drop}
 use Rattle.std.specs.Option.{option_map}
 use Rattle.std.proofs.lemmas.List.{take_all}
 use Rattle.arc_data.specs.declared.event.Token.{Token}
-use Rattle.alarm_rules.specs.Signals.{signals}
+use Rattle.alarm_rules.specs.Signals.{has_signals}
 use Rattle.dc09_frame.specs.Headers.{◌>>=◌}
 use Rattle.dc09_frame.specs.declared.header.Header.{Header}
 use Rattle.dc09_frame.proofs.HeaderLaws.{bind_some, some_if}
@@ -65,7 +65,7 @@ by_data token h blocks = bars (after_bar h blocks.first)
 
     behind : (o : Option (List ℕ)) → (o >>= (λ contents. kept_if token contents blocks.further)) ≡ ((o >>= data_with_signals token) >>= kept_with blocks.further)
     behind None = refl
-    behind (Some contents) = tested contents (is_some (signals token contents))
+    behind (Some contents) = tested contents (has_signals token contents)
 
     bars : (o : Option (List ℕ)) → (o >>= (λ rest. data_behind h rest >>= (λ contents. kept_if token contents blocks.further))) ≡ ((o >>= (λ rest. data_behind h rest >>= data_with_signals token)) >>= kept_with blocks.further)
     bars None = refl
@@ -84,7 +84,7 @@ unfolding data_in
 data_ends token h first contents e =
     let r = bind_some (after_bar h first) (λ rest. data_behind h rest >>= data_with_signals token) contents e in
     let d = bind_some (data_behind h r.0) (data_with_signals token) contents r.2 in
-    let s = some_if (is_some (signals token d.0)) d.0 contents d.2 in
+    let s = some_if (has_signals token d.0) d.0 contents d.2 in
     let f = bar_takes h first r.0 r.1 in
     let a = data_takes h r.0 d.0 d.1 in
     (f.0 ++ a.0, f.2 ∙ ap (λ (l : List ℕ). f.0 ++ l) (a.2 ∙ ap (λ (l : List ℕ). a.0 ++ l) s.1) ∙ sym (append_assoc f.0 a.0 contents))

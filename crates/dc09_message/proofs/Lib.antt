@@ -3,4 +3,5 @@ pub mod BlockLaws
 pub mod KeptLemmas
 pub mod ContentLaws
 pub mod ContentLemmas
+pub mod ContentSignals
 pub mod GoodVerdicts

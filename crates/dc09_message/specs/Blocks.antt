@@ -57,7 +57,8 @@ further_at bytes = further_below (length bytes) bytes
 
 -- the blocks, and the tail behind them
 unfoldable pub blocks_at : List ℕ → Option (Blocks × List ℕ)
-blocks_at bytes = option_map (λ first. (record { first = first.0; further = (further_at first.1).0 }, (further_at first.1).1)) (content_at bytes)
+blocks_at bytes =
+    option_map (λ first. (record { first = first.0; further = (further_at first.1).0 }, (further_at first.1).1)) (content_at bytes)
 
 -- What is read is written so.
 abbrev pub BlocksAreWritten : Type 0
@@ -65,4 +66,6 @@ BlocksAreWritten = (bytes : List ℕ) (blocks : Blocks) (tail : List ℕ) → bl
 
 -- What is written so is read, where no further block begins the tail.
 abbrev pub WrittenBlocksAreRead : Type 0
-WrittenBlocksAreRead = (bytes : List ℕ) (blocks : Blocks) (tail : List ℕ) → IsBlocks blocks tail bytes → is_end tail ≡ true → blocks_at bytes ≡ Some (blocks, tail)
+WrittenBlocksAreRead =
+    (bytes : List ℕ) (blocks : Blocks) (tail : List ℕ) → IsBlocks blocks tail bytes → is_end tail ≡ true →
+    blocks_at bytes ≡ Some (blocks, tail)

@@ -1,12 +1,13 @@
 -- What a message keeps of its blocks. A plain message is all that stands behind the header. Of a sealed one it is what the
 -- decrypted text has between its first bar and its stamp.
-use Rattle.std.specs.Prelude.{◌≡◌, ℕ, ◌+◌, ◌==◌, ◌&&◌, ◌++◌, ◌⊎◌, List, [], ◌∷◌, Bool, true, false, if◌then◌else◌, Option, Some, None, is_some, length, take, codes}
+use Rattle.std.specs.Prelude.{◌≡◌, ℕ, ◌+◌, ◌==◌, ◌&&◌, ◌++◌, ◌⊎◌, List, [], ◌∷◌, Bool, true, false, if◌then◌else◌, Option, Some}
+use Rattle.std.specs.Prelude.{None, length, take, codes}
 use Rattle.std.specs.List.{list_all}
 use Rattle.std.specs.Str.{bytes_eq}
 use Rattle.arc_data.specs.Digits.{capitals, is_account, is_hex}
 use Rattle.arc_data.specs.declared.event.Token.{Token}
 use Rattle.arc_data.specs.declared.event.Token.TheVariants.{SiaDcs, AdmCid}
-use Rattle.alarm_rules.specs.Signals.{signals}
+use Rattle.alarm_rules.specs.Signals.{has_signals}
 use Rattle.dc09_frame.specs.Headers.{◌>>=◌, after_byte, run_at}
 use Rattle.dc09_frame.specs.declared.header.Header.{Header}
 use Rattle.dc09_message.specs.Blocks.{Blocks, are_free, blocks_bytes, blocks_at}
@@ -61,12 +62,13 @@ abbrev pub kept : List ℕ → List (List ℕ) → List ℕ
 kept contents further = take (length contents + length (blocks_bytes further)) (contents ++ 93 ∷ blocks_bytes further)
 
 abbrev pub kept_if : Token → List ℕ → List (List ℕ) → Option (List ℕ)
-kept_if token contents further = if is_some (signals token contents) then Some (kept contents further) else None
+kept_if token contents further = if has_signals token contents then Some (kept contents further) else None
 
 -- what is kept of the blocks: of a heartbeat nothing, of a report its data and further blocks, where the data has signals
 unfoldable pub content_of : MessageKind → Header → Blocks → Option (List ℕ)
 content_of Heartbeat h blocks = Some []
-content_of (Report token) h blocks = after_bar h blocks.first >>= (λ rest. data_behind h rest >>= (λ contents. kept_if token contents blocks.further))
+content_of (Report token) h blocks =
+    after_bar h blocks.first >>= (λ rest. data_behind h rest >>= (λ contents. kept_if token contents blocks.further))
 
 -- the content that a message keeps, where its blocks can be read
 unfoldable pub content_in : MessageKind → Header → List ℕ → Option (List ℕ)
@@ -100,7 +102,7 @@ pub record IsReport (token : Token) (h : Header) (bytes content : List ℕ) : Ty
   pub contents_free : are_free contents ≡ true
   pub further_free : list_all are_free further ≡ true
   pub tail_fits : fits_tail h tail ≡ true
-  pub has_signals : is_some (signals token contents) ≡ true
+  pub contents_signal : has_signals token contents ≡ true
   pub spelled : bytes ≡ front ++ echo ++ contents ++ 93 ∷ blocks_bytes further ++ tail
   pub keeps : content ++ 93 ∷ [] ≡ contents ++ 93 ∷ blocks_bytes further
 
@@ -120,8 +122,12 @@ IsContent (Report token) h bytes content = IsReport token h bytes content
 
 -- What is read is written so.
 abbrev pub ContentIsWritten : Type 0
-ContentIsWritten = (kind : MessageKind) (h : Header) (bytes content : List ℕ) → content_in kind h bytes ≡ Some content → IsContent kind h bytes content
+ContentIsWritten =
+    (kind : MessageKind) (h : Header) (bytes content : List ℕ) → content_in kind h bytes ≡ Some content →
+    IsContent kind h bytes content
 
 -- What is written so is read.
 abbrev pub WrittenContentIsRead : Type 0
-WrittenContentIsRead = (kind : MessageKind) (h : Header) (bytes content : List ℕ) → IsContent kind h bytes content → content_in kind h bytes ≡ Some content
+WrittenContentIsRead =
+    (kind : MessageKind) (h : Header) (bytes content : List ℕ) → IsContent kind h bytes content →
+    content_in kind h bytes ≡ Some content

@@ -1,8 +1,8 @@
 -- What the readers of a message give of its blocks.
-use Rattle.std.specs.Prelude.{ℕ, List, Option, Some, None, if◌then◌else◌, is_some}
+use Rattle.std.specs.Prelude.{ℕ, List, Option, Some, None, if◌then◌else◌}
 use Rattle.std.specs.Option.{option_map}
 use Rattle.arc_data.specs.declared.event.Token.{Token}
-use Rattle.alarm_rules.specs.Signals.{signals}
+use Rattle.alarm_rules.specs.Signals.{has_signals}
 use Rattle.dc09_frame.specs.Headers.{◌>>=◌}
 use Rattle.dc09_frame.specs.declared.header.Header.{Header}
 use Rattle.dc09_message.specs.Blocks.{Blocks, blocks_at}
@@ -20,7 +20,7 @@ parts_at bytes = option_map parts_of (blocks_at bytes)
 
 -- the data of a report, at the end of its first block
 abbrev pub data_with_signals : Token → List ℕ → Option (List ℕ)
-data_with_signals token contents = if is_some (signals token contents) then Some contents else None
+data_with_signals token contents = if has_signals token contents then Some contents else None
 
 unfoldable pub data_in : Token → Header → List ℕ → Option (List ℕ)
 data_in token h first = after_bar h first >>= (λ rest. data_behind h rest >>= data_with_signals token)

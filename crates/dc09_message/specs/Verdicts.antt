@@ -1,11 +1,12 @@
 -- The verdict on an undamaged frame: the first case that holds.
-use Rattle.std.specs.Prelude.{◌≡◌, ℕ, List, if◌then◌else◌, Option, Some, None, is_some, drop, slice_range}
+use Rattle.std.specs.Prelude.{◌≡◌, ℕ, List, if◌then◌else◌, true, Option, Some, None, is_some, drop, slice_range}
 use Rattle.arc_data.specs.Digits.{capitals, dec_value}
 use Rattle.arc_data.specs.WellFormed.{IsMessage, IsWellFormed}
 use Rattle.arc_data.specs.declared.event.Event.TheVariants.{Beat as Heard}
 use Rattle.arc_data.specs.declared.event.Message.{Message}
 use Rattle.arc_data.specs.declared.event.Token.{Token}
-use Rattle.alarm_rules.specs.Setups.{Setup, Account, account_of, key_of}
+use Rattle.alarm_rules.specs.Setups.{Setup, Account, account_of, has_account, key_of}
+use Rattle.alarm_rules.specs.Signals.{has_signals}
 use Rattle.civil_time.specs.Stamp.{is_fresh}
 use Rattle.dc09_frame.specs.Headers.{header_at, IsHeader}
 use Rattle.dc09_frame.specs.declared.header.Header.{Header}
@@ -17,11 +18,19 @@ use Rattle.dc09_message.specs.declared.kind.MessageKind.{MessageKind}
 use Rattle.dc09_message.specs.declared.kind.MessageKind.TheVariants.{Heartbeat, Report}
 use Rattle.dc09_message.specs.declared.outcome.Verdict.{Verdict}
 use Rattle.dc09_message.specs.declared.outcome.Verdict.TheVariants.{Silence, Nak, Duh, Beat, Numbered}
-use Rattle.dc09_message.specs.declared.outcome.Why.TheVariants.{UnknownToken, UnknownAccount, PlainButKeyed, SealedButKeyless, NotCipher, NoBar, NoStamp, BadBlocks}
+use Rattle.dc09_message.specs.declared.outcome.Why.TheVariants.{UnknownToken, UnknownAccount, PlainButKeyed, SealedButKeyless}
+use Rattle.dc09_message.specs.declared.outcome.Why.TheVariants.{NotCipher, NoBar, NoStamp, BadBlocks}
 
 -- the message of a header and what it keeps: the account in capitals, the digits of the fields as they came
 abbrev pub message_of : Token → Header → List ℕ → Message
-message_of token h content = record { account = capitals h.account; receiver = h.receiver; line = h.line; seq = dec_value h.seq; token = token; content = content }
+message_of token h content = record {
+  account = capitals h.account;
+  receiver = h.receiver;
+  line = h.line;
+  seq = dec_value h.seq;
+  token = token;
+  content = content;
+}
 
 -- where the blocks can be read or not
 abbrev pub on_blocks : Header → MessageKind → Option (List ℕ) → Verdict
@@ -34,7 +43,8 @@ abbrev pub on_opening : ℕ → Header → MessageKind → List ℕ → Opening 
 on_opening now h kind text NoCipher = Duh h NotCipher
 on_opening now h kind text LacksBar = Duh h NoBar
 on_opening now h kind text LacksStamp = Duh h NoStamp
-on_opening now h kind text (Text from to t) = if is_fresh t now then on_blocks h kind (content_in kind h (slice_range text from to)) else Nak
+on_opening now h kind text (Text from to t) =
+    if is_fresh t now then on_blocks h kind (content_in kind h (slice_range text from to)) else Nak
 
 -- of a sealed message, by the account's key
 abbrev pub on_sealed : ℕ → Header → MessageKind → List ℕ → Option (List ℕ) → Verdict
@@ -91,3 +101,16 @@ IsKeyed setup Nak = Unit {0}
 IsKeyed setup (Duh h why) = Unit {0}
 IsKeyed setup (Beat h account) = IsSealedAsKeyed setup h
 IsKeyed setup (Numbered h m) = IsSealedAsKeyed setup h
+
+-- What a centre needs to take a message: the setup has its account, and its content has signals.
+pub record IsReadable (setup : Setup) (m : Message) : Type 0 where
+  pub account : has_account setup m.account ≡ true
+  pub content : has_signals m.token m.content ≡ true
+
+-- What is taken is not unknown to a centre of that setup.
+abbrev pub IsKnown : Setup → Verdict → Type 0
+IsKnown setup Silence = Unit {0}
+IsKnown setup Nak = Unit {0}
+IsKnown setup (Duh h why) = Unit {0}
+IsKnown setup (Beat h account) = has_account setup account ≡ true
+IsKnown setup (Numbered h m) = IsReadable setup m

@@ -1,14 +1,14 @@
 // What a message keeps of its blocks.
-ghost use Rattle.std.specs.Prelude.{◌≡◌, ◌&&◌, ◌≤◌, length, is_some, IfSome};
+ghost use Rattle.std.specs.Prelude.{◌≡◌, ◌&&◌, ◌≤◌, length, IfSome};
 ghost use Rattle.std.specs.Str.{bytes_eq};
 ghost use Rattle.arc_data.specs.Digits.{capitals};
-ghost use Rattle.alarm_rules.specs.Signals.{signals};
 ghost use Rattle.dc09_frame.specs.Reading.{Gives};
 ghost use Rattle.dc09_message.specs.Contents.{is_tail, fits_tail, begins_account, after_account, after_bar, data_behind, content_in};
 ghost use Rattle.dc09_message.specs.Reading.{data_in};
 
 use crate::blocks::Blocks;
 use crate::kind::MessageKind;
+use alarm_data::signals;
 use arc_data::{Token, Txt};
 use dc09_frame::{Alphabet, Header, after_byte, run_at};
 
@@ -63,9 +63,7 @@ fn data_in<'a>(token: Token, header: &Header, first: &'a [u8]) -> Option<&'a [u8
 {
     let rest = after_bar(header, first)?;
     let contents = data_behind(header, rest)?;
-    if !has_signals(token, contents) {
-        return None;
-    }
+    signals(token, contents)?;
     Some(contents)
 }
 
@@ -120,13 +118,4 @@ fn is_account_of(header: &Header, digits: &[u8]) -> bool
 {
     let account = Txt::of(digits).unwrap();
     account.capitals() == header.account.capitals()
-}
-
-fn has_signals(token: Token, contents: &[u8]) -> bool
-    ensures { result ≡ is_some (signals token contents.now) }
-{
-    match token {
-        Token::AdmCid => contact_id::read(contents).is_some(),
-        Token::SiaDcs => sia_codes::read(contents).is_some(),
-    }
 }

@@ -7,7 +7,7 @@ mod content;
 mod kind;
 mod laws;
 mod outcome;
-mod reading;
+mod verdicts;
 
 pub use kind::MessageKind;
 pub use laws::{
@@ -15,7 +15,7 @@ pub use laws::{
     law_written_content_is_read,
 };
 pub use outcome::{Verdict, Why};
-pub use reading::verdict;
+pub use verdicts::verdict;
 
 #[cfg(test)]
 mod tests;

@@ -1,5 +1,6 @@
 pub mod Turned
-pub mod Joined
+pub mod Followed
+pub mod Known
 pub mod Fed
 pub mod Served
 pub mod Completed

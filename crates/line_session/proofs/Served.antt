@@ -1,108 +1,65 @@
--- Sessions over the bytes of a stream, piece by piece.
+-- Line sessions over the bytes of a stream.
 use Rattle.std.proofs.Common.{◌≡◌, ◌∷◌, ◌++◌, ℕ, List, [], Result, Ok, Err, refl, sym, ◌∙◌, ap, subst, append_assoc, append-nil}
-use Rattle.arc_data.specs.declared.event.Event.{Event}
-use Rattle.alarm_rules.specs.Setups.{Setup}
-use Rattle.centre_core.specs.declared.hall.Stop.{Stop}
+use Rattle.arc_io.specs.Seen.{PortSeen}
+use Rattle.centre_core.specs.Halls.{HallSeen, IsKept}
 use Rattle.centre_rules.specs.Summary.{Summary}
 use Rattle.centre_rules.specs.History.{Entry}
 use Rattle.centre_rules.specs.Answers.{IsLegal}
 use Rattle.dc09_frame.specs.Frames.{bodies}
+use Rattle.session_rules.proofs.Joined.{IsEarly, session_wider}
+use Rattle.session_rules.proofs.Made.{session_none}
 use Rattle.line_session.specs.Lines.{ServesBytes}
-use Rattle.line_session.specs.Ports.{PortSeen, Added}
-use Rattle.line_session.specs.Sessions.{IsSession, IsEnd, IsCutShort}
-use Rattle.line_session.specs.Turns.{Turn}
+use Rattle.line_session.specs.Sessions.{IsLine, IsCutShort, ending_of, line_rules}
+use Rattle.line_session.specs.Turns.{line_turns}
 use Rattle.line_session.specs.declared.line_end.LineEnd.{LineEnd}
 use Rattle.line_session.specs.declared.line_end.LineEnd.TheVariants.{InputEnded, ReadFault, WriteFault, Spent, Stopped}
-use Rattle.line_session.proofs.Joined.{session_more, session_wider, IsEarly}
-use Rattle.line_session.proofs.Turned.{session_none}
+use Rattle.line_session.proofs.Followed.{line_then}
 
-module _ (stream : List ℕ) (b : Summary) (setup : Setup) (caller : ℕ) (h : List Entry) where
+module _ (stream : List ℕ) (b : Summary) (h : List Entry) where
   -- no bytes
-  pub serves_none : (stands : List Entry → Type 0) (own : List Entry → List Entry) (shows : Stop → Event → ℕ → Type 0) (p : PortSeen) → stands h → IsLegal b h → ServesBytes (Ok tt) stream [] b setup caller h stands own own shows p p
-  serves_none stands own shows p s legal = record {
+  pub serves_none : (hall : HallSeen) (p : PortSeen) → hall.stands b h → IsLegal b h → ServesBytes (Ok tt) stream [] b h hall hall p p
+  serves_none hall p s legal = record {
     whole = [];
     ended = ap bodies (append-nil stream) ∙ sym (append-nil (bodies stream));
-    session = session_none b setup caller h stands own own shows p p s legal refl refl refl refl;
+    session = session_none line_turns (line_rules b hall hall) b h refl ([], refl) s legal (record { rest = refl });
   }
 
-  -- more bytes, which end no whole piece
-  pub serves_same : (end : Result (Unit {0}) LineEnd) (front bytes : List ℕ) (stands : List Entry → Type 0) (own_old own_new : List Entry → List Entry) (shows : Stop → Event → ℕ → Type 0) (p p' : PortSeen)
-      → bodies (stream ++ bytes) ≡ bodies (stream ++ front) → ServesBytes end stream front b setup caller h stands own_old own_new shows p p' → ServesBytes end stream bytes b setup caller h stands own_old own_new shows p p'
-  serves_same end front bytes stands own_old own_new shows p p' same s = record { whole = s.whole; ended = same ∙ s.ended; session = s.session }
+  -- other bytes, which end the same whole pieces, and an end of the same kind
+  pub serves_same : (end end' : Result (Unit {0}) LineEnd) (front bytes : List ℕ) {hall hall' : HallSeen} {p p' : PortSeen} → ending_of end ≡ ending_of end' → bodies (stream ++ bytes) ≡ bodies (stream ++ front)
+      → ServesBytes end stream front b h hall hall' p p' → ServesBytes end' stream bytes b h hall hall' p p'
+  serves_same end end' front bytes {hall} {hall'} {p} {p'} alike same s = record {
+    whole = s.whole;
+    ended = same ∙ s.ended;
+    session = subst (λ e. IsLine e b s.whole h hall hall' p p') alike s.session;
+  }
 
   -- more bytes, which end one whole piece
-  pub serves_more : (end : Result (Unit {0}) LineEnd) (front bytes body : List ℕ) (stands_mid stands_new : List Entry → Type 0) (own_old own_mid own_new : List Entry → List Entry) (shows_mid shows_new : Stop → Event → ℕ → Type 0) (p q r : PortSeen)
-      → bodies (stream ++ bytes) ≡ bodies (stream ++ front) ++ body ∷ [] → ServesBytes (Ok tt) stream front b setup caller h stands_mid own_old own_mid shows_mid p q
-      → ((x : List Entry) → stands_mid x → IsSession end b setup caller (body ∷ []) x stands_new own_mid own_new shows_new q r)
-      → ServesBytes end stream bytes b setup caller h stands_new own_old own_new shows_new p r
-  serves_more end front bytes body stands_mid stands_new own_old own_mid own_new shows_mid shows_new p q r one s next = record {
+  pub serves_more : (end : Result (Unit {0}) LineEnd) (front bytes body : List ℕ) {hall mid hall' : HallSeen} {p q r : PortSeen} → IsKept hall mid → bodies (stream ++ bytes) ≡ bodies (stream ++ front) ++ body ∷ []
+      → ServesBytes (Ok tt) stream front b h hall mid p q → ((x : List Entry) → mid.stands b x → IsLine (ending_of end) b (body ∷ []) x mid hall' q r) → ServesBytes end stream bytes b h hall hall' p r
+  serves_more end front bytes body {hall} {mid} {hall'} {p} {q} {r} kept one s next = record {
     whole = s.whole ++ body ∷ [];
     ended = one ∙ ap (λ (l : List (List ℕ)). l ++ body ∷ []) s.ended ∙ append_assoc (bodies stream) s.whole (body ∷ []);
-    session = session_more end b setup caller s.whole (body ∷ []) h stands_mid stands_new own_old own_mid own_new shows_mid shows_new p q r s.session next;
+    session = line_then b kept s.session next;
   }
 
   -- more bytes, of which nothing was served
-  pub serves_wider : (end : Result (Unit {0}) LineEnd) (front bytes : List ℕ) (more : List (List ℕ)) (stands : List Entry → Type 0) (own_old own_new : List Entry → List Entry) (shows : Stop → Event → ℕ → Type 0) (p p' : PortSeen)
-      → IsEarly end → bodies (stream ++ bytes) ≡ bodies (stream ++ front) ++ more → ServesBytes end stream front b setup caller h stands own_old own_new shows p p' → ServesBytes end stream bytes b setup caller h stands own_old own_new shows p p'
-  serves_wider end front bytes more stands own_old own_new shows p p' early is s = record {
+  pub serves_wider : (end : Result (Unit {0}) LineEnd) (front bytes : List ℕ) (more : List (List ℕ)) {hall hall' : HallSeen} {p p' : PortSeen} → IsEarly (ending_of end)
+      → bodies (stream ++ bytes) ≡ bodies (stream ++ front) ++ more → ServesBytes end stream front b h hall hall' p p' → ServesBytes end stream bytes b h hall hall' p p'
+  serves_wider end front bytes more {hall} {hall'} {p} {p'} early is s = record {
     whole = s.whole ++ more;
     ended = is ∙ ap (λ (l : List (List ℕ)). l ++ more) s.ended ∙ append_assoc (bodies stream) s.whole more;
-    session = session_wider end b setup caller s.whole more h stands own_old own_new shows p p' early s.session;
+    session = session_wider line_turns more early s.session;
   }
 
+-- the same bytes
+pub serves_all : (end : Result (Unit {0}) LineEnd) (stream bytes : List ℕ) (b : Summary) (h : List Entry) {taken : List ℕ} {hall hall' : HallSeen} {p p' : PortSeen} → taken ≡ bytes
+    → ServesBytes end stream taken b h hall hall' p p' → ServesBytes end stream bytes b h hall hall' p p'
+serves_all end stream bytes b h {taken} {hall} {hall'} {p} {p'} same s = subst (λ (l : List ℕ). ServesBytes end stream l b h hall hall' p p') same s
+
 -- an error of what was cut short is early
-pub early_err : (end : Result (Unit {0}) LineEnd) (e : LineEnd) → end ≡ Err e → IsCutShort end → IsEarly end
-early_err (Ok tt) e is short = absurd (cc)
-early_err (Err InputEnded) e is short = absurd short
-early_err (Err ReadFault) e is short = absurd short
-early_err (Err Spent) e is short = absurd short
-early_err (Err WriteFault) e is short = tt
-early_err (Err (Stopped stop)) e is short = tt
-
--- a session under the same setup and caller
-pub session_under : (end : Result (Unit {0}) LineEnd) (b : Summary) (setup setup' : Setup) (caller caller' : ℕ) (bodies : List (List ℕ)) (h : List Entry) (stands : List Entry → Type 0) (own_old own_new : List Entry → List Entry)
-    (shows : Stop → Event → ℕ → Type 0) (p p' : PortSeen) → setup ≡ setup' → caller ≡ caller' → IsSession end b setup caller bodies h stands own_old own_new shows p p' → IsSession end b setup' caller' bodies h stands own_old own_new shows p p'
-session_under end b setup setup' caller caller' bodies h stands own_old own_new shows p p' e f s =
-    subst (λ (c : ℕ). IsSession end b setup' c bodies h stands own_old own_new shows p p') f (subst (λ (t : Setup). IsSession end b t caller bodies h stands own_old own_new shows p p') e s)
-
--- an end under which all was answered
-abbrev pub IsFull : Result (Unit {0}) LineEnd → Type 0
-IsFull (Ok done) = Unit {0}
-IsFull (Err InputEnded) = Unit {0}
-IsFull (Err ReadFault) = Unit {0}
-IsFull (Err Spent) = Unit {0}
-IsFull (Err WriteFault) = ⊥
-IsFull (Err (Stopped stop)) = ⊥
-
-pub ended_as : (end : Result (Unit {0}) LineEnd) (setup : Setup) (shows : Stop → Event → ℕ → Type 0) (ts : List Turn) (a : Added) (rest : List (List ℕ)) → IsFull end → IsEnd (Ok tt) setup shows ts a rest → IsEnd end setup shows ts a rest
-ended_as (Ok tt) setup shows ts a rest full e = e
-ended_as (Err InputEnded) setup shows ts a rest full e = e
-ended_as (Err ReadFault) setup shows ts a rest full e = e
-ended_as (Err Spent) setup shows ts a rest full e = e
-ended_as (Err WriteFault) setup shows ts a rest full e = absurd full
-ended_as (Err (Stopped stop)) setup shows ts a rest full e = absurd full
-
--- a session that answered all, by such an end
-unfoldable pub session_as : (end : Result (Unit {0}) LineEnd) (b : Summary) (setup : Setup) (caller : ℕ) (bodies : List (List ℕ)) (h : List Entry) (stands : List Entry → Type 0) (own_old own_new : List Entry → List Entry)
-    (shows : Stop → Event → ℕ → Type 0) (p p' : PortSeen) → IsFull end → IsSession (Ok tt) b setup caller bodies h stands own_old own_new shows p p' → IsSession end b setup caller bodies h stands own_old own_new shows p p'
-session_as end b setup caller bodies h stands own_old own_new shows p p' full s = record {
-  turns = s.turns;
-  history = s.history;
-  added = s.added;
-  left = s.left;
-  taken = s.taken;
-  each = s.each;
-  holds = s.holds;
-  legal = s.legal;
-  own = s.own;
-  adds = s.adds;
-  ended = ended_as end setup shows s.turns s.added s.left full s.ended;
-}
-
-pub serves_as : (end : Result (Unit {0}) LineEnd) (stream bytes bytes' : List ℕ) (b : Summary) (setup : Setup) (caller : ℕ) (h : List Entry) (stands : List Entry → Type 0) (own_old own_new : List Entry → List Entry)
-    (shows : Stop → Event → ℕ → Type 0) (p p' : PortSeen) → IsFull end → bytes ≡ bytes' → ServesBytes (Ok tt) stream bytes b setup caller h stands own_old own_new shows p p' → ServesBytes end stream bytes' b setup caller h stands own_old own_new shows p p'
-serves_as end stream bytes bytes' b setup caller h stands own_old own_new shows p p' full is s = record {
-  whole = s.whole;
-  ended = ap (λ (l : List ℕ). bodies (stream ++ l)) (sym is) ∙ s.ended;
-  session = session_as end b setup caller s.whole h stands own_old own_new shows p p' full s.session;
-}
+pub early_err : (e : LineEnd) → IsCutShort (Err e) → IsEarly (ending_of (Err e))
+early_err InputEnded short = absurd short
+early_err ReadFault short = absurd short
+early_err Spent short = absurd short
+early_err WriteFault short = tt
+early_err (Stopped stop) short = tt

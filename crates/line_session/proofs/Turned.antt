@@ -1,29 +1,31 @@
--- Sessions over one whole piece, and over none.
-use Rattle.std.proofs.Common.{◌≡◌, ◌∷◌, ◌++◌, ℕ, List, [], take, Bool, true, false, Option, Some, None, Result, Ok, Err, refl, sym, ◌∙◌, ap, subst, append-nil, inr}
-use Rattle.std.specs.Prelude.{reverse}
-use Rattle.std.specs.Io.KnownBytes.{append_known}
-use Rattle.arc_data.specs.declared.event.Event.{Event}
+-- Line sessions over one whole piece.
+use Rattle.std.proofs.Common.{◌≡◌, ◌∷◌, ◌++◌, ℕ, List, [], Bool, true, false, Option, Some, None, Result, Ok, Err, refl, sym, ◌∙◌, ap, subst, inl, inr}
+use Rattle.std.specs.Prelude.{reverse, IfErr}
 use Rattle.alarm_rules.specs.Setups.{Setup, meaning}
+use Rattle.arc_io.specs.Seen.{PortSeen}
+use Rattle.arc_io.specs.Told.{Puts, after_reading, after_noise}
+use Rattle.arc_io.proofs.Adding.{adds_put, adds_front, noise_none}
+use Rattle.centre_core.specs.Halls.{HallSeen, LeftEvent}
 use Rattle.centre_core.specs.declared.hall.Stop.{Stop}
+use Rattle.centre_core.specs.declared.hall.Stop.TheVariants.{Memory}
 use Rattle.centre_rules.specs.Summary.{Summary}
-use Rattle.centre_rules.specs.History.{Entry, Extends}
+use Rattle.centre_rules.specs.History.{Entry}
 use Rattle.centre_rules.specs.Answers.{IsLegal}
 use Rattle.dc09_frame.specs.Frames.{frame_of}
 use Rattle.dc09_frame.specs.Headers.{echo_body}
 use Rattle.dc09_frame.specs.declared.header.Echo.TheVariants.{Ack}
 use Rattle.dc09_frame.specs.declared.header.Header.{Header}
-use Rattle.line_session.specs.Ports.{PortSeen}
-use Rattle.line_session.specs.Turns.{Turn, IsAckBy, IsAnswered, IsTurn, TakesEntry, event_of, entries_of, added_by}
-use Rattle.dc09_message.specs.Verdicts.{verdict_of}
+use Rattle.dc09_message.specs.Verdicts.{verdict_of, TakesMemory}
 use Rattle.dc09_message.specs.declared.outcome.Verdict.{Verdict}
-use Rattle.line_session.specs.Sessions.{IsSession, HasStopped}
-use Rattle.line_session.specs.Replies.{IsSent, TookEvent, LeftEvent, Reports}
+use Rattle.session_rules.specs.Sessions.{stopped}
+use Rattle.session_rules.specs.Turns.{entries_of}
+use Rattle.session_rules.proofs.Made.{session_sent, session_cut, session_stopped}
+use Rattle.line_session.specs.Turns.{Turn, line_turns, IsAckBy, IsAnswered, IsTurn, TakesEntry, event_of}
+use Rattle.line_session.specs.Sessions.{IsLine, ending_of, line_rules}
+use Rattle.line_session.specs.Replies.{Reported, Reports}
 use Rattle.line_session.specs.declared.line_end.LineEnd.{LineEnd}
 use Rattle.line_session.specs.declared.line_end.LineEnd.TheVariants.{InputEnded, ReadFault, WriteFault, Spent, Stopped}
-
-pub known_none : (known : Option (List ℕ)) → append_known known [] ≡ known
-known_none None = refl
-known_none (Some xs) = ap Some (append-nil xs)
+use Rattle.line_session.specs.declared.report.Report.{Report}
 
 -- a plain acknowledgement
 pub plain_ack : (sealed : Bool) (key : Option (List ℕ)) (h : Header) (reading : ℕ) → sealed ≡ false → IsAckBy sealed key h reading [] (frame_of (echo_body Ack h))
@@ -35,125 +37,70 @@ pub sealed_ack : (sealed : Bool) (key : Option (List ℕ)) (h : Header) (reading
 sealed_ack true key h reading noise reply is a = a
 sealed_ack false key h reading noise reply is a = absurd (cc)
 
--- A session over nothing.
-pub session_none : (b : Summary) (setup : Setup) (caller : ℕ) (h : List Entry) (stands : List Entry → Type 0) (own_old own_new : List Entry → List Entry) (shows : Stop → Event → ℕ → Type 0) (p p' : PortSeen)
-    → stands h → IsLegal b h → own_new h ≡ own_old h → p'.written ≡ p.written → p'.readings ≡ p.readings → p'.noise ≡ p.noise
-    → IsSession (Ok tt) b setup caller [] h stands own_old own_new shows p p'
-session_none b setup caller h stands own_old own_new shows p p' s legal own w r n = record {
-  turns = [];
-  history = h;
-  added = added_by [];
-  left = [];
-  taken = refl;
-  each = ([], refl);
-  holds = s;
-  legal = legal;
-  own = own;
-  adds = record { written = w ∙ sym (known_none p.written); readings = r ∙ sym (known_none p.readings); noise = n ∙ sym (known_none p.noise) };
-  ended = record { added = refl; none = refl };
-}
-
--- what one turn adds
-one_added : (t : Turn) → added_by (t ∷ []) ≡ record { text = t.reply; readings = t.reading ∷ []; noise = t.noise }
-one_added t = λ i. record { text = append-nil t.reply i; readings = t.reading ∷ []; noise = append-nil t.noise i }
-
--- A session over one whole piece, whose reply was sent or cut off.
-pub session_turn : (end : Result (Unit {0}) LineEnd) (b : Summary) (setup : Setup) (caller : ℕ) (h x : List Entry) (stands : List Entry → Type 0) (own_old own_new : List Entry → List Entry)
-    (shows : Stop → Event → ℕ → Type 0) (p p' : PortSeen) (t : Turn)
-    → IsTurn b setup caller h x t → stands x → IsLegal b x → own_new x ≡ reverse (entries_of (t ∷ [])) ++ own_old h → IsSent end p.written p'.written t.reply → p'.readings ≡ append_known p.readings (t.reading ∷ [])
-    → p'.noise ≡ append_known p.noise t.noise → IsSession end b setup caller (t.body ∷ []) h stands own_old own_new shows p p'
-session_turn (Ok tt) b setup caller h x stands own_old own_new shows p p' t turn s legal own sent r n = record {
-  turns = t ∷ [];
-  history = x;
-  added = record { text = t.reply; readings = t.reading ∷ []; noise = t.noise };
-  left = [];
-  taken = refl;
-  each = (x, turn, ([], refl));
-  holds = s;
-  legal = legal;
-  own = own;
-  adds = record { written = sent; readings = r; noise = n };
-  ended = record { added = sym (one_added t); none = refl };
-}
-session_turn (Err WriteFault) b setup caller h x stands own_old own_new shows p p' t turn s legal own sent r n = record {
-  turns = t ∷ [];
-  history = x;
-  added = record { text = take sent.0 t.reply; readings = t.reading ∷ []; noise = t.noise };
-  left = [];
-  taken = refl;
-  each = (x, turn, ([], refl));
-  holds = s;
-  legal = legal;
-  own = own;
-  adds = record { written = sent.2; readings = r; noise = n };
-  ended = record { front = []; last = t; count = sent.0; turns = refl; short = sent.1; added = λ i. record { text = take sent.0 t.reply; readings = t.reading ∷ []; noise = sym (append-nil t.noise) i } };
-}
-session_turn (Err InputEnded) b setup caller h x stands own_old own_new shows p p' t turn s legal own sent r n = absurd sent
-session_turn (Err ReadFault) b setup caller h x stands own_old own_new shows p p' t turn s legal own sent r n = absurd sent
-session_turn (Err Spent) b setup caller h x stands own_old own_new shows p p' t turn s legal own sent r n = absurd sent
-session_turn (Err (Stopped stop)) b setup caller h x stands own_old own_new shows p p' t turn s legal own sent r n = absurd sent
-
--- A session over one whole piece that was stopped.
-pub session_stopped : (stop : Stop) (b : Summary) (setup : Setup) (caller : ℕ) (h x : List Entry) (stands : List Entry → Type 0) (own_old own_new : List Entry → List Entry)
-    (shows : Stop → Event → ℕ → Type 0) (p p' : PortSeen) (body : List ℕ) (reading : ℕ)
-    → Extends h x → stands x → IsLegal b x → own_new x ≡ own_old h → HasStopped setup shows stop body reading → p'.written ≡ p.written → p'.readings ≡ append_known p.readings (reading ∷ []) → p'.noise ≡ p.noise
-    → IsSession (Err (Stopped stop)) b setup caller (body ∷ []) h stands own_old own_new shows p p'
-session_stopped stop b setup caller h x stands own_old own_new shows p p' body reading extends s legal own cause w r n = record {
-  turns = [];
-  history = x;
-  added = record { text = []; readings = reading ∷ []; noise = [] };
-  left = body ∷ [];
-  taken = refl;
-  each = extends;
-  holds = s;
-  legal = legal;
-  own = own;
-  adds = record { written = w ∙ sym (known_none p.written); readings = r; noise = n ∙ sym (known_none p.noise) };
-  ended = record { body = body; more = []; reading = reading; next = refl; added = refl; cause = cause };
-}
-
--- the turn of a whole piece whose event the hall took
-abbrev pub turn_of : List ℕ → ℕ → List ℕ → Entry → List ℕ → Turn
-turn_of body reading noise entry reply = record { body = body; reading = reading; noise = noise; entry = Some entry; reply = reply }
-
--- the turn of a whole piece that brings no event
-abbrev pub quiet_turn : List ℕ → ℕ → List ℕ → Turn
-quiet_turn body reading reply = record { body = body; reading = reading; noise = []; entry = None; reply = reply }
-
-module _ (b : Summary) (setup : Setup) (caller : ℕ) (h : List Entry) (stands : List Entry → Type 0) (own_old own_new : List Entry → List Entry) (shows : Stop → Event → ℕ → Type 0) (p p' : PortSeen)
-    (body : List ℕ) (reading : ℕ) (header : Header) (event : Event) where
-  took : (end : Result (Unit {0}) LineEnd) → ((x : List Entry) (t : Turn) → t.body ≡ body → t.reading ≡ reading → TakesEntry b setup caller h x t header event → IsTurn b setup caller h x t)
-      → TookEvent end b setup caller h stands own_old own_new header event reading p.written p'.written p.noise p'.noise → p'.readings ≡ append_known p.readings (reading ∷ [])
-      → IsSession end b setup caller (body ∷ []) h stands own_old own_new shows p p'
-  took end turn r readings =
-      let t = turn_of body reading r.sends.taken r.entry r.sends.reply in
-      let x : List Entry = r.entry ∷ r.before in
-      session_turn end b setup caller h x stands own_old own_new shows p p' t
-      (turn x t refl refl (record { before = r.before; entry = r.entry; extends = r.extends; is = refl; taken = refl; by = r.by; of = r.of; at = r.at; reply = r.sends.ack }))
-      r.holds r.legal r.own r.sends.sent readings r.sends.noised
-
-  left_it : (stop : Stop) → event_of (verdict_of setup reading body) ≡ Some event → LeftEvent stop b h stands own_old own_new shows event reading p.written p'.written p.noise p'.noise
-      → p'.readings ≡ append_known p.readings (reading ∷ []) → IsSession (Err (Stopped stop)) b setup caller (body ∷ []) h stands own_old own_new shows p p'
-  left_it stop told r readings = session_stopped stop b setup caller h r.now stands own_old own_new shows p p' body reading r.extends r.holds r.legal r.own (inr (event, told, r.cause)) r.unsent readings r.noiseless
-
-  -- A session over one whole piece whose event was reported.
-  pub session_reported : (end : Result (Unit {0}) LineEnd) → event_of (verdict_of setup reading body) ≡ Some event
-      → ((x : List Entry) (t : Turn) → t.body ≡ body → t.reading ≡ reading → TakesEntry b setup caller h x t header event → IsTurn b setup caller h x t)
-      → Reports end b setup caller h stands own_old own_new shows header event reading p.written p'.written p.noise p'.noise → p'.readings ≡ append_known p.readings (reading ∷ [])
-      → IsSession end b setup caller (body ∷ []) h stands own_old own_new shows p p'
-  session_reported (Ok tt) told turn r readings = took (Ok tt) turn r readings
-  session_reported (Err WriteFault) told turn r readings = took (Err WriteFault) turn r readings
-  session_reported (Err (Stopped stop)) told turn r readings = left_it stop told r readings
-  session_reported (Err InputEnded) told turn r readings = absurd r
-  session_reported (Err ReadFault) told turn r readings = absurd r
-  session_reported (Err Spent) told turn r readings = absurd r
-
 -- the turn of a verdict that is known
-pub turn_is : (b : Summary) (setup : Setup) (caller : ℕ) (h x : List Entry) (body : List ℕ) (reading : ℕ) (v : Verdict) (t : Turn) → verdict_of setup reading body ≡ v → t.body ≡ body → t.reading ≡ reading → IsAnswered b setup caller h x t v → IsTurn b setup caller h x t
-turn_is b setup caller h x body reading v t is of at a =
-    let same : verdict_of setup t.reading t.body ≡ v = ap (λ (l : List ℕ). verdict_of setup t.reading l) of ∙ ap (λ n. verdict_of setup n body) at ∙ is in
-    subst (IsAnswered b setup caller h x t) (sym same) a
+pub turn_is : (b : Summary) (setup : Setup) (caller : ℕ) (h x : List Entry) (v : Verdict) (t : Turn) → verdict_of setup t.reading t.body ≡ v → IsAnswered b setup caller h x t v → IsTurn b setup caller h x t
+turn_is b setup caller h x v t is a = subst (IsAnswered b setup caller h x t) (sym is) a
 
 -- the verdict under the setup of this text
 pub verdict_is : (text kept body : List ℕ) (reading : ℕ) (told v : Verdict) → kept ≡ text → told ≡ verdict_of (meaning kept) reading body → told ≡ v → verdict_of (meaning text) reading body ≡ v
 verdict_is text kept body reading told v same exact is = ap (λ (t : List ℕ). verdict_of (meaning t) reading body) (sym same) ∙ sym exact ∙ is
+
+module _ (b : Summary) (h : List Entry) (hall hall' : HallSeen) (p p' : PortSeen) where
+  -- A session over one whole piece, whose reply was sent or cut off.
+  session_turn : (end : Result (Unit {0}) LineEnd) (x : List Entry) (t : Turn) → IsTurn b (meaning hall.text) hall.caller h x t → hall'.stands b x → IsLegal b x
+      → hall'.own x ≡ reverse (entries_of line_turns (t ∷ [])) ++ hall.own h → Puts (after_noise t.noise (after_reading t.reading p)) p' end t.reply → IfErr end (λ e. e ≡ WriteFault)
+      → IsLine (ending_of end) b (t.body ∷ []) h hall hall' p p'
+  session_turn (Ok tt) x t turn s legal own put ends =
+      session_sent line_turns (line_rules b hall hall') b h refl x t (x, turn, ([], refl)) s legal own (adds_put p p' t.reading t.noise t.reply tt put)
+  session_turn (Err WriteFault) x t turn s legal own put ends =
+      let cut = adds_front p p' t.reading t.noise t.reply WriteFault put in
+      session_cut line_turns (line_rules b hall hall') b h refl x t cut.count (x, turn, ([], refl)) s legal own cut.short cut.adds
+  session_turn (Err InputEnded) x t turn s legal own put ends = absurd (cc)
+  session_turn (Err ReadFault) x t turn s legal own put ends = absurd (cc)
+  session_turn (Err Spent) x t turn s legal own put ends = absurd (cc)
+  session_turn (Err (Stopped stop)) x t turn s legal own put ends = absurd (cc)
+
+  module _ (r : Report) (body : List ℕ) (v : Verdict) (is : verdict_of (meaning hall.text) r.reading body ≡ v)
+      (turn : (x : List Entry) (t : Turn) → TakesEntry b (meaning hall.text) hall.caller h x t r.header r.event → IsAnswered b (meaning hall.text) hall.caller h x t v) where
+    took : (end : Result (Unit {0}) LineEnd) → Reported end b h hall hall' r (after_reading r.reading p) p' → IfErr end (λ e. e ≡ WriteFault) → IsLine (ending_of end) b (body ∷ []) h hall hall' p p'
+    took end told ends =
+        let goes = told.took.goes in
+        let entry = told.took.entry in
+        let x : List Entry = entry ∷ goes.before in
+        let t : Turn = record { body = body; reading = r.reading; noise = told.sends.taken; entry = Some entry; reply = told.sends.reply } in
+        session_turn end x t
+        (turn_is b (meaning hall.text) hall.caller h x v t is
+        (turn x t (record { before = goes.before; entry = entry; extends = goes.extends; is = refl; taken = refl; by = told.took.by; of = told.took.of; at = goes.at; known = told.known; reply = told.sends.ack })))
+        goes.holds goes.legal goes.own told.sends.put ends
+
+    left_it : (stop : Stop) → event_of v ≡ Some r.event → LeftEvent stop b hall hall' h r.event r.reading → p' ≡ after_reading r.reading p → IsLine (stopped stop) b (body ∷ []) h hall hall' p p'
+    left_it stop brings told unsent =
+        subst (λ (q : PortSeen). IsLine (stopped stop) b (body ∷ []) h hall hall' p q) (sym unsent)
+        (session_stopped line_turns (line_rules b hall hall') b h refl p stop body r.reading told.waits told.waits.extends (inr (r.event, ap event_of is ∙ brings, told.cause)))
+
+    -- A session over one whole piece whose event was reported.
+    pub session_reported : (end : Result (Unit {0}) LineEnd) → event_of v ≡ Some r.event → {q : PortSeen} → q ≡ after_reading r.reading p → Reports end b h hall hall' r q p' → IsLine (ending_of end) b (body ∷ []) h hall hall' p p'
+    session_reported end brings {q} read told = by end (subst (λ (x : PortSeen). Reports end b h hall hall' r x p') read told) where
+      by : (end : Result (Unit {0}) LineEnd) → Reports end b h hall hall' r (after_reading r.reading p) p' → IsLine (ending_of end) b (body ∷ []) h hall hall' p p'
+      by (Ok tt) told = took (Ok tt) told tt
+      by (Err WriteFault) told = took (Err WriteFault) told refl
+      by (Err (Stopped stop)) told = left_it stop brings told.0 told.1
+      by (Err InputEnded) told = absurd told
+      by (Err ReadFault) told = absurd told
+      by (Err Spent) told = absurd told
+
+module _ (b : Summary) (h : List Entry) (hall : HallSeen) (p p' : PortSeen) (body : List ℕ) (reading : ℕ) where
+  -- A session over one whole piece that brings no event.
+  pub session_quiet : (end : Result (Unit {0}) LineEnd) (reply : List ℕ) (v : Verdict) → verdict_of (meaning hall.text) reading body ≡ v
+      → IsAnswered b (meaning hall.text) hall.caller h h (record { body = body; reading = reading; noise = []; entry = None; reply = reply }) v → hall.stands b h → IsLegal b h
+      → {q : PortSeen} → q ≡ after_reading reading p → Puts q p' end reply → IfErr end (λ e. e ≡ WriteFault) → IsLine (ending_of end) b (body ∷ []) h hall hall p p'
+  session_quiet end reply v is turn s legal {q} read put ends =
+      let t : Turn = record { body = body; reading = reading; noise = []; entry = None; reply = reply } in
+      session_turn b h hall hall p p' end h t (turn_is b (meaning hall.text) hall.caller h h v t is turn) s legal refl
+      (subst (λ (x : PortSeen). Puts x p' end reply) (read ∙ sym (noise_none (after_reading reading p))) put) ends
+
+  -- A session over one whole piece whose message wants memory.
+  pub session_wanting : TakesMemory (verdict_of (meaning hall.text) reading body) → hall.stands b h → IsLegal b h → p' ≡ after_reading reading p → IsLine (stopped Memory) b (body ∷ []) h hall hall p p'
+  session_wanting wanted s legal read =
+      subst (λ (q : PortSeen). IsLine (stopped Memory) b (body ∷ []) h hall hall p q) (sym read)
+      (session_stopped line_turns (line_rules b hall hall) b h refl p Memory body reading (record { now = h; extends = ([], refl); holds = s; legal = legal; own = refl }) ([], refl) (inl (refl, wanted)))

@@ -1,4 +1,3 @@
-pub mod Ports
 pub mod Turns
 pub mod Sessions
 pub mod Replies

@@ -1,24 +1,21 @@
 -- What a line's state keeps of the bytes that it took, and what a session over a port did.
-use Rattle.std.specs.Prelude.{◌≡◌, ◌<◌, ◌≤◌, ◌-◌, ◌^◌, ◌++◌, ℕ, List, [], ◌∷◌, Result, Ok, Err, take, length}
+use Rattle.std.specs.Prelude.{◌≡◌, ◌<◌, ◌≤◌, ◌↔◌, ◌++◌, ℕ, List, true, Result, Ok, Err, length}
 use Rattle.std.specs.Io.KnownBytes.{prepend_known, IsAtEnd}
-use Rattle.arc_data.specs.declared.event.Event.{Event}
+use Rattle.alarm_rules.specs.Setups.{meaning}
 use Rattle.arc_io.specs.Causes.{Rose}
-use Rattle.alarm_rules.specs.Setups.{Setup}
-use Rattle.centre_core.specs.declared.hall.Stop.{Stop}
+use Rattle.arc_io.specs.Seen.{PortSeen}
+use Rattle.centre_core.specs.Halls.{HallSeen}
 use Rattle.centre_rules.specs.Summary.{Summary}
 use Rattle.centre_rules.specs.History.{Entry}
 use Rattle.dc09_frame.specs.Cutting.{CutterValue, WasFed}
 use Rattle.dc09_frame.specs.Frames.{bodies}
+use Rattle.session_rules.specs.Inputs.{input_limit}
+use Rattle.session_rules.specs.Sessions.{ReadsNoFurther}
 use Rattle.line_session.specs.Completeness.{IsComplete}
-use Rattle.line_session.specs.Ports.{PortSeen}
-use Rattle.line_session.specs.Sessions.{IsSession}
-use Rattle.line_session.specs.Turns.{Turn, bodies_of}
+use Rattle.line_session.specs.Sessions.{IsLine, ending_of}
+use Rattle.line_session.specs.Turns.{line_turns}
 use Rattle.line_session.specs.declared.line_end.LineEnd.{LineEnd}
 use Rattle.line_session.specs.declared.line_end.LineEnd.TheVariants.{InputEnded, ReadFault, WriteFault, Spent, Stopped}
-
--- how many bytes of an input are taken at most
-abbrev pub input_limit : ℕ
-input_limit = 2 ^ 40
 
 -- what a line's state keeps: its cutter, and how many bytes it took
 pub record LineValue : Type 0 where
@@ -31,10 +28,6 @@ pub record TookStream (stream : List ℕ) (s : LineValue) : Type 0 where
   pub count : s.count ≡ length stream
   pub short : length stream < input_limit
 
--- the bytes of a piece that are taken behind a stream: as many as the limit leaves
-abbrev pub in_limit : List ℕ → List ℕ → List ℕ
-in_limit stream piece = take (input_limit - length stream) piece
-
 -- What is left of a state that took a piece behind a stream, by what it answered. Of one that answered an end nothing is left.
 abbrev pub IsTaken : Result (Unit {0}) LineEnd → List ℕ → List ℕ → LineValue → Type 0
 IsTaken (Ok done) stream piece s = TookStream (stream ++ piece) s
@@ -45,11 +38,11 @@ IsTaken (Err Spent) stream piece s = input_limit ≤ length (stream ++ piece)
 IsTaken (Err (Stopped stop)) stream piece s = Unit {0}
 
 -- A session over the whole pieces that these bytes end behind a stream.
-pub record ServesBytes (end : Result (Unit {0}) LineEnd) (stream bytes : List ℕ) (b : Summary) (setup : Setup) (caller : ℕ) (h : List Entry)
-    (stands : List Entry → Type 0) (own_old own_new : List Entry → List Entry) (shows : Stop → Event → ℕ → Type 0) (p p' : PortSeen) : Type 0 where
+pub record ServesBytes (end : Result (Unit {0}) LineEnd) (stream bytes : List ℕ) (b : Summary) (h : List Entry) (hall hall' : HallSeen)
+    (p p' : PortSeen) : Type 0 where
   pub whole : List (List ℕ)
   pub ended : bodies (stream ++ bytes) ≡ bodies stream ++ whole
-  pub session : IsSession end b setup caller whole h stands own_old own_new shows p p'
+  pub session : IsLine (ending_of end) b whole h hall hall' p p'
 
 -- Why a session over a port ended, of the bytes that it read: the input ended; a read failed; a write failed; 2^40 bytes were
 -- read; or the hall stopped.
@@ -60,32 +53,15 @@ HasEnded WriteFault read p p' = Rose p.write_faults p'.write_faults × (length r
 HasEnded Spent read p p' = length read ≡ input_limit
 HasEnded (Stopped stop) read p p' = length read ≤ input_limit
 
--- these bytes were read of the port, and it ended for its cause
+-- These bytes were read of the port, and it ended for its cause. A read has met the input's end exactly where that is the cause.
 pub record ReadsLine (end : LineEnd) (read : List ℕ) (p p' : PortSeen) : Type 0 where
   pub taken : p.left ≡ prepend_known read p'.left
+  pub out : (p'.ended ≡ true) ↔ (end ≡ InputEnded)
   pub cause : HasEnded end read p p'
 
--- Not far ahead: all whole pieces but those that end in the last bytes, at most 4,096 of them, were answered.
-pub record IsNotAhead (read : List ℕ) (answered : List Turn) : Type 0 where
-  pub front : List ℕ
-  pub last : List ℕ
-  pub more : List (List ℕ)
-  pub parts : read ≡ front ++ last
-  pub short : length last ≤ 4096
-  pub before : bodies_of answered ≡ bodies front ++ more
-
--- Of a session that a write fault or a stop cut short: no body can foresee those, so one that reads further ahead than this, or
--- reads on after them, is none.
-abbrev pub ReadsNoFurther : LineEnd → List ℕ → List Turn → Type 0
-ReadsNoFurther InputEnded read turns = Unit {0}
-ReadsNoFurther ReadFault read turns = Unit {0}
-ReadsNoFurther Spent read turns = Unit {0}
-ReadsNoFurther WriteFault read turns = (front : List Turn) × (last : Turn) × (turns ≡ front ++ last ∷ []) × IsNotAhead read front
-ReadsNoFurther (Stopped stop) read turns = IsNotAhead read turns
-
 -- A line session over a port that read these bytes: a session over all their whole pieces.
-pub record ServesLine (end : LineEnd) (read : List ℕ) (b : Summary) (setup : Setup) (caller : ℕ) (h : List Entry) (stands : List Entry → Type 0)
-    (own_old own_new : List Entry → List Entry) (shows : Stop → Event → ℕ → Type 0) (p p' : PortSeen) : Type 0 where
-  pub session : IsSession (Err end) b setup caller (bodies read) h stands own_old own_new shows p p'
-  pub ahead : ReadsNoFurther end read session.turns
-  pub complete : IsComplete end setup session.turns session.added.text (bodies read)
+pub record ServesLine (end : LineEnd) (read : List ℕ) (b : Summary) (h : List Entry) (hall hall' : HallSeen) (p p' : PortSeen)
+    : Type 0 where
+  pub session : IsLine (ending_of (Err end)) b (bodies read) h hall hall' p p'
+  pub ahead : ReadsNoFurther line_turns bodies (ending_of (Err end)) read session.turns session.behind
+  pub complete : IsComplete (ending_of (Err end)) (meaning hall.text) session.turns session.behind session.added.text (bodies read)

@@ -1,10 +1,9 @@
--- The text of a line session, as turns: one for each whole piece of the bytes read.
-use Rattle.std.specs.Prelude.{◌≡◌, ℕ, List, [], ◌∷◌, Bool, true, false, Option, Some, None, map, length}
-use Rattle.std.specs.List.{flat_map}
-use Rattle.std.specs.Option.{option_to_list}
+-- The turns of a line session: one for each whole piece of the bytes read.
+use Rattle.std.specs.Prelude.{◌≡◌, ◌≢◌, ℕ, List, [], ◌∷◌, Bool, true, false, Option, Some, None, length}
 use Rattle.arc_data.specs.Digits.{capitals}
 use Rattle.arc_data.specs.declared.event.Event.{Event}
 use Rattle.arc_data.specs.declared.event.Event.TheVariants.{Message as Sent, Beat as Heartbeat}
+use Rattle.arc_data.specs.declared.event.Reply.TheVariants.{Unknown}
 use Rattle.alarm_rules.specs.Setups.{Setup, key_of}
 use Rattle.centre_rules.specs.Summary.{Summary}
 use Rattle.centre_rules.specs.History.{Entry, Extends, moment_after}
@@ -17,7 +16,7 @@ use Rattle.dc09_frame.specs.declared.header.Header.{Header}
 use Rattle.dc09_message.specs.Verdicts.{verdict_of}
 use Rattle.dc09_message.specs.declared.outcome.Verdict.{Verdict}
 use Rattle.dc09_message.specs.declared.outcome.Verdict.TheVariants.{Silence, Nak, Duh, Beat, Numbered}
-use Rattle.line_session.specs.Ports.{Added}
+use Rattle.session_rules.specs.Turns.{Kind}
 
 -- one whole piece: its body, the reading of the clock that it took, the noise that it took, its entry where it has one, and
 -- the reply
@@ -27,6 +26,14 @@ pub record Turn : Type 0 where
   pub noise : List ℕ
   pub entry : Option Entry
   pub reply : List ℕ
+
+-- as a kind of turn
+abbrev pub line_turns : Kind Turn
+line_turns = record {
+  asked = λ t. t.body;
+  adds = λ t. record { text = t.reply; readings = t.reading ∷ []; noise = t.noise };
+  entry = λ t. t.entry;
+}
 
 -- what is submitted of a verdict
 abbrev pub event_of : Verdict → Option Event
@@ -40,7 +47,8 @@ event_of (Numbered header m) = Some (Sent m)
 -- one it is sealed under the account's key, with the stamp of the reading and ten bytes of noise.
 abbrev pub IsAckBy : Bool → Option (List ℕ) → Header → ℕ → List ℕ → List ℕ → Type 0
 IsAckBy false key h reading noise reply = (noise ≡ []) × (reply ≡ frame_of (echo_body Ack h))
-IsAckBy true key h reading noise reply = (k : List ℕ) × (key ≡ Some k) × (length noise ≡ 10) × (reply ≡ frame_of (sealed_ack_body k h (stamp reading) noise))
+IsAckBy true key h reading noise reply =
+    (k : List ℕ) × (key ≡ Some k) × (length noise ≡ 10) × (reply ≡ frame_of (sealed_ack_body k h (stamp reading) noise))
 
 abbrev pub IsAck : Setup → Header → ℕ → List ℕ → List ℕ → Type 0
 IsAck setup h reading noise reply = IsAckBy h.sealed (key_of setup (capitals h.account)) h reading noise reply
@@ -53,8 +61,9 @@ pub record TakesNothing (h x : List Entry) (t : Turn) (text : List ℕ) : Type 0
   pub reply : t.reply ≡ text
 
 -- From the history h on, to x: other entries, and then the turn's entry. It is the caller's, of this event, at the moment that
--- the turn's reading has there, and the turn gives the acknowledgement.
-pub record TakesEntry (b : Summary) (setup : Setup) (caller : ℕ) (h x : List Entry) (t : Turn) (header : Header) (event : Event) : Type 0 where
+-- the turn's reading has there; the centre answered it by another reply than Unknown; and the turn gives the acknowledgement.
+pub record TakesEntry (b : Summary) (setup : Setup) (caller : ℕ) (h x : List Entry) (t : Turn) (header : Header) (event : Event)
+    : Type 0 where
   pub before : List Entry
   pub entry : Entry
   pub extends : Extends h before
@@ -63,6 +72,7 @@ pub record TakesEntry (b : Summary) (setup : Setup) (caller : ℕ) (h x : List E
   pub by : entry.caller ≡ caller
   pub of : entry.event ≡ event
   pub at : entry.at ≡ moment_after b before t.reading
+  pub known : entry.reply ≢ Unknown
   pub reply : IsAck setup header t.reading t.noise t.reply
 
 -- The turn of each verdict, from the history h on, to x: silence gives nothing; NAK gives its frame with the stamp of the
@@ -82,22 +92,3 @@ IsTurn b setup caller h x t = IsAnswered b setup caller h x t (verdict_of setup 
 abbrev pub AreTurns : Summary → Setup → ℕ → List Entry → List Entry → List Turn → Type 0
 AreTurns b setup caller h x [] = Extends h x
 AreTurns b setup caller h x (t ∷ ts) = (mid : List Entry) × IsTurn b setup caller h mid t × AreTurns b setup caller mid x ts
-
-abbrev pub entries_of : List Turn → List Entry
-entries_of turns = flat_map (λ t. option_to_list t.entry) turns
-
-abbrev pub bodies_of : List Turn → List (List ℕ)
-bodies_of turns = map (λ t. t.body) turns
-
-abbrev pub text_of : List Turn → List ℕ
-text_of turns = flat_map (λ t. t.reply) turns
-
-abbrev pub readings_of : List Turn → List ℕ
-readings_of turns = map (λ t. t.reading) turns
-
-abbrev pub noise_of : List Turn → List ℕ
-noise_of turns = flat_map (λ t. t.noise) turns
-
--- what the turns add to a port
-abbrev pub added_by : List Turn → Added
-added_by turns = record { text = text_of turns; readings = readings_of turns; noise = noise_of turns }

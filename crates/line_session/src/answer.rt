@@ -1,92 +1,71 @@
 // Answering one whole piece.
-ghost use Rattle.std.specs.Prelude.{◌≡◌, ◌≤◌, ◌∷◌, [], Err, List, ℕ};
-ghost use Rattle.arc_io.specs.Causes.{Rose};
-ghost use Rattle.alarm_rules.specs.Setups.{meaning};
+ghost use Rattle.std.specs.Prelude.{◌≡◌, ◌∷◌, [], Err, List};
+ghost use Rattle.arc_io.specs.Added.{Answers};
+ghost use Rattle.centre_core.specs.Halls.{IsKept};
 ghost use Rattle.centre_rules.specs.Summary.{Summary};
 ghost use Rattle.centre_rules.specs.History.{Entry};
 ghost use Rattle.dc09_frame.specs.Frames.{IsBody};
-ghost use Rattle.line_session.specs.Sessions.{IsSession, HasShown, IsCutShort};
+ghost use Rattle.session_rules.specs.Sessions.{HasShown};
+ghost use Rattle.line_session.specs.Sessions.{IsLine, IsCutShort, ending_of};
 
+use crate::buffers::Buffers;
 use crate::line_end::LineEnd;
 use crate::reply::send;
-use crate::report::report;
+use crate::report::{Report, submit_and_acknowledge};
 use arc_data::{Event, Memory};
 use arc_io::Port;
 use centre_core::{Hall, Stop};
 use civil_time::stamp_of;
-use dc09_frame::{Echo, FrameBuf, write_echo, write_nak};
+use dc09_frame::{Echo, write_echo, write_nak};
 use dc09_message::{Verdict, verdict};
 use std::alloc::Global;
 
-/// Answers a whole piece of this body, which takes one reading of the clock. `room` takes the text of a sealed message, and
-/// `reply` the frame that is sent.
+/// Answers a whole piece of this body, which takes one reading of the clock.
 pub(crate) fn answer<H: Hall, P: Port>(
     alloc: Global,
     hall: &mut H,
     port: &mut P,
     body: &[u8],
-    room: &mut FrameBuf,
-    reply: &mut FrameBuf,
+    buffers: &mut Buffers,
 ) -> Result<(), LineEnd>
-    requires ready { H.ready hall.old }
+    requires ready { (H.seen hall.old).ready }
     requires body { IsBody body.now }
-    ensures ready { H.ready hall.new }
-    ensures text { H.text hall.new ≡ H.text hall.old }
-    ensures caller { H.caller hall.new ≡ H.caller hall.old }
-    ensures session { (b : Summary) (h : List Entry) → H.stands hall.old b h →
-        IsSession result b (meaning (H.text hall.old)) (H.caller hall.old) (body.now ∷ []) h (H.stands hall.new b) (H.own hall.old) (H.own hall.new) (H.shows hall.new)
-        (record {
-          left = P.left port.old;
-          read_faults = P.read_faults port.old;
-          written = P.written port.old;
-          write_faults = P.write_faults port.old;
-          readings = P.readings port.old;
-          noise = P.noise port.old;
-        })
-        (record {
-          left = P.left port.new;
-          read_faults = P.read_faults port.new;
-          written = P.written port.new;
-          write_faults = P.write_faults port.new;
-          readings = P.readings port.new;
-          noise = P.noise port.new;
-        }) }
+    ensures kept { IsKept (H.seen hall.old) (H.seen hall.new) }
+    ensures session { (b : Summary) (h : List Entry) → (H.seen hall.old).stands b h →
+        IsLine (ending_of result) b (body.now ∷ []) h (H.seen hall.old) (H.seen hall.new) (P.seen port.old) (P.seen port.new) }
     ensures ends { IsCutShort result }
-    ensures stop { HasShown (H.shows hall.new) result }
-    ensures write { result ≡ Err LineEnd.WriteFault → Rose (P.write_faults port.old) (P.write_faults port.new) }
-    ensures later { P.write_faults port.old ≤ P.write_faults port.new }
-    ensures left { P.left port.new ≡ P.left port.old }
-    ensures read_faults { P.read_faults port.new ≡ P.read_faults port.old }
+    ensures stop { HasShown (H.seen hall.new) (ending_of result) }
+    ensures port { Answers (result ≡ Err LineEnd.WriteFault) (P.seen port.old) (P.seen port.new) }
 {
     let reading = port.now();
-    match verdict(alloc, hall.setup(), reading, body, room) {
+    match verdict(alloc, hall.setup(), reading, body, &mut buffers.text) {
         Err(Memory) => Err(LineEnd::Stopped(Stop::Memory)),
         Ok(Verdict::Silence) => Ok(()),
         Ok(Verdict::Nak) => {
-            write_nak(&stamp_of(reading), reply);
-            send(port, reply)
+            write_nak(&stamp_of(reading), &mut buffers.reply);
+            send(port, &buffers.reply)
         }
         Ok(Verdict::Duh(header, _)) => {
-            write_echo(Echo::Duh, &header, reply);
-            send(port, reply)
+            write_echo(Echo::Duh, &header, &mut buffers.reply);
+            send(port, &buffers.reply)
         }
-        Ok(Verdict::Beat(header, account)) => report(
-            alloc,
-            hall,
-            port,
-            Event::Beat { account },
-            &header,
-            reading,
-            reply,
-        ),
-        Ok(Verdict::Numbered(header, message)) => report(
-            alloc,
-            hall,
-            port,
-            Event::Message(message),
-            &header,
-            reading,
-            reply,
-        ),
+        Ok(Verdict::Beat(header, account)) => {
+            let event = Event::Beat { account };
+            let report = Report {
+                event,
+                header,
+                reading,
+            };
+            submit_and_acknowledge(alloc, hall, port, report, &mut buffers.reply)
+        }
+        Ok(Verdict::Numbered(header, message)) => {
+            let event = Event::Message(message);
+            let report = Report {
+                event,
+                header,
+                reading,
+            };
+            submit_and_acknowledge(alloc, hall, port, report, &mut buffers.reply)
+        }
     }
 }

@@ -3,13 +3,14 @@
 #![tactic(auto)]
 
 mod answer;
+mod buffers;
 mod laws;
 mod line;
 mod line_end;
 mod line_state;
+mod pieces;
 mod reply;
 mod report;
-mod serve;
 
 pub use laws::law_sessions_join;
 pub use line::serve_line;

@@ -1,70 +1,36 @@
 // A line session over a port.
-ghost use Rattle.std.specs.Prelude.{◌≡◌, ◌≤◌, ◌<◌, List, ℕ, take, Err, IfOk, MatchResult};
-ghost use Rattle.std.specs.Io.KnownBytes.{prepend_known, IsAtEnd};
-ghost use Rattle.arc_io.specs.Causes.{Rose, HasCause};
-ghost use Rattle.alarm_rules.specs.Setups.{meaning};
+ghost use Rattle.std.specs.Prelude.{◌≡◌, ◌≤◌, List, ℕ, false, Err};
+ghost use Rattle.arc_io.specs.Causes.{Rose};
+ghost use Rattle.centre_core.specs.Halls.{IsKept};
 ghost use Rattle.centre_rules.specs.Summary.{Summary};
 ghost use Rattle.centre_rules.specs.History.{Entry};
-ghost use Rattle.line_session.specs.Sessions.{HasShown};
+ghost use Rattle.session_rules.specs.Sessions.{HasShown};
+ghost use Rattle.line_session.specs.Sessions.{ending_of};
 ghost use Rattle.line_session.specs.Lines.{ReadsLine, ServesLine};
 
 use crate::line_end::LineEnd;
 use crate::line_state::LineState;
 use arc_io::{Failed, Port};
 use centre_core::Hall;
+use session_rules::{PIECE, read_piece};
 use std::alloc::Global;
-
-// How many bytes a read is asked for at most.
-const PIECE: usize = 4096;
 
 /// Serves one line over a port: reads it piece by piece, each of at most 4,096 bytes, and answers the whole frames of a piece
 /// before it reads the next. `InputEnded` comes at the input's end, `ReadFault` where a read failed, `Spent` after 2^40 bytes, and
 /// the others as of `LineState::take`.
 pub fn serve_line<H: Hall, P: Port>(alloc: Global, hall: &mut H, port: &mut P) -> LineEnd
-    requires { H.ready hall.old }
-    ensures line { (read : List ℕ) × ReadsLine result read
-        (record {
-          left = P.left port.old;
-          read_faults = P.read_faults port.old;
-          written = P.written port.old;
-          write_faults = P.write_faults port.old;
-          readings = P.readings port.old;
-          noise = P.noise port.old;
-        })
-        (record {
-          left = P.left port.new;
-          read_faults = P.read_faults port.new;
-          written = P.written port.new;
-          write_faults = P.write_faults port.new;
-          readings = P.readings port.new;
-          noise = P.noise port.new;
-        }) × ((b : Summary) (h : List Entry) → H.stands hall.old b h →
-        ServesLine result read b (meaning (H.text hall.old)) (H.caller hall.old) h (H.stands hall.new b) (H.own hall.old) (H.own hall.new) (H.shows hall.new)
-        (record {
-          left = P.left port.old;
-          read_faults = P.read_faults port.old;
-          written = P.written port.old;
-          write_faults = P.write_faults port.old;
-          readings = P.readings port.old;
-          noise = P.noise port.old;
-        })
-        (record {
-          left = P.left port.new;
-          read_faults = P.read_faults port.new;
-          written = P.written port.new;
-          write_faults = P.write_faults port.new;
-          readings = P.readings port.new;
-          noise = P.noise port.new;
-        })) }
-    ensures stop { HasShown (H.shows hall.new) (Err result) }
-    ensures read { result ≡ LineEnd.ReadFault → Rose (P.read_faults port.old) (P.read_faults port.new) }
-    ensures write { result ≡ LineEnd.WriteFault → Rose (P.write_faults port.old) (P.write_faults port.new) }
+    requires ready { (H.seen hall.old).ready }
+    requires not_ended { (P.seen port.old).ended ≡ false }
+    ensures line { (read : List ℕ) × ReadsLine result read (P.seen port.old) (P.seen port.new)
+        × ((b : Summary) (h : List Entry) → (H.seen hall.old).stands b h →
+        ServesLine result read b h (H.seen hall.old) (H.seen hall.new) (P.seen port.old) (P.seen port.new)) }
+    ensures stop { HasShown (H.seen hall.new) (ending_of (Err result)) }
+    ensures read { result ≡ LineEnd.ReadFault → Rose (P.seen port.old).read_faults (P.seen port.new).read_faults }
+    ensures write { result ≡ LineEnd.WriteFault → Rose (P.seen port.old).write_faults (P.seen port.new).write_faults }
 
-    ensures ready { H.ready hall.new }
-    ensures text { H.text hall.new ≡ H.text hall.old }
-    ensures caller { H.caller hall.new ≡ H.caller hall.old }
-    ensures reads { P.read_faults port.old ≤ P.read_faults port.new }
-    ensures writes { P.write_faults port.old ≤ P.write_faults port.new }
+    ensures kept { IsKept (H.seen hall.old) (H.seen hall.new) }
+    ensures reads { (P.seen port.old).read_faults ≤ (P.seen port.new).read_faults }
+    ensures writes { (P.seen port.old).write_faults ≤ (P.seen port.new).write_faults }
 {
     let mut state = LineState::new();
     let mut buffer = [0; PIECE];
@@ -80,22 +46,4 @@ pub fn serve_line<H: Hall, P: Port>(alloc: Global, hall: &mut H, port: &mut P) -
             }
         }
     }
-}
-
-// Reads the next piece, of at most so many bytes, to the front of the buffer, and answers how many bytes it has: none only at
-// the input's end.
-fn read_piece<P: Port>(port: &mut P, buffer: &mut [u8; PIECE], most: usize) -> Result<usize, Failed>
-    requires some { 0 < most }
-    requires fits { most ≤ 4096 }
-    ensures bound { IfOk result (λ n. n ≤ most) }
-    ensures bytes { MatchResult result
-        (λ n. (P.left port.old ≡ prepend_known (take n buffer.new) (P.left port.new)) × (n ≡ 0 → IsAtEnd (P.left port.new)))
-        (λ _. P.left port.new ≡ P.left port.old) }
-    ensures cause { HasCause (P.read_faults port.old) (P.read_faults port.new) result }
-    ensures written { P.written port.new ≡ P.written port.old }
-    ensures write_faults { P.write_faults port.new ≡ P.write_faults port.old }
-    ensures readings { P.readings port.new ≡ P.readings port.old }
-    ensures noise { P.noise port.new ≡ P.noise port.old }
-{
-    port.read(&mut buffer[..most])
 }

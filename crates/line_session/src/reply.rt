@@ -1,12 +1,11 @@
 // Sending replies.
-ghost use Rattle.std.specs.Prelude.{◌≡◌, ◌≤◌, Err};
-ghost use Rattle.arc_io.specs.Causes.{Rose};
+ghost use Rattle.std.specs.Prelude.{◌≡◌, IfErr};
+ghost use Rattle.arc_io.specs.Told.{Puts};
 ghost use Rattle.alarm_rules.specs.Setups.{meaning};
 ghost use Rattle.civil_time.specs.Stamp.{IsMoment};
 ghost use Rattle.dc09_frame.specs.Headers.{IsHeader};
 ghost use Rattle.dc09_message.specs.Verdicts.{IsSealedAsKeyed};
-ghost use Rattle.line_session.specs.Sessions.{IsCutShort};
-ghost use Rattle.line_session.specs.Replies.{IsSent, SendsAck};
+ghost use Rattle.line_session.specs.Replies.{SendsAck};
 
 use crate::line_end::LineEnd;
 use arc_io::{Failed, Port, put};
@@ -17,14 +16,8 @@ use dc09_frame::{Echo, FrameBuf, Header, write_echo};
 
 /// Sends a reply.
 pub(crate) fn send<P: Port>(port: &mut P, reply: &FrameBuf) -> Result<(), LineEnd>
-    ensures sent { IsSent result (P.written port.old) (P.written port.new) reply.now }
-    ensures ends { IsCutShort result }
-    ensures write { result ≡ Err LineEnd.WriteFault → Rose (P.write_faults port.old) (P.write_faults port.new) }
-    ensures later { P.write_faults port.old ≤ P.write_faults port.new }
-    ensures left { P.left port.new ≡ P.left port.old }
-    ensures read_faults { P.read_faults port.new ≡ P.read_faults port.old }
-    ensures readings { P.readings port.new ≡ P.readings port.old }
-    ensures noise { P.noise port.new ≡ P.noise port.old }
+    ensures told { Puts (P.seen port.old) (P.seen port.new) result reply.now }
+    ensures ends { IfErr result (λ end. end ≡ LineEnd.WriteFault) }
 {
     match put(port, reply.bytes()) {
         Ok(()) => Ok(()),
@@ -40,17 +33,12 @@ pub(crate) fn acknowledge<H: Hall, P: Port>(
     reading: u64,
     reply: &mut FrameBuf,
 ) -> Result<(), LineEnd>
-    requires ready { H.ready hall.now }
+    requires ready { (H.seen hall.now).ready }
     requires header { IsHeader header.now }
     requires reading { IsMoment reading }
-    requires keyed { IsSealedAsKeyed (meaning (H.text hall.now)) header.now }
-    ensures sent { SendsAck result (meaning (H.text hall.now)) header.now reading (P.written port.old) (P.written port.new) (P.noise port.old) (P.noise port.new) }
-    ensures ends { IsCutShort result }
-    ensures write { result ≡ Err LineEnd.WriteFault → Rose (P.write_faults port.old) (P.write_faults port.new) }
-    ensures later { P.write_faults port.old ≤ P.write_faults port.new }
-    ensures left { P.left port.new ≡ P.left port.old }
-    ensures read_faults { P.read_faults port.new ≡ P.read_faults port.old }
-    ensures readings { P.readings port.new ≡ P.readings port.old }
+    requires keyed { IsSealedAsKeyed (meaning (H.seen hall.now).text) header.now }
+    ensures sent { SendsAck result (meaning (H.seen hall.now).text) header.now reading (P.seen port.old) (P.seen port.new) }
+    ensures ends { IfErr result (λ end. end ≡ LineEnd.WriteFault) }
 {
     if !header.sealed {
         write_echo(Echo::Ack, header, reply);

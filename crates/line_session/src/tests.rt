@@ -1,5 +1,6 @@
 // What no clause says: that whole sessions succeed, byte for byte.
-ghost use Rattle.std.specs.Prelude.{◌<◌};
+ghost use Rattle.std.specs.Prelude.{◌≡◌, ◌<◌, false, IfOk};
+ghost use Rattle.arc_io.specs.Memory.{port_seen};
 
 mod ends;
 mod panel;
@@ -41,6 +42,7 @@ fn hall_of(alloc: Global, setup: &[u8]) -> Result<RamHall, Fail> {
 // A port in memory with this input, whose clock stands at a reading.
 fn port_of(alloc: Global, input: &[u8], reading: u64) -> Result<MemPort, Fail>
     requires { reading < 253_402_300_800 }
+    ensures { IfOk result (λ port. (port_seen port).ended ≡ false) }
 {
     Ok(MemPort {
         source: MemSource::new(input.to_vec(alloc)?, Vec::new(alloc)),
@@ -51,7 +53,9 @@ fn port_of(alloc: Global, input: &[u8], reading: u64) -> Result<MemPort, Fail>
 }
 
 // A session over a port, under this setup.
-fn session<P: Port>(alloc: Global, setup: &[u8], port: &mut P) -> Result<Came, Fail> {
+fn session<P: Port>(alloc: Global, setup: &[u8], port: &mut P) -> Result<Came, Fail>
+    requires { (P.seen port.old).ended ≡ false }
+{
     let mut hall = hall_of(alloc, setup)?;
     let end = serve_line(alloc, &mut hall, port);
     Ok((end, hall.into_centre().recorded()))
@@ -62,6 +66,24 @@ fn joined(alloc: Global, parts: &[&[u8]]) -> Result<Vec<u8>, Fail> {
     let mut all = Vec::new(alloc);
     for part in parts {
         all.extend_from_slice(part)?;
+    }
+    Ok(all)
+}
+
+// The three parts of a row.
+fn row_of(row: &str) -> Option<(&str, &str, &str)> {
+    let (first, rest) = row.split_once(';')?;
+    let (second, third) = rest.split_once(';')?;
+    Some((first, second, third))
+}
+
+// The frames of a row, as they go over a line.
+fn framed(alloc: Global, frames: &str) -> Result<Vec<u8>, Fail> {
+    let mut all = Vec::new(alloc);
+    for frame in frames.split('~') {
+        all.push(b'\n')?;
+        all.extend_from_slice(frame.as_bytes())?;
+        all.push(b'\r')?;
     }
     Ok(all)
 }

@@ -1,5 +1,7 @@
+// Codes, readings and the grammar of SIA data (a profile of DC-03), by the profile's tables.
 use super::*;
 use alarm_signal::{Class, Kind, Signals};
+use std::test::Fail;
 
 // The class and kind of the one event of a code, which has to be the code of the signal.
 fn read_code(code: [u8; 2]) -> Option<(Class, Kind)> {
@@ -16,12 +18,33 @@ fn read_code(code: [u8; 2]) -> Option<(Class, Kind)> {
     }
 }
 
+// Whether the row names this class and kind.
+fn is_named(row: &str, class: Class, kind: Kind) -> bool {
+    let word = match kind {
+        Kind::New => "new",
+        Kind::Again => "again",
+        Kind::Restore => "restore",
+        Kind::Opening => "opening",
+        Kind::Closing => "closing",
+        Kind::LogOnly => "log",
+    };
+    row.split_once(' ') == Some((class.name(), word))
+}
+
+// Whether the code is read as the row says.
+fn is_read_as(code: [u8; 2], row: &str) -> bool {
+    match read_code(code) {
+        Some((class, kind)) => is_named(row, class, kind),
+        None => false,
+    }
+}
+
 // How many of all pairs of letters are read so.
-fn count(class: Class, kind: Kind) -> u32 {
+fn count(row: &str) -> u32 {
     let mut count: u32 = 0;
     for a in b'A'..=b'Z' {
         for b in b'A'..=b'Z' {
-            if read_code([a, b]) == Some((class, kind)) {
+            if is_read_as([a, b], row) {
                 count = count.wrapping_add(1);
             }
         }
@@ -41,137 +64,148 @@ fn has_codes(signals: &Signals, codes: &[u8]) -> bool {
     i == signals.count()
 }
 
+// A class and a kind, and codes of them.
+const CODES: &str = "\
+fire new;FAKA
+fire restore;FHFRKR
+medical new;MAQA
+medical restore;MRQR
+panic new;HAPA
+panic restore;HRPR
+gas new;GA
+gas restore;GR
+burglary new;BABVUA
+burglary restore;BRUR
+tamper new;TA
+tamper restore;TR
+environment new;WAZA
+environment restore;WRZR
+commfail new;YC
+commfail restore;YK
+trouble new;ATBTFTYT
+trouble restore;ARBJFJYR
+lateclose new;CI
+openclose opening;OPOGOR
+openclose closing;CLCFCG
+bypass log;BBBU
+cancel log;BC
+test log;RPRX
+unlisted new;ZQAAZZCRGTYY";
+
 #[test]
 fn reads_each_code_of_the_table(rt: HostRuntime) {
-    let table = [
-        (Class::Fire, Kind::New, "FAKA"),
-        (Class::Fire, Kind::Restore, "FHFRKR"),
-        (Class::Medical, Kind::New, "MAQA"),
-        (Class::Medical, Kind::Restore, "MRQR"),
-        (Class::Panic, Kind::New, "HAPA"),
-        (Class::Panic, Kind::Restore, "HRPR"),
-        (Class::Gas, Kind::New, "GA"),
-        (Class::Gas, Kind::Restore, "GR"),
-        (Class::Burglary, Kind::New, "BABVUA"),
-        (Class::Burglary, Kind::Restore, "BRUR"),
-        (Class::Tamper, Kind::New, "TA"),
-        (Class::Tamper, Kind::Restore, "TR"),
-        (Class::Environment, Kind::New, "WAZA"),
-        (Class::Environment, Kind::Restore, "WRZR"),
-        (Class::CommFail, Kind::New, "YC"),
-        (Class::CommFail, Kind::Restore, "YK"),
-        (Class::Trouble, Kind::New, "ATBTFTYT"),
-        (Class::Trouble, Kind::Restore, "ARBJFJYR"),
-        (Class::LateClose, Kind::New, "CI"),
-        (Class::OpenClose, Kind::Opening, "OPOGOR"),
-        (Class::OpenClose, Kind::Closing, "CLCFCG"),
-        (Class::Bypass, Kind::LogOnly, "BBBU"),
-        (Class::Cancel, Kind::LogOnly, "BC"),
-        (Class::Test, Kind::LogOnly, "RPRX"),
-        (Class::Unlisted, Kind::New, "ZQAAZZCRGTYY"),
-    ];
-    for (class, kind, codes) in table {
-        for code in codes.as_bytes().chunks(2) {
-            if let [a, b] = code {
-                assert_eq!(rt; read_code([*a, *b]), Some((class, kind)), "at {code:?}");
+    for row in CODES.lines() {
+        if let Some((meaning, codes)) = row.split_once(';') {
+            for code in codes.as_bytes().chunks(2) {
+                if let [a, b] = code {
+                    assert!(rt; is_read_as([*a, *b], meaning), "{row}");
+                }
             }
         }
     }
 }
 
+// A class and a kind, and how many of all pairs of letters have them.
+const COUNTS: &str = "\
+fire new;2
+fire restore;3
+medical new;2
+medical restore;2
+panic new;2
+panic restore;2
+gas new;1
+gas restore;1
+burglary new;3
+burglary restore;2
+tamper new;1
+tamper restore;1
+environment new;2
+environment restore;2
+commfail new;1
+commfail restore;1
+trouble new;4
+trouble restore;4
+lateclose new;1
+lateclose restore;0
+openclose opening;3
+openclose closing;3
+bypass log;2
+cancel log;1
+test log;2
+unlisted new;628";
+
 #[test]
-fn lists_so_many_of_all_pairs(rt: HostRuntime) {
-    let table = [
-        (Class::Fire, Kind::New, 2),
-        (Class::Fire, Kind::Restore, 3),
-        (Class::Medical, Kind::New, 2),
-        (Class::Medical, Kind::Restore, 2),
-        (Class::Panic, Kind::New, 2),
-        (Class::Panic, Kind::Restore, 2),
-        (Class::Gas, Kind::New, 1),
-        (Class::Gas, Kind::Restore, 1),
-        (Class::Burglary, Kind::New, 3),
-        (Class::Burglary, Kind::Restore, 2),
-        (Class::Tamper, Kind::New, 1),
-        (Class::Tamper, Kind::Restore, 1),
-        (Class::Environment, Kind::New, 2),
-        (Class::Environment, Kind::Restore, 2),
-        (Class::CommFail, Kind::New, 1),
-        (Class::CommFail, Kind::Restore, 1),
-        (Class::Trouble, Kind::New, 4),
-        (Class::Trouble, Kind::Restore, 4),
-        (Class::LateClose, Kind::New, 1),
-        (Class::LateClose, Kind::Restore, 0),
-        (Class::OpenClose, Kind::Opening, 3),
-        (Class::OpenClose, Kind::Closing, 3),
-        (Class::Bypass, Kind::LogOnly, 2),
-        (Class::Cancel, Kind::LogOnly, 1),
-        (Class::Test, Kind::LogOnly, 2),
-        (Class::Unlisted, Kind::New, 628),
-    ];
-    for (class, kind, want) in table {
-        assert_eq!(rt; count(class, kind), want, "of {class:?}");
+fn lists_so_many_of_all_pairs(rt: HostRuntime) -> Result<(), Fail> {
+    for row in COUNTS.lines() {
+        if let Some((meaning, want)) = row.split_once(';') {
+            let want: u32 = want.parse()?;
+            assert_eq!(rt; count(meaning), want, "{row}");
+        }
+    }
+    Ok(())
+}
+
+// The codes of the signals of a content, or `-` where it has none, and the content.
+const CONTENTS: &str = "\
+BABR;Nri1/BA01/BR01
+BA;NBA01BR01
+-;N
+-;O
+-;N/
+-;N//
+-;
+-;BA
+-;nBA
+BA;OBA
+BA;N/BA
+-;N//BA
+BA;NBA/
+-;NBA//
+-;NBA//BR
+BABRCLOPFAFRTATR;N/BA/BR/CL/OP/FA/FR/TA/TR
+-;N/BA/BA/BA/BA/BA/BA/BA/BA/BA
+BABR;NBA12345678/BR
+BABR;NBA123456789/BR
+BAFA;NBA0123ABCDBR/FA
+BA;NriBA
+BA;NritiBA
+BA;Nri/ti/BA
+BA;Nti12:30-1.5BA
+-;Nti12,30/BA
+-;Nri//BA
+-;Nri1
+BA;NBA/ri1
+BA;NBA/ri1/
+BA;NBAri1
+BA;NBA]//
+-;N]BA
+-;N1BA
+-;NBA/1
+-;N BA
+-;NB
+-;NBA/B
+-;NBa
+-;NbA
+-;Nr1/BA
+-;NridBA
+-;NB1";
+
+// Whether the content has signals of these codes, or none where that is wanted.
+fn has(content: &[u8], want: &str) -> bool {
+    match read(content) {
+        Some(signals) => has_codes(&signals, want.as_bytes()),
+        None => want == "-",
     }
 }
 
 #[test]
 fn reads_the_grammar(rt: HostRuntime) {
-    let table = [
-        (b"Nri1/BA01/BR01".as_slice(), Some("BABR")),
-        (b"NBA01BR01".as_slice(), Some("BA")),
-        (b"N".as_slice(), None),
-        (b"O".as_slice(), None),
-        (b"N/".as_slice(), None),
-        (b"N//".as_slice(), None),
-        (b"".as_slice(), None),
-        (b"BA".as_slice(), None),
-        (b"nBA".as_slice(), None),
-        (b"OBA".as_slice(), Some("BA")),
-        (b"N/BA".as_slice(), Some("BA")),
-        (b"N//BA".as_slice(), None),
-        (b"NBA/".as_slice(), Some("BA")),
-        (b"NBA//".as_slice(), None),
-        (b"NBA//BR".as_slice(), None),
-        (
-            b"N/BA/BR/CL/OP/FA/FR/TA/TR".as_slice(),
-            Some("BABRCLOPFAFRTATR"),
-        ),
-        (b"N/BA/BA/BA/BA/BA/BA/BA/BA/BA".as_slice(), None),
-        (b"NBA12345678/BR".as_slice(), Some("BABR")),
-        (b"NBA123456789/BR".as_slice(), Some("BABR")),
-        (b"NBA0123ABCDBR/FA".as_slice(), Some("BAFA")),
-        (b"NriBA".as_slice(), Some("BA")),
-        (b"NritiBA".as_slice(), Some("BA")),
-        (b"Nri/ti/BA".as_slice(), Some("BA")),
-        (b"Nti12:30-1.5BA".as_slice(), Some("BA")),
-        (b"Nti12,30/BA".as_slice(), None),
-        (b"Nri//BA".as_slice(), None),
-        (b"Nri1".as_slice(), None),
-        (b"NBA/ri1".as_slice(), Some("BA")),
-        (b"NBA/ri1/".as_slice(), Some("BA")),
-        (b"NBAri1".as_slice(), Some("BA")),
-        (b"NBA*\x00\xff [x\"|#/BR".as_slice(), Some("BABR")),
-        (b"NBA]//".as_slice(), Some("BA")),
-        (b"N]BA".as_slice(), None),
-        (b"N1BA".as_slice(), None),
-        (b"NBA/1".as_slice(), None),
-        (b"N BA".as_slice(), None),
-        (b"NB".as_slice(), None),
-        (b"NBA/B".as_slice(), None),
-        (b"NBa".as_slice(), None),
-        (b"NbA".as_slice(), None),
-        (b"Nr1/BA".as_slice(), None),
-        (b"NridBA".as_slice(), None),
-        (b"NB1".as_slice(), None),
-    ];
-    for (content, want) in table {
-        let good = match (read(content), want) {
-            (None, None) => true,
-            (Some(signals), Some(codes)) => has_codes(&signals, codes.as_bytes()),
-            _ => false,
-        };
-        assert!(rt; good, "of {content:?}");
+    for row in CONTENTS.lines() {
+        if let Some((want, content)) = row.split_once(';') {
+            assert!(rt; has(content.as_bytes(), want), "{row}");
+        }
     }
+    assert!(rt; has(b"NBA*\x00\xff [x\"|#/BR", "BABR"));
 }
 
 #[test]

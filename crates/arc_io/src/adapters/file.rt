@@ -1,5 +1,6 @@
-ghost use Rattle.std.specs.Prelude.{◌≡◌};
+ghost use Rattle.std.specs.Prelude.{◌≡◌, false};
 ghost use Rattle.std.specs.Io.{ReadsAtMost};
+ghost use Rattle.arc_io.specs.Seen.{untold};
 
 use crate::{Ends, Failed, Source};
 use std::io::Read;
@@ -14,30 +15,36 @@ pub struct FileSource<'a, R: Files> {
     path: &'a str,
     file: Option<R::File>,
     faults: u64,
+    ended: bool,
 }
 
 impl<'a, R: Files> FileSource<'a, R> {
     /// The file of this path. Nothing is opened yet.
     pub fn new(rt: R, path: &'a str) -> Self
-        ensures { ⟦<FileSource<'a, R> as Ends>⟧.read_faults result ≡ 0 }
+        ensures read_faults { (⟦<FileSource<'a, R> as Ends>⟧.seen result).read_faults ≡ 0 }
+        ensures not_ended { (⟦<FileSource<'a, R> as Ends>⟧.seen result).ended ≡ false }
     {
         FileSource {
             rt,
             path,
             file: None,
             faults: 0,
+            ended: false,
         }
     }
 }
 
 impl<'a, R: Files> Ends for FileSource<'a, R> {
-    ghost read_faults = { λ s. s.faults };
+    ghost seen = { λ s. record untold { ended = s.ended; read_faults = s.faults } };
 }
 
 impl<'a, R: Files> Source for FileSource<'a, R> {
     fn read(&mut self, buf: &mut [u8]) -> Result<usize, Failed> {
         match read_opened(&self.rt, self.path, &mut self.file, buf) {
-            Ok(count) => Ok(count),
+            Ok(count) => {
+                self.ended = count == 0 && !buf.is_empty();
+                Ok(count)
+            }
             Err(_) => {
                 self.faults = self.faults.saturating_add(1);
                 Err(Failed)

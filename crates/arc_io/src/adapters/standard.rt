@@ -1,5 +1,6 @@
-ghost use Rattle.std.specs.Prelude.{◌≡◌, [], IfOk};
+ghost use Rattle.std.specs.Prelude.{◌≡◌, [], false, IfOk};
 ghost use Rattle.std.specs.Io.{WritesAtMost};
+ghost use Rattle.arc_io.specs.Seen.{untold};
 
 use super::{RealClock, RealNoise};
 use crate::{Clock, Ends, Failed, Noise, Port, Sink, Source};
@@ -16,6 +17,7 @@ pub struct StdPort<I: Read, O: Write, R: time::Clock + RandomSource> {
     output: O,
     clock: RealClock<R>,
     noise: RealNoise<R>,
+    ended: bool,
     read_faults: u64,
     write_faults: u64,
 }
@@ -23,14 +25,16 @@ pub struct StdPort<I: Read, O: Write, R: time::Clock + RandomSource> {
 impl<I: Read, O: Write, R: time::Clock + RandomSource> StdPort<I, O, R> {
     /// A port over these four.
     pub fn new(input: I, output: O, clock: RealClock<R>, noise: RealNoise<R>) -> Self
-        ensures read_faults { ⟦<StdPort<I, O, R> as Ends>⟧.read_faults result ≡ 0 }
-        ensures write_faults { ⟦<StdPort<I, O, R> as Ends>⟧.write_faults result ≡ 0 }
+        ensures not_ended { (⟦<StdPort<I, O, R> as Ends>⟧.seen result).ended ≡ false }
+        ensures read_faults { (⟦<StdPort<I, O, R> as Ends>⟧.seen result).read_faults ≡ 0 }
+        ensures write_faults { (⟦<StdPort<I, O, R> as Ends>⟧.seen result).write_faults ≡ 0 }
     {
         StdPort {
             input,
             output,
             clock,
             noise,
+            ended: false,
             read_faults: 0,
             write_faults: 0,
         }
@@ -38,15 +42,16 @@ impl<I: Read, O: Write, R: time::Clock + RandomSource> StdPort<I, O, R> {
 }
 
 impl<I: Read, O: Write, R: time::Clock + RandomSource> Ends for StdPort<I, O, R> {
-    ghost read_faults = { λ p. p.read_faults };
-
-    ghost write_faults = { λ p. p.write_faults };
+    ghost seen = { λ p. record untold { ended = p.ended; read_faults = p.read_faults; write_faults = p.write_faults } };
 }
 
 impl<I: Read, O: Write, R: time::Clock + RandomSource> Source for StdPort<I, O, R> {
     fn read(&mut self, buf: &mut [u8]) -> Result<usize, Failed> {
         match self.input.read(buf) {
-            Ok(count) => Ok(count),
+            Ok(count) => {
+                self.ended = count == 0 && !buf.is_empty();
+                Ok(count)
+            }
             Err(_) => {
                 self.read_faults = self.read_faults.saturating_add(1);
                 Err(Failed)

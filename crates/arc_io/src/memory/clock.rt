@@ -33,20 +33,18 @@ impl ListClock {
 }
 
 impl Ends for ListClock {
-    ghost use Rattle.std.specs.Prelude.{Some};
-    ghost use Rattle.arc_io.specs.Memory.{clock_given};
+    ghost use Rattle.arc_io.specs.Memory.{clock_seen};
 
-    ghost readings = { λ c. Some (clock_given c) };
+    ghost seen = { clock_seen };
 }
 
 impl Clock for ListClock {
-    ghost use Rattle.std.specs.Prelude.{Some};
-    ghost use Rattle.arc_io.specs.Told.{GivesReading};
-    ghost use Rattle.arc_io.specs.Memory.{clock_given, ClockTick};
+    ghost use Rattle.arc_io.specs.Told.{after_reading};
+    ghost use Rattle.arc_io.specs.Memory.{clock_seen, ClockTick};
 
     fn now(&mut self) -> u64
         ensures bound { result < 253_402_300_800 }
-        ensures tells { GivesReading (Some (clock_given self.old)) (Some (clock_given self.new)) result }
+        ensures told { clock_seen self.new ≡ after_reading result (clock_seen self.old) }
         ensures exact { ClockTick self.old self.new result }
     {
         let reading = item_at(&self.readings, self.at);

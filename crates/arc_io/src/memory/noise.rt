@@ -30,19 +30,17 @@ impl ListNoise {
 }
 
 impl Ends for ListNoise {
-    ghost use Rattle.std.specs.Prelude.{Some};
-    ghost use Rattle.arc_io.specs.Memory.{noise_given};
+    ghost use Rattle.arc_io.specs.Memory.{noise_seen};
 
-    ghost noise = { λ n. Some (noise_given n) };
+    ghost seen = { noise_seen };
 }
 
 impl Noise for ListNoise {
-    ghost use Rattle.std.specs.Prelude.{Some};
-    ghost use Rattle.std.specs.Io.KnownBytes.{append_known};
-    ghost use Rattle.arc_io.specs.Memory.{noise_given, NoiseDraw};
+    ghost use Rattle.arc_io.specs.Told.{after_noise};
+    ghost use Rattle.arc_io.specs.Memory.{noise_seen, NoiseDraw};
 
     fn ten(&mut self) -> [u8; 10]
-        ensures tells { Some (noise_given self.new) ≡ append_known (Some (noise_given self.old)) result }
+        ensures told { noise_seen self.new ≡ after_noise result (noise_seen self.old) }
         ensures exact { NoiseDraw self.old self.new result }
     {
         let ten = item_at(&self.tens, self.at);

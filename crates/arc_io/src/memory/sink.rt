@@ -41,27 +41,22 @@ impl MemSink {
 }
 
 impl Ends for MemSink {
-    ghost use Rattle.std.specs.Prelude.{Some};
-    ghost use Rattle.arc_io.specs.Memory.{sink_bytes, sink_faults};
+    ghost use Rattle.arc_io.specs.Memory.{sink_seen};
 
-    ghost written = { λ s. Some (sink_bytes s) };
-
-    ghost write_faults = { sink_faults };
+    ghost seen = { sink_seen };
 }
 
 impl Sink for MemSink {
-    ghost use Rattle.std.specs.Prelude.{Some, IfOk};
+    ghost use Rattle.std.specs.Prelude.{IfOk};
     ghost use Rattle.std.specs.Io.{WritesAtMost};
-    ghost use Rattle.arc_io.specs.Causes.{HasCause};
-    ghost use Rattle.arc_io.specs.Told.{TakesFront};
-    ghost use Rattle.arc_io.specs.Memory.{sink_bytes, sink_faults, SinkWrite};
+    ghost use Rattle.arc_io.specs.Told.{Writes};
+    ghost use Rattle.arc_io.specs.Memory.{sink_seen, SinkWrite};
 
     /// Takes all of the bytes, in each call that does not fail.
     fn write(&mut self, bytes: &[u8]) -> Result<usize, Failed>
         ensures bound { WritesAtMost result bytes.now }
         ensures some { IfOk result (λ count. count ≡ 0 → bytes.now ≡ []) }
-        ensures bytes { TakesFront (Some (sink_bytes self.old)) (Some (sink_bytes self.new)) result bytes.now }
-        ensures cause { HasCause (sink_faults self.old) (sink_faults self.new) result }
+        ensures told { Writes (sink_seen self.old) (sink_seen self.new) result bytes.now }
         ensures exact { SinkWrite self.old self.new result bytes.now }
     {
         self.calls = self.calls.saturating_add(1);

@@ -1,10 +1,10 @@
-ghost use Rattle.std.specs.Prelude.{◌≡◌, ◌+◌, ◌++◌, [], ◌<◌, ◌≤◌, vec_len, drop, take, length, min};
+ghost use Rattle.std.specs.Prelude.{◌≡◌, ◌+◌, ◌++◌, false, ◌≤◌, vec_len, drop, take, length, min};
 
 use super::is_listed;
 use crate::{Ends, Failed, Source};
 
 /// Bytes in memory, read call by call. The calls of `read` are numbered from 1, those that fail
-/// included; a number stays at the last value of `u64`.
+/// included; a number stays at the last value of `u64`. Once a call has met the end, each further one fails.
 #[derive(Drop)]
 pub struct MemSource {
     bytes: Vec<u8>,
@@ -12,11 +12,12 @@ pub struct MemSource {
     failing: Vec<u64>,
     calls: u64,
     faults: u64,
+    ended: bool,
     ghost within: { at ≤ vec_len bytes },
 }
 
 impl MemSource {
-    ghost use Rattle.arc_io.specs.Memory.{source_left, source_failing, source_calls, source_faults};
+    ghost use Rattle.arc_io.specs.Memory.{source_left, source_failing, source_calls, source_faults, source_ended};
 
     /// A source of these bytes. Its calls of the numbers in `failing` fail, and no others do.
     pub fn new(bytes: Vec<u8>, failing: Vec<u64>) -> Self
@@ -24,6 +25,7 @@ impl MemSource {
         ensures failing { source_failing result ≡ failing.items }
         ensures calls { source_calls result ≡ 0 }
         ensures faults { source_faults result ≡ 0 }
+        ensures ended { source_ended result ≡ false }
     {
         MemSource {
             bytes,
@@ -31,40 +33,36 @@ impl MemSource {
             failing,
             calls: 0,
             faults: 0,
+            ended: false,
         }
     }
 }
 
 impl Ends for MemSource {
-    ghost use Rattle.std.specs.Prelude.{Some};
-    ghost use Rattle.arc_io.specs.Memory.{source_left, source_faults};
+    ghost use Rattle.arc_io.specs.Memory.{source_seen};
 
-    ghost left = { λ s. Some (source_left s) };
-
-    ghost read_faults = { source_faults };
+    ghost seen = { source_seen };
 }
 
 impl Source for MemSource {
-    ghost use Rattle.std.specs.Prelude.{Some};
     ghost use Rattle.std.specs.Io.{ReadsAtMost};
-    ghost use Rattle.arc_io.specs.Causes.{HasCause};
-    ghost use Rattle.arc_io.specs.Told.{GivesNext};
-    ghost use Rattle.arc_io.specs.Memory.{source_left, source_faults, SourceRead};
+    ghost use Rattle.arc_io.specs.Told.{Reads};
+    ghost use Rattle.arc_io.specs.Memory.{source_seen, SourceRead};
 
     /// Gives as many bytes as are left and have room, in each call that does not fail.
     fn read(&mut self, buf: &mut [u8]) -> Result<usize, Failed>
         ensures bound { ReadsAtMost result buf.new }
-        ensures bytes { GivesNext (Some (source_left self.old)) (Some (source_left self.new)) result buf.new }
-        ensures cause { HasCause (source_faults self.old) (source_faults self.new) result }
+        ensures told { Reads (source_seen self.old) (source_seen self.new) result buf.new }
         ensures exact { SourceRead self.old self.new result buf.old buf.new }
     {
         self.calls = self.calls.saturating_add(1);
-        if is_listed(&self.failing, self.calls) {
+        if self.ended || is_listed(&self.failing, self.calls) {
             self.faults = self.faults.saturating_add(1);
             return Err(Failed);
         }
         let count = read_from(&self.bytes, self.at, buf);
         self.at += count;
+        self.ended = count == 0 && !buf.is_empty();
         Ok(count)
     }
 

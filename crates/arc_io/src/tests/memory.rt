@@ -1,4 +1,6 @@
 // The forms in memory.
+ghost use Rattle.std.specs.Prelude.{◌≡◌, false};
+
 use crate::{
     Clock, Failed, ListClock, ListNoise, MemPort, MemSink, MemSource, Noise, Port, Sink, Source,
 };
@@ -21,9 +23,10 @@ fn reads_on_over_failing_calls(rt: HostRuntime) -> Result<(), Fail> {
                 Ok((3, *b"def")),
                 Ok((1, *b"g--")),
                 Ok((0, *b"---")),
-                Ok((0, *b"---")),
+                // Behind the end.
+                Err(Failed),
             ],
-            0,
+            1,
         ),
         (
             &[2],
@@ -54,9 +57,10 @@ fn reads_on_over_failing_calls(rt: HostRuntime) -> Result<(), Fail> {
                 Ok((3, *b"def")),
                 Ok((1, *b"g--")),
                 Ok((0, *b"---")),
-                Ok((0, *b"---")),
+                // Behind the end.
+                Err(Failed),
             ],
-            0,
+            1,
         ),
     ];
     for (failing, want, faults) in cases {
@@ -142,7 +146,9 @@ fn gives_zeros_at_its_end(rt: HostRuntime) -> Result<(), Fail> {
 }
 
 // One call of each of the four, through the bound.
-fn one_of_each<P: Port>(port: &mut P) -> Result<(u64, [u8; 10]), Failed> {
+fn one_of_each<P: Port>(port: &mut P) -> Result<(u64, [u8; 10]), Failed>
+    requires { (P.seen port.old).ended ≡ false }
+{
     let mut buf = [0; 8];
     let count = port.read(&mut buf)?;
     port.write(&buf[..count])?;
@@ -151,26 +157,28 @@ fn one_of_each<P: Port>(port: &mut P) -> Result<(u64, [u8; 10]), Failed> {
 
 #[test]
 fn a_port_is_its_four_parts(rt: HostRuntime) -> Result<(), Fail> {
-    let mut port = MemPort {
-        source: MemSource::new(b"hello".to_vec(rt.alloc())?, [2].to_vec(rt.alloc())?),
-        sink: MemSink::new(rt.alloc(), [2].to_vec(rt.alloc())?),
-        clock: ListClock::new([7, 8].to_vec(rt.alloc())?),
-        noise: ListNoise::new([*b"0123456789"].to_vec(rt.alloc())?),
-    };
-    let got = [
-        one_of_each(&mut port),
-        one_of_each(&mut port),
-        one_of_each(&mut port),
-        one_of_each(&mut port),
+    // The reads and the writes that fail, the answer, what was written, and the faults.
+    let cases: [(
+        &[u64],
+        &[u64],
+        Result<(u64, [u8; 10]), Failed>,
+        &[u8],
+        (u64, u64),
+    ); 3] = [
+        (&[], &[], Ok((7, *b"0123456789")), b"hello", (0, 0)),
+        (&[1], &[], Err(Failed), b"", (1, 0)),
+        (&[], &[1], Err(Failed), b"", (0, 1)),
     ];
-    let want = [
-        Ok((7, *b"0123456789")),
-        Err(Failed),
-        Err(Failed),
-        Ok((8, [0; 10])),
-    ];
-    assert_eq!(rt; got, want);
-    assert_eq!(rt; (port.read_faults(), port.write_faults()), (1, 1));
-    assert_eq!(rt; port.sink.bytes(), b"hello".as_slice());
+    for (reads, writes, want, written, faults) in cases {
+        let mut port = MemPort {
+            source: MemSource::new(b"hello".to_vec(rt.alloc())?, reads.to_vec(rt.alloc())?),
+            sink: MemSink::new(rt.alloc(), writes.to_vec(rt.alloc())?),
+            clock: ListClock::new([7].to_vec(rt.alloc())?),
+            noise: ListNoise::new([*b"0123456789"].to_vec(rt.alloc())?),
+        };
+        assert_eq!(rt; one_of_each(&mut port), want);
+        assert_eq!(rt; port.sink.bytes(), written);
+        assert_eq!(rt; (port.read_faults(), port.write_faults()), faults);
+    }
     Ok(())
 }

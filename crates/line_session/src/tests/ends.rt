@@ -3,7 +3,7 @@ use super::panel::Panel;
 use super::refusing::Refusing;
 use super::{ALARM, ALARM_REPLY, BEAT, BEAT_REPLY, BEGIN, SETUP, joined, port_of, session};
 use crate::{LineEnd, LineState, law_sessions_join, serve_line};
-use arc_io::{MemPort, MemSink, MemSource};
+use arc_io::{MemPort, MemSink, MemSource, Source};
 use centre_core::{RamHall, Setup, Stop};
 use std::test::Fail;
 
@@ -60,7 +60,7 @@ fn panels_take_one_byte_at_a_time(rt: HostRuntime) -> Result<(), Fail> {
     let mut panel = Panel::new(input, ALARM.len(), Vec::new(alloc));
     panel.awaited = ALARM_REPLY.len();
     let came = session(alloc, SETUP, &mut panel)?;
-    assert_eq!(rt; came, (LineEnd::InputEnded, 3));
+    assert_eq!(rt; (came, panel.read_faults()), ((LineEnd::InputEnded, 3), 0));
     assert_eq!(rt; panel.written.as_slice(), output.as_slice());
     Ok(())
 }

@@ -1,15 +1,18 @@
 // A panel at the other end of a line.
+ghost use Rattle.std.specs.Prelude.{◌≡◌, false};
+
 use super::BEGIN;
 use arc_io::{Clock, Ends, Failed, Noise, Port, Sink, Source};
 
-/// A panel that sends a few bytes at a time, awaits replies, and takes one byte of a reply in each call.
+/// A panel that sends a few bytes at a time, awaits replies, and takes one byte of a reply in each call. A read that comes
+/// before the replies that it awaits fails.
 #[derive(Drop)]
 pub(crate) struct Panel {
     /// What it sends.
     pub(crate) input: Vec<u8>,
     /// How many bytes a read gives at most.
     pub(crate) most: usize,
-    /// How many more bytes have to be written before each further read: else the input has ended.
+    /// How many more bytes have to be written before each further read: else the read fails.
     pub(crate) awaited: usize,
     /// The write that fails, numbered from 1.
     pub(crate) fails_at: u64,
@@ -18,12 +21,16 @@ pub(crate) struct Panel {
     sent: usize,
     due: usize,
     writes: u64,
+    ended: bool,
+    early: u64,
     faults: u64,
 }
 
 impl Panel {
     /// A panel that awaits nothing and that no write fails.
-    pub(crate) fn new(input: Vec<u8>, most: usize, written: Vec<u8>) -> Panel {
+    pub(crate) fn new(input: Vec<u8>, most: usize, written: Vec<u8>) -> Panel
+        ensures { result.ended ≡ false }
+    {
         Panel {
             input,
             most,
@@ -33,30 +40,36 @@ impl Panel {
             sent: 0,
             due: 0,
             writes: 0,
+            ended: false,
+            early: 0,
             faults: 0,
         }
     }
 }
 
 impl Ends for Panel {
-    ghost write_faults = { λ p. p.faults };
+    ghost use Rattle.arc_io.specs.Seen.{untold};
+
+    ghost seen = { λ p. record untold { ended = p.ended; read_faults = p.early; write_faults = p.faults } };
 }
 
 impl Source for Panel {
     fn read(&mut self, buf: &mut [u8]) -> Result<usize, Failed> {
         if self.written.len() < self.due {
-            return Ok(0);
+            self.early = self.early.saturating_add(1);
+            return Err(Failed);
         }
         self.due = self.due.saturating_add(self.awaited);
         let rest = &self.input[self.sent.min(self.input.len())..];
         let count = rest.len().min(self.most).min(buf.len());
         buf[..count].copy_from_slice(&rest[..count]);
         self.sent = self.sent.saturating_add(count);
+        self.ended = count == 0 && !buf.is_empty();
         Ok(count)
     }
 
     fn read_faults(&self) -> u64 {
-        0
+        self.early
     }
 }
 

@@ -12,19 +12,14 @@ pub(crate) struct Refusing {
 }
 
 impl Hall for Refusing {
-    ghost use Rattle.std.specs.Prelude.{ℕ};
-
-    ghost ready = { λ s. Unit {0} };
-
-    ghost text = { λ s. s.setup };
-
-    ghost caller = { λ s. 0 };
-
-    ghost stands = { λ s b h. ⊥ };
-
-    ghost own = { λ s h. h };
-
-    ghost shows = { λ s stop event clock. Unit {0} };
+    ghost seen = { λ s. record {
+      ready = Unit {0};
+      text = s.setup;
+      caller = 0;
+      stands = λ b h. ⊥;
+      own = λ h. h;
+      shows = λ stop event clock. Unit {0};
+    } };
 
     ghost legal = { λ s b h w. absurd w };
 

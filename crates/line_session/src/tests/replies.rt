@@ -1,79 +1,50 @@
 // What each frame is answered. Checks and lengths are worked out by another program.
-use super::{ALARM, ALARM_REPLY, BEGIN, DUH, SETUP, port_of, session};
+use super::{ALARM_REPLY, BEGIN, SETUP, framed, port_of, row_of, session};
 use crate::LineEnd;
 use std::alloc::Global;
+use std::process::Abort;
 use std::test::Fail;
 
-const SIX_DIGITS: &[u8] = b"account 12345A\n";
+// A row is an account, how many entries are recorded at the end, the frames that a panel sends, without their line feeds and
+// carriage returns, and those that it is due, with a `;` between these and a `~` between frames. A line without a `;` is a remark.
+const ROWS: &str =
+    r##"1234;3;2EE70027"ADM-CID"0001L0#1234[#1234|1131 01 001];1BC10012"ACK"0001L0#1234[]
+# a receiver, no account in the block, and a tail
+1234;3;90F10038"ADM-CID"0001R1L2#1234[|1131 01 001]_01:46:40,09-09-2001;C7370014"ACK"0001R1L2#1234[]
+# heartbeats are recorded each time
+1234;4;1EF20013"NULL"0000L0#1234[]~1EF20013"NULL"0000L0#1234[];DE900012"ACK"0000L0#1234[]~DE900012"ACK"0000L0#1234[]
+1234;3;AA860027"NULL"0000L0#1234[]_01:46:40,09-09-2001;DE900012"ACK"0000L0#1234[]
+# another token, another account, and a sealed message of an account without a key
+1234;2;8D080012"ABC"0001L0#1234[];251F0012"DUH"0001L0#1234[]
+1234;2;B2BB0027"ADM-CID"0001L0#9999[#9999|1131 01 001];B7290012"DUH"0001L0#9999[]
+1234;2;C7F30036"*ADM-CID"0001L0#1234[69C4E0D86A7B0430D8CDB78070B4C55A;251F0012"DUH"0001L0#1234[]
+# SIA data, with a second block and with an event that no table lists
+12345A;3;1FDE003B"SIA-DCS"0001L0#12345A[#12345A|NFA129][S123Main St., 55123];7C360014"ACK"0001L0#12345A[]
+12345A;3;C1120028"SIA-DCS"0002L0#12345A[#12345A|Nri1/ZQ7];78320014"ACK"0002L0#12345A[]"##;
 
-#[test]
-fn frames_have_their_replies(rt: HostRuntime) -> Result<(), Fail> {
-    // The setup, the input, what is written, and how many entries are recorded then.
-    let cases: [(&[u8], &[u8], &[u8], u64); 10] = [
-        (SETUP, ALARM, ALARM_REPLY, 3),
-        (
-            SETUP,
-            b"xyz\n1BC\n2EE70027\"ADM-CID\"0001L0#1234[#1234|1131 01 001]\r",
-            ALARM_REPLY,
-            3,
-        ),
-        // A receiver, no account in the block, and a tail.
-        (
-            SETUP,
-            b"\n90F10038\"ADM-CID\"0001R1L2#1234[|1131 01 001]_01:46:40,09-09-2001\r",
-            b"\nC7370014\"ACK\"0001R1L2#1234[]\r",
-            3,
-        ),
-        // Heartbeats are recorded each time.
-        (
-            SETUP,
-            b"\n1EF20013\"NULL\"0000L0#1234[]\r\n1EF20013\"NULL\"0000L0#1234[]\r",
-            b"\nDE900012\"ACK\"0000L0#1234[]\r\nDE900012\"ACK\"0000L0#1234[]\r",
-            4,
-        ),
-        (
-            SETUP,
-            b"\nAA860027\"NULL\"0000L0#1234[]_01:46:40,09-09-2001\r",
-            b"\nDE900012\"ACK\"0000L0#1234[]\r",
-            3,
-        ),
-        // Another token, another account, and a sealed message of an account without a key.
-        (SETUP, b"\n8D080012\"ABC\"0001L0#1234[]\r", DUH, 2),
-        (
-            SETUP,
-            b"\nB2BB0027\"ADM-CID\"0001L0#9999[#9999|1131 01 001]\r",
-            b"\nB7290012\"DUH\"0001L0#9999[]\r",
-            2,
-        ),
-        (
-            SETUP,
-            b"\nC7F30036\"*ADM-CID\"0001L0#1234[69C4E0D86A7B0430D8CDB78070B4C55A\r",
-            DUH,
-            2,
-        ),
-        // SIA data, with a second block and with an event that no table lists.
-        (
-            SIX_DIGITS,
-            b"\n1FDE003B\"SIA-DCS\"0001L0#12345A[#12345A|NFA129][S123Main St., 55123]\r",
-            b"\n7C360014\"ACK\"0001L0#12345A[]\r",
-            3,
-        ),
-        (
-            SIX_DIGITS,
-            b"\nC1120028\"SIA-DCS\"0002L0#12345A[#12345A|Nri1/ZQ7]\r",
-            b"\n78320014\"ACK\"0002L0#12345A[]\r",
-            3,
-        ),
-    ];
-    for (setup, input, output, recorded) in cases {
-        let mut port = port_of(rt.alloc(), input, BEGIN)?;
-        let came = session(rt.alloc(), setup, &mut port)?;
-        assert_eq!(rt; came, (LineEnd::InputEnded, recorded), "on {input:?}");
-        assert_eq!(rt; port.sink.bytes(), output, "on {input:?}");
-    }
+// Compares what is written and recorded after a row's frames with what it wants.
+fn compare(rt: &impl Abort, alloc: Global, row: &str) -> Result<(), Fail> {
+    let Some((account, rest)) = row.split_once(';') else {
+        return Ok(());
+    };
+    let (count, frames, replies) = row_of(rest).ok_or("a whole row")?;
+    let setup = format!(in alloc; "account {account}\n")?;
+    let input = framed(alloc, frames)?;
+    let output = framed(alloc, replies)?;
+    let mut port = port_of(alloc, &input, BEGIN)?;
+    let came = session(alloc, setup.as_bytes(), &mut port)?;
+    assert_eq!(rt; came, (LineEnd::InputEnded, count.parse()?), "{row}");
+    assert_eq!(rt; port.sink.bytes(), output.as_slice(), "{row}");
     Ok(())
 }
 
+#[test]
+fn frames_have_their_replies(rt: HostRuntime) -> Result<(), Fail> {
+    for row in ROWS.lines() {
+        compare(&rt, rt.alloc(), row)?;
+    }
+    Ok(())
+}
 // A frame of this front, so many letters, and a bracket.
 fn lettered(alloc: Global, front: &[u8], count: usize) -> Result<Vec<u8>, Fail> {
     let mut frame = front.to_vec(alloc)?;

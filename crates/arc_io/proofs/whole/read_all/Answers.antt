@@ -14,5 +14,5 @@ returns-in_default-extend_from_slice-clause-part g c =
     let few : length piece ≤ c.args.limit - length bytes = grind (arith, common_steps, length-take, c.in-Ok.ensures.bound, c.min-room.ensures, c.len-in-loop-piece.ensures, c.read.auto.buf) in (
       bytes ++ piece,
       omega (arith, length-append bytes piece, few, c.loop-piece.invariant.within),
-      c.loop-piece.invariant.read ∙ ap (prepend_known bytes) {y = prepend_known piece (g.S.Ends.left c.read.new.self)} c.in-Ok.ensures.bytes.0 ∙ known_taken _ bytes piece,
+      c.loop-piece.invariant.read ∙ ap (prepend_known bytes) {y = prepend_known piece (g.S.Ends.seen c.read.new.self).left} c.in-Ok.ensures.told.bytes.0 ∙ known_taken _ bytes piece,
     )

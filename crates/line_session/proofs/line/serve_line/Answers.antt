@@ -1,52 +1,58 @@
 use Rattle.std.proofs.Common.{◌≤◌, ◌-◌, ◌++◌, [], ℕ, List, length, take, Ok, Err, refl, sym, ◌∙◌, ap, subst, arith, length-take}
 use Rattle.std.specs.Io.KnownBytes.{prepend_known}
 use Rattle.arc_io.specs.Causes.{Rose}
-use Rattle.alarm_rules.specs.Setups.{meaning}
-use Rattle.line_session.specs.Lines.{input_limit}
+use Rattle.arc_io.specs.Seen.{PortSeen}
+use Rattle.arc_io.proofs.KnownMore.{prepend_none}
+use Rattle.session_rules.proofs.Made.{session_none}
+use Rattle.session_rules.specs.Inputs.{input_limit}
+use Rattle.line_session.specs.Sessions.{line_rules}
+use Rattle.line_session.specs.Turns.{line_turns}
 use Rattle.line_session.specs.declared.line_end.LineEnd.TheVariants.{InputEnded, ReadFault}
-use Rattle.line_session.proofs.Ported.{line_rests, line_ends, line_goes, all_in_limit, read_more, prepend_none, rose_earlier, ended_by, serves_under}
-use Rattle.line_session.proofs.Turned.{session_none}
+use Rattle.line_session.proofs.Followed.{kept_more}
+use Rattle.line_session.proofs.Ported.{line_rests, line_ends, line_goes, all_in_limit, not_out, taken_not_out, read_more, rose_earlier, ended_by}
+use Rattle.line_session.proofs.Served.{serves_all}
 use Rattle.line_session.proofs.line.serve_line.Goals as goal
 
 pub pieces-init : goal.pieces-init
 pieces-init g c = record {
-  ready = c.requires;
-  text = refl;
-  caller = refl;
+  kept = record { ready = c.requires.ready; text = refl; caller = refl };
   done = record {
     stream = [];
     took = c.new-state.ensures;
-    taken = prepend_none (g.P.Ends.left c.args.port.now);
+    taken = prepend_none (g.P.Ends.seen c.args.port.now).left;
+    not_ended = c.requires.not_ended;
     reads = omega arith;
     writes = omega arith;
-    session = λ b h s. session_none b (meaning (g.H.Hall.text c.args.hall.now)) (g.H.Hall.caller c.args.hall.now) h _ _ _ _ _ _ s (g.met.H.Hall.legal c.args.hall.now b h s) refl refl refl refl;
+    session = λ b h s. session_none line_turns (line_rules b (g.H.Hall.seen c.args.hall.now) (g.H.Hall.seen c.args.hall.now)) b h refl ([], refl) s (g.met.H.Hall.legal c.args.hall.now b h s) (record { rest = refl });
   };
 }
 
 pub returns-in-Err-clause-line : goal.returns-in-Err-clause-line
 returns-in-Err-clause-line g c =
-    let done = c.pieces.invariant.done in (
+    let done = c.pieces.invariant.done in
+    let told = c.in-Err.ensures.told in (
       done.stream,
       record {
-        taken = done.taken ∙ ap (prepend_known done.stream) (sym c.in-Err.ensures.bytes);
-        cause = (rose_earlier _ _ _ done.reads c.in-Err.ensures.cause.failed, done.took.short);
+        taken = done.taken ∙ ap (prepend_known done.stream) (sym told.bytes);
+        out = not_out (g.P.Ends.seen c.read_piece.new.port).ended ReadFault (told.end ∙ done.not_ended) (λ is. cc);
+        cause = (rose_earlier _ _ _ done.reads told.cause.failed, done.took.short);
       },
-      λ b h s. line_rests b (meaning (g.H.Hall.text c.args.hall.now)) (g.H.Hall.caller c.args.hall.now) h ReadFault done.stream _ _ _ _ _ _ _ tt
-          c.read_piece.ensures.written c.read_piece.ensures.readings c.read_piece.ensures.noise (done.session b h s),
+      λ b h s. line_rests b h ReadFault done.stream tt c.read_piece.ensures.told.others (done.session b h s),
     )
 
 pub returns-in-Ok-eq0-clause-line : goal.returns-in-Ok-eq0-clause-line
 returns-in-Ok-eq0-clause-line g c =
     let done = c.pieces.invariant.done in
-    let read = c.in-Ok-eq0.ensures.bytes in
-    let nothing = ap (λ n. prepend_known (take n c.read_piece.new.buffer) (g.P.Ends.left c.read_piece.new.port)) c.in-Ok-eq0.field-0-test in (
+    let told = c.in-Ok-eq0.ensures.told in
+    let none = c.in-Ok-eq0.field-0-test in
+    let nothing = ap (λ n. prepend_known (take n c.read_piece.new.buffer) (g.P.Ends.seen c.read_piece.new.port).left) none in (
       done.stream,
       record {
-        taken = done.taken ∙ ap (prepend_known done.stream) (read.0 ∙ nothing ∙ sym (prepend_none (g.P.Ends.left c.read_piece.new.port)));
-        cause = (read.1 c.in-Ok-eq0.field-0-test, done.took.short);
+        taken = done.taken ∙ ap (prepend_known done.stream) (told.bytes.0 ∙ nothing ∙ sym (prepend_none (g.P.Ends.seen c.read_piece.new.port).left));
+        out = (λ out. refl, λ is. told.end.0 none (omega arith));
+        cause = (told.bytes.1 none (omega arith), done.took.short);
       },
-      λ b h s. line_rests b (meaning (g.H.Hall.text c.args.hall.now)) (g.H.Hall.caller c.args.hall.now) h InputEnded done.stream _ _ _ _ _ _ _ tt
-          c.read_piece.ensures.written c.read_piece.ensures.readings c.read_piece.ensures.noise (done.session b h s),
+      λ b h s. line_rests b h InputEnded done.stream tt c.read_piece.ensures.told.others (done.session b h s),
     )
 
 pub returns-in-Err-take-clause-line : goal.returns-in-Err-take-clause-line
@@ -58,16 +64,18 @@ returns-in-Err-take-clause-line g c =
     let room : c.min-most.result ≤ input_limit - length stream = omega (arith, c.min-most.ensures, c.room.ensures, done.took.count) in
     let fits : length piece ≤ input_limit - length stream = omega (arith, size, c.in-Ok.ensures.bound, room) in
     let short : length piece ≤ 4096 = omega (arith, size, c.in-Ok.ensures.bound, c.min-most.ensures) in
-    let end = c.in-Err-take.end in (
+    let told = c.in-Ok.ensures.told in
+    let end = c.in-Err-take.end in
+    let port = c.in-Err-take.ensures.port in (
       stream ++ piece,
       record {
-        taken = read_more _ _ _ stream piece done.taken (c.in-Ok.ensures.bytes.0 ∙ ap (prepend_known piece) (sym c.in-Err-take.ensures.left));
+        taken = read_more _ _ _ stream piece done.taken (told.bytes.0 ∙ ap (prepend_known piece) (sym (ap (λ (p : PortSeen). p.left) port.rest)));
+        out = not_out (g.P.Ends.seen c.take.new.port).ended end (ap (λ (p : PortSeen). p.ended) port.rest ∙ told.end.1 (λ none. absurd (c.in-Ok.count-test.1 none)) ∙ done.not_ended) (taken_not_out end stream piece c.take.new.self (c.in-Err-take.ensures.taken stream done.took));
         cause = ended_by end stream piece c.take.new.self _ _ (c.in-Err-take.ensures.taken stream done.took) done.took.short fits
-            (λ is. rose_earlier _ _ _ done.writes (subst (λ n. Rose n (g.P.Ends.write_faults c.take.new.port)) c.read_piece.ensures.write_faults (c.in-Err-take.ensures.write (ap Err is))));
+            (λ is. rose_earlier _ _ _ done.writes (subst (λ n. Rose n (g.P.Ends.seen c.take.new.port).write_faults) (ap (λ (p : PortSeen). p.write_faults) c.read_piece.ensures.told.others.rest) (port.rose (ap Err is))));
       },
-      λ b h s. line_ends b (meaning (g.H.Hall.text c.args.hall.now)) (g.H.Hall.caller c.args.hall.now) h end stream piece _ _ _ _ _ _ _ _ _ _ _ short
-          c.read_piece.ensures.written c.read_piece.ensures.readings c.read_piece.ensures.noise (done.session b h s)
-          (λ x sx. serves_under (Err end) stream _ piece b _ _ _ _ x _ _ _ _ _ _ (all_in_limit stream piece fits) (ap meaning c.pieces.invariant.text) c.pieces.invariant.caller (c.in-Err-take.ensures.served stream b x done.took sx)),
+      λ b h s. line_ends b h stream piece c.pieces.invariant.kept c.read_piece.ensures.told.others (done.session b h s) end short
+          (λ x sx. serves_all (Err end) stream piece b x (all_in_limit stream piece fits) (c.in-Err-take.ensures.served stream b x done.took sx)),
     )
 
 pub pieces-preserved : goal.pieces-preserved
@@ -78,18 +86,18 @@ pieces-preserved g c =
     let size : length piece ≤ c.in-Ok.count = omega (arith, length-take c.in-Ok.count c.read_piece.new.buffer) in
     let room : c.min-most.result ≤ input_limit - length stream = omega (arith, c.min-most.ensures, c.room.ensures, done.took.count) in
     let fits : length piece ≤ input_limit - length stream = omega (arith, size, c.in-Ok.ensures.bound, room) in
+    let told = c.in-Ok.ensures.told in
+    let port = c.in_default.ensures.port in
     record {
-      ready = c.in_default.ensures.ready;
-      text = c.in_default.ensures.text ∙ c.pieces.invariant.text;
-      caller = c.in_default.ensures.caller ∙ c.pieces.invariant.caller;
+      kept = kept_more c.pieces.invariant.kept c.in_default.ensures.kept;
       done = record {
         stream = stream ++ piece;
         took = c.in_default.ensures.taken stream done.took;
-        taken = read_more _ _ _ stream piece done.taken (c.in-Ok.ensures.bytes.0 ∙ ap (prepend_known piece) (sym c.in_default.ensures.left));
-        reads = omega (arith, done.reads, c.in-Ok.ensures.cause.later, c.in_default.ensures.read_faults);
-        writes = omega (arith, done.writes, c.read_piece.ensures.write_faults, c.in_default.ensures.later);
-        session = λ b h s. line_goes b (meaning (g.H.Hall.text c.args.hall.now)) (g.H.Hall.caller c.args.hall.now) h stream piece _ _ _ _ _ _ _ _ _ _ _
-            c.read_piece.ensures.written c.read_piece.ensures.readings c.read_piece.ensures.noise (done.session b h s)
-            (λ x sx. serves_under (Ok tt) stream _ piece b _ _ _ _ x _ _ _ _ _ _ (all_in_limit stream piece fits) (ap meaning c.pieces.invariant.text) c.pieces.invariant.caller (c.in_default.ensures.served stream b x done.took sx));
+        taken = read_more _ _ _ stream piece done.taken (told.bytes.0 ∙ ap (prepend_known piece) (sym (ap (λ (p : PortSeen). p.left) port.rest)));
+        not_ended = ap (λ (p : PortSeen). p.ended) port.rest ∙ told.end.1 (λ none. absurd (c.in-Ok.count-test.1 none)) ∙ done.not_ended;
+        reads = omega (arith, done.reads, told.cause.later, ap (λ (p : PortSeen). p.read_faults) port.rest);
+        writes = omega (arith, done.writes, ap (λ (p : PortSeen). p.write_faults) c.read_piece.ensures.told.others.rest, port.later);
+        session = λ b h s. line_goes b h stream piece c.pieces.invariant.kept c.read_piece.ensures.told.others (done.session b h s)
+            (λ x sx. serves_all (Ok tt) stream piece b x (all_in_limit stream piece fits) (c.in_default.ensures.served stream b x done.took sx));
       };
     }

@@ -14,8 +14,9 @@ returns c =
       entries = refl;
       recorded = refl;
       last = refl;
-      same = record {
+      same = λ reply. record {
         text = refl;
+        start = refl;
         recent = λ a. ap (take 32) (row_messages a c.push_reserved.new.self.items
             ∙ ap (messages_of a) c.push_reserved.ensures.items
             ∙ messages_of-last a old past

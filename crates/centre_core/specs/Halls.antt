@@ -1,0 +1,58 @@
+-- What a hall tells, and what a call of it leaves. A hall stands for histories over a beginning, and of each a part is its
+-- caller's own.
+use Rattle.std.specs.Prelude.{◌≡◌, ℕ, List, ◌∷◌}
+use Rattle.arc_data.specs.declared.event.Event.{Event}
+use Rattle.centre_rules.specs.Summary.{Summary}
+use Rattle.centre_rules.specs.History.{Entry, Extends, moment_after}
+use Rattle.centre_rules.specs.Answers.{IsLegal}
+use Rattle.centre_core.specs.declared.hall.Stop.{Stop}
+
+-- What it tells at one moment.
+pub record HallSeen : Type 1 where
+  -- calls may be made
+  pub ready : Type 0
+  -- the text of the setup in force
+  pub text : List ℕ
+  -- the number under which its caller's entries stand
+  pub caller : ℕ
+  -- the histories, over a beginning, for which it stands
+  pub stands : Summary → List Entry → Type 0
+  -- the part of such a history that its caller made
+  pub own : List Entry → List Entry
+  -- what it shows after a stop of an event at a reading of the clock: that the stop had its cause
+  pub shows : Stop → Event → ℕ → Type 0
+
+-- What each call leaves: calls may be made, under the same setup, for the same caller.
+pub record IsKept (hall hall' : HallSeen) : Type 0 where
+  pub ready : hall'.ready
+  pub text : hall'.text ≡ hall.text
+  pub caller : hall'.caller ≡ hall.caller
+
+-- From h on, the hall stands for a history that ends with this entry. before is that history without the entry.
+pub record GoesOn (b : Summary) (hall hall' : HallSeen) (h : List Entry) (clock : ℕ) (e : Entry) : Type 0 where
+  pub before : List Entry
+  pub extends : Extends h before
+  pub holds : hall'.stands b (e ∷ before)
+  pub legal : IsLegal b (e ∷ before)
+  pub at : e.at ≡ moment_after b before clock
+  pub own : hall'.own (e ∷ before) ≡ e ∷ hall.own h
+
+-- From h on, the hall stands for a legal history to which this call added nothing.
+pub record Waits (b : Summary) (hall hall' : HallSeen) (h : List Entry) : Type 0 where
+  pub now : List Entry
+  pub extends : Extends h now
+  pub holds : hall'.stands b now
+  pub legal : IsLegal b now
+  pub own : hall'.own now ≡ hall.own h
+
+-- The hall took the event at a reading, as the caller's next entry behind others.
+pub record TookEvent (b : Summary) (hall hall' : HallSeen) (h : List Entry) (event : Event) (reading : ℕ) : Type 0 where
+  pub entry : Entry
+  pub goes : GoesOn b hall hall' h reading entry
+  pub by : entry.caller ≡ hall.caller
+  pub of : entry.event ≡ event
+
+-- The hall stopped: nothing of the caller's was added, and the stop had its cause.
+pub record LeftEvent (stop : Stop) (b : Summary) (hall hall' : HallSeen) (h : List Entry) (event : Event) (reading : ℕ) : Type 0 where
+  pub waits : Waits b hall hall' h
+  pub cause : hall'.shows stop event reading

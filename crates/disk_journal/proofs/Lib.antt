@@ -1,0 +1,4 @@
+pub mod Gates
+pub mod Pieces
+pub mod Windows
+pub mod Once

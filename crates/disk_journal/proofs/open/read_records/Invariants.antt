@@ -1,0 +1,21 @@
+use Rattle.std.proofs.Common.{◌≡◌, ◌≤◌, ◌<◌, ◌+◌, ◌-◌}
+use Rattle.arc_io.specs.Crashes.{IsQuiet}
+use Rattle.disk_journal.specs.Records.{HaveSizes, size}
+use Rattle.disk_journal.specs.Reading.{Shows}
+use Rattle.disk_journal.proofs.Pieces.{ReadTo}
+use Rattle.disk_journal.proofs.open.read_records.Given as goal
+
+abbrev pub invariant-loop-bodies : goal.invariant-loop-bodies
+invariant-loop-bodies g l = record {
+  before : l.before ≤ g.D.Disk.fault_count l.disk;
+  later : g.D.Disk.fault_count l.initial.disk ≤ g.D.Disk.fault_count l.disk;
+  within : l.at < l.len;
+  sizes : HaveSizes l.bodies;
+  used : l.at + 1 ≡ size l.bodies;
+  read : ReadTo (g.D.Disk.told l.initial.disk) l.at l.bodies;
+  piece : Shows (g.D.Disk.told l.disk) l.window;
+  quiet : IsQuiet g.D.Disk.told g.D.Disk.may_leave g.D.Disk.moment g.D.Disk.left_since l.initial.disk l.disk;
+}
+
+abbrev pub decreases-loop-bodies : goal.decreases-loop-bodies
+decreases-loop-bodies g l = l.len - l.at

@@ -1,0 +1,56 @@
+-- When each refusal comes.
+use Rattle.std.specs.Prelude.{◌≡◌, ◌⊎◌, ◌≤◌, ◌<◌, ◌+◌, ℕ, List}
+use Rattle.arc_io.specs.Causes.{Rose}
+use Rattle.disk_journal.specs.Records.{Stands, IsNoJournal, IsOfVersion, IsDamaged}
+use Rattle.disk_journal.specs.declared.fault.OpenFault.{OpenFault}
+use Rattle.disk_journal.specs.declared.fault.AppendFault.{AppendFault}
+use Rattle.disk_journal.specs.declared.fault.OpenFault.TheVariants as Open
+use Rattle.disk_journal.specs.declared.fault.AppendFault.TheVariants as Append
+
+-- the disk failed between these two counts, and the fault has both
+pub record Counts (before now was is : ℕ) : Type 0 where
+  pub was_is : was ≡ before
+  pub is_is : is ≡ now
+  pub rose : Rose before now
+
+-- what a refusal of `open` says of the area's bytes
+abbrev pub IsShown : OpenFault → List ℕ → Type 0
+IsShown (Open.DiskFault was is) bytes = Unit {0}
+IsShown (Open.NotJournal byte) bytes = IsNoJournal bytes byte
+IsShown (Open.WrongVersion found) bytes = IsOfVersion bytes found
+IsShown (Open.Damaged place) bytes = IsDamaged bytes place
+IsShown Open.Memory bytes = Unit {0}
+
+-- it speaks of the area's bytes, and not of the disk or of memory
+abbrev pub IsOfContent : OpenFault → Type 0
+IsOfContent (Open.DiskFault was is) = ⊥
+IsOfContent (Open.NotJournal byte) = Unit {0}
+IsOfContent (Open.WrongVersion found) = Unit {0}
+IsOfContent (Open.Damaged place) = Unit {0}
+IsOfContent Open.Memory = ⊥
+
+-- What the bytes of an area answer: one list or one refusal of content, and no other. So each of these comes exactly where
+-- its case holds, as long as the disk and the memory do not fail.
+pub record HasOneAnswer (bytes : List ℕ) : Type 0 where
+  pub lists : (one other : List (List ℕ)) → Stands bytes one → Stands bytes other → one ≡ other
+  pub faults : (one other : OpenFault) → IsOfContent one → IsOfContent other → IsShown one bytes → IsShown other bytes → one ≡ other
+  pub apart : (bodies : List (List ℕ)) (fault : OpenFault) → IsOfContent fault → Stands bytes bodies → IsShown fault bytes → ⊥
+
+-- and of the disk's counts: a fault of the disk comes only where it failed
+abbrev pub HasCounts : OpenFault → ℕ → ℕ → Type 0
+HasCounts (Open.DiskFault was is) before now = Counts before now was is
+HasCounts fault before now = Unit {0}
+
+-- so many bytes or one record more is over the limits
+abbrev pub IsOver : ℕ → ℕ → ℕ → ℕ → ℕ → Type 0
+IsOver used need records most_bytes most_records = (most_bytes < used + need) ⊎ (most_records ≤ records)
+
+-- the answer is Full, with these numbers
+abbrev pub IsFull : ℕ → ℕ → ℕ → AppendFault → Type 0
+IsFull used need records (Append.Full u n r) = (u ≡ used) × (n ≡ need) × (r ≡ records)
+IsFull used need records (Append.DiskFault was is) = ⊥
+
+-- Full comes only where this is so, and a fault of the disk only where it failed
+abbrev pub HasCountsOf : Type 0 → ℕ → ℕ → AppendFault → Type 0
+HasCountsOf over before now (Append.Full u n r) = over
+HasCountsOf over before now (Append.DiskFault was is) = Counts before now was is

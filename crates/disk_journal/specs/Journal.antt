@@ -1,0 +1,33 @@
+-- What a journal over a disk holds.
+use Rattle.std.specs.Prelude.{◌≡◌, ◌⊎◌, ◌<◌, ◌^◌, ℕ, List, [], ◌∷◌, ◌++◌, length, Option, IfSome, vec_len, Result, Ok, Err}
+use Rattle.arc_io.specs.Areas.{Areas}
+use Rattle.disk_journal.specs.Records.{AtRest, Stands, HaveSizes, size}
+use Rattle.disk_journal.specs.declared.journal.Journal.{Journal}
+use Rattle.disk_journal.specs.declared.journal.OpenRefused.{OpenRefused}
+
+-- what a read gives and all that a crash may leave now are at rest with these bodies
+pub record Keeps {D : Type 0} (told : D → Option Areas) (may_leave : D → Areas → Type 0) (disk : D) (bodies : List (List ℕ)) : Type 0 where
+  pub sizes : HaveSizes bodies
+  pub file : IfSome (told disk) (λ s. AtRest s.a bodies)
+  pub images : (c : Areas) → may_leave disk c → AtRest c.a bodies
+
+-- the journal has these bodies
+pub record Holds {D : Type 0} (told : D → Option Areas) (may_leave : D → Areas → Type 0) (j : Journal D)
+    (bodies : List (List ℕ)) : Type 0 where
+  pub used : j.used ≡ size bodies
+  pub count : j.records ≡ length bodies
+  pub few : j.limits.bytes < 2 ^ 32
+  pub kept : Keeps told may_leave j.disk bodies
+
+-- the room for records that was reserved
+abbrev pub room_of : {D : Type 0} → Journal D → ℕ
+room_of j = vec_len j.room
+
+-- the disk after an opening, which the journal has or the refusal gives back
+abbrev pub disk_after : {D B : Type 0} → Result (Journal D × B) (OpenRefused D) → D
+disk_after (Ok r) = r.0.disk
+disk_after (Err r) = r.disk
+
+-- the bytes stand for these bodies, or for them with one more
+abbrev pub StandsForEither : List (List ℕ) → List ℕ → List ℕ → Type 0
+StandsForEither bodies body bytes = Stands bytes bodies ⊎ Stands bytes (bodies ++ body ∷ [])

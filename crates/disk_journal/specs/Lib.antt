@@ -1,0 +1,5 @@
+pub mod Records
+pub mod Reading
+pub mod Faults
+pub mod Journal
+pub mod OtherArea

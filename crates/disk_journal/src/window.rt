@@ -1,0 +1,142 @@
+// Reading an area from its front to its end, in large pieces, each byte once.
+ghost use Rattle.std.specs.Prelude.{◌≡◌, ◌≤◌, ◌<◌, ◌+◌, ◌^◌, ℕ, List, length, drop, min, OnOk, IfOk, IfErr, IfSome, vec_len};
+ghost use Rattle.arc_io.specs.Areas.{Areas};
+ghost use Rattle.arc_io.specs.Crashes.{IsQuiet, IsRead};
+ghost use Rattle.disk_journal.specs.Faults.{IsShown, IsOfContent, HasCounts};
+
+use crate::fault::OpenFault;
+use arc_data::Memory;
+use arc_io::{Area, Disk, Failed};
+use std::alloc::Global;
+
+// The last piece of area A that was read: so many bytes from this place on stand in the room's front.
+#[derive(Drop)]
+pub struct Window {
+    room: Vec<u8>,
+    at: u64,
+    count: usize,
+    ghost within: { count ≤ vec_len room },
+}
+
+impl Window {
+    ghost use Rattle.disk_journal.specs.Reading.{IsFilled, IsPiece, Shows};
+
+    // A window in which nothing stands yet, with room for so many bytes.
+    pub fn new(alloc: Global, size: usize) -> Result<Window, Memory>
+        ensures { IfOk result (λ w. w.count ≡ 0) }
+    {
+        match vec![in alloc; 0; size] {
+            Ok(room) => Ok(Window {
+                room,
+                at: 0,
+                count: 0,
+            }),
+            Err(_) => Err(Memory),
+        }
+    }
+
+    // Copies what stands in the window from the place on, and answers how many bytes.
+    fn give(&self, at: u64, buf: &mut [u8]) -> usize
+        ensures bound { result ≤ length buf.new }
+        ensures given { (bytes : List ℕ) → IsPiece bytes self.now.at self.now.count self.now.room.items → IsPiece bytes at result buf.new }
+        ensures all { self.now.at ≡ at → result ≡ min (length buf.new) self.now.count }
+    {
+        if at < self.at || at - self.at >= self.count as u64 {
+            return 0;
+        }
+        let from = (at - self.at) as usize;
+        let count = buf.len().min(self.count - from);
+        buf[..count].copy_from_slice(&self.room[from..from + count]);
+        count
+    }
+
+    // Reads the next piece into the window, from the place on.
+    fn slide<D: Disk>(&mut self, disk: &mut D, before: u64, at: u64) -> Result<(), OpenFault>
+        requires before { before ≤ D.fault_count disk.old }
+        ensures place { OnOk result (self.new.at ≡ at) }
+        ensures room { vec_len self.new.room ≡ vec_len self.old.room }
+        ensures count { OnOk result (IfSome (D.told disk.old) (λ s. self.new.count ≡ min (vec_len self.new.room) (length (drop at s.a)))) }
+        ensures piece { OnOk result (Shows (D.told disk.old) self.new) }
+        ensures quiet { IsQuiet D.told D.may_leave D.moment D.left_since disk.old disk.new }
+        ensures later { D.fault_count disk.old ≤ D.fault_count disk.new }
+        ensures counts { IfErr result (λ f. HasCounts f before (D.fault_count disk.new)) }
+        ensures shown { IfErr result (λ f. (IsOfContent f → ⊥) × ((bytes : List ℕ) → IsShown f bytes)) }
+    {
+        self.count = 0;
+        self.count = read(disk, before, at, &mut self.room)?;
+        self.at = at;
+        Ok(())
+    }
+
+    // Fills the buffer with the bytes from the place on, or answers that fewer stand there.
+    pub fn fill<D: Disk>(
+        &mut self,
+        disk: &mut D,
+        before: u64,
+        at: u64,
+        buf: &mut [u8],
+    ) -> Result<bool, OpenFault>
+        requires before { before ≤ D.fault_count disk.old }
+        requires some { 0 < length buf.old }
+        requires fits { at + length buf.old < 2 ^ 64 }
+        requires piece { Shows (D.told disk.old) self.old }
+        ensures bytes { IfOk result (λ full. IfSome (D.told disk.old) (λ s. IsFilled s.a at full buf.new)) }
+        ensures piece { OnOk result (Shows (D.told disk.old) self.new) }
+        ensures quiet { IsQuiet D.told D.may_leave D.moment D.left_since disk.old disk.new }
+        ensures later { D.fault_count disk.old ≤ D.fault_count disk.new }
+        ensures counts { IfErr result (λ f. HasCounts f before (D.fault_count disk.new)) }
+        ensures shown { IfErr result (λ f. (IsOfContent f → ⊥) × ((bytes : List ℕ) → IsShown f bytes)) }
+    {
+        let given = self.give(at, buf);
+        if given == buf.len() {
+            return Ok(true);
+        }
+        let full = self.fill_rest(disk, before, at + given as u64, &mut buf[given..])?;
+        Ok(full)
+    }
+
+    // The same for bytes of which none stands in the window. What would take a whole window is read past it.
+    fn fill_rest<D: Disk>(
+        &mut self,
+        disk: &mut D,
+        before: u64,
+        at: u64,
+        buf: &mut [u8],
+    ) -> Result<bool, OpenFault>
+        requires before { before ≤ D.fault_count disk.old }
+        requires some { 0 < length buf.old }
+        requires piece { Shows (D.told disk.old) self.old }
+        ensures bytes { IfOk result (λ full. IfSome (D.told disk.old) (λ s. IsFilled s.a at full buf.new)) }
+        ensures piece { OnOk result (Shows (D.told disk.old) self.new) }
+        ensures quiet { IsQuiet D.told D.may_leave D.moment D.left_since disk.old disk.new }
+        ensures later { D.fault_count disk.old ≤ D.fault_count disk.new }
+        ensures counts { IfErr result (λ f. HasCounts f before (D.fault_count disk.new)) }
+        ensures shown { IfErr result (λ f. (IsOfContent f → ⊥) × ((bytes : List ℕ) → IsShown f bytes)) }
+    {
+        if buf.len() >= self.room.len() {
+            let count = read(disk, before, at, buf)?;
+            return Ok(count == buf.len());
+        }
+        self.slide(disk, before, at)?;
+        Ok(self.give(at, buf) == buf.len())
+    }
+}
+
+// Reads as many bytes as stand from the place on and have room.
+fn read<D: Disk>(disk: &mut D, before: u64, at: u64, buf: &mut [u8]) -> Result<usize, OpenFault>
+    requires before { before ≤ D.fault_count disk.old }
+    ensures bound { IfOk result (λ n. n ≤ length buf.new) }
+    ensures bytes { IfOk result (λ n. IfSome (D.told disk.old) (λ s. IsRead s.a at n buf.new)) }
+    ensures quiet { IsQuiet D.told D.may_leave D.moment D.left_since disk.old disk.new }
+    ensures later { D.fault_count disk.old ≤ D.fault_count disk.new }
+    ensures counts { IfErr result (λ f. HasCounts f before (D.fault_count disk.new)) }
+    ensures shown { IfErr result (λ f. (IsOfContent f → ⊥) × ((bytes : List ℕ) → IsShown f bytes)) }
+{
+    match disk.read_at(Area::A, at, buf) {
+        Ok(count) => Ok(count),
+        Err(Failed) => Err(OpenFault::DiskFault {
+            before,
+            now: disk.faults(),
+        }),
+    }
+}

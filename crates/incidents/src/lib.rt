@@ -1,0 +1,11 @@
+//! The table of open incidents: in order of number, at most one of an account and a class.
+#![tactic(auto)]
+
+mod index;
+mod table;
+
+pub use arc_data::{Acted, Acts, Class, Incident, Memory, Outcome, Step, StepList, Txt};
+pub use table::Table;
+
+#[cfg(test)]
+mod tests;

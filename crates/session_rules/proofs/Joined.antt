@@ -1,0 +1,121 @@
+-- Sessions behind one another.
+use Rattle.std.proofs.Common.{◌≡◌, ◌++◌, ℕ, List, sym, ◌∙◌, ap, subst, append_assoc, append-nil}
+use Rattle.std.specs.Prelude.{reverse}
+use Rattle.arc_io.specs.Added.{Added, Adds, both}
+use Rattle.arc_io.specs.Seen.{PortSeen}
+use Rattle.arc_io.specs.Told.{OnlyReads}
+use Rattle.arc_io.proofs.Adding.{adds_both, adds_read}
+use Rattle.centre_core.specs.Halls.{HallSeen}
+use Rattle.centre_core.specs.declared.hall.Stop.{Stop}
+use Rattle.centre_rules.specs.Summary.{Summary}
+use Rattle.centre_rules.specs.History.{Entry}
+use Rattle.session_rules.specs.Turns.{Kind, Rules, pieces_of, entries_of, added_by}
+use Rattle.session_rules.specs.Sessions.{Ending, answered, cut_off, stopped, IsEnd, IsSession}
+use Rattle.session_rules.proofs.Appended.{pieces-append, ends_more, own_more}
+
+-- What holds of some turns, and then of others behind them, holds of all.
+pub record Follows {T : Type 0} (first next all : Rules T) (h : List Entry) : Type 0 where
+  pub turns : (x y : List Entry) (ts us : List T) → first.are_turns h x ts → next.are_turns x y us → all.are_turns h y (ts ++ us)
+  pub cause : (stop : Stop) (piece : List ℕ) (reading : ℕ) → next.is_cause stop piece reading → all.is_cause stop piece reading
+  pub behind : (us : List T) → next.may_be_behind us → all.may_be_behind us
+
+-- an end that leaves pieces
+abbrev pub IsEarly : Ending → Type 0
+IsEarly answered = ⊥
+IsEarly cut_off = Unit {0}
+IsEarly (stopped stop) = Unit {0}
+
+module _ {T : Type 0} (kind : Kind T) where
+  pub ends_under : (next all : Rules T) (end : Ending) (turns behind : List T) (a : Added) (rest : List (List ℕ)) → ((stop : Stop) (piece : List ℕ) (reading : ℕ) → next.is_cause stop piece reading → all.is_cause stop piece reading)
+      → IsEnd kind next end turns behind a rest → IsEnd kind all end turns behind a rest
+  ends_under next all answered turns behind a rest cause e = e
+  ends_under next all cut_off turns behind a rest cause e = e
+  ends_under next all (stopped stop) turns behind a rest cause e = record {
+    front = e.front;
+    piece = e.piece;
+    more = e.more;
+    reading = e.reading;
+    split = e.split;
+    next = e.next;
+    added = e.added;
+    cause = cause stop e.piece e.reading e.cause;
+  }
+
+  -- the pieces of a session that answered all
+  pub all_pieces : {rules : Rules T} {b : Summary} {xs : List (List ℕ)} {h : List Entry} {hall hall' : HallSeen} {p p' : PortSeen} (s : IsSession kind rules answered b xs h hall hall' p p') → xs ≡ pieces_of kind s.turns
+  all_pieces {rules} {b} {xs} {h} {hall} {hall'} {p} {p'} s = s.taken ∙ ap (λ (l : List (List ℕ)). pieces_of kind s.turns ++ l) s.ended.none_left ∙ append-nil (pieces_of kind s.turns)
+
+  -- A session that answered all, and then a session over what follows.
+  unfoldable pub session_then : {first_rules next_rules rules : Rules T} {end : Ending} {b : Summary} {xs ys : List (List ℕ)} {h : List Entry} {hall mid last : HallSeen} {p q r : PortSeen}
+      → Follows first_rules next_rules rules h → (first : IsSession kind first_rules answered b xs h hall mid p q) → IsSession kind next_rules end b ys first.history mid last q r
+      → IsSession kind rules end b (xs ++ ys) h hall last p r
+  session_then {first_rules} {next_rules} {rules} {end} {b} {xs} {ys} {h} {hall} {mid} {last} {p} {q} {r} law first next = record {
+    turns = first.turns ++ next.turns;
+    behind = next.behind;
+    history = next.history;
+    added = both (added_by kind first.turns) next.added;
+    left = next.left;
+    taken =
+        ap (λ (l : List (List ℕ)). l ++ ys) (all_pieces first) ∙ ap (λ (l : List (List ℕ)). pieces_of kind first.turns ++ l) next.taken
+        ∙ sym (append_assoc (pieces_of kind first.turns) (pieces_of kind next.turns) next.left)
+        ∙ ap (λ (l : List (List ℕ)). l ++ next.left) (sym (pieces-append kind first.turns next.turns));
+    each = law.turns first.history next.history first.turns next.turns first.each next.each;
+    holds = next.holds;
+    legal = next.legal;
+    own = next.own ∙ ap (λ (l : List Entry). reverse (entries_of kind next.turns) ++ l) first.own ∙ own_more kind first.turns next.turns (hall.own h);
+    adds = adds_both (subst (Adds p q) first.ended.added first.adds) next.adds;
+    ended = ends_more kind rules end first.turns next.turns next.behind next.added next.left (ends_under next_rules rules end next.turns next.behind next.added next.left law.cause next.ended);
+    unanswered = law.behind next.behind next.unanswered;
+  }
+
+  -- the same session, and then a read of its port
+  unfoldable pub session_read : {rules : Rules T} {end : Ending} {b : Summary} {xs ys : List (List ℕ)} {h : List Entry} {hall hall' : HallSeen} {p q r : PortSeen}
+      → ys ≡ xs → OnlyReads q r → IsSession kind rules end b xs h hall hall' p q → IsSession kind rules end b ys h hall hall' p r
+  session_read {rules} {end} {b} {xs} {ys} {h} {hall} {hall'} {p} {q} {r} same only s = record {
+    turns = s.turns;
+    behind = s.behind;
+    history = s.history;
+    added = s.added;
+    left = s.left;
+    taken = same ∙ s.taken;
+    each = s.each;
+    holds = s.holds;
+    legal = s.legal;
+    own = s.own;
+    adds = adds_read s.adds only;
+    ended = s.ended;
+    unanswered = s.unanswered;
+  }
+
+  ends_wider : (rules : Rules T) (end : Ending) (turns behind : List T) (a : Added) (rest more : List (List ℕ)) → IsEarly end → IsEnd kind rules end turns behind a rest → IsEnd kind rules end turns behind a (rest ++ more)
+  ends_wider rules answered turns behind a rest more early e = absurd early
+  ends_wider rules cut_off turns behind a rest more early e = e
+  ends_wider rules (stopped stop) turns behind a rest more early e = record {
+    front = e.front;
+    piece = e.piece;
+    more = e.more ++ more;
+    reading = e.reading;
+    split = e.split;
+    next = ap (λ (l : List (List ℕ)). l ++ more) e.next;
+    added = e.added;
+    cause = e.cause;
+  }
+
+  -- A session that ended early, over more pieces: it left them too.
+  pub session_wider : {rules : Rules T} {end : Ending} {b : Summary} {xs : List (List ℕ)} {h : List Entry} {hall hall' : HallSeen} {p p' : PortSeen} (more : List (List ℕ))
+      → IsEarly end → IsSession kind rules end b xs h hall hall' p p' → IsSession kind rules end b (xs ++ more) h hall hall' p p'
+  session_wider {rules} {end} {b} {xs} {h} {hall} {hall'} {p} {p'} more early s = record {
+    turns = s.turns;
+    behind = s.behind;
+    history = s.history;
+    added = s.added;
+    left = s.left ++ more;
+    taken = ap (λ (l : List (List ℕ)). l ++ more) s.taken ∙ append_assoc (pieces_of kind s.turns) s.left more;
+    each = s.each;
+    holds = s.holds;
+    legal = s.legal;
+    own = s.own;
+    adds = s.adds;
+    ended = ends_wider rules end s.turns s.behind s.added s.left more early s.ended;
+    unanswered = s.unanswered;
+  }

@@ -1,0 +1,4 @@
+pub mod Appended
+pub mod Made
+pub mod Joined
+pub mod Ahead

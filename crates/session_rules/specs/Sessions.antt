@@ -1,0 +1,107 @@
+-- What a session of any kind did, by how it ended.
+use Rattle.std.specs.Prelude.{◌≡◌, ◌<◌, ◌≤◌, ◌⊎◌, ◌++◌, ℕ, List, [], ◌∷◌, reverse, take, length}
+use Rattle.arc_data.specs.declared.event.Event.{Event}
+use Rattle.arc_io.specs.Added.{Added, Adds}
+use Rattle.arc_io.specs.Seen.{PortSeen}
+use Rattle.centre_core.specs.Halls.{HallSeen}
+use Rattle.centre_core.specs.declared.hall.Stop.{Stop}
+use Rattle.centre_core.specs.declared.hall.Stop.TheVariants.{Memory}
+use Rattle.centre_rules.specs.Summary.{Summary}
+use Rattle.centre_rules.specs.History.{Entry}
+use Rattle.centre_rules.specs.Answers.{IsLegal}
+use Rattle.session_rules.specs.Turns.{Kind, Rules, pieces_of, entries_of, text_of, readings_of, noise_of, added_by}
+
+-- How a session ended: all that was asked was answered; a write failed within a reply; or there was a stop.
+pub data Ending : Type 0 where
+  answered : Ending
+  cut_off : Ending
+  stopped : Stop → Ending
+
+-- every piece has its turn and its reply, and no more was added than theirs
+pub record AnswersAll {T : Type 0} (kind : Kind T) (turns behind : List T) (a : Added) (rest : List (List ℕ)) : Type 0 where
+  pub added : a ≡ added_by kind turns
+  pub none_behind : behind ≡ []
+  pub none_left : rest ≡ []
+
+-- A write failed within the reply of a turn: a front of it was written that lacks a byte at least. Its entry stands, and so do
+-- those of the turns behind it, which took their readings, but no noise, and have no reply.
+pub record IsCutOff {T : Type 0} (kind : Kind T) (turns behind : List T) (a : Added) : Type 0 where
+  pub front : List T
+  pub last : T
+  pub count : ℕ
+  pub split : turns ≡ front ++ last ∷ behind
+  pub short : count < length (kind.adds last).text
+  pub added : a ≡ record {
+    text = text_of kind front ++ take count (kind.adds last).text;
+    readings = readings_of kind turns;
+    noise = noise_of kind (front ++ last ∷ []);
+  }
+
+-- The next piece took its reading, but was stopped: it has no turn and no reply. The turns behind those that were answered took
+-- their readings, but no noise, and have no reply.
+pub record IsStopped {T : Type 0} (kind : Kind T) (IsCause : List ℕ → ℕ → Type 0) (turns behind : List T) (a : Added)
+    (rest : List (List ℕ)) : Type 0 where
+  pub front : List T
+  pub piece : List ℕ
+  pub more : List (List ℕ)
+  pub reading : ℕ
+  pub split : turns ≡ front ++ behind
+  pub next : rest ≡ piece ∷ more
+  pub added : a ≡ record {
+    text = text_of kind front;
+    readings = readings_of kind turns ++ reading ∷ [];
+    noise = noise_of kind front;
+  }
+  pub cause : IsCause piece reading
+
+-- The end of a session, of its turns, those among them that are recorded and not answered, what it added, and the pieces that
+-- have no turn.
+abbrev pub IsEnd : {T : Type 0} → Kind T → Rules T → Ending → List T → List T → Added → List (List ℕ) → Type 0
+IsEnd kind rules answered turns behind a rest = AnswersAll kind turns behind a rest
+IsEnd kind rules cut_off turns behind a rest = IsCutOff kind turns behind a
+IsEnd kind rules (stopped stop) turns behind a rest = IsStopped kind (rules.is_cause stop) turns behind a rest
+
+-- From a history on, a session over these pieces: the history for which the hall stands at its end, to which the caller's own
+-- part grew by just the turns' entries, and what it added to the port.
+pub record IsSession {T : Type 0} (kind : Kind T) (rules : Rules T) (end : Ending) (b : Summary) (pieces : List (List ℕ)) (h : List Entry)
+    (hall hall' : HallSeen) (p p' : PortSeen) : Type 0 where
+  pub turns : List T
+  pub behind : List T
+  pub history : List Entry
+  pub added : Added
+  pub left : List (List ℕ)
+  pub taken : pieces ≡ pieces_of kind turns ++ left
+  pub each : rules.are_turns h history turns
+  pub holds : hall'.stands b history
+  pub legal : IsLegal b history
+  pub own : hall'.own history ≡ reverse (entries_of kind turns) ++ hall.own h
+  pub adds : Adds p p' added
+  pub ended : IsEnd kind rules end turns behind added left
+  pub unanswered : rules.may_be_behind behind
+
+-- a hall shows a stop for some event at some reading; or memory was wanted
+abbrev pub IsShownFor : HallSeen → Stop → Type 0
+IsShownFor hall stop = (stop ≡ Memory) ⊎ ((event : Event) × (reading : ℕ) × hall.shows stop event reading)
+
+-- a stop has its cause, whatever is known of the hall's history
+abbrev pub HasShown : HallSeen → Ending → Type 0
+HasShown hall answered = Unit {0}
+HasShown hall cut_off = Unit {0}
+HasShown hall (stopped stop) = IsShownFor hall stop
+
+-- Not far ahead: all pieces of a stream but those that end in the last bytes, at most 4,096 of them, were answered.
+pub record IsNotAhead {T : Type 0} (kind : Kind T) (cut : List ℕ → List (List ℕ)) (read : List ℕ) (turns : List T) : Type 0 where
+  pub front : List ℕ
+  pub last : List ℕ
+  pub more : List (List ℕ)
+  pub parts : read ≡ front ++ last
+  pub short : length last ≤ 4096
+  pub before : pieces_of kind turns ≡ cut front ++ more
+
+-- Of a session that a write fault or a stop cut short: no input can foresee those, so one that reads further ahead than this, or
+-- reads on after them, is none.
+abbrev pub ReadsNoFurther : {T : Type 0} → Kind T → (List ℕ → List (List ℕ)) → Ending → List ℕ → List T → List T → Type 0
+ReadsNoFurther {T} kind cut answered read turns behind = Unit {0}
+ReadsNoFurther {T} kind cut cut_off read turns behind =
+    (front : List T) × (last : T) × (turns ≡ front ++ last ∷ behind) × IsNotAhead kind cut read front
+ReadsNoFurther {T} kind cut (stopped stop) read turns behind = (front : List T) × (turns ≡ front ++ behind) × IsNotAhead kind cut read front
