@@ -40,7 +40,8 @@ find_number number entries = find (is_numbered number) entries
 
 abbrev pub with_window : Window → Entry → Entry
 with_window window entry =
-    record entry { account = record entry.account { week = record entry.account.week { windows = entry.account.week.windows ++ window ∷ [] } } }
+    let week = entry.account.week in
+    record entry { account = record entry.account { week = record week { windows = week.windows ++ window ∷ [] } } }
 
 abbrev pub with_keyholder : Keyholder → Entry → Entry
 with_keyholder keyholder entry =

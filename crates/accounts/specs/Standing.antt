@@ -3,7 +3,8 @@ use Rattle.std.specs.Prelude.{◌≡◌, ◌⊎◌, ℕ, Bool, List, [], ◌∷�
 use Rattle.arc_data.specs.declared.setup_fault.SetupFault.{SetupFault}
 use Rattle.arc_data.specs.declared.setup_fault.SetupFault.TheVariants.{Memory}
 use Rattle.alarm_rules.specs.SetupLines.{Said, OfPlan, AccountLine, PlanLine, Operator}
-use Rattle.alarm_rules.specs.Setups.{Line, told, things, same_target, accounts_in, windows_in, keyholders_in, operators_in, account_declared, fault_at}
+use Rattle.alarm_rules.specs.Setups.{Line, told, things, same_target, account_declared, fault_at}
+use Rattle.alarm_rules.specs.Setups.{accounts_in, windows_in, keyholders_in, operators_in}
 use Rattle.accounts.specs.declared.entry.Entry.{Entry}
 use Rattle.accounts.specs.declared.keyholders.Keyholder.{Keyholder}
 use Rattle.accounts.specs.declared.operator_table.OperatorEntry.{OperatorEntry}
@@ -67,4 +68,5 @@ pub record Stands (lines : List Line) (table : Table) : Type 0 where
 abbrev pub IsTaken : Table → ℕ → Option Said → Result Unit SetupFault → Table → Type 0
 IsTaken old number said (Ok done) new =
     (lines : List Line) → Stands lines old → (fault_at lines (number, said) ≡ None) × Stands (lines ++ (number, said) ∷ []) new
-IsTaken old number said (Err fault) new = (fault ≡ Memory) ⊎ ((lines : List Line) → Stands lines old → fault_at lines (number, said) ≡ Some fault)
+IsTaken old number said (Err fault) new =
+    (fault ≡ Memory) ⊎ ((lines : List Line) → Stands lines old → fault_at lines (number, said) ≡ Some fault)
