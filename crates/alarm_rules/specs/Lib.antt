@@ -1,6 +1,9 @@
 pub use Rattle.civil_time.specs.LocalTime
 pub mod ContactId
+pub mod FirstFrom
 pub mod Plans
+pub mod SetupLines
+pub mod SetupWords
 pub mod Setups
 pub mod SiaCodes
 pub mod SiaGrammar
