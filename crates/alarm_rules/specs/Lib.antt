@@ -9,3 +9,4 @@ pub mod SiaCodes
 pub mod SiaGrammar
 pub mod Signals
 pub mod Weeks
+pub mod WordsLeft

@@ -1,5 +1,5 @@
 // What an operator is shown of open incidents.
-ghost use Rattle.std.specs.Prelude.{◌≡◌, ◌<◌, ◌↔◌, ◌++◌, ◌∷◌, [], length, slice_get, Some, IsTrue, if◌then◌else◌};
+ghost use Rattle.std.specs.Prelude.{◌≡◌, ◌<◌, ◌≤◌, ◌↔◌, ◌++◌, ◌∷◌, [], length, slice_get, Some, IsTrue, if◌then◌else◌};
 
 use crate::{Class, Step, Txt};
 use std::marker::Model;
@@ -114,7 +114,8 @@ impl Rows {
     }
 
     fn items(&self) -> &[Row]
-        ensures { result.now ≡ self.now }
+        ensures value { result.now ≡ self.now }
+        ensures most { length result.now ≤ 16 }
     {
         &self.items[..self.len]
     }
@@ -148,7 +149,8 @@ impl Listing {
 
     /// How many rows there are.
     pub fn count(&self) -> usize
-        ensures { result ≡ length self.now.rows }
+        ensures count { result ≡ length self.now.rows }
+        ensures most { result ≤ 16 }
     {
         self.rows.items().len()
     }
