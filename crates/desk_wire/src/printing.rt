@@ -23,7 +23,7 @@ pub fn print<K: Sink>(reply: &Reply, out: &mut K) -> Result<(), Failed>
 pub fn print_welcome<K: Sink>(name: &Txt, out: &mut K) -> Result<(), Failed>
     ensures { Puts (K.seen out.old) (K.seen out.new) result (welcome_of name.now) }
 {
-    let mut line = Line::new();
-    put_welcome(&mut line, name);
-    put(out, line.bytes())
+    let mut welcome = Line::new();
+    put_welcome(&mut welcome, name);
+    put(out, welcome.bytes())
 }
