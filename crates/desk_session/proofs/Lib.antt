@@ -1,0 +1,9 @@
+pub mod Acting
+pub mod Completed
+pub mod Followed
+pub mod Known
+pub mod Ported
+pub mod Quitting
+pub mod Said
+pub mod Served
+pub mod SoFar
