@@ -1,10 +1,13 @@
 -- Desk sessions over a port, read piece by piece.
-use Rattle.std.proofs.Common.{◌≡◌, ◌<◌, ◌≤◌, ◌-◌, ◌++◌, ℕ, List, [], length, Bool, true, false, if◌then◌else◌, Option, None, Ok, Err, Result, refl, sym, ◌∙◌, ap, append-nil, length-append, arith}
+use Rattle.std.proofs.Common.{◌≡◌, ◌<◌, ◌≤◌, ◌-◌, ◌++◌, ℕ, List, [], length, Bool, true, false, if◌then◌else◌, Option, None, Ok, Err, Result, refl, sym, ◌∙◌, ap, subst, append-nil, length-append, arith}
+use Rattle.std.specs.Io.KnownBytes.{prepend_known}
 use Rattle.std.specs.Str.Lines.{lines}
+use Rattle.std.proofs.lemmas.List.{take_all}
 use Rattle.alarm_rules.specs.Setups.{Setup, meaning}
 use Rattle.arc_io.specs.Causes.{Rose}
 use Rattle.arc_io.specs.Seen.{PortSeen}
 use Rattle.arc_io.specs.Told.{OnlyReads}
+use Rattle.arc_io.proofs.KnownMore.{known_taken}
 use Rattle.arc_text.specs.Lines.{ended_lines}
 use Rattle.centre_core.specs.Halls.{HallSeen, IsKept}
 use Rattle.centre_rules.specs.Summary.{Summary}
@@ -25,10 +28,10 @@ use Rattle.desk_session.proofs.Followed.{desk_then, desk_follows, acts_at_last}
 use Rattle.desk_session.proofs.Quitting.{up_all}
 use Rattle.desk_session.proofs.Served.{desk_read}
 
-read_lines : (ended : Bool) (read : List ℕ) → ended ≡ false → lines_read ended read ≡ ended_lines read
+pub read_lines : (ended : Bool) (read : List ℕ) → ended ≡ false → lines_read ended read ≡ ended_lines read
 read_lines ended read not_ended = ap (λ (t : Bool). lines_read t read) not_ended
 
-read_all_lines : (ended : Bool) (read : List ℕ) → ended ≡ true → lines_read ended read ≡ lines read
+pub read_all_lines : (ended : Bool) (read : List ℕ) → ended ≡ true → lines_read ended read ≡ lines read
 read_all_lines ended read out = ap (λ (t : Bool). lines_read t read) out
 
 module _ (b : Summary) (h : List Entry) where
@@ -58,18 +61,19 @@ module _ (b : Summary) (h : List Entry) where
         desk_read (sym (up_all after still) ∙ came (Ok tt) after first.session.history n) (record { rest = refl }) (desk_then kept acts d n.desk)
 
     -- A session ends within its last piece, or at the input's end.
-    pub desk_ends : (piece : List ℕ) (end : DeskEnd) (after : List (List ℕ)) → length piece ≤ 4096 → lines_read r.ended (stream ++ piece) ≡ after
-        → ((x : List Entry) → mid.stands b x → ServesLines (Err end) (ended_lines stream) after b x mid hall' q' r) → ServesDesk end (stream ++ piece) b h hall hall' p r
+    pub desk_ends : (read piece : List ℕ) (end : DeskEnd) (after : List (List ℕ)) → read ≡ stream ++ piece → length piece ≤ 4096 → lines_read r.ended read ≡ after
+        → ((x : List Entry) → mid.stands b x → ServesLines (Err end) (ended_lines stream) after b x mid hall' q' r) → ServesDesk end read b h hall hall' p r
     unfolding desk_read desk_then session_read session_then
-    desk_ends piece end after short is next =
+    desk_ends read piece end after parts short is next =
         let n = next first.session.history first.session.holds in
         let d : IsDesk answered b None (ended_lines stream) h hall mid p q' = desk_read refl only first in
-        let all : IsDesk (ending_of (Err end)) b None (up_to_quit (lines_read r.ended (stream ++ piece))) h hall hall' p r =
+        let all : IsDesk (ending_of (Err end)) b None (up_to_quit (lines_read r.ended read)) h hall hall' p r =
         desk_read (ap up_to_quit is ∙ came (Err end) after first.session.history n) (record { rest = refl }) (desk_then kept acts d n.desk) in
         record {
           desk = all;
-          ahead = reads_no_further desk_turns typed_lines stream piece first.session.turns short (up_all (ended_lines stream) goes_on ∙ all_pieces desk_turns first.session)
-              (desk_rules b mid hall' (acts_over (meaning mid.text) None (ended_lines stream)) n.desk.last) (ending_of (Err end)) n.desk.session.turns n.desk.session.behind n.desk.session.added n.desk.session.left n.desk.session.ended;
+          ahead = subst (λ (l : List ℕ). ReadsNoFurther desk_turns typed_lines (ending_of (Err end)) l (first.session.turns ++ n.desk.session.turns) n.desk.session.behind) (sym parts)
+              (reads_no_further desk_turns typed_lines stream piece first.session.turns short (up_all (ended_lines stream) goes_on ∙ all_pieces desk_turns first.session)
+              (desk_rules b mid hall' (acts_over (meaning mid.text) None (ended_lines stream)) n.desk.last) (ending_of (Err end)) n.desk.session.turns n.desk.session.behind n.desk.session.added n.desk.session.left n.desk.session.ended);
           complete = completes all;
         }
 
@@ -109,3 +113,11 @@ finished_by ReadFault stream p p' finished goes_on out room rose = absurd finish
 finished_by WriteFault stream p p' finished goes_on out room rose = (rose refl, omega arith)
 finished_by Spent stream p p' finished goes_on out room rose = absurd finished
 finished_by (Stopped stop) stream p p' finished goes_on out room rose = omega arith
+
+-- a piece that the limit leaves room for is taken whole
+pub all_in_limit : (stream piece : List ℕ) → length piece ≤ input_limit - length stream → in_limit stream piece ≡ piece
+all_in_limit stream piece fits = take_all (input_limit - length stream) piece fits
+
+-- two bytes that were read, one behind the other
+pub read_more : (known mid left : Option (List ℕ)) (xs ys : List ℕ) → known ≡ prepend_known xs mid → mid ≡ prepend_known ys left → known ≡ prepend_known (xs ++ ys) left
+read_more known mid left xs ys first next = first ∙ ap (prepend_known xs) next ∙ known_taken left xs ys

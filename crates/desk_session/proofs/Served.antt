@@ -56,15 +56,14 @@ module _ (before : List (List ℕ)) (b : Summary) (h : List Entry) where
   }
 
   module _ (mid_lines : List (List ℕ)) (going : quits before ≡ false) (still : quits mid_lines ≡ false) where
-    -- One line more came behind lines that were served.
-    pub serves_more : (end : Result (Unit {0}) DeskEnd) (line : List ℕ) {hall mid hall' : HallSeen} {p q r : PortSeen} → IsKept hall mid → ServesLines (Ok tt) before mid_lines b h hall mid p q
-        → ((x : List Entry) → mid.stands b x → IsDesk (ending_of end) b (acts_over (meaning mid.text) None mid_lines) (line ∷ []) x mid hall' q r)
-        → ServesLines end before (mid_lines ++ line ∷ []) b h hall hall' p r
-    serves_more end line {hall} {mid} {hall'} {p} {q} {r} kept s next =
+    -- One line more came behind lines that were served, of a session that acts for this operator by then.
+    pub serves_more : (end : Result (Unit {0}) DeskEnd) (line : List ℕ) (operator : Option (List ℕ)) {hall mid hall' : HallSeen} {p q r : PortSeen} → IsKept hall mid
+        → operator ≡ acts_over (meaning hall.text) None mid_lines → ServesLines (Ok tt) before mid_lines b h hall mid p q
+        → ((x : List Entry) → mid.stands b x → IsDesk (ending_of end) b operator (line ∷ []) x mid hall' q r) → ServesLines end before (mid_lines ++ line ∷ []) b h hall hall' p r
+    serves_more end line operator {hall} {mid} {hall'} {p} {q} {r} kept is s next =
         let setup = meaning hall.text in
         let all : mid_lines ≡ before ++ s.more = sym (up_all mid_lines still) ∙ s.came ∙ ap (λ (l : List (List ℕ)). l ++ s.more) (up_all before going) in
-        let acts : acts_over (meaning mid.text) None mid_lines ≡ acts_over setup (acts_over setup None before) s.more =
-        ap (λ (t : List ℕ). acts_over (meaning t) None mid_lines) kept.text ∙ ap (acts_over setup None) all ∙ acts_over-append setup None before s.more in
+        let acts : operator ≡ acts_over setup (acts_over setup None before) s.more = is ∙ ap (acts_over setup None) all ∙ acts_over-append setup None before s.more in
         record {
           more = s.more ++ line ∷ [];
           came = up_next mid_lines line still ∙ ap (λ (l : List (List ℕ)). l ++ line ∷ []) s.came ∙ append_assoc (up_to_quit before) s.more (line ∷ []);

@@ -64,3 +64,12 @@ ReadsNothing (Err ReadFault) = ⊥
 ReadsNothing (Err Spent) = Unit {0}
 ReadsNothing (Err WriteFault) = Unit {0}
 ReadsNothing (Err (Stopped stop)) = Unit {0}
+
+-- an end that an input which has ended can come to
+abbrev pub IsOver : DeskEnd → Type 0
+IsOver Quit = Unit {0}
+IsOver InputEnded = Unit {0}
+IsOver ReadFault = ⊥
+IsOver WriteFault = Unit {0}
+IsOver Spent = ⊥
+IsOver (Stopped stop) = Unit {0}

@@ -10,7 +10,7 @@ ghost use Rattle.centre_rules.specs.History.{Entry};
 ghost use Rattle.session_rules.specs.Inputs.{input_limit, in_limit};
 ghost use Rattle.session_rules.specs.Sessions.{HasShown};
 ghost use Rattle.desk_session.specs.Desks.{TookStream, IsTaken, IsFinished, ServesBytes, ServesLines};
-ghost use Rattle.desk_session.specs.Sessions.{ReadsNothing, ending_of};
+ghost use Rattle.desk_session.specs.Sessions.{ReadsNothing, IsOver, ending_of};
 
 use crate::desk_end::DeskEnd;
 use crate::lines::Lines;
@@ -102,6 +102,7 @@ impl DeskState {
             TookStream (meaning (H.seen hall.old).text) stream self.old → (H.seen hall.old).stands b h →
             ServesLines (Err result) (ended_lines stream) (lines stream) b h
             (H.seen hall.old) (H.seen hall.new) (P.seen port.old) (P.seen port.new) }
+        ensures over { IsOver result }
         ensures stop { HasShown (H.seen hall.new) (ending_of (Err result)) }
         ensures port { Answers (result ≡ DeskEnd.WriteFault) (P.seen port.old) (P.seen port.new) }
     {

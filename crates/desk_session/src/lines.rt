@@ -12,7 +12,7 @@ ghost use Rattle.desk_wire.specs.Laws.{IsCommand};
 ghost use Rattle.session_rules.specs.Sessions.{HasShown};
 ghost use Rattle.desk_session.specs.Desks.{HasTaken, IsFed, IsFinished, ServesBytes, ServesLines};
 ghost use Rattle.desk_session.specs.Events.{command_in, is_named, line_limit};
-ghost use Rattle.desk_session.specs.Sessions.{IsCutShort, ending_of};
+ghost use Rattle.desk_session.specs.Sessions.{IsCutShort, IsOver, ending_of};
 
 use crate::answer::answer;
 use crate::desk_end::DeskEnd;
@@ -98,6 +98,7 @@ impl Lines {
             HasTaken (meaning (H.seen hall.old).text) stream self.old.cutter self.old.operator → (H.seen hall.old).stands b h →
             ServesLines (Err result) (ended_lines stream) (lines stream) b h
             (H.seen hall.old) (H.seen hall.new) (P.seen port.old) (P.seen port.new) }
+        ensures over { IsOver result }
         ensures stop { HasShown (H.seen hall.new) (ending_of (Err result)) }
         ensures port { Answers (result ≡ DeskEnd.WriteFault) (P.seen port.old) (P.seen port.new) }
     {
