@@ -16,5 +16,6 @@ AnswersTurns turns text = (before : List Turn) (t : Turn) (later : List Turn) �
 -- what an end says of the lines, of the turns and of those that are recorded and not answered
 abbrev pub IsComplete : Ending → List Turn → List Turn → List ℕ → List (List ℕ) → Type 0
 IsComplete answered turns behind text lines = (lines ≡ pieces_of desk_turns turns) × AnswersTurns turns text
-IsComplete cut_off turns behind text lines = (front : List Turn) × (last : Turn) × (turns ≡ front ++ last ∷ behind) × AnswersTurns front text
+IsComplete cut_off turns behind text lines =
+    (front : List Turn) × (last : Turn) × (turns ≡ front ++ last ∷ behind) × AnswersTurns front text
 IsComplete (stopped stop) turns behind text lines = (front : List Turn) × (turns ≡ front ++ behind) × AnswersTurns front text

@@ -73,14 +73,15 @@ IsFinished Spent stream = ⊥
 IsFinished (Stopped stop) stream = Unit {0}
 
 -- A session over the lines up to a `quit` that came behind others.
-pub record ServesLines (end : Result (Unit {0}) DeskEnd) (before after : List (List ℕ)) (b : Summary) (h : List Entry) (hall hall' : HallSeen)
-    (p p' : PortSeen) : Type 0 where
+pub record ServesLines (end : Result (Unit {0}) DeskEnd) (before after : List (List ℕ)) (b : Summary) (h : List Entry)
+    (hall hall' : HallSeen) (p p' : PortSeen) : Type 0 where
   pub more : List (List ℕ)
   pub came : up_to_quit after ≡ up_to_quit before ++ more
   pub desk : IsDesk (ending_of end) b (acts_over (meaning hall.text) None before) more h hall hall' p p'
 
 -- over those that these bytes end behind a stream
-abbrev pub ServesBytes : Result (Unit {0}) DeskEnd → List ℕ → List ℕ → Summary → List Entry → HallSeen → HallSeen → PortSeen → PortSeen → Type 0
+abbrev pub ServesBytes :
+    Result (Unit {0}) DeskEnd → List ℕ → List ℕ → Summary → List Entry → HallSeen → HallSeen → PortSeen → PortSeen → Type 0
 ServesBytes end stream bytes b h hall hall' p p' = ServesLines end (ended_lines stream) (ended_lines (stream ++ bytes)) b h hall hall' p p'
 
 -- The lines that were read: where the input ended, what stands behind its last line feed is a line too, if it is not empty; what a
@@ -118,4 +119,5 @@ pub record ServesDesk (end : DeskEnd) (read : List ℕ) (b : Summary) (h : List 
     : Type 0 where
   pub desk : IsDesk (ending_of (Err end)) b None (up_to_quit (lines_read p'.ended read)) h hall hall' p p'
   pub ahead : ReadsNoFurther desk_turns typed_lines (ending_of (Err end)) read desk.session.turns desk.session.behind
-  pub complete : IsComplete (ending_of (Err end)) desk.session.turns desk.session.behind desk.session.added.text (up_to_quit (lines_read p'.ended read))
+  pub complete : IsComplete (ending_of (Err end)) desk.session.turns desk.session.behind desk.session.added.text
+      (up_to_quit (lines_read p'.ended read))
