@@ -1,7 +1,12 @@
+pub mod ChangeLemmas
 pub mod DigitPairs
 pub mod KeyLemmas
 pub mod LineLemmas
-pub mod TableLemmas
 pub mod MeaningLemmas
+pub mod NamedLemmas
+pub mod PlanLemmas
 pub mod ReadingLemmas
+pub mod StandLemmas
+pub mod TableLemmas
+pub mod TakenLemmas
 pub mod WordLemmas

@@ -1,12 +1,10 @@
--- Declarations by number: the map's entries and the list.
+-- Things by name: a map's entries and the list of the things.
 use Rattle.std.proofs.Common.{◌≡◌, ◌+◌, ℕ, List, [], ◌∷◌, Bool, cond, not, Option, Some, None, map, nat_lt, ◌++◌, refl, sym, ap, ◌∙◌}
-use Rattle.std.specs.List.{position, prefix_len}
+use Rattle.std.specs.List.{find, position, prefix_len, IsDistinct}
 use Rattle.std.specs.Map.{lookup, keys_of, values_of}
 use Rattle.std.specs.Str.{bytes_eq}
 use Rattle.std.proofs.lemmas.List.{length-map, map-append}
-use Rattle.accounts.specs.Keyed.{keyed}
-use Rattle.accounts.specs.Declarations.{declares_number, find_number}
-use Rattle.accounts.specs.declared.account_table.Declaration.{Declaration}
+use Rattle.accounts.specs.Keyed.{keyed, IsKeyed}
 
 module _ {A B : Type 0} (f : A → B) (p : B → Bool) where
   prefix_len-map : (xs : List A) → prefix_len (λ y. not (p y)) (map f xs) ≡ prefix_len (λ x. not (p (f x))) xs
@@ -19,23 +17,31 @@ module _ {A B : Type 0} (f : A → B) (p : B → Bool) where
       let place : ℕ → ℕ → Option ℕ = λ n m. cond (nat_lt n m) (Some n) None in
       λ i. place (prefix_len-map xs i) (length-map xs f i)
 
-module _ (number : List ℕ) where
-  lookup-map : (ds : List Declaration) → lookup (bytes_eq number) (map keyed ds) ≡ find_number number ds
-  lookup-map [] = refl
-  lookup-map (d ∷ ds) = ap (λ found. cond (declares_number number d) (Some d) found) (lookup-map ds)
+module _ {A : Type 0} (name : A → List ℕ) where
+  module _ (sought : List ℕ) where
+    lookup-map : (xs : List A) → lookup (bytes_eq sought) (map (keyed name) xs) ≡ find (λ x. bytes_eq sought (name x)) xs
+    lookup-map [] = refl
+    lookup-map (x ∷ xs) = ap (λ found. cond (bytes_eq sought (name x)) (Some x) found) (lookup-map xs)
 
-  -- what the map has at the number is the declaration of the account
-  pub lookup-keyed : (entries : List (List ℕ × Declaration)) (ds : List Declaration) → entries ≡ map keyed ds → lookup (bytes_eq number) entries ≡ find_number number ds
-  lookup-keyed entries ds is = ap (λ es. lookup (bytes_eq number) es) is ∙ lookup-map ds
+    -- what the map has at the name is the first thing of that name
+    pub lookup-keyed : (entries : List (List ℕ × A)) (xs : List A) → entries ≡ map (keyed name) xs → lookup (bytes_eq sought) entries ≡ find (λ x. bytes_eq sought (name x)) xs
+    lookup-keyed entries xs is = ap (λ es. lookup (bytes_eq sought) es) is ∙ lookup-map xs
 
-  -- and where
-  pub position-keyed : (entries : List (List ℕ × Declaration)) (ds : List Declaration) → entries ≡ map keyed ds → position (bytes_eq number) (keys_of entries) ≡ position (declares_number number) ds
-  position-keyed entries ds is = ap (λ es. position (bytes_eq number) (keys_of es)) is ∙ position-map (λ e. e.0) (bytes_eq number) (map keyed ds) ∙ position-map keyed (λ e. bytes_eq number e.0) ds
+    -- and where
+    pub position-keyed : (entries : List (List ℕ × A)) (xs : List A) → entries ≡ map (keyed name) xs → position (bytes_eq sought) (keys_of entries) ≡ position (λ x. bytes_eq sought (name x)) xs
+    position-keyed entries xs is =
+        ap (λ es. position (bytes_eq sought) (keys_of es)) is ∙ position-map (λ e. e.0) (bytes_eq sought) (map (keyed name) xs)
+        ∙ position-map (keyed name) (λ e. bytes_eq sought e.0) xs
 
--- a pushed declaration goes last, under its number
-module _ (entries pushed : List (List ℕ × Declaration)) (d : Declaration) (is : pushed ≡ entries ++ keyed d ∷ []) where
-  pub values-pushed : values_of pushed ≡ values_of entries ++ d ∷ []
-  values-pushed = ap values_of is ∙ map-append (λ e. e.1) entries (keyed d ∷ [])
+  -- a thing that is put last goes last, under its name
+  module _ (entries pushed : List (List ℕ × A)) (x : A) (is : pushed ≡ entries ++ keyed name x ∷ []) where
+    pub values-pushed : values_of pushed ≡ values_of entries ++ x ∷ []
+    values-pushed = ap values_of is ∙ map-append (λ e. e.1) entries (keyed name x ∷ [])
 
-  pub keyed-pushed : entries ≡ map keyed (values_of entries) → pushed ≡ map keyed (values_of pushed)
-  keyed-pushed before = is ∙ ap (λ es. es ++ keyed d ∷ []) before ∙ sym (map-append keyed (values_of entries) (d ∷ [])) ∙ sym (ap (λ ds. map keyed ds) values-pushed)
+    pub keyed-pushed : IsKeyed name entries → IsDistinct bytes_eq (keys_of pushed) → IsKeyed name pushed
+    keyed-pushed before distinct = record {
+      named =
+          is ∙ ap (λ es. es ++ keyed name x ∷ []) before.named ∙ sym (map-append (keyed name) (values_of entries) (x ∷ []))
+          ∙ sym (ap (λ xs. map (keyed name) xs) values-pushed);
+      distinct = distinct;
+    }

@@ -1,12 +1,13 @@
 -- The first word of a line.
-use Rattle.std.proofs.Common.{◌≡◌, ◌<◌, ◌≤◌, ◌+◌, ◌-◌, ℕ, List, [], ◌∷◌, Bool, not, Some, None, length, take, drop, nat_lt, ◌==◌, sym, ap, ◌∙◌, arith}
+use Rattle.std.proofs.Common.{◌≡◌, ◌<◌, ◌≤◌, ◌+◌, ◌-◌, ℕ, List, [], ◌∷◌, Bool, not, false, Option, Some, None, is_some, Bor, refl, length, take, drop, nat_lt, ◌==◌, sym, ap, ◌∙◌, arith}
 use Rattle.std.specs.List.{slice_split, position, position_or_len}
 use Rattle.std.proofs.lemmas.Option.{cond_some}
-use Rattle.std.proofs.lemmas.Bool.{ltb-true, ltb-false}
+use Rattle.std.proofs.lemmas.Bool.{ltb-true, ltb-false, not-true, not-false}
 use Rattle.std.proofs.lemmas.List.{take_rest}
 use Rattle.std.proofs.lemmas.List.Sums.{fails_before_first, prefix_len-le-length}
 use Rattle.std.proofs.lemmas.List.Splits.{slice_split_first, slice_split_none, length-slice_split}
-use Rattle.alarm_rules.specs.Setups.{words_of}
+use Rattle.alarm_rules.specs.SetupLines.{is_nil, words_of}
+use Rattle.accounts.specs.Words.{words_left}
 use Rattle.accounts.proofs.LineLemmas.{cond_none}
 
 -- The first part of a list that is split.
@@ -31,3 +32,12 @@ module _ (p : ℕ → Bool) (text : List ℕ) where
 -- a line has a word
 pub some-words : (line : List ℕ) → 0 < length (words_of line)
 some-words line = omega (arith, length-slice_split (λ b. b == 32) line)
+
+not-nil : {A : Type 0} (words : List A) → 0 < length words → is_nil words ≡ false
+not-nil [] some = absurd (omega arith)
+not-nil (word ∷ words) some = refl
+
+-- so where bytes are left, words are
+pub is_nil-words_left : (rest : Option (Bor (List ℕ))) (none : Bool) → is_some rest ≡ not none → none ≡ is_nil (words_left rest)
+is_nil-words_left None none is = not-false none (sym is)
+is_nil-words_left (Some rest) none is = not-true none (sym is) ∙ sym (not-nil (words_of rest.now) (some-words rest.now))

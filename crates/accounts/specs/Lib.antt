@@ -1,6 +1,8 @@
 pub use Rattle.alarm_rules.specs.Setups
-pub mod Accounts
-pub mod Declarations
-pub mod Keyed
-pub mod Keys
+pub mod Words
 pub mod Lines
+pub mod Said
+pub mod Entries
+pub mod Keyed
+pub mod Standing
+pub mod Accounts

@@ -1,14 +1,17 @@
 // A setup: its text and what the text means.
-ghost use Rattle.std.specs.Prelude.{◌≡◌, ◌≤◌, ◌<◌, ◌⊎◌, length, slice_get, Err, IfErr, IfOk, IfSome, IsOk, OnOk, Some};
+ghost use Rattle.std.specs.Prelude.{◌≡◌, ◌≤◌, ◌<◌, ◌⊎◌, [], ◌∷◌, length, slice_get, false, Err, Some, IfErr, IfOk, IfSome, IsOk, OnOk};
 ghost use Rattle.std.specs.Option.{option_map};
-ghost use Rattle.alarm_rules.specs.Setups.{setup_of, meaning, place_of, has_account, key_of};
+ghost use Rattle.alarm_rules.specs.Setups.{setup_of, meaning, place_of, has_account, key_of, operator_of, plan_of};
 ghost use Rattle.accounts.specs.Accounts.{defined};
+ghost use Rattle.accounts.specs.Said.{said_operator};
 
 use crate::account::Account;
-use crate::account_table::AccountTable;
-use crate::reading::read_accounts;
+use crate::operator::Operator;
+use crate::reading::read_table;
+use crate::table::Table;
+use action_plans::Plan;
 use aes_chain::Key;
-use arc_data::{Blob, Memory, SetupFault, Txt};
+use arc_data::{Blob, Class, Memory, PlanWord, SetupFault, Txt};
 use std::alloc::Global;
 use std::marker::Model;
 
@@ -22,12 +25,12 @@ const TEXT_LIMIT: usize = 4_194_304;
 #[derive(Drop)]
 pub struct Setup {
     text: Blob,
-    table: AccountTable,
+    table: Table,
 }
 
 impl Model for Setup {
     ghost use Rattle.std.specs.Prelude.{ℕ, List};
-    ghost use Rattle.accounts.specs.Declarations.{IsReadFrom};
+    ghost use Rattle.accounts.specs.Accounts.{IsReadFrom};
 
     ghost Value = { List ℕ };
 
@@ -47,7 +50,7 @@ impl Setup {
         if text.len() > TEXT_LIMIT {
             return Err(SetupFault::TooLarge);
         }
-        let table = read_accounts(alloc, text)?;
+        let table = read_table(alloc, text)?;
         match Blob::of(alloc, text) {
             Ok(text) => Ok(Setup { text, table }),
             Err(_) => Err(SetupFault::Memory),
@@ -78,7 +81,7 @@ impl Setup {
     pub fn count(&self) -> usize
         ensures { result ≡ length (meaning self.now).accounts }
     {
-        self.table.count()
+        self.table.accounts.count()
     }
 
     /// The place of an account, in the order of the lines, from 0. The account is given in capitals.
@@ -86,14 +89,14 @@ impl Setup {
         ensures place { result ≡ place_of (meaning self.now) account.now }
         ensures within { IfSome result (λ place. place < length (meaning self.now).accounts) }
     {
-        self.table.place(account)
+        self.table.accounts.place(account)
     }
 
     /// Whether it has an account, which is given in capitals.
     pub fn knows(&self, account: &Txt) -> bool
         ensures { result ≡ has_account (meaning self.now) account.now }
     {
-        self.table.line_of(account).is_some()
+        self.table.accounts.find(account).is_some()
     }
 
     /// The key of an account, which is given in capitals. None where the setup lacks the account or the account has no
@@ -101,7 +104,7 @@ impl Setup {
     pub fn key(&self, account: &Txt) -> Option<&Key>
         ensures { option_map (λ k. k.now) result ≡ key_of (meaning self.now) account.now }
     {
-        self.table.find(account)?.account.key.as_ref()
+        self.table.accounts.find(account)?.account.key.as_ref()
     }
 
     /// The account at a place below the count.
@@ -109,6 +112,37 @@ impl Setup {
         requires { place < length (meaning self.now).accounts }
         ensures { slice_get (meaning self.now).accounts place ≡ Some (defined result.now) }
     {
-        &self.table.at(place).account
+        &self.table.accounts.at(place).account
     }
+
+    /// The operator of a name.
+    pub fn operator(&self, name: &Txt) -> Option<&Operator>
+        ensures { option_map (λ o. said_operator o.now) result ≡ operator_of (meaning self.now) name.now }
+    {
+        match self.table.operators.find(name) {
+            Some(entry) => Some(&entry.operator),
+            None => None,
+        }
+    }
+
+    /// The plan of the account at a place below the count for a class: its own, or else that of all accounts, or else the one
+    /// word `note`.
+    pub fn plan(&self, place: usize, class: Class) -> Plan
+        requires { place < length (meaning self.now).accounts }
+        ensures { IfSome (slice_get (meaning self.now).accounts place)
+            (λ account. result ≡ plan_of (meaning self.now) account.number class) }
+    {
+        let own = self.table.accounts.at(place).plans.plan(class);
+        let general = self.table.plans.plan(class);
+        own.or(general).unwrap_or(note())
+    }
+}
+
+/// The plan of the one word `note`.
+fn note() -> Plan
+    ensures { result ≡ record { word = PlanWord.Note; closed = false } ∷ [] }
+{
+    let mut plan = Plan::new();
+    let _ = plan.add(PlanWord::Note, false);
+    plan
 }

@@ -1,16 +1,73 @@
 // Words of a line.
-ghost use Rattle.std.specs.Prelude.{◌≡◌, ◌==◌, [], ◌∷◌, MatchOption};
+ghost use Rattle.std.specs.Prelude.{◌≡◌, ◌==◌, [], ◌∷◌, MatchOption, Some};
 ghost use Rattle.std.specs.List.{position};
-ghost use Rattle.alarm_rules.specs.Setups.{words_of};
+ghost use Rattle.std.specs.Option.{option_copied, option_map};
+ghost use Rattle.alarm_rules.specs.SetupLines.{is_nil, optional, words_of};
 
-/// The first word of a line, which ends at the first space, and what follows that space. Nothing follows where the line
-/// has no space.
-pub(crate) fn first_word(line: &[u8]) -> (&[u8], Option<&[u8]>)
-    ensures { MatchOption result.1 (words_of line.now ≡ result.0.now ∷ []) (λ rest. words_of line.now ≡ result.0.now ∷ words_of rest.now) }
-{
-    match space(line) {
-        Some(end) => (&line[..end], Some(&line[end + 1..])),
-        None => (line, None),
+use std::marker::Model;
+
+/// The words of a line that are not read yet. One space stands between two words, so two spaces together, or one at an end, make a
+/// word of no bytes. Contracts see them as a list.
+#[derive(Drop)]
+pub(crate) struct Words<'a> {
+    rest: Option<&'a [u8]>,
+}
+
+impl<'a> Model for Words<'a> {
+    ghost use Rattle.std.specs.Prelude.{ℕ, List};
+    ghost use Rattle.accounts.specs.Words.{words_left};
+
+    ghost Value = { List (List ℕ) };
+
+    ghost view = { λ w. words_left w.rest };
+}
+
+impl<'a> Words<'a> {
+    /// All words of a line.
+    pub(crate) fn of(line: &'a [u8]) -> Words<'a>
+        ensures { result ≡ words_of line.now }
+    {
+        Words { rest: Some(line) }
+    }
+
+    /// Takes the first word off. None where none is left.
+    pub(crate) fn next(&mut self) -> Option<&'a [u8]>
+        ensures { MatchOption result ((self.old ≡ []) × (self.new ≡ [])) (λ word. self.old ≡ word.now ∷ self.new) }
+    {
+        let rest = self.rest?;
+        match space(rest) {
+            Some(end) => {
+                self.rest = Some(&rest[end + 1..]);
+                Some(&rest[..end])
+            }
+            None => {
+                self.rest = None;
+                Some(rest)
+            }
+        }
+    }
+
+    /// Takes an option off: where the first word is its name, that and the word behind it. `Some(None)` where no word or
+    /// another one is first, and then nothing is taken. None where the name stands last.
+    pub(crate) fn option(&mut self, name: &[u8]) -> Option<Option<&'a [u8]>>
+        ensures { option_map (λ value. (option_copied value, self.new)) result ≡ optional name.now Some self.old }
+    {
+        let mut ahead = Words { rest: self.rest };
+        match ahead.next() {
+            Some(word) if word == name => {
+                let value = ahead.next()?;
+                self.rest = ahead.rest;
+                Some(Some(value))
+            }
+            _ => Some(None),
+        }
+    }
+
+    /// Whether no word is left.
+    pub(crate) fn is_empty(&self) -> bool
+        ensures { result ≡ is_nil self.now }
+    {
+        self.rest.is_none()
     }
 }
 

@@ -54,6 +54,16 @@ impl Plan {
         true
     }
 
+    /// A copy. Takes no memory.
+    pub fn copy(&self) -> Plan
+        ensures { result ≡ self.now }
+    {
+        Plan {
+            words: self.words,
+            len: self.len,
+        }
+    }
+
     /// The steps of an incident that opens in or outside open hours, at an account with so many keyholders, at most 4: of
     /// each word that counts its steps, in order. A word with its mark counts only outside open hours.
     #[tactic(auto, unfolding(alarm_rules::specs::Plans::steps_in))]

@@ -1,1 +1,4 @@
 pub mod Agreement
+pub mod FirstNumbers
+pub mod Unmet
+pub mod WordLemmas

@@ -1,8 +1,12 @@
-pub use Rattle.civil_time.specs.LocalTime
+pub use Rattle.arc_data.specs.LocalTime
 pub mod ContactId
+pub mod FirstFrom
 pub mod Plans
+pub mod SetupLines
+pub mod SetupWords
 pub mod Setups
 pub mod SiaCodes
 pub mod SiaGrammar
 pub mod Signals
 pub mod Weeks
+pub mod WordsLeft

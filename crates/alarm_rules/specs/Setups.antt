@@ -1,102 +1,179 @@
 -- What a setup text means.
-use Rattle.std.specs.Prelude.{ℕ, ◌==◌, ◌&&◌, ◌||◌, List, [], ◌∷◌, ◌++◌, Bool, true, false, if◌then◌else◌, nat_lt, length, codes}
-use Rattle.std.specs.Prelude.{Option, Some, None, is_some, option_and_then, Result, Ok, Err}
-use Rattle.std.specs.List.{find, filter_map, enumerate_from, position, list_all, slice_split}
-use Rattle.std.specs.Option.{option_map}
+use Rattle.std.specs.Prelude.{ℕ, ◌&&◌, Bool, true, false, if◌then◌else◌, List, [], ◌∷◌, ◌++◌, Option, Some, None, is_some}
+use Rattle.std.specs.Prelude.{option_and_then, Result, Ok, Err, nat_lt, length, map}
+use Rattle.std.specs.List.{enumerate_from, filter_map, find, position}
+use Rattle.std.specs.Option.{option_map, option_or, unwrap_or}
 use Rattle.std.specs.Result.{result_unwrap_or}
 use Rattle.std.specs.Str.{bytes_eq}
 use Rattle.std.specs.Str.Lines.{lines}
-use Rattle.arc_data.specs.Digits.{capitals, is_account, is_hex, bytes_spelled}
-use Rattle.arc_data.specs.declared.setup_fault.LineKind.TheVariants.{Form}
+use Rattle.arc_data.specs.Classes.{same_class}
+use Rattle.arc_data.specs.declared.plan.Planned.{Planned}
+use Rattle.arc_data.specs.declared.plan.PlanWord.TheVariants.{Note}
+use Rattle.arc_data.specs.declared.setup_fault.LineKind.TheVariants.{Form, NoAccount}
 use Rattle.arc_data.specs.declared.setup_fault.SetupFault.{SetupFault}
-use Rattle.arc_data.specs.declared.setup_fault.SetupFault.TheVariants.{TooLarge, BadLine, TwoSame}
+use Rattle.arc_data.specs.declared.setup_fault.SetupFault.TheVariants.{TooLarge, BadLine, TwoSame, TooMany}
+use Rattle.arc_data.specs.declared.signal.Class.{Class}
+use Rattle.arc_data.specs.declared.step.Step.{Step}
+use Rattle.arc_data.specs.declared.window.Window.{Window}
+use Rattle.alarm_rules.specs.Plans.{steps_in}
+use Rattle.alarm_rules.specs.SetupLines.{Said, AccountLine, PlanLine, Operator, says}
+use Rattle.alarm_rules.specs.SetupLines.{Nothing, OfAccount, OfHours, OfKeyholder, OfPlan, OfOperator}
+use Rattle.alarm_rules.specs.Weeks.{Week, in_hours}
 
--- an account: its number in capitals, and the bytes of its key, where it has one
+-- an account: its number in capitals, the bytes of its key and the seconds of its interval, where it has them, its opening
+-- hours, and how many keyholders it has
 pub record Account : Type 0 where
   pub number : List ℕ
   pub key : Option (List ℕ)
+  pub beat : Option ℕ
+  pub week : Week
+  pub holders : ℕ
 
--- the accounts in the order of their lines
+-- accounts, plans and operators, each in the order of their lines
 pub record Setup : Type 0 where
   pub accounts : List Account
+  pub plans : List PlanLine
+  pub operators : List Operator
 
--- Lines. Lines end with a line feed, before which one carriage return is dropped; what is left after the last line feed
--- is a line where it is not empty. Lines are numbered from 1. A line is a pair of its number and its bytes.
+-- Lines. Lines end with a line feed, before which one carriage return is dropped; what is left after the last line feed is a
+-- line where it is not empty. Lines are numbered from 1. A line is a pair of its number and what it says, which is none where it is
+-- of no form.
 
-abbrev pub numbered_lines : List ℕ → List (ℕ × List ℕ)
-numbered_lines text = enumerate_from 1 (lines text)
+abbrev pub Line : Type 0
+Line = ℕ × Option Said
 
--- an empty line or a remark, which begins with `#`
-abbrev pub is_skipped : List ℕ → Bool
-is_skipped [] = true
-is_skipped (b ∷ bs) = b == 35
+abbrev pub said_lines : List ℕ → List Line
+said_lines text = enumerate_from 1 (map says (lines text))
 
--- the words of a line: what stands between its spaces; two spaces together, or one at an end, make a word of no bytes
-abbrev pub words_of : List ℕ → List (List ℕ)
-words_of line = slice_split (λ b. b == 32) line
+-- what the lines tell of one kind of thing, each with the number of its line
 
--- a key's digits: 32, 48 or 64 hexadecimal digits, in either case
-abbrev pub is_key : List ℕ → Bool
-is_key digits = list_all is_hex digits && ((length digits == 32) || (length digits == 48) || (length digits == 64))
+abbrev pub told_at : {A : Type 0} → (Said → Option A) → Line → Option (ℕ × A)
+told_at part line = option_map (λ thing. (line.0, thing)) (option_and_then part line.1)
 
-abbrev pub plain_account : List ℕ → Account
-plain_account number = record { number = capitals number; key = None }
+abbrev pub told : {A : Type 0} → (Said → Option A) → List Line → List (ℕ × A)
+told part lines = filter_map (told_at part) lines
 
-abbrev pub keyed_account : List ℕ → List ℕ → Account
-keyed_account number digits = record { number = capitals number; key = Some (bytes_spelled digits) }
+-- the parts of what is said
 
--- the account that the words of a line declare: `account`, and a number of 3 to 16 hexadecimal digits; and then, where the
--- account has a key, `key` and the key's digits
-abbrev pub account_of_words : List (List ℕ) → Option Account
-account_of_words (word ∷ number ∷ []) = if bytes_eq word (codes "account") && is_account number then Some (plain_account number) else None
-account_of_words (word ∷ number ∷ mark ∷ digits ∷ []) =
-    if bytes_eq word (codes "account") && is_account number && bytes_eq mark (codes "key") && is_key digits
-    then Some (keyed_account number digits) else None
-account_of_words other = None
+abbrev pub account_part : Said → Option AccountLine
+account_part (OfAccount line) = Some line
+account_part other = None
 
--- the account that a line declares, where it declares one
-abbrev pub declared_account : List ℕ → Option Account
-declared_account line = account_of_words (words_of line)
+abbrev pub hours_part : List ℕ → Said → Option Window
+hours_part number (OfHours line) = if bytes_eq number line.account then Some line.window else None
+hours_part number other = None
 
-abbrev pub has_number : List ℕ → Account → Bool
-has_number number account = bytes_eq number account.number
+abbrev pub keyholder_part : List ℕ → Said → Option (List ℕ)
+keyholder_part number (OfKeyholder line) = if bytes_eq number line.account then Some line.name else None
+keyholder_part number other = None
 
--- the line declares this account
-abbrev pub declares : List ℕ → ℕ × List ℕ → Bool
-declares number line = elim (declared_account line.1) [ None ↦ false | Some account ↦ has_number number account ]
+abbrev pub plan_part : Said → Option PlanLine
+plan_part (OfPlan line) = Some line
+plan_part other = None
 
--- the number of the line among these that declares the account, where one does
-abbrev pub line_declaring : List ℕ → List (ℕ × List ℕ) → Option ℕ
-line_declaring number earlier = option_map (λ l. l.0) (find (declares number) earlier)
+abbrev pub operator_part : Said → Option Operator
+operator_part (OfOperator line) = Some line
+operator_part other = None
 
--- the fault of a line of at most 1,024 bytes, after the lines before it
-abbrev pub fault_of_account : ℕ → Option ℕ → Option SetupFault
-fault_of_account line None = None
-fault_of_account line (Some first) = Some (TwoSame line first)
+-- the accounts that lines declare, an account's windows and names of keyholders, the plans, and the operators
+abbrev pub accounts_in : List Line → List (ℕ × AccountLine)
+accounts_in lines = told account_part lines
 
-abbrev pub fault_of_form : List (ℕ × List ℕ) → ℕ × List ℕ → Option Account → Option SetupFault
-fault_of_form earlier line None = if is_skipped line.1 then None else Some (BadLine line.0 Form)
-fault_of_form earlier line (Some account) = fault_of_account line.0 (line_declaring account.number earlier)
+abbrev pub windows_in : List ℕ → List Line → List (ℕ × Window)
+windows_in number lines = told (hours_part number) lines
 
--- the fault of a line, after the lines before it: too long, also where it would be skipped; of no known form; or an
--- account that stands already
-abbrev pub fault_at : List (ℕ × List ℕ) → ℕ × List ℕ → Option SetupFault
-fault_at earlier line =
-    if nat_lt 1024 (length line.1) then Some (BadLine line.0 Form)
-    else fault_of_form earlier line (declared_account line.1)
+abbrev pub keyholders_in : List ℕ → List Line → List (ℕ × List ℕ)
+keyholders_in number lines = told (keyholder_part number) lines
 
-abbrev pub or_later : Option SetupFault → Option SetupFault → Option SetupFault
-or_later None later = later
-or_later (Some fault) later = Some fault
+abbrev pub plans_in : List Line → List (ℕ × PlanLine)
+plans_in lines = told plan_part lines
+
+abbrev pub operators_in : List Line → List (ℕ × Operator)
+operators_in lines = told operator_part lines
+
+-- Faults of a line, after the lines before it, where those have none.
+
+-- the number of the first of these lines whose thing passes the test
+abbrev pub line_with : {A : Type 0} → (A → Bool) → List (ℕ × A) → Option ℕ
+line_with test things = option_map (λ thing. thing.0) (find (λ thing. test thing.1) things)
+
+-- the number of the line that declares the account
+abbrev pub account_declared : List ℕ → List Line → Option ℕ
+account_declared number lines = line_with (λ account. bytes_eq number account.number) (accounts_in lines)
+
+-- two plans are for the same account, or both for all
+abbrev pub same_target : Option (List ℕ) → Option (List ℕ) → Bool
+same_target None None = true
+same_target None (Some b) = false
+same_target (Some a) None = false
+same_target (Some a) (Some b) = bytes_eq a b
+
+abbrev pub is_plan_of : Option (List ℕ) → Class → PlanLine → Bool
+is_plan_of account class plan = same_target account plan.account && same_class class plan.class
+
+-- NoAccount, where no earlier line declares the account
+abbrev pub no_account : ℕ → List ℕ → List Line → Option SetupFault
+no_account number account earlier = if is_some (account_declared account earlier) then None else Some (BadLine number NoAccount)
+
+-- TwoSame, where an earlier line declares the same
+abbrev pub two_same : ℕ → Option ℕ → Option SetupFault
+two_same number first = option_map (TwoSame number) first
+
+-- TooMany, where there are as many already as there may be
+abbrev pub too_many : ℕ → ℕ → ℕ → Option SetupFault
+too_many number limit count = if nat_lt count limit then None else Some (TooMany number limit)
+
+-- the first fault of those that come in this order: NoAccount, TwoSame, TooMany
+abbrev pub fault_of : List Line → ℕ → Said → Option SetupFault
+fault_of earlier number Nothing = None
+fault_of earlier number (OfAccount line) =
+    option_or (two_same number (account_declared line.number earlier))
+    (too_many number 2000 (length (accounts_in earlier)))
+fault_of earlier number (OfHours line) =
+    option_or (no_account number line.account earlier)
+    (too_many number 28 (length (windows_in line.account earlier)))
+fault_of earlier number (OfKeyholder line) =
+    option_or (no_account number line.account earlier)
+    (option_or (two_same number (line_with (bytes_eq line.name) (keyholders_in line.account earlier)))
+    (too_many number 4 (length (keyholders_in line.account earlier))))
+fault_of earlier number (OfPlan line) =
+    option_or (option_and_then (λ account. no_account number account earlier) line.account)
+    (two_same number (line_with (is_plan_of line.account line.class) (plans_in earlier)))
+fault_of earlier number (OfOperator line) =
+    option_or (two_same number (line_with (λ operator. bytes_eq line.name operator.name) (operators_in earlier)))
+    (too_many number 64 (length (operators_in earlier)))
+
+-- the fault of a line: that it is of no form, or else what is wrong with what it says
+abbrev pub fault_at : List Line → Line → Option SetupFault
+fault_at earlier (number, None) = Some (BadLine number Form)
+fault_at earlier (number, Some said) = fault_of earlier number said
 
 -- the fault of the first of these lines that has one, after the lines before them
-unfoldable pub first_fault : List (ℕ × List ℕ) → List (ℕ × List ℕ) → Option SetupFault
+unfoldable pub first_fault : List Line → List Line → Option SetupFault
 first_fault earlier [] = None
-first_fault earlier (line ∷ more) = or_later (fault_at earlier line) (first_fault (earlier ++ line ∷ []) more)
+first_fault earlier (line ∷ more) = option_or (fault_at earlier line) (first_fault (earlier ++ line ∷ []) more)
 
--- the setup of lines without a fault
-abbrev pub setup_of_lines : List (List ℕ) → Setup
-setup_of_lines ls = record { accounts = filter_map declared_account ls }
+-- The setup of lines without a fault.
+
+abbrev pub things : {A : Type 0} → List (ℕ × A) → List A
+things numbered = map (λ thing. thing.1) numbered
+
+-- an account with all that the lines say of it
+abbrev pub account_with : List Line → AccountLine → Account
+account_with lines account = record {
+  number = account.number;
+  key = account.key;
+  beat = account.beat;
+  week = record { offset = account.offset; windows = things (windows_in account.number lines) };
+  holders = length (keyholders_in account.number lines);
+}
+
+abbrev pub setup_of_lines : List Line → Setup
+setup_of_lines lines = record {
+  accounts = map (account_with lines) (things (accounts_in lines));
+  plans = things (plans_in lines);
+  operators = things (operators_in lines);
+}
 
 abbrev pub unless : {A : Type 0} → Option SetupFault → A → Result A SetupFault
 unless None setup = Ok setup
@@ -106,10 +183,17 @@ unless (Some fault) setup = Err fault
 -- line that has one.
 unfoldable pub setup_of : List ℕ → Result Setup SetupFault
 setup_of text =
-    if nat_lt 4194304 (length text) then Err TooLarge
-    else unless (first_fault [] (numbered_lines text)) (setup_of_lines (lines text))
+    if nat_lt 4_194_304 (length text) then Err TooLarge
+    else unless (first_fault [] (said_lines text)) (setup_of_lines (said_lines text))
 
--- What is asked of a setup.
+-- the setup of a text; a text that is no setup means one of nothing
+abbrev pub meaning : List ℕ → Setup
+meaning text = result_unwrap_or (setup_of text) (record { accounts = []; plans = []; operators = [] })
+
+-- What is asked of a setup. Accounts are named in capitals.
+
+abbrev pub has_number : List ℕ → Account → Bool
+has_number number account = bytes_eq number account.number
 
 abbrev pub account_of : Setup → List ℕ → Option Account
 account_of setup number = find (has_number number) setup.accounts
@@ -125,6 +209,28 @@ has_account setup number = is_some (account_of setup number)
 abbrev pub place_of : Setup → List ℕ → Option ℕ
 place_of setup number = position (has_number number) setup.accounts
 
--- the setup of a text; a text that is no setup has no accounts
-abbrev pub meaning : List ℕ → Setup
-meaning text = result_unwrap_or (setup_of text) (record { accounts = [] })
+abbrev pub has_name : List ℕ → Operator → Bool
+has_name name operator = bytes_eq name operator.name
+
+abbrev pub operator_of : Setup → List ℕ → Option Operator
+operator_of setup name = find (has_name name) setup.operators
+
+abbrev pub has_operator : Setup → List ℕ → Bool
+has_operator setup name = is_some (operator_of setup name)
+
+-- the words of the account's plan for the class, or of the plan for all accounts, where there are such
+abbrev pub words_for : Setup → Option (List ℕ) → Class → Option (List Planned)
+words_for setup account class = option_map (λ plan. plan.words) (find (is_plan_of account class) setup.plans)
+
+-- the plan of an account for a class: its own, or else that for all accounts, or else the one word `note`
+abbrev pub plan_of : Setup → List ℕ → Class → List Planned
+plan_of setup number class =
+    unwrap_or (option_or (words_for setup (Some number) class) (words_for setup None class)) (record { word = Note; closed = false } ∷ [])
+
+-- the steps of an incident of the account and class that opens at the moment; of an account that the setup lacks there are none
+abbrev pub steps_of : Setup → List ℕ → Class → ℕ → List Step
+steps_of setup number class moment =
+    elim (account_of setup number) [
+      | None ↦ []
+      | Some account ↦ steps_in (in_hours account.week moment) account.holders (plan_of setup number class)
+    ]

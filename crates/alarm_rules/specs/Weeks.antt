@@ -1,8 +1,8 @@
 -- Weekly opening hours. A moment is a number of seconds since the beginning of 1970 in GMT.
-use Rattle.std.specs.Prelude.{◌≡◌, ◌<◌, ◌≤◌, ◌+◌, ◌-◌, ◌==◌, ◌&&◌, ℕ, zero, suc, ℤ, Bool, true, not, nat_le, nat_lt}
-use Rattle.std.specs.Prelude.{List, [], Option, Some, None, if◌then◌else◌}
+use Rattle.std.specs.Prelude.{◌≡◌, ◌<◌, ◌≤◌, ◌+◌, ◌-◌, ◌==◌, ◌&&◌, ℕ, ℤ, Bool, true, not, nat_le, nat_lt, List, Option}
 use Rattle.std.specs.List.{list_any}
-use Rattle.civil_time.specs.LocalTime.{local_weekday, local_minute}
+use Rattle.arc_data.specs.LocalTime.{local_weekday, local_minute}
+use Rattle.alarm_rules.specs.FirstFrom.{first_from}
 use Rattle.arc_data.specs.declared.window.Window.{Window}
 
 -- the windows of a week, where local time is GMT plus so many minutes
@@ -21,11 +21,6 @@ in_hours week t = list_any (holds (local_weekday t week.offset) (local_minute t 
 -- a closing moment: it is not in hours, while the second before it is
 abbrev pub is_closing : Week → ℕ → Bool
 is_closing week t = nat_lt 0 t && in_hours week (t - 1) && not (in_hours week t)
-
--- the first number that passes the test among so many from the start on
-unfoldable pub first_from : (ℕ → Bool) → ℕ → ℕ → Option ℕ
-first_from test start zero = None
-first_from test start (suc more) = if test start then Some start else first_from test (start + 1) more
 
 -- The first closing moment after another moment. The hours come again each week, so it comes within a week or never.
 abbrev pub next_close : Week → ℕ → Option ℕ

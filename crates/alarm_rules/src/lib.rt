@@ -2,6 +2,12 @@
 //! that several crates share.
 #![tactic(auto)]
 
+mod names;
+mod words;
+
+pub use names::{is_name, is_pin};
+pub use words::Words;
+
 ghost use Rattle.std.specs.Prelude.{◌≡◌};
 ghost use Rattle.std.specs.List.{list_all};
 ghost use Rattle.arc_data.specs.Digits.{is_account, is_hex};

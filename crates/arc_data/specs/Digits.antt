@@ -1,5 +1,5 @@
 -- Digits and letters as bytes, and the numbers that digits spell.
-use Rattle.std.specs.Prelude.{ℕ, ◌+◌, ◌-◌, ◌*◌, ◌^◌, ◌<◌, List, [], ◌∷◌, Bool, ◌&&◌, ◌||◌, ◌==◌}
+use Rattle.std.specs.Prelude.{ℕ, ◌+◌, ◌-◌, ◌*◌, ◌/◌, ◌%◌, ◌^◌, ◌<◌, List, [], ◌∷◌, Bool, ◌&&◌, ◌||◌, ◌==◌}
 use Rattle.std.specs.Prelude.{if◌then◌else◌, nat_le, length, map}
 use Rattle.std.specs.Char.{to_ascii_uppercase}
 use Rattle.std.specs.List.{list_all, AllByRecursion}
@@ -43,6 +43,10 @@ bytes_spelled (a ∷ b ∷ rest) = (digit_value a * 16 + digit_value b) ∷ byte
 unfoldable pub dec_value : List ℕ → ℕ
 dec_value [] = 0
 dec_value (b ∷ bs) = (b - 48) * 10 ^ length bs + dec_value bs
+
+-- a number below 100 in two decimal digits
+abbrev pub two_digits : ℕ → List ℕ
+two_digits n = (48 + n / 10) ∷ (48 + n % 10) ∷ []
 
 -- the text in capitals
 abbrev pub capitals : List ℕ → List ℕ

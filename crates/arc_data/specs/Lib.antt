@@ -2,6 +2,8 @@ pub mod Classes
 pub mod Digits
 pub mod Field
 pub mod Incidents
+pub mod Listings
+pub mod LocalTime
 pub mod Moments
 pub mod Steps
 pub mod WellFormed

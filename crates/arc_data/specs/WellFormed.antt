@@ -1,9 +1,13 @@
 -- Events whose fields are in their ranges.
-use Rattle.std.specs.Prelude.{◌≡◌, ◌≤◌, ℕ, List, Bool, true, Option, Some, None, length}
-use Rattle.arc_data.specs.Digits.{is_run, is_hex, is_capital_hex, AreBytes}
+use Rattle.std.specs.Prelude.{◌≡◌, ◌<◌, ◌≤◌, ◌^◌, ℕ, List, Bool, true, Option, Some, None, length}
+use Rattle.arc_data.specs.Digits.{is_run, is_hex, is_capital_hex, is_name, AreBytes}
+use Rattle.arc_data.specs.Steps.{is_step, fits}
 use Rattle.arc_data.specs.declared.event.Event.{Event}
-use Rattle.arc_data.specs.declared.event.Event.TheVariants.{Adopt, Start, Message as Sent, Beat}
+use Rattle.arc_data.specs.declared.event.Event.TheVariants.{Adopt, Start, Message as Sent, Beat, Tick}
+use Rattle.arc_data.specs.declared.event.Event.TheVariants.{Claim, Next, Act, Release, Close, Show, List as Rows}
 use Rattle.arc_data.specs.declared.event.Message.{Message}
+use Rattle.arc_data.specs.declared.step.Outcome.{Outcome}
+use Rattle.arc_data.specs.declared.step.Step.{Step}
 
 -- no `R` field, or 1 to 6 hexadecimal digits
 abbrev pub is_receiver : Option (List ℕ) → Bool
@@ -25,8 +29,32 @@ pub record IsText (text : List ℕ) : Type 0 where
   pub size : length text ≤ 4194304
   pub bytes : AreBytes text
 
+-- a number of an incident fits 8 bytes
+abbrev pub IsNumber : ℕ → Type 0
+IsNumber number = number < 2 ^ 64
+
+-- an operator and the number of an incident
+pub record IsOrder (operator : List ℕ) (number : ℕ) : Type 0 where
+  pub operator_name : is_name operator ≡ true
+  pub number_fits : IsNumber number
+
+-- an act besides: a step, and an outcome that fits it
+pub record IsAct (operator : List ℕ) (number : ℕ) (step : Step) (outcome : Outcome) : Type 0 where
+  pub order : IsOrder operator number
+  pub known_step : is_step step ≡ true
+  pub outcome_fits : fits step outcome ≡ true
+
+-- the fields of an event are in their ranges
 abbrev pub IsWellFormed : Event → Type 0
 IsWellFormed (Adopt text) = IsText text
 IsWellFormed Start = Unit {0}
 IsWellFormed (Sent m) = IsMessage m
 IsWellFormed (Beat account) = is_run is_capital_hex 3 16 account ≡ true
+IsWellFormed Tick = Unit {0}
+IsWellFormed (Claim operator number) = IsOrder operator number
+IsWellFormed (Next operator) = is_name operator ≡ true
+IsWellFormed (Act operator number step outcome) = IsAct operator number step outcome
+IsWellFormed (Release operator number) = IsOrder operator number
+IsWellFormed (Close operator number code) = IsOrder operator number
+IsWellFormed (Show number) = IsNumber number
+IsWellFormed Rows = Unit {0}

@@ -1,5 +1,5 @@
-// What the centre is told, and what it answers.
-use crate::{Blob, Txt};
+// What the centre is told, and histories of it.
+use crate::{Blob, Outcome, Reply, Step, Txt};
 
 /// The kind of a message's data: SIA DC-03 or Ademco Contact ID (DC-05).
 #[derive(Clone, Copy, Debug, PartialEq, Eq)]
@@ -28,32 +28,56 @@ pub struct Message {
     pub content: Blob,
 }
 
-/// What the centre is told.
+/// What the centre is told. Accounts are in capitals. An operator's name has 1 to 16 bytes: letters, digits, `.`, `_`, `-`.
 #[derive(Drop)]
 pub enum Event {
     /// A setup text comes into force.
-    Adopt { text: Blob },
+    Adopt {
+        text: Blob,
+    },
     /// A run begins.
     Start,
     /// A panel's message.
     Message(Message),
-    /// A panel's heartbeat. The account is in capitals.
-    Beat { account: Txt },
-}
-
-/// What the centre answers.
-#[derive(Debug, Drop)]
-pub enum Reply {
-    Adopted,
-    Started,
-    /// The message is recorded.
-    Taken,
-    /// The message stands recorded already, the last time at this moment.
-    Repeat { first: u64 },
-    /// The heartbeat is recorded.
-    Heard,
-    /// The setup in force has no such account, the content has no signals, or the text is no setup.
-    Unknown,
+    /// A panel's heartbeat.
+    Beat {
+        account: Txt,
+    },
+    /// Time to look for accounts that are silent or late.
+    Tick,
+    /// An operator takes an incident.
+    Claim {
+        operator: Txt,
+        number: u64,
+    },
+    /// An operator takes the most urgent incident that nobody holds.
+    Next {
+        operator: Txt,
+    },
+    /// An operator records what came of a step.
+    Act {
+        operator: Txt,
+        number: u64,
+        step: Step,
+        outcome: Outcome,
+    },
+    /// An operator gives an incident back.
+    Release {
+        operator: Txt,
+        number: u64,
+    },
+    /// An operator closes an incident.
+    Close {
+        operator: Txt,
+        number: u64,
+        code: CloseCode,
+    },
+    /// A question for one open incident.
+    Show {
+        number: u64,
+    },
+    /// A question for the open incidents.
+    List,
 }
 
 /// One event of a history: who submitted it, at which moment it counts, and what was answered. No code makes a value of

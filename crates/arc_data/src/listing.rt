@@ -1,5 +1,5 @@
 // What an operator is shown of open incidents.
-ghost use Rattle.std.specs.Prelude.{◌≡◌, ◌<◌, ◌↔◌, ◌++◌, ◌∷◌, [], length, slice_get, Some, IsTrue, if◌then◌else◌};
+ghost use Rattle.std.specs.Prelude.{◌≡◌, ◌<◌, ◌≤◌, ◌↔◌, ◌++◌, ◌∷◌, [], length, slice_get, Some, IsTrue, if◌then◌else◌};
 
 use crate::{Class, Step, Txt};
 use std::marker::Model;
@@ -19,12 +19,33 @@ pub struct View {
 }
 
 /// An incident in a list.
-#[derive(Clone, Copy, Debug, PartialEq, Eq)]
+#[derive(Clone, Copy, Debug)]
 pub struct Row {
     pub number: u64,
     pub class: Class,
     pub account: Txt,
     pub holder: Option<Txt>,
+}
+
+impl PartialEq for Row {
+    ghost use Rattle.arc_data.specs.Listings.{same_row, same_row_equiv};
+    ghost use Rattle.std.specs.Cmp.{partial_equiv_from_equiv};
+
+    ghost eq = { same_row };
+
+    ghost laws = { partial_equiv_from_equiv same_row_equiv };
+
+    fn eq(&self, other: &Row) -> bool {
+        self.number == other.number
+            && (self.class == other.class
+                && (self.account == other.account && self.holder == other.holder))
+    }
+}
+
+impl Eq for Row {
+    ghost use Rattle.arc_data.specs.Listings.{same_row_equiv};
+
+    ghost laws = { same_row_equiv };
 }
 
 /// At most 16 rows, in a room of their own. Contracts see them as a list.
@@ -43,6 +64,25 @@ impl Model for Rows {
     ghost view = { λ s. take s.len s.items };
 
     ghost invariant = { λ s. (s.len ≤ 16) × (length s.items ≡ 16) };
+}
+
+impl PartialEq for Rows {
+    ghost use Rattle.arc_data.specs.Listings.{same_rows, same_rows_equiv};
+    ghost use Rattle.std.specs.Cmp.{partial_equiv_from_equiv};
+
+    ghost eq = { same_rows };
+
+    ghost laws = { partial_equiv_from_equiv same_rows_equiv };
+
+    fn eq(&self, other: &Rows) -> bool {
+        self.items() == other.items()
+    }
+}
+
+impl Eq for Rows {
+    ghost use Rattle.arc_data.specs.Listings.{same_rows_equiv};
+
+    ghost laws = { same_rows_equiv };
 }
 
 impl Rows {
@@ -74,14 +114,15 @@ impl Rows {
     }
 
     fn items(&self) -> &[Row]
-        ensures { result.now ≡ self.now }
+        ensures value { result.now ≡ self.now }
+        ensures most { length result.now ≤ 16 }
     {
         &self.items[..self.len]
     }
 }
 
 /// How many incidents are open, and rows of the first of them, at most 16. It takes no memory.
-#[derive(Debug, Drop)]
+#[derive(Debug, PartialEq, Eq, Drop)]
 pub struct Listing {
     pub total: u64,
     rows: Rows,
@@ -108,7 +149,8 @@ impl Listing {
 
     /// How many rows there are.
     pub fn count(&self) -> usize
-        ensures { result ≡ length self.now.rows }
+        ensures count { result ≡ length self.now.rows }
+        ensures most { result ≤ 16 }
     {
         self.rows.items().len()
     }

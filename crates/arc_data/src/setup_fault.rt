@@ -5,6 +5,8 @@
 pub enum LineKind {
     /// The line has more than 1,024 bytes or is of no known form.
     Form,
+    /// The line names an account that no earlier line declares.
+    NoAccount,
 }
 
 /// Why a text is no setup. Lines are numbered from 1, skipped ones included.
@@ -16,6 +18,8 @@ pub enum SetupFault {
     BadLine { line: u64, kind: LineKind },
     /// The line declares again what an earlier line declares.
     TwoSame { line: u64, first: u64 },
+    /// The line would be one more than there may be.
+    TooMany { line: u64, limit: u64 },
     /// Want of memory. It says nothing of the text.
     Memory,
 }

@@ -86,6 +86,9 @@ fn sixteen_rows(rt: HostRuntime) {
         assert_eq!(rt; listing.push(row), number < 16);
     }
     assert_eq!(rt; (listing.total, listing.count()), (17, 16));
+    let others = Reply::Listed(Listing::new(17));
+    assert_eq!(rt; Reply::Listed(listing) == others, false);
+    assert_eq!(rt; others, Reply::Listed(Listing::new(17)));
 }
 
 #[test]

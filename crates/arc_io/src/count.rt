@@ -1,11 +1,11 @@
-// A number that only proofs read. It takes no memory, and its methods do nothing at run time. A form in
-// memory tells a list that grows with each call, and no number of the machine counts them all.
+// A number for proofs.
 ghost use Rattle.std.specs.Prelude.{◌≡◌, ℕ, ◌+◌};
 ghost use Rattle.std.specs.Borrow.{ftrue};
 
 use std::marker::Model;
 
-// A clause reads it as `number`.
+/// A number that only proofs read, as `number`. It takes no memory, and its methods do nothing at run time. A form in memory
+/// tells a list that grows with each call, and no number of the machine counts them all.
 #[derive(Drop)]
 pub struct Count {
     pub ghost number: { ℕ },
@@ -19,12 +19,14 @@ impl Model for Count {
 unsafe impl Send for Count {}
 
 impl Count {
+    /// Zero.
     pub fn new() -> Count
         ensures { result.number ≡ 0 }
     {
         Count {}
     }
 
+    /// One more.
     pub fn and_one(&self) -> Count
         ensures { result.number ≡ self.now.number + 1 }
     {

@@ -1,7 +1,8 @@
 -- Numbers and texts of the statuses.
 use Rattle.std.specs.Prelude.{ℕ, ◌++◌, List, [], codes, decimal}
+use Rattle.arc_data.specs.declared.setup_fault.LineKind.TheVariants.{Form, NoAccount}
 use Rattle.arc_data.specs.declared.setup_fault.SetupFault.{SetupFault}
-use Rattle.arc_data.specs.declared.setup_fault.SetupFault.TheVariants.{TooLarge, BadLine, TwoSame, Memory as NoMemory}
+use Rattle.arc_data.specs.declared.setup_fault.SetupFault.TheVariants.{TooLarge, BadLine, TwoSame, TooMany, Memory as NoMemory}
 use Rattle.arc_server.specs.declared.status.Status.{Status}
 use Rattle.arc_server.specs.declared.status.Status.TheVariants.{Done, Usage, SetupBad, ReadFault, WriteFault, Memory, Spent, Worn}
 use Rattle.arc_server.specs.declared.status.Which.{Which}
@@ -27,10 +28,18 @@ bad_line_text line = at_line line ++ codes ": not a setup line\n"
 abbrev pub two_same_text : ℕ → ℕ → List ℕ
 two_same_text line first = at_line line ++ codes ": same as line " ++ decimal first ++ codes "\n"
 
+abbrev pub no_account_text : ℕ → List ℕ
+no_account_text line = at_line line ++ codes ": no such account\n"
+
+abbrev pub too_many_text : ℕ → ℕ → List ℕ
+too_many_text line limit = at_line line ++ codes ": more than " ++ decimal limit ++ codes "\n"
+
 abbrev pub setup_text : SetupFault → List ℕ
 setup_text TooLarge = codes "setup: too large\n"
-setup_text (BadLine line kind) = bad_line_text line
+setup_text (BadLine line Form) = bad_line_text line
+setup_text (BadLine line NoAccount) = no_account_text line
 setup_text (TwoSame line first) = two_same_text line first
+setup_text (TooMany line limit) = too_many_text line limit
 setup_text NoMemory = codes "out of memory\n"
 
 abbrev pub read_text : Which → List ℕ

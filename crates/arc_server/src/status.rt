@@ -2,9 +2,9 @@
 ghost use Rattle.std.specs.Prelude.{◌≡◌, OnOk, decimal};
 ghost use Rattle.std.specs.Io.KnownBytes.{append_known};
 ghost use Rattle.arc_io.specs.Causes.{HasCause};
-ghost use Rattle.arc_server.specs.Statuses.{number_of, text_of_status, setup_text, bad_line_text, two_same_text, at_line};
+ghost use Rattle.arc_server.specs.Statuses.{number_of, text_of_status, setup_text, bad_line_text, no_account_text, two_same_text, too_many_text, at_line};
 
-use arc_data::SetupFault;
+use arc_data::{LineKind, SetupFault};
 use arc_io::{Failed, Sink, put};
 use itoa::Buffer;
 
@@ -91,8 +91,16 @@ fn put_setup<K: Sink>(out: &mut K, fault: SetupFault) -> Result<(), Failed>
 {
     match fault {
         SetupFault::TooLarge => put(out, b"setup: too large\n"),
-        SetupFault::BadLine { line, .. } => put_bad_line(out, line),
+        SetupFault::BadLine {
+            line,
+            kind: LineKind::Form,
+        } => put_bad_line(out, line),
+        SetupFault::BadLine {
+            line,
+            kind: LineKind::NoAccount,
+        } => put_no_account(out, line),
         SetupFault::TwoSame { line, first } => put_two_same(out, line, first),
+        SetupFault::TooMany { line, limit } => put_too_many(out, line, limit),
         SetupFault::Memory => put(out, b"out of memory\n"),
     }
 }
@@ -107,6 +115,16 @@ fn put_bad_line<K: Sink>(out: &mut K, line: u64) -> Result<(), Failed>
     put(out, b": not a setup line\n")
 }
 
+// The text of a line that names an account which no earlier one declares.
+#[tactic(auto, using(arc_io::proofs::KnownMore::known_both))]
+fn put_no_account<K: Sink>(out: &mut K, line: u64) -> Result<(), Failed>
+    ensures all { OnOk result ((K.seen out.new).written ≡ append_known (K.seen out.old).written (no_account_text line)) }
+    ensures cause { HasCause (K.seen out.old).write_faults (K.seen out.new).write_faults result }
+{
+    put_line(out, line)?;
+    put(out, b": no such account\n")
+}
+
 // The text of a line that declares what an earlier one does.
 #[tactic(auto, using(arc_io::proofs::KnownMore::known_both))]
 fn put_two_same<K: Sink>(out: &mut K, line: u64, first: u64) -> Result<(), Failed>
@@ -116,6 +134,18 @@ fn put_two_same<K: Sink>(out: &mut K, line: u64, first: u64) -> Result<(), Faile
     put_line(out, line)?;
     put(out, b": same as line ")?;
     put_number(out, first)?;
+    put(out, b"\n")
+}
+
+// The text of a line that is one more than there may be.
+#[tactic(auto, using(arc_io::proofs::KnownMore::known_both))]
+fn put_too_many<K: Sink>(out: &mut K, line: u64, limit: u64) -> Result<(), Failed>
+    ensures all { OnOk result ((K.seen out.new).written ≡ append_known (K.seen out.old).written (too_many_text line limit)) }
+    ensures cause { HasCause (K.seen out.old).write_faults (K.seen out.new).write_faults result }
+{
+    put_line(out, line)?;
+    put(out, b": more than ")?;
+    put_number(out, limit)?;
     put(out, b"\n")
 }
 

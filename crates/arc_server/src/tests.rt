@@ -221,6 +221,14 @@ fn statuses_have_their_numbers_and_texts(rt: HostRuntime) -> Result<(), Fail> {
         line: 7,
         kind: LineKind::Form,
     };
+    let missing = SetupFault::BadLine {
+        line: 8,
+        kind: LineKind::NoAccount,
+    };
+    let many = SetupFault::TooMany {
+        line: 2001,
+        limit: 2000,
+    };
     let setup = Status::ReadFault {
         input: Which::Setup,
         before: 0,
@@ -233,7 +241,7 @@ fn statuses_have_their_numbers_and_texts(rt: HostRuntime) -> Result<(), Fail> {
     };
     let usage: &[u8] =
         b"usage: line | desk | script | report | drill N | serve LINES DESKS SESSIONS\n";
-    let cases: [(Status, u8, &[u8]); 11] = [
+    let cases: [(Status, u8, &[u8]); 13] = [
         (Status::Done, 0, b""),
         (Status::Usage, 1, usage),
         (
@@ -250,6 +258,16 @@ fn statuses_have_their_numbers_and_texts(rt: HostRuntime) -> Result<(), Fail> {
             Status::SetupBad(fault),
             2,
             b"setup: line 12: same as line 3\n",
+        ),
+        (
+            Status::SetupBad(missing),
+            2,
+            b"setup: line 8: no such account\n",
+        ),
+        (
+            Status::SetupBad(many),
+            2,
+            b"setup: line 2001: more than 2000\n",
         ),
         (setup, 3, b"read fault on setup\n"),
         (input, 3, b"read fault on input\n"),

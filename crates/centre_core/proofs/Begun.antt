@@ -3,7 +3,7 @@ use Rattle.std.proofs.Common.{◌≡◌, ◌∷◌, ℕ, List, [], ◌∙◌, ap
 use Rattle.std.specs.Prelude.{IsOk, max}
 use Rattle.arc_data.specs.declared.event.Event.{Event}
 use Rattle.arc_data.specs.declared.event.Event.TheVariants.{Adopt, Start}
-use Rattle.arc_data.specs.declared.event.Reply.TheVariants.{Adopted, Started}
+use Rattle.arc_data.specs.declared.reply.Reply.TheVariants.{Adopted, Started}
 use Rattle.alarm_rules.specs.Setups.{setup_of}
 use Rattle.centre_rules.specs.Summary.{nothing}
 use Rattle.centre_rules.specs.History.{Entry, moment_after}

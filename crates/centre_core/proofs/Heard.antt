@@ -1,8 +1,8 @@
 -- What a hall answers to a heartbeat.
 use Rattle.std.proofs.Common.{◌≡◌, ◌∙◌, ◌∷◌, ℕ, List, Bool, true, false, cond, Option, Some, refl, sym, ap}
 use Rattle.arc_data.specs.declared.event.Event.TheVariants.{Beat}
-use Rattle.arc_data.specs.declared.event.Reply.{Reply}
-use Rattle.arc_data.specs.declared.event.Reply.TheVariants.{Heard}
+use Rattle.arc_data.specs.declared.reply.Reply.{Reply}
+use Rattle.arc_data.specs.declared.reply.Reply.TheVariants.{Heard}
 use Rattle.alarm_rules.specs.Setups.{Setup, has_account}
 use Rattle.centre_rules.specs.Summary.{Summary}
 use Rattle.centre_rules.specs.Marks.{Mark, force}

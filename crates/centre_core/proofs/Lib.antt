@@ -1,5 +1,6 @@
-pub mod Scans
-pub mod RowLemmas
 pub mod Applied
 pub mod Begun
 pub mod Heard
+pub mod Kept
+pub mod Ordered
+pub mod Worked

@@ -1,32 +1,29 @@
 -- What a centre keeps, beside its state.
-use Rattle.std.specs.Prelude.{◌≡◌, ◌≤◌, ◌+◌, ◌++◌, ℕ, List, [], ◌∷◌, map, if◌then◌else◌}
-use Rattle.std.specs.Prelude.{Option, Some, None, IsOk, IsErr, IfSome}
-use Rattle.std.specs.Str.{bytes_eq}
+use Rattle.std.specs.Prelude.{◌≡◌, ◌<◌, ◌≤◌, ◌^◌, ◌+◌, ◌*◌, ℕ, List, [], true, length, Option, Some, None, IsOk, IsErr, IfSome}
 use Rattle.arc_data.specs.declared.event.Event.{Event}
-use Rattle.arc_data.specs.declared.event.Event.TheVariants.{Adopt, Start, Message as Sent, Beat}
-use Rattle.arc_data.specs.declared.event.Reply.{Reply}
+use Rattle.arc_data.specs.declared.event.Event.TheVariants.{Adopt, Message as Sent, Tick}
+use Rattle.arc_data.specs.declared.reply.Reply.{Reply}
 use Rattle.alarm_rules.specs.Setups.{setup_of}
-use Rattle.centre_rules.specs.Summary.{Past, AccountRow}
-use Rattle.centre_rules.specs.History.{marks_of, onto, IsMoment}
-use Rattle.centre_rules.specs.State.{State, Same, Plan, IsSound}
+use Rattle.centre_rules.specs.Summary.{Summary}
+use Rattle.centre_rules.specs.Marks.{Carried}
+use Rattle.centre_rules.specs.Carrying.{carried_by}
+use Rattle.centre_rules.specs.History.{is_recorded, marks_of, onto, IsMoment}
+use Rattle.centre_rules.specs.Answers.{answer_over}
+use Rattle.centre_rules.specs.State.{State, Rooms, Same, Plan, IsSound}
+use Rattle.centre_marks.specs.Taken.{named_by}
+use Rattle.incident_marks.specs.Marked.{IsFew, HaveActRoom}
+use Rattle.incidents.specs.Tables.{TableValue}
 
--- of messages that stand the oldest first, those of an account, the newest first
-abbrev pub messages_of : List ℕ → List Past → List Past
-messages_of account [] = []
-messages_of account (p ∷ ps) = messages_of account ps ++ (if bytes_eq p.message.account account then p ∷ [] else [])
-
-abbrev pub row_in : List Past → Past → AccountRow
-row_in ps p = record { account = p.message.account; messages = messages_of p.message.account ps }
-
--- what is known of the accounts of these messages: of each message, the row of its account
-abbrev pub rows_of : List Past → List AccountRow
-rows_of ps = map (row_in ps) ps
-
--- a setup that is kept is the one that its text means
-pub record IsKept (entries recorded last : ℕ) (text : Option (List ℕ)) : Type 0 where
+-- a setup that is kept is the one that its text means, and a recorded entry raises no count by more than 8,192
+pub record IsCentre (entries recorded last : ℕ) (text : Option (List ℕ)) (t : TableValue) : Type 0 where
   pub few : recorded ≤ entries
+  pub bound : entries ≤ 2 ^ 48
   pub moment : IsMoment last
-  pub valid : IfSome text (λ t. IsOk (setup_of t))
+  pub valid : IfSome text (λ x. IsOk (setup_of x))
+  pub counts : IsFew (recorded * 8192) t.opened t.incidents
+  pub acts : HaveActRoom t.incidents
+
+-- Setups.
 
 -- the setup read of an event: that of an Adopt's text, where it is one
 abbrev pub IsSetupOf : List ℕ → Option (List ℕ) → Type 0
@@ -35,25 +32,58 @@ IsSetupOf text (Some t) = (t ≡ text) × IsOk (setup_of text)
 
 abbrev pub IsAdopted : Event → Option (List ℕ) → Type 0
 IsAdopted (Adopt text) setup = IsSetupOf text setup
-IsAdopted Start setup = setup ≡ None
-IsAdopted (Sent m) setup = setup ≡ None
-IsAdopted (Beat account) setup = setup ≡ None
+IsAdopted event setup = setup ≡ None
 
 -- the setup that a recorded event brings into force
 abbrev pub CarriesSetup : Event → Option (List ℕ) → Type 0
 CarriesSetup (Adopt text) setup = (setup ≡ Some text) × IsOk (setup_of text)
-CarriesSetup Start setup = Unit {0}
-CarriesSetup (Sent m) setup = Unit {0}
-CarriesSetup (Beat account) setup = Unit {0}
+CarriesSetup event setup = Unit {0}
 
--- what has been worked out is sound, and the setup of an Adopt was read
+-- neither a Message nor a Tick, which carry signals
+abbrev pub IsPlain : Event → Type 0
+IsPlain (Sent m) = ⊥
+IsPlain Tick = ⊥
+IsPlain event = Unit {0}
+
+-- Room.
+
+-- other rooms are no less than these
+pub record NoLess (r s : Rooms) : Type 0 where
+  pub incidents : r.incidents ≤ s.incidents
+  pub accounts : r.accounts ≤ s.accounts
+
+-- there is room for what a recorded event with these signals brings
+pub record HasRoomFor (event : Event) (carried : List Carried) (s : State) : Type 0 where
+  pub accounts : named_by event + length carried ≤ s.rooms.accounts
+  pub incidents : length s.sum.incidents + length carried ≤ s.rooms.incidents
+
+-- What has been worked out.
+
+-- for an event at a moment, over a summary: the reply, and where it is recorded, the signals
+pub record IsWorked (s : Summary) (event : Event) (at : ℕ) (reply : Reply) (carried : List Carried) : Type 0 where
+  pub answer : reply ≡ answer_over s [] event at
+  pub carried : is_recorded reply ≡ true → carried ≡ carried_by s [] event at
+  pub few : length carried ≤ 8000
+
+-- it is sound, the setup of an Adopt was read, and there is room
 pub record IsReady (p : Plan) (setup : Option (List ℕ)) : Type 0 where
   pub sound : IsSound p
   pub adopted : IsAdopted p.event setup
+  pub few : length p.carried ≤ 8000
+  pub room : is_recorded p.reply ≡ true → HasRoomFor p.event p.carried p.of
+
+-- a recorded entry of this event can be kept, once it is counted
+pub record MayRecord (s : State) (event : Event) (at : ℕ) (reply : Reply) (setup : Option (List ℕ)) (carried : List Carried) : Type 0 where
+  pub count : s.sum.recorded < s.entries
+  pub moment : IsMoment at
+  pub setup : CarriesSetup event setup
+  pub worked : IsWorked s.sum event at reply carried
+  pub recorded : is_recorded reply ≡ true
+  pub room : HasRoomFor event carried s
 
 -- t is what the state keeps after a recorded event, whose entry is counted already
-pub record Records (s t : State) (event : Event) (at : ℕ) : Type 0 where
+pub record Records (s t : State) (event : Event) (at : ℕ) (reply : Reply) : Type 0 where
   pub entries : t.entries ≡ s.entries
   pub recorded : t.sum.recorded ≡ s.sum.recorded + 1
   pub last : t.sum.last ≡ at
-  pub same : (reply : Reply) → Same t.sum [] s.sum (onto (marks_of s.sum [] event at reply) [])
+  pub same : Same t.sum [] s.sum (onto (marks_of s.sum [] event at reply) [])

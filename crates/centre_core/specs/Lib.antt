@@ -1,10 +1,14 @@
+pub use Rattle.alarm_rules.specs.Setups
+pub use Rattle.arc_data.specs.WellFormed
+pub use Rattle.centre_marks.specs.Taken
 pub use Rattle.centre_rules.specs.Summary
 pub use Rattle.centre_rules.specs.History
 pub use Rattle.centre_rules.specs.Answers
 pub use Rattle.centre_rules.specs.State
-pub mod Halls
-pub use Rattle.centre_rules.specs.WellFormed
+pub use Rattle.incident_marks.specs.Marked
 pub mod Kept
+pub mod Raised
+pub mod Halls
 pub mod Runs
 pub mod Setting
 pub mod InForce

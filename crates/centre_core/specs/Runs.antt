@@ -1,8 +1,8 @@
 -- How a run begins, and what is submitted in one.
 use Rattle.std.specs.Prelude.{ℕ, List, [], ◌∷◌}
 use Rattle.arc_data.specs.declared.event.Event.{Event}
-use Rattle.arc_data.specs.declared.event.Event.TheVariants.{Adopt, Start, Message as Sent, Beat}
-use Rattle.arc_data.specs.declared.event.Reply.TheVariants.{Adopted, Started}
+use Rattle.arc_data.specs.declared.event.Event.TheVariants.{Adopt, Start}
+use Rattle.arc_data.specs.declared.reply.Reply.TheVariants.{Adopted, Started}
 use Rattle.centre_rules.specs.History.{Entry}
 
 -- an Adopt of the setup's text, and then a Start, both at the one reading (the newest entry stands first)
@@ -15,5 +15,4 @@ begun text clock =
 abbrev pub IsSubmitted : Event → Type 0
 IsSubmitted (Adopt text) = ⊥
 IsSubmitted Start = ⊥
-IsSubmitted (Sent m) = Unit {0}
-IsSubmitted (Beat account) = Unit {0}
+IsSubmitted event = Unit {0}

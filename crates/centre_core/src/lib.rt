@@ -2,16 +2,20 @@
 //! answers need. A hall is where a session submits its events; here it is a centre kept in memory.
 #![tactic(auto)]
 
+mod answers;
+mod carrying;
 mod centre;
 mod hall;
+mod orders;
 mod ready;
-mod repeats;
-mod signals;
+mod reserving;
+mod watch;
 
 pub use accounts::Setup;
 pub use arc_data::{Blob, Event, Memory, Message, Reply, Token};
 pub use centre::Centre;
 pub use hall::{Hall, RamHall, Stop};
+pub use incidents::Table;
 pub use ready::{Done, Ready};
 
 #[cfg(test)]

@@ -4,7 +4,7 @@ ghost use Rattle.centre_rules.specs.History.{is_recorded};
 
 use crate::centre::Centre;
 use accounts::Setup;
-use arc_data::{Event, Reply};
+use arc_data::{Carried, Event, Reply};
 use centre_rules::is_recorded;
 use std::marker::Model;
 use std::snapshot::Snapshot;
@@ -16,18 +16,20 @@ pub struct Ready {
     pub(crate) reply: Reply,
     // The setup of an Adopt's text, read already.
     pub(crate) setup: Option<Setup>,
+    // The signals that the entry carries, where it is recorded, each with the steps of the incident that it would open.
+    pub(crate) carried: Vec<Carried>,
     pub(crate) of: Snapshot<Centre>,
 }
 
 impl Model for Ready {
-    ghost use Rattle.centre_rules.specs.State.{Plan, IsSound};
+    ghost use Rattle.centre_rules.specs.State.{Plan};
     ghost use Rattle.centre_core.specs.Kept.{IsReady};
 
     ghost Value = { Plan };
 
-    ghost view = { λ r. record { event = r.event; at = r.at; reply = r.reply; of = r.of.value } };
+    ghost view = { λ r. record { event = r.event; at = r.at; reply = r.reply; carried = r.carried.items; of = r.of.value } };
 
-    ghost invariant = { λ r. IsReady (record { event = r.event; at = r.at; reply = r.reply; of = r.of.value }) r.setup };
+    ghost invariant = { λ r. IsReady (record { event = r.event; at = r.at; reply = r.reply; carried = r.carried.items; of = r.of.value }) r.setup };
 }
 
 impl Ready {
@@ -59,6 +61,7 @@ impl Ready {
             at: _,
             reply: _,
             setup: _,
+            carried: _,
             of: _,
         } = self;
     }

@@ -3,7 +3,7 @@ use Rattle.std.proofs.Common.{◌≡◌, ◌≤◌, ℕ, ◌+◌, List, [], ◌�
 use Rattle.arc_data.specs.WellFormed.{IsWellFormed}
 use Rattle.centre_rules.specs.Summary.{Summary}
 use Rattle.centre_rules.specs.Marks.{Mark}
-use Rattle.centre_rules.specs.History.{Entry, marks, marks_of, marked, onto, is_recorded, recorded, last}
+use Rattle.centre_rules.specs.History.{Entry, marks_of, marked, onto, is_recorded, recorded, last}
 use Rattle.centre_rules.specs.Answers.{answer_over}
 use Rattle.centre_rules.specs.State.{Same, State, StandsFor, Grows}
 use Rattle.centre_rules.proofs.Sames.{same_refl, same_trans, same_onto, marks_of_same, answer_same}
@@ -19,9 +19,9 @@ more_if e false w = w
 pub same_more : {s t : Summary} {ms ns : List Mark} → (e : Entry) → Same s ms t ns → Same s (marked s e ms) t (marked t e ns)
 same_more e w = more_if e (is_recorded e.reply) w
 
-length_if : (b : Bool) (e : Entry) (h : List Entry) (n : ℕ) → n + length (recorded h) + length (cond b (e ∷ []) []) ≡ n + length (cond b (e ∷ recorded h) (recorded h))
-length_if true e h n = omega arith
-length_if false e h n = omega arith
+length_if : (b : Bool) (e : Entry) (xs : List Entry) (n : ℕ) → n + length xs + length (cond b (e ∷ []) []) ≡ n + length (cond b (e ∷ xs) xs)
+length_if true e xs n = omega arith
+length_if false e xs n = omega arith
 
 last_if : (b : Bool) (x y at : ℕ) → x ≡ y → cond b at x ≡ cond b at y
 last_if true x y at e = refl
@@ -38,7 +38,7 @@ grown b s t h e w g formed r late = record {
     w.legal,
   );
   entries = omega (arith, g.entries, w.entries);
-  recorded = g.recorded ∙ ap (λ n. n + length (recorded (e ∷ []))) w.recorded ∙ length_if (is_recorded e.reply) e h b.recorded;
+  recorded = g.recorded ∙ ap (λ n. n + length (recorded (e ∷ []))) w.recorded ∙ length_if (is_recorded e.reply) e (recorded h) b.recorded;
   last = g.last ∙ last_if (is_recorded e.reply) s.sum.last (last b h) e.at w.last;
   same = same_trans g.same (same_more e w.same);
 }

@@ -1,2 +1,7 @@
+pub mod Steps
 pub mod Sames
 pub mod Grown
+pub mod Quiet
+pub mod Marked
+pub mod Tables
+pub mod Standing

@@ -1,26 +1,29 @@
 -- What tells the same goes on to tell the same.
-use Rattle.std.proofs.Common.{◌≡◌, ℕ, zero, suc, List, [], ◌∷◌, take, Bool, true, false, cond, refl, sym, ap, ◌∙◌}
-use Rattle.std.specs.Prelude.{option_and_then}
+use Rattle.std.proofs.Common.{◌≡◌, ℕ, zero, suc, List, [], ◌∷◌, map, take, Bool, true, false, cond, refl, sym, ap, ◌∙◌, Option, Some, None}
+use Rattle.std.specs.Prelude.{not, ◌&&◌, option_and_then}
 use Rattle.std.specs.Result.{result_ok}
 use Rattle.std.specs.Str.{bytes_eq}
 use Rattle.arc_data.specs.declared.event.Event.{Event}
-use Rattle.arc_data.specs.declared.event.Event.TheVariants.{Adopt, Start, Message as Sent, Beat}
-use Rattle.arc_data.specs.declared.event.Reply.{Reply}
-use Rattle.alarm_rules.specs.Setups.{setup_of}
+use Rattle.arc_data.specs.declared.event.Event.TheVariants.{Adopt, Start, Message as Sent, Beat, Tick, Show, List as Rows}
+use Rattle.arc_data.specs.declared.reply.Reply.{Reply}
+use Rattle.alarm_rules.specs.Setups.{Account, setup_of}
 use Rattle.centre_rules.specs.Summary.{Summary, Past}
-use Rattle.centre_rules.specs.Marks.{Mark, Adopts, Starts, Sends, text_at, start_at, messages_at, text, start, force, messages}
+use Rattle.centre_rules.specs.Marks.{Mark, Sends, Carries, text_at, start_at, messages_at, heard_at, failed_at, opening_at, force, messages, heard, failed}
+use Rattle.centre_rules.specs.Tables.{opened_after, table_after}
+use Rattle.centre_rules.specs.Carrying.{is_past, is_silent, closes_late, is_late, raised}
 use Rattle.centre_rules.specs.History.{marks_of, onto}
 use Rattle.centre_rules.specs.Answers.{answer_over}
 use Rattle.centre_rules.specs.State.{Same}
+use Rattle.centre_rules.proofs.Steps.{incidents_step, opened_step}
 
 pub same_refl : (s : Summary) (ms : List Mark) → Same s ms s ms
-same_refl s ms = record { text = refl; start = refl; recent = λ a. refl }
+same_refl s ms = record { text = refl; start = refl; opened = refl; incidents = refl; heard = λ a. refl; failed = λ a. refl; opening = λ a. refl; recent = λ a. refl }
 
 pub same_sym : {s t : Summary} {ms ns : List Mark} → Same s ms t ns → Same t ns s ms
-same_sym w = record { text = sym w.text; start = sym w.start; recent = λ a. sym (w.recent a) }
+same_sym w = record { text = sym w.text; start = sym w.start; opened = sym w.opened; incidents = sym w.incidents; heard = λ a. sym (w.heard a); failed = λ a. sym (w.failed a); opening = λ a. sym (w.opening a); recent = λ a. sym (w.recent a) }
 
 pub same_trans : {s t u : Summary} {ms ns os : List Mark} → Same s ms t ns → Same t ns u os → Same s ms u os
-same_trans v w = record { text = v.text ∙ w.text; start = v.start ∙ w.start; recent = λ a. v.recent a ∙ w.recent a }
+same_trans v w = record { text = v.text ∙ w.text; start = v.start ∙ w.start; opened = v.opened ∙ w.opened; incidents = v.incidents ∙ w.incidents; heard = λ a. v.heard a ∙ w.heard a; failed = λ a. v.failed a ∙ w.failed a; opening = λ a. v.opening a ∙ w.opening a; recent = λ a. v.recent a ∙ w.recent a }
 
 take_front : (n : ℕ) (xs : List Past) → take n (take (suc n) xs) ≡ take n xs
 take_front zero xs = refl
@@ -37,13 +40,18 @@ recent_if false p xs ys e = e
 -- the same mark upon messages of which the last 32 are the same
 pub recent_step : (a : List ℕ) (m : Mark) (xs ys : List Past) → take 32 xs ≡ take 32 ys → take 32 (messages_at a m xs) ≡ take 32 (messages_at a m ys)
 recent_step a (Sends message at) xs ys e = recent_if (bytes_eq message.account a) (record { message = message; at = at }) xs ys e
-recent_step a (Adopts text) xs ys e = e
-recent_step a (Starts at) xs ys e = e
+recent_step a m xs ys e = e
 
+-- the same mark after both
 pub same_step : {s t : Summary} {ms ns : List Mark} → (m : Mark) → Same s ms t ns → Same s (m ∷ ms) t (m ∷ ns)
 same_step {s} {t} {ms} {ns} m w = record {
   text = ap (text_at m) w.text;
   start = ap (start_at m) w.start;
+  opened = opened_step s m ms ∙ (λ i. opened_after m (w.opened i) (w.incidents i)) ∙ sym (opened_step t m ns);
+  incidents = incidents_step s m ms ∙ (λ i. table_after m (w.opened i) (w.incidents i)) ∙ sym (incidents_step t m ns);
+  heard = λ a. ap (heard_at a m) (w.heard a);
+  failed = λ a. ap (failed_at a m) (w.failed a);
+  opening = λ a. ap (opening_at a m) (w.opening a);
   recent = λ a. recent_step a m (messages s ms a) (messages t ns a) (w.recent a);
 }
 
@@ -54,12 +62,26 @@ same_onto (x ∷ xs) w = same_onto xs (same_step x w)
 pub force_same : {s t : Summary} {ms ns : List Mark} → Same s ms t ns → force s ms ≡ force t ns
 force_same w = ap (option_and_then (λ x. result_ok (setup_of x))) w.text
 
+silent_same : {s t : Summary} {ms ns : List Mark} → Same s ms t ns → (at : ℕ) (account : Account) (beat : Option ℕ)
+    → (elim beat as (λ _. Bool) [ None ↦ false | Some interval ↦ is_past (heard s ms account.number) interval at && not (failed s ms account.number) ])
+    ≡ (elim beat as (λ _. Bool) [ None ↦ false | Some interval ↦ is_past (heard t ns account.number) interval at && not (failed t ns account.number) ])
+silent_same w at account None = refl
+silent_same w at account (Some interval) = λ i. is_past (w.heard account.number i) interval at && not (w.failed account.number i)
+
+is_silent_same : {s t : Summary} {ms ns : List Mark} → Same s ms t ns → (at : ℕ) → is_silent s ms at ≡ is_silent t ns at
+is_silent_same w at = λ i account. silent_same w at account account.beat i
+
+is_late_same : {s t : Summary} {ms ns : List Mark} → Same s ms t ns → (at : ℕ) → is_late s ms at ≡ is_late t ns at
+is_late_same w at = λ i account. closes_late (w.opening account.number i) account at
+
+pub raised_same : {s t : Summary} {ms ns : List Mark} → Same s ms t ns → (at : ℕ) → raised s ms at ≡ raised t ns at
+raised_same w at = rw (force_same w, is_silent_same w at, is_late_same w at) refl
+
 -- equal telling gives equal marks
 pub marks_of_same : {s t : Summary} {ms ns : List Mark} → Same s ms t ns → (e : Event) (at : ℕ) (r : Reply) → marks_of s ms e at r ≡ marks_of t ns e at r
-marks_of_same w (Adopt text) at r = refl
-marks_of_same w Start at r = refl
-marks_of_same w (Sent m) at r = refl
-marks_of_same w (Beat account) at r = refl
+marks_of_same w (Sent m) at r = rw (force_same w) refl
+marks_of_same w Tick at r = ap (map Carries) (raised_same w at)
+marks_of_same w e at r = refl
 
 -- equal telling gives equal answers
 pub answer_same : {s t : Summary} {ms ns : List Mark} → Same s ms t ns → (e : Event) (at : ℕ) → answer_over s ms e at ≡ answer_over t ns e at
@@ -67,3 +89,7 @@ answer_same w (Adopt text) at = refl
 answer_same w Start at = refl
 answer_same w (Sent m) at = rw (force_same w, w.recent m.account) refl
 answer_same w (Beat account) at = rw (force_same w) refl
+answer_same w Tick at = rw (raised_same w at) refl
+answer_same w (Show number) at = rw w.incidents refl
+answer_same w Rows at = rw w.incidents refl
+answer_same w e at = rw (force_same w, w.incidents) refl

@@ -1,27 +1,36 @@
 -- What the centre answers to an event after a history.
-use Rattle.std.specs.Prelude.{◌≡◌, ◌≤◌, ◌+◌, ◌==◌, ◌&&◌, ℕ, List, [], ◌∷◌, Bool, true, false, take}
+use Rattle.std.specs.Prelude.{◌≡◌, ◌≤◌, ◌+◌, ◌==◌, ◌&&◌, ℕ, List, [], ◌∷◌, Bool, true, false, take, length}
 use Rattle.std.specs.Prelude.{Option, Some, None, is_ok, nat_le}
 use Rattle.std.specs.List.{find}
 use Rattle.std.specs.Option.{option_map}
 use Rattle.std.specs.Str.{bytes_eq}
 use Rattle.arc_data.specs.WellFormed.{IsWellFormed}
 use Rattle.arc_data.specs.declared.event.Event.{Event}
-use Rattle.arc_data.specs.declared.event.Event.TheVariants.{Adopt, Start, Message as Sent, Beat}
+use Rattle.arc_data.specs.declared.event.Event.TheVariants.{Adopt, Start, Message as Sent, Beat, Tick, Claim, Next, Act as Do}
+use Rattle.arc_data.specs.declared.event.Event.TheVariants.{Release, Close, Show, List as Rows}
 use Rattle.arc_data.specs.declared.event.Message.{Message}
-use Rattle.arc_data.specs.declared.event.Reply.{Reply}
-use Rattle.arc_data.specs.declared.event.Reply.TheVariants.{Adopted, Started, Taken, Repeat, Heard, Unknown}
+use Rattle.arc_data.specs.declared.reply.Reply.{Reply}
+use Rattle.arc_data.specs.declared.reply.Reply.TheVariants.{Adopted, Started, Taken, Repeat, Heard, Raised, Unknown}
 use Rattle.arc_data.specs.declared.event.Token.{Token}
 use Rattle.arc_data.specs.declared.event.Token.TheVariants.{SiaDcs, AdmCid}
-use Rattle.alarm_rules.specs.Setups.{Setup, setup_of, has_account}
+use Rattle.alarm_rules.specs.Setups.{Setup, setup_of, has_account, has_operator}
 use Rattle.alarm_rules.specs.Signals.{has_signals}
 use Rattle.centre_rules.specs.Summary.{Summary, Past}
 use Rattle.centre_rules.specs.Marks.{Mark, force, messages}
-use Rattle.centre_rules.specs.History.{Entry, last, marks}
+use Rattle.centre_rules.specs.Cases.{incidents}
+use Rattle.centre_rules.specs.Carrying.{raised}
+use Rattle.centre_rules.specs.History.{Entry, last, marks, acted_by}
+use Rattle.centre_rules.specs.Desks.{on_claim, on_next, on_act, on_release, on_close, on_show, on_list}
 
--- before the first Adopt every account is lacking
+-- before the first Adopt every account and every operator is lacking
+
 abbrev pub knows_account : Option Setup → List ℕ → Bool
 knows_account None account = false
 knows_account (Some setup) account = has_account setup account
+
+abbrev pub knows_operator : Option Setup → List ℕ → Bool
+knows_operator None name = false
+knows_operator (Some setup) name = has_operator setup name
 
 -- Repeats.
 
@@ -59,6 +68,8 @@ abbrev pub taken_or : Option ℕ → Reply
 taken_or None = Taken
 taken_or (Some first) = Repeat first
 
+-- Answers.
+
 abbrev pub if_known : Bool → Reply → Reply
 if_known true reply = reply
 if_known false reply = Unknown
@@ -70,6 +81,18 @@ answer_over s ms Start at = Started
 answer_over s ms (Sent m) at =
     if_known (knows_account (force s ms) m.account && has_signals m.token m.content) (taken_or (repeat_of s ms m at))
 answer_over s ms (Beat account) at = if_known (knows_account (force s ms) account) Heard
+answer_over s ms Tick at = Raised (length (raised s ms at))
+answer_over s ms (Claim operator number) at =
+    if_known (knows_operator (force s ms) operator) (on_claim operator number (incidents s ms))
+answer_over s ms (Next operator) at = if_known (knows_operator (force s ms) operator) (on_next operator (incidents s ms))
+answer_over s ms (Do operator number step outcome) at =
+    if_known (knows_operator (force s ms) operator) (on_act (acted_by operator step outcome at) number (incidents s ms))
+answer_over s ms (Release operator number) at =
+    if_known (knows_operator (force s ms) operator) (on_release operator number (incidents s ms))
+answer_over s ms (Close operator number code) at =
+    if_known (knows_operator (force s ms) operator) (on_close operator number (incidents s ms))
+answer_over s ms (Show number) at = on_show number (incidents s ms)
+answer_over s ms Rows at = on_list (incidents s ms)
 
 abbrev pub answer : Summary → List Entry → Event → ℕ → Reply
 answer s h e at = answer_over s (marks s h) e at

@@ -1,26 +1,38 @@
 -- What a centre keeps of a history.
-use Rattle.std.specs.Prelude.{◌≡◌, ◌<◌, ◌≤◌, ◌^◌, ◌+◌, ℕ, List, [], ◌∷◌, Option, length}
+use Rattle.std.specs.Prelude.{◌≡◌, ◌<◌, ◌≤◌, ◌^◌, ◌+◌, ℕ, List, [], ◌∷◌, true, length, take}
 use Rattle.arc_data.specs.WellFormed.{IsWellFormed}
 use Rattle.arc_data.specs.declared.event.Event.{Event}
-use Rattle.arc_data.specs.declared.event.Event.TheVariants.{Message as Sent}
-use Rattle.arc_data.specs.declared.event.Reply.{Reply}
-use Rattle.centre_rules.specs.Summary.{Summary}
-use Rattle.centre_rules.specs.Marks.{Mark, text, start}
-use Rattle.centre_rules.specs.History.{Entry, recorded, last, marks, IsMoment}
+use Rattle.arc_data.specs.declared.reply.Reply.{Reply}
+use Rattle.centre_rules.specs.Summary.{Summary, row_of}
+use Rattle.centre_rules.specs.Marks.{Mark, Carried, text, start, heard, failed, opening}
+use Rattle.centre_rules.specs.Marks.{text_at, start_at, heard_at, failed_at, opening_at, messages_at}
+use Rattle.centre_rules.specs.Cases.{opened, incidents}
+use Rattle.centre_rules.specs.Tables.{opened_after, table_after}
+use Rattle.centre_rules.specs.Carrying.{carried_by}
+use Rattle.centre_rules.specs.History.{Entry, recorded, last, marks, is_recorded, IsMoment}
 use Rattle.centre_rules.specs.Answers.{recent, answer_over, IsLegal}
 
 -- Two lists of marks, each over its summary, tell the same of everything that an answer asks.
 pub record Same (s : Summary) (ms : List Mark) (t : Summary) (ns : List Mark) : Type 0 where
   pub text : text s ms ≡ text t ns
   pub start : start s ms ≡ start t ns
+  pub opened : opened s ms ≡ opened t ns
+  pub incidents : incidents s ms ≡ incidents t ns
+  pub heard : (account : List ℕ) → heard s ms account ≡ heard t ns account
+  pub failed : (account : List ℕ) → failed s ms account ≡ failed t ns account
+  pub opening : (account : List ℕ) → opening s ms account ≡ opening t ns account
   pub recent : (account : List ℕ) → recent s ms account ≡ recent t ns account
 
--- how many entries there were, what is kept of them, how many messages are kept, and for how many there is memory
+-- for how many open incidents there is memory, those that are open included, and for how many further accounts
+pub record Rooms : Type 0 where
+  pub incidents : ℕ
+  pub accounts : ℕ
+
+-- how many entries there were, what is kept of them, and for how much more there is memory
 pub record State : Type 0 where
   pub entries : ℕ
   pub sum : Summary
-  pub kept : ℕ
-  pub room : ℕ
+  pub rooms : Rooms
 
 -- the state is that of the history over a summary
 pub record StandsFor (b : Summary) (s : State) (h : List Entry) : Type 0 where
@@ -30,26 +42,22 @@ pub record StandsFor (b : Summary) (s : State) (h : List Entry) : Type 0 where
   pub last : s.sum.last ≡ last b h
   pub same : Same s.sum [] b (marks b h)
 
--- there is room for what the event brings: a Message is kept, of the others nothing is
-abbrev pub HasRoomFor : Event → State → Type 0
-HasRoomFor (Sent m) s = s.kept < s.room
-HasRoomFor event s = Unit {0}
-
--- what has been worked out for an event over a state: its moment and its reply
+-- what has been worked out for an event over a state: its moment, its reply, and the signals that it carries
 pub record Plan : Type 0 where
   pub event : Event
   pub at : ℕ
   pub reply : Reply
+  pub carried : List Carried
   pub of : State
 
--- What a plan is worth: its reply is the answer over its state, and there is room for what it brings.
+-- What a plan is worth: its reply is the answer over its state, and where it is recorded, its signals are those of the event.
 pub record IsSound (p : Plan) : Type 0 where
   pub event : IsWellFormed p.event
   pub answer : p.reply ≡ answer_over p.of.sum [] p.event p.at
+  pub carried : is_recorded p.reply ≡ true → p.carried ≡ carried_by p.of.sum [] p.event p.at
   pub late : p.of.sum.last ≤ p.at
   pub moment : IsMoment p.at
   pub few : p.of.entries < 2 ^ 48
-  pub room : HasRoomFor p.event p.of
 
 -- the entry that follows
 abbrev pub entry_of : ℕ → Plan → Entry
@@ -61,3 +69,15 @@ pub record Grows (s t : State) (e : Entry) : Type 0 where
   pub recorded : t.sum.recorded ≡ s.sum.recorded + length (recorded (e ∷ []))
   pub last : t.sum.last ≡ last s.sum (e ∷ [])
   pub same : Same t.sum [] s.sum (marks s.sum (e ∷ []))
+
+-- t is what one mark makes of s in place; of the messages of an account the last 32 count
+pub record IsMarked (m : Mark) (s t : Summary) : Type 0 where
+  pub text : t.text ≡ text_at m s.text
+  pub start : t.start ≡ start_at m s.start
+  pub opened : t.opened ≡ opened_after m s.opened s.incidents
+  pub incidents : t.incidents ≡ table_after m s.opened s.incidents
+  pub heard : (account : List ℕ) → (row_of t account).heard ≡ heard_at account m (row_of s account).heard
+  pub failed : (account : List ℕ) → (row_of t account).failed ≡ failed_at account m (row_of s account).failed
+  pub opening : (account : List ℕ) → (row_of t account).opening ≡ opening_at account m (row_of s account).opening
+  pub recent : (account : List ℕ)
+      → take 32 (row_of t account).messages ≡ take 32 (messages_at account m (row_of s account).messages)

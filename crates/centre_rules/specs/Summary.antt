@@ -1,30 +1,38 @@
 -- What a history begins with: nothing, or what was kept of the entries before it.
-use Rattle.std.specs.Prelude.{ℕ, List, [], Option, Some, None}
+use Rattle.std.specs.Prelude.{ℕ, List, [], Bool, false, Option, Some, None}
 use Rattle.std.specs.List.{find}
 use Rattle.std.specs.Str.{bytes_eq}
 pub use Rattle.arc_data.specs.declared.event.Past.{Past}
+use Rattle.arc_data.specs.declared.incident.Incident.{Incident}
+pub use Rattle.arc_data.specs.declared.incident.Opened.{Opened}
 
--- what is known of an account: its recorded messages, the newest first
+-- what is known of an account: when it was last heard; whether a Tick has raised a CommFail of it since; its last opening
+-- signal, while it is open; and its recorded messages, the newest first
 pub record AccountRow : Type 0 where
   pub account : List ℕ
+  pub heard : Option ℕ
+  pub failed : Bool
+  pub opening : Option Opened
   pub messages : List Past
 
--- the moment of the last recorded entry, how many are recorded, the moment of the last Start, the setup text in force, and
--- the accounts
+-- the moment of the last recorded entry; how many entries are recorded, and how many incidents were opened; the moment of
+-- the last Start; the setup text in force; the accounts; and the open incidents in order of number
 pub record Summary : Type 0 where
   pub last : ℕ
   pub recorded : ℕ
+  pub opened : ℕ
   pub start : Option ℕ
   pub text : Option (List ℕ)
   pub rows : List AccountRow
+  pub incidents : List Incident
 
 abbrev pub nothing : Summary
-nothing = record { last = 0; recorded = 0; start = None; text = None; rows = [] }
+nothing = record { last = 0; recorded = 0; opened = 0; start = None; text = None; rows = []; incidents = [] }
 
--- of an account without a row nothing is known
-abbrev pub row_or : Option AccountRow → List ℕ → AccountRow
-row_or None account = record { account = account; messages = [] }
-row_or (Some row) account = row
+-- of an account without a row only the last Start is known, at which each account is heard
+abbrev pub row_or : Option AccountRow → List ℕ → Option ℕ → AccountRow
+row_or None account start = record { account = account; heard = start; failed = false; opening = None; messages = [] }
+row_or (Some row) account start = row
 
 abbrev pub row_of : Summary → List ℕ → AccountRow
-row_of s account = row_or (find (λ r. bytes_eq r.account account) s.rows) account
+row_of s account = row_or (find (λ r. bytes_eq r.account account) s.rows) account s.start

@@ -1,10 +1,9 @@
 //! What the centre answers, said of the whole history: the one-thread centre to which everything else is held.
-//! Definitions, the laws over them, and the test which replies are recorded.
+//! Definitions, and the test which replies are recorded.
 #![tactic(auto)]
 
 ghost use Rattle.std.specs.Prelude.{◌≡◌};
 ghost use Rattle.centre_rules.specs.History.{is_recorded};
-ghost use Rattle.centre_rules.specs.Laws.{QuietChangesNothing};
 
 use arc_data::Reply;
 
@@ -14,11 +13,13 @@ pub fn is_recorded(reply: &Reply) -> bool
 {
     match reply {
         Reply::Adopted | Reply::Started | Reply::Taken | Reply::Heard => true,
+        Reply::Raised { count } => *count > 0,
+        Reply::Claimed { .. } | Reply::Recorded { .. } => true,
+        Reply::Released { .. } | Reply::Closed { .. } => true,
         Reply::Repeat { .. } | Reply::Unknown => false,
+        Reply::Shown(_) | Reply::Listed(_) => false,
+        Reply::NotOpen { .. } | Reply::HeldBy { .. } => false,
+        Reply::BusyWith { .. } | Reply::NotYours { .. } | Reply::NoneWaiting => false,
+        Reply::Expected { .. } | Reply::Missing { .. } => false,
     }
 }
-
-/// Entries that are not recorded, repeats among them, change no answer.
-pub fn law_repeats()
-    ensures { QuietChangesNothing }
-{}

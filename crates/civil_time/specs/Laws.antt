@@ -1,7 +1,7 @@
 -- What the definitions of this crate add up to.
 use Rattle.std.specs.Prelude.{◌≡◌, ◌≢◌, ℕ, ◌↔◌, ◌+◌, ◌*◌, ◌/◌, ◌<◌, ◌≤◌, ℤ, pos, ◌+ℤ◌, ◌*ℤ◌, Some, List, length, All}
 use Rattle.std.specs.Char.{IsAsciiGraphic}
-use Rattle.civil_time.specs.LocalTime.{local_seconds, local_day, local_minute, local_weekday}
+use Rattle.arc_data.specs.LocalTime.{local_seconds, local_day, local_minute, local_weekday}
 use Rattle.civil_time.specs.Calendar.{CivilDate, date_of, day_number, IsCalendarDate}
 use Rattle.civil_time.specs.Stamp.{IsMoment, IsStampOf, stamp, stamp_time}
 

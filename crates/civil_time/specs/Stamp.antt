@@ -2,12 +2,9 @@
 -- the beginning of 1970.
 use Rattle.std.specs.Prelude.{◌≡◌, ℕ, zero, suc, ◌+◌, ◌/◌, ◌%◌, Bool, ◌&&◌, nat_le, if◌then◌else◌, Option, Some, None, List, []}
 use Rattle.std.specs.Prelude.{◌∷◌, ◌++◌, codes, bytes_eq}
+pub use Rattle.arc_data.specs.Digits.{two_digits}
 pub use Rattle.arc_data.specs.Moments.{IsMoment}
 use Rattle.civil_time.specs.Calendar.{CivilDate, date_of}
-
--- the number in two decimal digits
-abbrev pub two_digits : ℕ → List ℕ
-two_digits n = (48 + n / 10) ∷ (48 + n % 10) ∷ []
 
 -- the number in four decimal digits
 abbrev pub four_digits : ℕ → List ℕ

@@ -1,7 +1,7 @@
 ghost use Rattle.std.specs.Prelude.{◌≡◌};
 ghost use Rattle.jiff_core.specs.Calendar.{IsWithin};
 ghost use Rattle.arc_data.specs.Moments.{IsMoment};
-ghost use Rattle.civil_time.specs.LocalTime.{local_day, local_minute, local_weekday};
+ghost use Rattle.arc_data.specs.LocalTime.{local_day, local_minute, local_weekday};
 
 use crate::place::Local;
 

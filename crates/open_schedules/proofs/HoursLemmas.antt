@@ -9,7 +9,7 @@ use Rattle.std.proofs.lemmas.List.Elements.{All-contains, All-weaker}
 use Rattle.std.proofs.lemmas.List.Folds.{Any-from_list_any, list_any-from_Any}
 use Rattle.jiff_core.specs.Calendar.{IsWithin}
 use Rattle.jiff_core.proofs.SignedLemmas.{signed_arith, int_div_euclid-parts, int_rem_euclid-parts, unsigned_abs-parts, one_part}
-use Rattle.civil_time.specs.LocalTime.{local_seconds, local_day, local_weekday, local_minute}
+use Rattle.arc_data.specs.LocalTime.{local_seconds, local_day, local_weekday, local_minute}
 use Rattle.arc_data.specs.declared.window.Window.{Window}
 use Rattle.alarm_rules.specs.Weeks.{Week, in_hours, is_closing, IsNextClose}
 use Rattle.open_schedules.specs.Kept.{IsWindow}

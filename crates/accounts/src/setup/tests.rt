@@ -1,8 +1,10 @@
 use super::*;
-use aes_chain::encrypt_block;
-use arc_data::LineKind;
+use arc_data::{LineKind, Step};
 use std::alloc::AllocError;
 use std::test::Fail;
+
+mod faults;
+mod limits;
 
 // How many accounts the text has, or its fault.
 fn outcome(alloc: Global, text: &[u8]) -> Result<usize, SetupFault> {
@@ -17,24 +19,19 @@ fn bad(line: u64) -> Result<usize, SetupFault> {
     })
 }
 
+fn missing(line: u64) -> Result<usize, SetupFault> {
+    Err(SetupFault::BadLine {
+        line,
+        kind: LineKind::NoAccount,
+    })
+}
+
 fn same(line: u64, first: u64) -> Result<usize, SetupFault> {
     Err(SetupFault::TwoSame { line, first })
 }
 
-// A remark of so many bytes, and what ends it.
-fn remark(alloc: Global, length: usize, end: &[u8]) -> Result<Vec<u8>, AllocError> {
-    let mut text = vec![in alloc; b'#'; length]?;
-    text.extend_from_slice(end)?;
-    Ok(text)
-}
-
-// A first line, and then remarks of 1,023 bytes and a line feed, until the text has so many bytes.
-fn large_text(alloc: Global, first: &[u8], length: usize) -> Result<Vec<u8>, AllocError> {
-    let mut text = first.to_vec(alloc)?;
-    for place in first.len()..length {
-        text.push(if place % 1024 == 1023 { b'\n' } else { b'#' })?;
-    }
-    Ok(text)
+fn many(line: u64, limit: u64) -> Result<usize, SetupFault> {
+    Err(SetupFault::TooMany { line, limit })
 }
 
 // The numbers of the accounts of a setup, each with a space before it, and an asterisk after it where there is a key.
@@ -56,10 +53,9 @@ fn texts_of_setups(rt: HostRuntime) -> Result<(), Fail> {
     for (text, want) in [
         ("", ""),
         ("\n\n# a remark\n#\r\n\r\n#account 1234", ""),
+        ("operator ann 1234\nplan * fire fire\n", ""),
         ("account 1234", " 1234"),
-        ("account 1234\n", " 1234"),
         ("account 1234\r\n", " 1234"),
-        ("account a9f\n", " A9F"),
         ("account 0123456789abcdeF\n", " 0123456789ABCDEF"),
         ("account bbb\n# next\n\naccount AAA", " BBB AAA"),
         ("account 123\naccount 0123\n", " 123 0123"),
@@ -97,7 +93,7 @@ fn places_of_numbers(rt: HostRuntime) -> Result<(), Fail> {
 // The number of the bytes 00, 11 to ff, encrypted by the account's key. None where there is no key.
 fn encrypted(setup: &Setup, account: &Txt) -> Option<u128> {
     let mut block = (0x00112233_44556677_8899aabb_ccddeeff_u128).to_be_bytes();
-    encrypt_block(setup.key(account)?, &mut block);
+    aes_chain::encrypt_block(setup.key(account)?, &mut block);
     Some(u128::from_be_bytes(block))
 }
 
@@ -106,7 +102,7 @@ fn keys_of_accounts(rt: HostRuntime) -> Result<(), Fail> {
     let text = b"\
 account 016 key 000102030405060708090a0b0c0d0e0f
 account 000
-account b24 key 000102030405060708090A0B0C0D0E0F1011121314151617
+account b24 key 000102030405060708090A0B0C0D0E0F1011121314151617 beat 7
 account B32 key 000102030405060708090a0b0c0d0e0F101112131415161718191a1B1C1D1E1F
 account FFF key 69c4e0d86a7b0430d8cdb78070b4c55a";
     let setup = Setup::read(rt.alloc(), text).expect(&rt, "a setup");
@@ -118,7 +114,6 @@ account FFF key 69c4e0d86a7b0430d8cdb78070b4c55a";
         ("B24", Some(0xdda97ca4_864cdfe0_6eaf70a0_ec0d7191)),
         ("b24", None),
         ("B32", Some(0x8ea2b7ca_516745bf_eafc4990_4b496089)),
-        ("B33", None),
         ("FFF", Some(0x78cf9c98_7f9c7feb_514fe4a4_197b7283)),
     ] {
         let account = Txt::of(account.as_bytes()).ok_or("a long number")?;
@@ -128,156 +123,97 @@ account FFF key 69c4e0d86a7b0430d8cdb78070b4c55a";
     Ok(())
 }
 
+// A small station, on 9 September 2001, a Sunday.
+const STATION: &[u8] = b"\
+# the station of Main Street
+account 1234 beat 60
+account abcd offset -840
+operator ann 1234
+operator bob 56789
+hours 1234 sun 08:00 18:00
+hours ABCD mon 22:30 24:00
+keyholder 1234 kim +4312345
+keyholder 1234 lee 067890
+plan * burglary premises police
+plan 1234 burglary premises holders police@closed
+plan * fire holders@closed";
+
 #[test]
-fn faults_of_lines(rt: HostRuntime) {
-    for (text, want) in [
-        ("account 1234\r", bad(1)),
-        ("\r", bad(1)),
-        ("account 1234\r\r\n", bad(1)),
-        ("account 12\n", bad(1)),
-        ("account 12345678901234567\n", bad(1)),
-        ("account 12g4\n", bad(1)),
-        ("account  1234\n", bad(1)),
-        ("account 1234 \n", bad(1)),
-        (" account 1234\n", bad(1)),
-        ("Account 1234\n", bad(1)),
-        ("account\n", bad(1)),
-        ("account \n", bad(1)),
-        ("account\t1234\n", bad(1)),
-        ("account1234\n", bad(1)),
-        (" # no remark\n", bad(1)),
-        (" \n", bad(1)),
-        ("# one\n\nhours 1234\n", bad(3)),
-        ("account 1234\n\nx\ny\n", bad(3)),
-        ("account 1234\n\nx\naccount 1234\n", bad(3)),
-        ("account 1234\naccount 1234\nx\n", same(2, 1)),
-        ("account 1234\naccount 1234", same(2, 1)),
-        ("# a\naccount 123\n\n# b\naccount 123\n", same(5, 2)),
-        ("account abc\naccount 123\naccount ABC\n", same(3, 1)),
-        ("account ABC\r\naccount 123\r\naccount aBc\r\n", same(3, 1)),
-    ] {
-        assert_eq!(rt; outcome(rt.alloc(), text.as_bytes()), want, "{text:?}");
-    }
+fn accounts_have_what_their_lines_say(rt: HostRuntime) {
+    let setup = Setup::read(rt.alloc(), STATION).expect(&rt, "a setup");
+    assert_eq!(rt; setup.count(), 2);
+    let (first, second) = (setup.account(0), setup.account(1));
+    assert_eq!(rt; first.beat, Some(60));
+    assert_eq!(rt; first.holders, 2);
+    assert_eq!(rt; first.week.offset(), 0);
+    assert!(rt; !first.week.in_hours(1_000_000_000));
+    assert!(rt; first.week.in_hours(1_000_026_000));
+    assert_eq!(rt; first.week.next_close(1_000_000_000), Some(1_000_058_400));
+    assert_eq!(rt; second.beat, None);
+    assert_eq!(rt; second.holders, 0);
+    assert_eq!(rt; second.week.offset(), -840);
+    assert_eq!(rt; second.week.windows().len(), 1);
+    assert_eq!(rt; second.week.windows()[0].weekday, 0);
+    assert_eq!(rt; second.week.windows()[0].from, 22 * 60 + 30);
+    assert_eq!(rt; second.week.windows()[0].to, 24 * 60);
 }
 
 #[test]
-fn faults_of_keyed_lines(rt: HostRuntime) {
-    for (text, want) in [
-        ("account 1234 key 000102030405060708090a0b0c0d0e0", bad(1)),
-        ("account 1234 key 000102030405060708090a0b0c0d0e0f1", bad(1)),
-        (
-            "\naccount 1234 key 000102030405060708090a0b0c0d0e0f10111213",
-            bad(2),
-        ),
-        (
-            "account 1234 key 000102030405060708090a0b0c0d0e0f000102030405060708090a0b0c0d0e0f20",
-            bad(1),
-        ),
-        (
-            "account 1234 key 000102030405060708090a0b0c0d0e0g\n",
-            bad(1),
-        ),
-        ("account 1234  key 000102030405060708090a0b0c0d0e0f", bad(1)),
-        ("account 1234 key  000102030405060708090a0b0c0d0e0f", bad(1)),
-        ("account  1234 key 000102030405060708090a0b0c0d0e0f", bad(1)),
-        (" account 1234 key 000102030405060708090a0b0c0d0e0f", bad(1)),
-        (
-            "account 1234 key 000102030405060708090a0b0c0d0e0f \n",
-            bad(1),
-        ),
-        (
-            "account 1234 key 000102030405060708090a0b0c0d0e0f\t\n",
-            bad(1),
-        ),
-        ("account 123\naccount 1234 key\n", bad(2)),
-        ("account 1234 key \n", bad(1)),
-        ("account 1234 Key 000102030405060708090a0b0c0d0e0f", bad(1)),
-        ("account 1234 000102030405060708090a0b0c0d0e0f", bad(1)),
-        (
-            "account 1234 key key 000102030405060708090a0b0c0d0e0f",
-            bad(1),
-        ),
-        (
-            "account 1234 key 000102030405060708090a0b0c0d0e0f key 000102030405060708090a0b0c0d0e0f",
-            bad(1),
-        ),
-        (
-            "account 1234 key 000102030405060708090a0b0c0d0e0f 00",
-            bad(1),
-        ),
-        ("account key 000102030405060708090a0b0c0d0e0f", bad(1)),
-        ("account 12 key 000102030405060708090a0b0c0d0e0f", bad(1)),
-        ("key 000102030405060708090a0b0c0d0e0f", bad(1)),
-        (
-            "account abc key 000102030405060708090a0b0c0d0e0f\naccount ABC\n",
-            same(2, 1),
-        ),
-        (
-            "account ABC\n\naccount aBc key 000102030405060708090a0b0c0d0e0f\n",
-            same(3, 1),
-        ),
-        (
-            "account ABC key 000102030405060708090a0b0c0d0e0f\naccount ABC key 000102030405060708090a0b0c0d0e0f\n",
-            same(2, 1),
-        ),
+fn operators_have_their_pins(rt: HostRuntime) -> Result<(), Fail> {
+    let setup = Setup::read(rt.alloc(), STATION).expect(&rt, "a setup");
+    let copy = setup.copy(rt.alloc()).expect(&rt, "a copy");
+    for (name, pin) in [
+        ("ann", Some("1234")),
+        ("bob", Some("56789")),
+        ("Ann", None),
+        ("kim", None),
     ] {
-        assert_eq!(rt; outcome(rt.alloc(), text.as_bytes()), want, "{text:?}");
-    }
-}
-
-#[test]
-fn lines_of_1024_bytes(rt: HostRuntime) -> Result<(), Fail> {
-    for (length, end, want) in [
-        (1024, "", Ok(0)),
-        (1024, "\n", Ok(0)),
-        (1024, "\r\n", Ok(0)),
-        (1024, "\r", bad(1)),
-        (1025, "", bad(1)),
-        (1025, "\n", bad(1)),
-        (1025, "\r\n", bad(1)),
-        (1025, "\nx\n", bad(1)),
-        (1024, "\naccount 123\naccount 123\n", same(3, 2)),
-    ] {
-        let text = remark(rt.alloc(), length, end.as_bytes())?;
-        assert_eq!(rt;
-            outcome(rt.alloc(), &text),
-            want,
-            "{length} bytes and {end:?}"
-        );
+        let name = Txt::of(name.as_bytes()).ok_or("a long name")?;
+        for setup in [&setup, &copy] {
+            let found = setup.operator(&name);
+            assert_eq!(rt; found.is_some(), pin.is_some());
+            if let (Some(operator), Some(pin)) = (found, pin) {
+                assert_eq!(rt; operator.pin.bytes(), pin.as_bytes());
+            }
+        }
     }
     Ok(())
 }
 
 #[test]
-fn texts_of_4194304_bytes(rt: HostRuntime) -> Result<(), Fail> {
-    for (first, length, want) in [
-        ("", 4_194_304, Ok(0)),
-        ("", 4_194_305, Err(SetupFault::TooLarge)),
-        ("account 123\n", 4_194_304, Ok(1)),
-        ("account 123\n", 4_194_305, Err(SetupFault::TooLarge)),
-        ("x\n", 4_194_304, bad(1)),
-        ("x\n", 4_194_305, Err(SetupFault::TooLarge)),
-    ] {
-        let text = large_text(rt.alloc(), first.as_bytes(), length)?;
-        assert_eq!(rt;
-            outcome(rt.alloc(), &text),
-            want,
-            "{length} bytes after {first:?}"
-        );
+fn plans_are_those_of_the_account_first(rt: HostRuntime) {
+    let setup = Setup::read(rt.alloc(), STATION).expect(&rt, "a setup");
+    assert!(rt; setup.count() == 2);
+    let own = setup.plan(0, Class::Burglary).steps(false, 2);
+    let holders = [Step::Holder(1), Step::Holder(2)];
+    assert_eq!(rt; own.items(), [Step::Premises, holders[0], holders[1], Step::Police].as_slice());
+    let open = setup.plan(0, Class::Burglary).steps(true, 2);
+    assert_eq!(rt; open.items(), [Step::Premises, holders[0], holders[1]].as_slice());
+    let general = setup.plan(1, Class::Burglary).steps(true, 0);
+    assert_eq!(rt; general.items(), [Step::Premises, Step::Police].as_slice());
+    let fire = setup.plan(0, Class::Fire).steps(false, 2);
+    assert_eq!(rt; fire.items(), holders.as_slice());
+    assert_eq!(rt; setup.plan(0, Class::Fire).steps(true, 2).count(), 0);
+    for class in [Class::Gas, Class::Test] {
+        let none = setup.plan(1, class).steps(true, 0);
+        assert_eq!(rt; none.items(), [Step::Note].as_slice());
     }
-    Ok(())
 }
 
 #[test]
 fn copies(rt: HostRuntime) -> Result<(), Fail> {
-    let text = b"# one\r\naccount a12\naccount B34".as_slice();
-    let setup = Setup::read(rt.alloc(), text).expect(&rt, "a setup");
+    let setup = Setup::read(rt.alloc(), STATION).expect(&rt, "a setup");
     let copy = setup.copy(rt.alloc()).expect(&rt, "a copy");
     for setup in [&setup, &copy] {
-        assert_eq!(rt; setup.text(), text);
-        assert_eq!(rt; setup.count(), 2);
-        let number = Txt::of(b"B34").ok_or("a long number")?;
+        assert_eq!(rt; setup.text(), STATION);
+        assert!(rt; setup.count() == 2);
+        let number = Txt::of(b"ABCD").ok_or("a long number")?;
         assert_eq!(rt; setup.place(&number), Some(1));
+        assert_eq!(rt; setup.account(0).beat, Some(60));
+        assert_eq!(rt; setup.account(0).holders, 2);
+        assert_eq!(rt; setup.account(1).week.windows().len(), 1);
+        assert_eq!(rt; setup.plan(0, Class::Burglary).steps(false, 2).count(), 4);
+        assert_eq!(rt; setup.plan(1, Class::Burglary).steps(false, 0).count(), 2);
     }
     Ok(())
 }

@@ -1,3 +1,4 @@
+// The machine's clock.
 ghost use Rattle.std.specs.Prelude.{◌≡◌, ◌<◌, ◌≤◌, IfOk, OnErr};
 ghost use Rattle.arc_io.specs.Seconds.{seconds_of};
 

@@ -1,3 +1,4 @@
+// A file as a source.
 ghost use Rattle.std.specs.Prelude.{◌≡◌, false};
 ghost use Rattle.std.specs.Io.{ReadsAtMost};
 ghost use Rattle.arc_io.specs.Seen.{untold};

@@ -1,3 +1,4 @@
+// The machine's random source.
 use crate::{Ends, Noise};
 use std::random::RandomSource;
 

@@ -1,3 +1,4 @@
+// A port over a reader and a writer.
 ghost use Rattle.std.specs.Prelude.{◌≡◌, [], false, IfOk};
 ghost use Rattle.std.specs.Io.{WritesAtMost};
 ghost use Rattle.arc_io.specs.Seen.{untold};

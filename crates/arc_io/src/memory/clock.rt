@@ -1,3 +1,4 @@
+// A clock that goes through a list.
 ghost use Rattle.std.specs.Prelude.{◌≡◌, ◌<◌, All, min, vec_len};
 ghost use Rattle.arc_io.specs.Lists.{reading_at};
 

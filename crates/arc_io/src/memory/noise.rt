@@ -1,3 +1,4 @@
+// A noise that goes through a list.
 ghost use Rattle.std.specs.Prelude.{◌≡◌, min, vec_len};
 ghost use Rattle.arc_io.specs.Lists.{ten_at};
 

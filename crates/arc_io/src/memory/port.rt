@@ -1,3 +1,4 @@
+// A port in memory.
 use super::{ListClock, ListNoise, MemSink, MemSource};
 use crate::{Clock, Ends, Failed, Noise, Port, Sink, Source};
 

@@ -1,3 +1,4 @@
+// A source in memory.
 ghost use Rattle.std.specs.Prelude.{◌≡◌, ◌+◌, ◌++◌, false, ◌≤◌, vec_len, drop, take, length, min};
 
 use super::is_listed;

@@ -5,7 +5,7 @@ use super::BEGIN;
 use arc_io::{Clock, Ends, Failed, Noise, Port, Sink, Source};
 
 /// A panel that sends a few bytes at a time, awaits replies, and takes one byte of a reply in each call. A read that comes
-/// before the replies that it awaits fails.
+/// before the replies that it awaits fails, and so does one behind the end of the input.
 #[derive(Drop)]
 pub(crate) struct Panel {
     /// What it sends.
@@ -55,7 +55,7 @@ impl Ends for Panel {
 
 impl Source for Panel {
     fn read(&mut self, buf: &mut [u8]) -> Result<usize, Failed> {
-        if self.written.len() < self.due {
+        if self.ended || self.written.len() < self.due {
             self.early = self.early.saturating_add(1);
             return Err(Failed);
         }

@@ -1,5 +1,5 @@
 use Rattle.std.proofs.Common.{◌∙◌, Bool, List, ℕ, sym, ap}
-use Rattle.arc_data.specs.declared.event.Reply.TheVariants.{Heard}
+use Rattle.arc_data.specs.declared.reply.Reply.TheVariants.{Heard}
 use Rattle.alarm_rules.specs.Setups.{has_account, meaning}
 use Rattle.centre_rules.specs.Answers.{if_known}
 use Rattle.centre_core.proofs.Heard.{heard_is}

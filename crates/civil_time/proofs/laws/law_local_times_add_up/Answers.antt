@@ -1,7 +1,7 @@
 use Rattle.std.proofs.Common.{◌%◌, arith, pos, ◌+ℤ◌, unsigned_abs}
 use Rattle.std.specs.Int.{int_div_euclid, int_rem_euclid}
 use Rattle.jiff_core.proofs.SignedLemmas.{signed_arith, int_rem_euclid-parts, unsigned_abs-parts}
-use Rattle.civil_time.specs.LocalTime.{local_seconds, local_day}
+use Rattle.arc_data.specs.LocalTime.{local_seconds, local_day}
 use Rattle.civil_time.proofs.laws.law_local_times_add_up.Goals as goal
 
 pub returns : goal.returns

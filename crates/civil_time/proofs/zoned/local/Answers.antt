@@ -3,7 +3,7 @@ use borrow.Author.Differences.{down}
 use Rattle.std.proofs.lemmas.Int.{ints, to_z-of_z}
 use Rattle.std.specs.Int.{int_div_euclid, int_rem_euclid}
 use Rattle.jiff_core.proofs.SignedLemmas.{signed_arith, int_div_euclid-parts, int_rem_euclid-parts}
-use Rattle.civil_time.specs.LocalTime.{local_seconds, local_day}
+use Rattle.arc_data.specs.LocalTime.{local_seconds, local_day}
 use Rattle.civil_time.proofs.zoned.local.Goals as goal
 
 pub returns-clause-weekday : goal.returns-clause-weekday

@@ -15,4 +15,9 @@ returns-in_err-table-clause-fault c =
     ])
 
 pub returns-in-Ok-clause-valid : goal.returns-in-Ok-clause-valid
-returns-in-Ok-clause-valid c = is_ok-read c.args.text.now c.in_ok-table.table (record { size = c.if-text-gt-TEXT_LIMIT.false; faultless = c.in_ok-table.ensures.faultless; whole = c.in_ok-table.ensures.table })
+returns-in-Ok-clause-valid c =
+    is_ok-read c.args.text.now c.in_ok-table.table (record {
+      size = c.if-text-gt-TEXT_LIMIT.false;
+      faultless = c.in_ok-table.ensures.faultless;
+      stands = c.in_ok-table.ensures.table;
+    })

@@ -1,0 +1,3 @@
+pub use Rattle.centre_rules.specs.Marks
+pub mod Rows
+pub mod Spared

@@ -1,0 +1,181 @@
+-- What a line of a setup text says.
+use Rattle.std.specs.Prelude.{ℕ, ◌==◌, ◌&&◌, ℤ, pos, Bool, true, false, not, nat_lt, if◌then◌else◌}
+use Rattle.std.specs.Prelude.{List, [], ◌∷◌, Option, Some, None, option_and_then, length, codes}
+use Rattle.std.specs.List.{slice_split}
+use Rattle.std.specs.Option.{option_map, unwrap_or}
+use Rattle.std.specs.Str.{bytes_eq}
+use Rattle.arc_data.specs.Digits.{is_name}
+use Rattle.arc_data.specs.Words.{has_word}
+use Rattle.arc_data.specs.declared.plan.Planned.{Planned}
+use Rattle.arc_data.specs.declared.signal.Class.{Class}
+use Rattle.arc_data.specs.declared.window.Window.{Window}
+use Rattle.alarm_rules.specs.SetupWords.{word_that, account_named, key_spelled, seconds_spelled, minutes_spelled, day_named, minute_named}
+use Rattle.alarm_rules.specs.SetupWords.{is_phone, is_pin, class_named, planned_named}
+
+-- an account: its number in capitals, the bytes of its key and the seconds of its interval, where it has them, and the minutes
+-- that its local time is ahead of GMT
+pub record AccountLine : Type 0 where
+  pub number : List ℕ
+  pub key : Option (List ℕ)
+  pub beat : Option ℕ
+  pub offset : ℤ
+
+-- a window of an account's opening hours
+pub record HoursLine : Type 0 where
+  pub account : List ℕ
+  pub window : Window
+
+-- a keyholder of an account
+pub record KeyholderLine : Type 0 where
+  pub account : List ℕ
+  pub name : List ℕ
+
+-- the plan of an account for a class, or of all accounts that have none of their own
+pub record PlanLine : Type 0 where
+  pub account : Option (List ℕ)
+  pub class : Class
+  pub words : List Planned
+
+-- an operator and the secret digits to log in with
+pub record Operator : Type 0 where
+  pub name : List ℕ
+  pub pin : List ℕ
+
+-- what a line says
+pub data Said : Type 0 where
+  Nothing : Said
+  OfAccount : AccountLine → Said
+  OfHours : HoursLine → Said
+  OfKeyholder : KeyholderLine → Said
+  OfPlan : PlanLine → Said
+  OfOperator : Operator → Said
+
+-- Parts of a line.
+
+-- the words of a line: what stands between its spaces; two spaces together, or one at an end, make a word of no bytes
+abbrev pub words_of : List ℕ → List (List ℕ)
+words_of line = slice_split (λ b. b == 32) line
+
+-- what follows from a part, where it can be read
+abbrev pub after : {A B : Type 0} → Option A → (A → Option B) → Option B
+after part rest = option_and_then rest part
+
+abbrev pub is_nil : {A : Type 0} → List A → Bool
+is_nil [] = true
+is_nil (x ∷ xs) = false
+
+-- the value, where the test passes
+abbrev pub provided : {A : Type 0} → Bool → A → Option A
+provided test value = if test then Some value else None
+
+-- what two, three or four words are, and none where there are more or fewer
+abbrev pub two : List (List ℕ) → Option (List ℕ × List ℕ)
+two (a ∷ b ∷ []) = Some (a, b)
+two other = None
+
+abbrev pub three : List (List ℕ) → Option (List ℕ × List ℕ × List ℕ)
+three (a ∷ b ∷ c ∷ []) = Some (a, b, c)
+three other = None
+
+abbrev pub four : List (List ℕ) → Option (List ℕ × List ℕ × List ℕ × List ℕ)
+four (a ∷ b ∷ c ∷ d ∷ []) = Some (a, b, c, d)
+four other = None
+
+-- An option of a line: where the next word is its name, the word behind that has to be its value. It gives the value, or none, and
+-- the words that follow.
+abbrev pub value_first : {A : Type 0} → (List ℕ → Option A) → List (List ℕ) → Option (Option A × List (List ℕ))
+value_first read [] = None
+value_first read (word ∷ words) = option_map (λ value. (Some value, words)) (read word)
+
+abbrev pub optional : {A : Type 0} → List ℕ → (List ℕ → Option A) → List (List ℕ) → Option (Option A × List (List ℕ))
+optional name read [] = Some (None, [])
+optional name read (word ∷ words) = if bytes_eq word name then value_first read words else Some (None, word ∷ words)
+
+-- Lines, by the words behind the first one.
+
+-- `account ACC`, then optionally `key HEX`, then optionally `beat SECONDS`, then optionally `offset MINUTES`
+abbrev pub account_line : List (List ℕ) → Option AccountLine
+account_line [] = None
+account_line (number ∷ words) =
+    after (account_named number) (λ account.
+    after (optional (codes "key") key_spelled words) (λ key.
+    after (optional (codes "beat") seconds_spelled key.1) (λ beat.
+    after (optional (codes "offset") minutes_spelled beat.1) (λ offset.
+    provided (is_nil offset.1) (record { number = account; key = key.0; beat = beat.0; offset = unwrap_or offset.0 (pos 0) })))))
+
+-- `hours ACC DAY HH:MM HH:MM`: the first time is from 00:00 to 23:59, the second is later and may be 24:00
+abbrev pub hours_line : List (List ℕ) → Option HoursLine
+hours_line words =
+    after (four words) (λ word.
+    after (account_named word.0) (λ account.
+    after (day_named word.1) (λ weekday.
+    after (minute_named 1439 word.2) (λ from.
+    after (minute_named 1440 word.3) (λ to.
+    provided (nat_lt from to) (record { account = account; window = record { weekday = weekday; from = from; to = to } }))))))
+
+-- `keyholder ACC NAME PHONE`
+abbrev pub keyholder_line : List (List ℕ) → Option KeyholderLine
+keyholder_line words =
+    after (three words) (λ word.
+    after (account_named word.0) (λ account.
+    after (word_that is_name word.1) (λ name.
+    provided (is_phone word.2) (record { account = account; name = name }))))
+
+-- whose plan it is: that of an account, or with `*` that of all accounts that have none of their own
+abbrev pub target_named : List ℕ → Option (Option (List ℕ))
+target_named word = if bytes_eq word (codes "*") then Some None else option_map Some (account_named word)
+
+-- what every word reads as, where each can be read
+abbrev pub each_read : {A : Type 0} → (List ℕ → Option A) → List (List ℕ) → Option (List A)
+each_read read [] = Some []
+each_read read (word ∷ words) = after (read word) (λ value. option_map (λ values. value ∷ values) (each_read read words))
+
+-- no word stands in the plan twice, with or without its mark
+abbrev pub none_twice : List Planned → Bool
+none_twice [] = true
+none_twice (p ∷ ps) = not (has_word p.word ps) && none_twice ps
+
+-- 1 to 7 words of a plan; none stands twice, and so there are 7 at most
+abbrev pub plan_words : List (List ℕ) → Option (List Planned)
+plan_words words = after (each_read planned_named words) (λ plan. provided (not (is_nil plan) && none_twice plan) plan)
+
+-- `plan ACC CLASS WORDS` or `plan * CLASS WORDS`
+abbrev pub plan_line : List (List ℕ) → Option PlanLine
+plan_line [] = None
+plan_line (whose ∷ []) = None
+plan_line (whose ∷ name ∷ words) =
+    after (target_named whose) (λ account.
+    after (class_named name) (λ class.
+    after (plan_words words) (λ plan.
+    Some (record { account = account; class = class; words = plan }))))
+
+-- `operator NAME PIN`
+abbrev pub operator_line : List (List ℕ) → Option Operator
+operator_line words =
+    after (two words) (λ word.
+    after (word_that is_name word.0) (λ name.
+    after (word_that is_pin word.1) (λ pin.
+    Some (record { name = name; pin = pin }))))
+
+-- a line that declares something, by its first word
+abbrev pub declared : List (List ℕ) → Option Said
+declared [] = None
+declared (word ∷ words) =
+    if bytes_eq word (codes "account") then option_map OfAccount (account_line words)
+    else if bytes_eq word (codes "hours") then option_map OfHours (hours_line words)
+    else if bytes_eq word (codes "keyholder") then option_map OfKeyholder (keyholder_line words)
+    else if bytes_eq word (codes "plan") then option_map OfPlan (plan_line words)
+    else if bytes_eq word (codes "operator") then option_map OfOperator (operator_line words)
+    else None
+
+-- an empty line or a remark, which begins with `#`
+abbrev pub is_skipped : List ℕ → Bool
+is_skipped [] = true
+is_skipped (b ∷ bs) = b == 35
+
+-- what a line of at most 1,024 bytes says; none where it has more or is of no form
+abbrev pub says : List ℕ → Option Said
+says line =
+    if nat_lt 1024 (length line) then None
+    else if is_skipped line then Some Nothing
+    else declared (words_of line)

@@ -1,0 +1,85 @@
+-- What has been worked out for an event.
+use Rattle.std.proofs.Common.{◌≡◌, ◌≤◌, ℕ, List, [], length, Bool, true, false, Option, Some, None, refl, sym, ap, ◌∙◌, arith}
+use Rattle.std.specs.Prelude.{◌&&◌, ◌++◌, IsOk, Result, Ok, Err, is_some, option_and_then, unwrap_or}
+use Rattle.std.specs.List.{find, flat_map}
+use Rattle.std.specs.Option.{option_map}
+use Rattle.std.specs.Result.{result_ok, result_unwrap_or}
+use Rattle.std.proofs.lemmas.Bool.{false≢true}
+use Rattle.arc_data.specs.declared.event.Event.{Event}
+use Rattle.arc_data.specs.declared.event.Event.TheVariants.{Message as Sent, Tick}
+use Rattle.arc_data.specs.declared.event.Message.{Message}
+use Rattle.arc_data.specs.declared.reply.Reply.{Reply}
+use Rattle.arc_data.specs.declared.reply.Reply.TheVariants.{Taken, Repeat, Raised, Unknown}
+use Rattle.arc_data.specs.declared.setup_fault.SetupFault.{SetupFault}
+use Rattle.arc_data.specs.declared.signal.Signal.{Signal}
+use Rattle.alarm_rules.specs.Setups.{Setup, setup_of, meaning}
+use Rattle.alarm_rules.specs.Signals.{signals, has_signals}
+use Rattle.centre_rules.specs.Summary.{Summary}
+use Rattle.centre_rules.specs.Marks.{Carried, force}
+use Rattle.centre_rules.specs.Carrying.{carried_by, carried_sent, if_in_force, raised}
+use Rattle.centre_rules.specs.Answers.{answer_over, if_known, knows_account, repeat_of, taken_or}
+use Rattle.centre_core.specs.Kept.{IsWorked, IsPlain}
+
+no_signals : (s : Summary) (e : Event) (at : ℕ) → IsPlain e → carried_by s [] e at ≡ []
+no_signals s (Sent m) at p = absurd p
+no_signals s Tick at p = absurd p
+no_signals s event at p = refl
+
+pub plain_worked : (s : Summary) (e : Event) (at : ℕ) (r : Reply) (xs : List Carried) → IsPlain e → r ≡ answer_over s [] e at → xs ≡ [] → IsWorked s e at r xs
+plain_worked s e at r xs plain answer none = record {
+  answer = answer;
+  carried = λ q. none ∙ sym (no_signals s e at plain);
+  few = rw none (omega arith);
+}
+
+pub plain_event : (e : Event) → ((m : Message) → e ≡ Sent m → ⊥) → (e ≡ Tick → ⊥) → IsPlain e
+plain_event (Sent m) f g = f m refl
+plain_event Tick f g = g refl
+plain_event event f g = tt
+
+-- The setup in force.
+
+ok_is : (read : Result Setup SetupFault) (otherwise : Setup) → IsOk read → result_ok read ≡ Some (result_unwrap_or read otherwise)
+ok_is (Ok setup) otherwise is = refl
+ok_is (Err fault) otherwise is = absurd (false≢true is)
+
+pub force_is : (s : Summary) (text : List ℕ) → s.text ≡ Some text → IsOk (setup_of text) → force s [] ≡ Some (meaning text)
+force_is s text is ok = ap (option_and_then (λ t. result_ok (setup_of t))) is ∙ ok_is (setup_of text) _ ok
+
+-- Messages.
+
+pub message_unknown : (s : Summary) (m : Message) (at : ℕ) → (knows_account (force s []) m.account && has_signals m.token m.content) ≡ false → (r : Reply) (xs : List Carried) → r ≡ Unknown → xs ≡ [] → IsWorked s (Sent m) at r xs
+message_unknown s m at lacks r xs is none = record {
+  answer = is ∙ sym (ap (λ b. if_known b (taken_or (repeat_of s [] m at))) lacks);
+  carried = λ q. absurd (false≢true (rw is at q));
+  few = rw none (omega arith);
+}
+
+pub message_repeat : (s : Summary) (m : Message) (at first : ℕ) → (knows_account (force s []) m.account && has_signals m.token m.content) ≡ true → repeat_of s [] m at ≡ Some first
+    → (r : Reply) (xs : List Carried) → r ≡ Repeat first → xs ≡ [] → IsWorked s (Sent m) at r xs
+message_repeat s m at first known found r xs is none = record {
+  answer = is ∙ ap taken_or (sym found) ∙ sym (ap (λ b. if_known b (taken_or (repeat_of s [] m at))) known);
+  carried = λ q. absurd (false≢true (rw is at q));
+  few = rw none (omega arith);
+}
+
+pub message_taken : (s : Summary) (m : Message) (at : ℕ) (setup : Setup) (signals_are : List Signal) (xs : List Carried) → force s [] ≡ Some setup → knows_account (Some setup) m.account ≡ true
+    → signals m.token m.content ≡ Some signals_are → repeat_of s [] m at ≡ None → xs ≡ flat_map (carried_sent setup m.account at) signals_are → length xs ≤ 16 → IsWorked s (Sent m) at Taken xs
+message_taken s m at setup signals_are xs in_force known read none are few = record {
+  answer =
+      let both : (knows_account (force s []) m.account && has_signals m.token m.content) ≡ true = rw (in_force, known, read) refl in
+      ap taken_or (sym none) ∙ sym (ap (λ b. if_known b (taken_or (repeat_of s [] m at))) both);
+  carried = λ q. are ∙ sym (
+      ap (λ (o : Option Setup). if_in_force o (λ x. flat_map (carried_sent x m.account at) (unwrap_or (signals m.token m.content) []))) in_force
+      ∙ ap (λ (o : Option (List Signal)). flat_map (carried_sent setup m.account at) (unwrap_or o [])) read);
+  few = omega (arith, few);
+}
+
+-- Ticks.
+
+pub tick_worked : (s : Summary) (at : ℕ) (xs : List Carried) (r : Reply) → xs ≡ raised s [] at → length xs ≤ 4000 → r ≡ Raised (length xs) → IsWorked s Tick at r xs
+tick_worked s at xs r are few is = record {
+  answer = is ∙ ap (λ (l : List Carried). Raised (length l)) are;
+  carried = λ q. are;
+  few = omega (arith, few);
+}

@@ -1,0 +1,138 @@
+// What a centre works out for an event: its reply, and the signals that it carries.
+ghost use Rattle.std.specs.Prelude.{◌≡◌, [], IfOk};
+ghost use Rattle.arc_data.specs.declared.event.Event.TheVariants.{Message as Sent, Tick};
+ghost use Rattle.centre_rules.specs.Answers.{answer_over};
+ghost use Rattle.centre_rules.specs.History.{IsMoment};
+ghost use Rattle.centre_core.specs.Kept.{IsAdopted, IsWorked, IsPlain};
+
+use crate::carrying::{raise, signals_sent};
+use crate::centre::Centre;
+use crate::orders::on_adopt;
+use accounts::Setup;
+use arc_data::{Acted, Carried, Event, Memory, Message, Reply};
+use std::alloc::Global;
+
+/// The reply to an event, and where it is recorded, the signals that it carries.
+#[derive(Drop)]
+pub(crate) struct Worked {
+    pub reply: Reply,
+    pub carried: Vec<Carried>,
+}
+
+impl Centre {
+    // Works out the answer to an event at a moment. The setup is that of an Adopt's text, where it is one. The error is want
+    // of memory.
+    pub(crate) fn work_out(
+        &self,
+        alloc: Global,
+        event: &Event,
+        setup: &Option<Setup>,
+        at: u64,
+    ) -> Result<Worked, Memory>
+        requires adopted { IsAdopted event.now setup.now }
+        requires moment { IsMoment at }
+        ensures { IfOk result (λ w. IsWorked self.now.sum event.now at w.reply w.carried.items) }
+    {
+        match event {
+            Event::Message(message) => self.on_message(alloc, message, at),
+            Event::Tick => self.on_tick(alloc, at),
+            _ => {
+                let reply = self.reply(alloc, event, setup, at)?;
+                Ok(alone(alloc, reply))
+            }
+        }
+    }
+
+    // The answer to a message, and its signals where it is taken.
+    fn on_message(&self, alloc: Global, message: &Message, at: u64) -> Result<Worked, Memory>
+        requires { IsMoment at }
+        ensures { IfOk result (λ w. IsWorked self.now.sum (Sent message.now) at w.reply w.carried.items) }
+    {
+        let Some(setup) = &self.setup else {
+            return Ok(alone(alloc, Reply::Unknown));
+        };
+        if !setup.knows(&message.account) {
+            return Ok(alone(alloc, Reply::Unknown));
+        }
+        let content = message.content.bytes();
+        let Some(signals) = alarm_data::signals(message.token, content) else {
+            return Ok(alone(alloc, Reply::Unknown));
+        };
+        if let Some(first) = self.rows.repeat(message, at) {
+            return Ok(alone(alloc, Reply::Repeat { first }));
+        }
+        let carried = signals_sent(alloc, setup, &message.account, at, &signals)?;
+        Ok(Worked {
+            reply: Reply::Taken,
+            carried,
+        })
+    }
+
+    // The answer to a Tick, and the signals that it raises.
+    fn on_tick(&self, alloc: Global, at: u64) -> Result<Worked, Memory>
+        requires { IsMoment at }
+        ensures { IfOk result (λ w. IsWorked self.now.sum Tick at w.reply w.carried.items) }
+    {
+        let carried = match &self.setup {
+            None => Vec::new(alloc),
+            Some(setup) => raise(alloc, setup, &self.rows, at)?,
+        };
+        let count = carried.len() as u64;
+        Ok(Worked {
+            reply: Reply::Raised { count },
+            carried,
+        })
+    }
+
+    // The answer to an event that carries no signals.
+    fn reply(
+        &self,
+        alloc: Global,
+        event: &Event,
+        setup: &Option<Setup>,
+        at: u64,
+    ) -> Result<Reply, Memory>
+        requires adopted { IsAdopted event.now setup.now }
+        ensures { IfOk result (λ r. IsPlain event.now → r ≡ answer_over self.now.sum [] event.now at) }
+    {
+        match event {
+            Event::Adopt { .. } => Ok(on_adopt(setup)),
+            Event::Start => Ok(Reply::Started),
+            Event::Beat { account } => Ok(self.on_beat(account)),
+            Event::Claim { operator, number } => Ok(self.on_claim(operator, *number)),
+            Event::Next { operator } => Ok(self.on_next(operator)),
+            Event::Act {
+                operator,
+                number,
+                step,
+                outcome,
+            } => {
+                let acted = Acted {
+                    step: *step,
+                    outcome: *outcome,
+                    at,
+                    operator: *operator,
+                };
+                Ok(self.on_act(acted, *number))
+            }
+            Event::Release { operator, number } => Ok(self.on_release(operator, *number)),
+            Event::Close {
+                operator, number, ..
+            } => Ok(self.on_close(operator, *number)),
+            Event::Show { number } => Ok(desk_answers::show(&self.table, *number)),
+            Event::List => desk_answers::list(alloc, self.table.items()),
+            Event::Message(_) | Event::Tick => Ok(Reply::Unknown),
+        }
+    }
+}
+
+// A reply without signals.
+fn alone(alloc: Global, reply: Reply) -> Worked
+    ensures reply { result.reply ≡ reply }
+    ensures carried { result.carried.items ≡ [] }
+{
+    Worked {
+        reply,
+        carried: Vec::new(alloc),
+    }
+}

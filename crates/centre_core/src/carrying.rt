@@ -1,0 +1,182 @@
+// The signals that messages and Ticks carry, each with the steps of the incident that it would open.
+ghost use Rattle.std.specs.Prelude.{◌≡◌, ◌≤◌, ◌+◌, ◌++◌, ◌∷◌, [], length, IfOk, OnOk};
+ghost use Rattle.std.specs.List.{flat_map};
+ghost use Rattle.arc_data.specs.declared.signal.Class.TheVariants.{CommFail, LateClose};
+ghost use Rattle.alarm_rules.specs.Setups.{account_of, meaning, steps_of};
+ghost use Rattle.centre_rules.specs.Carrying.{carried as carried_of, carried_sent, own_signal as plain_signal, is_irregular as irregular_at};
+ghost use Rattle.centre_rules.specs.Carrying.{raised_where, is_silent, is_late};
+ghost use Rattle.centre_rules.specs.History.{IsMoment};
+ghost use Rattle.centre_core.specs.Raised.{rows_sum};
+
+use crate::watch;
+use account_rows::AccountRows;
+use accounts::Setup;
+use arc_data::{Carried, Class, Kind, Memory, Signal, Signals, StepList, Txt};
+use std::alloc::Global;
+
+/// The signals of a message of an account, in their order. An opening signal outside the account's windows is followed by an
+/// Irregular signal. The error is want of memory.
+pub(crate) fn signals_sent(
+    alloc: Global,
+    setup: &Setup,
+    account: &Txt,
+    at: u64,
+    signals: &Signals,
+) -> Result<Vec<Carried>, Memory>
+    requires { IsMoment at }
+    ensures sent { IfOk result (λ v. v.items ≡ flat_map (carried_sent (meaning setup.now) account.now at) signals.now) }
+    ensures few { IfOk result (λ v. length v.items ≤ 16) }
+{
+    let mut sent = Vec::new(alloc);
+    for i in 0..signals.count() {
+        push_sent(&mut sent, setup, account, at, signals.at(i))?;
+    }
+    Ok(sent)
+}
+
+/// The signals of a Tick: first of the accounts that are silent, and then of those that close late, in the setup's order. The
+/// error is want of memory.
+pub(crate) fn raise(
+    alloc: Global,
+    setup: &Setup,
+    rows: &AccountRows,
+    at: u64,
+) -> Result<Vec<Carried>, Memory>
+    requires { IsMoment at }
+    ensures raised { IfOk result (λ v. v.items ≡ raised_where (is_silent (rows_sum rows.now) [] at) CommFail at (meaning setup.now)
+        ++ raised_where (is_late (rows_sum rows.now) [] at) LateClose at (meaning setup.now)) }
+    ensures few { IfOk result (λ v. length v.items ≤ 4000) }
+{
+    let mut raised = Vec::new(alloc);
+    raise_silent(&mut raised, setup, rows, at)?;
+    raise_late(&mut raised, setup, rows, at)?;
+    Ok(raised)
+}
+
+// Puts a signal that was sent last, and behind it the Irregular signal where it is due.
+fn push_sent(
+    sent: &mut Vec<Carried>,
+    setup: &Setup,
+    account: &Txt,
+    at: u64,
+    signal: Signal,
+) -> Result<(), Memory>
+    requires { IsMoment at }
+    ensures sent { OnOk result (sent.new.items ≡ sent.old.items ++ carried_sent (meaning setup.now) account.now at signal) }
+    ensures few { length sent.new.items ≤ length sent.old.items + 2 }
+{
+    push(sent, carried(setup, account, at, false, signal))?;
+    if is_irregular(setup, account, signal.kind, at) {
+        let irregular = own_signal(Class::Irregular);
+        push(sent, carried(setup, account, at, false, irregular))?;
+    }
+    Ok(())
+}
+
+// Puts a CommFail signal of each silent account last.
+fn raise_silent(
+    raised: &mut Vec<Carried>,
+    setup: &Setup,
+    rows: &AccountRows,
+    at: u64,
+) -> Result<(), Memory>
+    requires { IsMoment at }
+    ensures raised { OnOk result (raised.new.items ≡ raised.old.items
+        ++ raised_where (is_silent (rows_sum rows.now) [] at) CommFail at (meaning setup.now)) }
+    ensures few { length raised.new.items ≤ length raised.old.items + 2000 }
+{
+    for place in 0..setup.count() {
+        let account = setup.account(place);
+        if watch::is_silent(account, rows, at) {
+            let fail = own_signal(Class::CommFail);
+            push(raised, carried(setup, &account.number, at, true, fail))?;
+        }
+    }
+    Ok(())
+}
+
+// Puts a LateClose signal of each account that closes late last.
+fn raise_late(
+    raised: &mut Vec<Carried>,
+    setup: &Setup,
+    rows: &AccountRows,
+    at: u64,
+) -> Result<(), Memory>
+    requires { IsMoment at }
+    ensures raised { OnOk result (raised.new.items ≡ raised.old.items
+        ++ raised_where (is_late (rows_sum rows.now) [] at) LateClose at (meaning setup.now)) }
+    ensures few { length raised.new.items ≤ length raised.old.items + 2000 }
+{
+    for place in 0..setup.count() {
+        let account = setup.account(place);
+        if watch::is_late(account, rows, at) {
+            let late = own_signal(Class::LateClose);
+            push(raised, carried(setup, &account.number, at, true, late))?;
+        }
+    }
+    Ok(())
+}
+
+// A signal of an account, with the steps of the incident that it would open.
+fn carried(setup: &Setup, account: &Txt, at: u64, by_tick: bool, signal: Signal) -> Carried
+    requires { IsMoment at }
+    ensures { result ≡ carried_of (meaning setup.now) account.now at by_tick signal }
+{
+    Carried {
+        account: *account,
+        signal,
+        at,
+        by_tick,
+        steps: steps_for(setup, account, signal.class, at),
+    }
+}
+
+// The steps of an incident of an account and class that opens at a moment.
+fn steps_for(setup: &Setup, account: &Txt, class: Class, at: u64) -> StepList
+    requires { IsMoment at }
+    ensures { result ≡ steps_of (meaning setup.now) account.now class at }
+{
+    let Some(place) = setup.place(account) else {
+        return StepList::new();
+    };
+    let station = setup.account(place);
+    let plan = setup.plan(place, class);
+    plan.steps(station.week.in_hours(at), station.holders)
+}
+
+// Whether a signal of this kind is an opening outside the account's windows.
+fn is_irregular(setup: &Setup, account: &Txt, kind: Kind, at: u64) -> bool
+    requires { IsMoment at }
+    ensures { result ≡ irregular_at (account_of (meaning setup.now) account.now) kind at }
+{
+    if !matches!(kind, Kind::Opening) {
+        return false;
+    }
+    let Some(place) = setup.place(account) else {
+        return false;
+    };
+    let week = &setup.account(place).week;
+    week.has_windows() && !week.in_hours(at)
+}
+
+// A signal that no panel sent.
+fn own_signal(class: Class) -> Signal
+    ensures { result ≡ plain_signal class }
+{
+    Signal {
+        class,
+        kind: Kind::New,
+        code: Txt::of(b"-").unwrap(),
+    }
+}
+
+// Puts a signal last.
+fn push(carried: &mut Vec<Carried>, x: Carried) -> Result<(), Memory>
+    ensures pushed { OnOk result (carried.new.items ≡ carried.old.items ++ x ∷ []) }
+    ensures few { length carried.new.items ≤ length carried.old.items + 1 }
+{
+    match carried.push(x) {
+        Ok(()) => Ok(()),
+        Err(_) => Err(Memory),
+    }
+}

@@ -1,0 +1,100 @@
+// The answers to heartbeats, to operators, and to an Adopt.
+ghost use Rattle.std.specs.Prelude.{◌≡◌, ℕ, List, []};
+ghost use Rattle.arc_data.specs.declared.event.CloseCode.{CloseCode};
+ghost use Rattle.arc_data.specs.declared.event.Event.TheVariants.{Adopt, Beat, Claim, Next, Act as Do, Release, Close};
+ghost use Rattle.centre_rules.specs.Answers.{answer_over, knows_account, knows_operator, if_known};
+ghost use Rattle.centre_rules.specs.Marks.{force};
+ghost use Rattle.centre_rules.specs.Summary.{Summary};
+ghost use Rattle.centre_core.specs.Kept.{IsSetupOf};
+
+use crate::centre::Centre;
+use accounts::Setup;
+use arc_data::{Acted, Reply, Txt};
+
+impl Centre {
+    /// The answer to a heartbeat.
+    pub(crate) fn on_beat(&self, account: &Txt) -> Reply
+        ensures { (at : ℕ) → result ≡ answer_over self.now.sum [] (Beat account.now) at }
+    {
+        if_known(self.knows(account), Reply::Heard)
+    }
+
+    /// The answer to a claim.
+    pub(crate) fn on_claim(&self, operator: &Txt, number: u64) -> Reply
+        ensures { (at : ℕ) → result ≡ answer_over self.now.sum [] (Claim operator.now number) at }
+    {
+        let reply = desk_answers::claim(&self.table, operator, number);
+        if_known(self.knows_operator(operator), reply)
+    }
+
+    /// The answer to an operator who asks for the next incident.
+    pub(crate) fn on_next(&self, operator: &Txt) -> Reply
+        ensures { (at : ℕ) → result ≡ answer_over self.now.sum [] (Next operator.now) at }
+    {
+        let reply = desk_answers::next(&self.table, operator);
+        if_known(self.knows_operator(operator), reply)
+    }
+
+    /// The answer to a step that is carried out.
+    pub(crate) fn on_act(&self, acted: Acted, number: u64) -> Reply
+        ensures { result ≡ answer_over self.now.sum [] (Do acted.operator number acted.step acted.outcome) acted.at }
+    {
+        let operator = acted.operator;
+        let reply = desk_answers::act(&self.table, acted, number);
+        if_known(self.knows_operator(&operator), reply)
+    }
+
+    /// The answer to a release.
+    pub(crate) fn on_release(&self, operator: &Txt, number: u64) -> Reply
+        ensures { (at : ℕ) → result ≡ answer_over self.now.sum [] (Release operator.now number) at }
+    {
+        let reply = desk_answers::release(&self.table, operator, number);
+        if_known(self.knows_operator(operator), reply)
+    }
+
+    /// The answer to a closing.
+    pub(crate) fn on_close(&self, operator: &Txt, number: u64) -> Reply
+        ensures { (code : CloseCode) (at : ℕ) → result ≡ answer_over self.now.sum [] (Close operator.now number code) at }
+    {
+        let reply = desk_answers::close(&self.table, operator, number);
+        if_known(self.knows_operator(operator), reply)
+    }
+
+    // Whether the setup in force has an account.
+    fn knows(&self, account: &Txt) -> bool
+        ensures { result ≡ knows_account (force self.now.sum []) account.now }
+    {
+        match &self.setup {
+            None => false,
+            Some(setup) => setup.knows(account),
+        }
+    }
+
+    // Whether the setup in force has an operator.
+    fn knows_operator(&self, name: &Txt) -> bool
+        ensures { result ≡ knows_operator (force self.now.sum []) name.now }
+    {
+        match &self.setup {
+            None => false,
+            Some(setup) => setup.operator(name).is_some(),
+        }
+    }
+}
+
+/// The answer to an Adopt, of whose text this is the setup, where it is one.
+pub(crate) fn on_adopt(setup: &Option<Setup>) -> Reply
+    ensures { (s : Summary) (text : List ℕ) (at : ℕ) → IsSetupOf text setup.now → result ≡ answer_over s [] (Adopt text) at }
+{
+    if setup.is_some() {
+        Reply::Adopted
+    } else {
+        Reply::Unknown
+    }
+}
+
+// A reply, or Unknown where what it is about is lacking.
+fn if_known(known: bool, reply: Reply) -> Reply
+    ensures { result ≡ if_known known reply }
+{
+    if known { reply } else { Reply::Unknown }
+}

@@ -1,0 +1,10 @@
+pub mod Replies
+pub mod Numbering
+pub mod Holding
+pub mod Quiet
+pub mod Eaches
+pub mod Carried
+pub mod Origins
+pub mod Meeting
+pub mod Closing
+pub mod Summed

@@ -1,0 +1,128 @@
+// What recorded events leave in the rows and the table. None of these calls takes memory.
+ghost use Rattle.std.specs.Prelude.{◌≡◌, ◌≤◌, ◌^◌, ◌+◌, ◌∷◌, [], ℕ, length, map, IsSome};
+ghost use Rattle.std.specs.List.{find};
+ghost use Rattle.arc_data.specs.Incidents.{has_number};
+ghost use Rattle.arc_data.specs.declared.reply.Reply.TheVariants.{Recorded, Closed};
+ghost use Rattle.account_rows.specs.Rows.{RowsValue};
+ghost use Rattle.centre_rules.specs.Marks.{Starts, Hears, Sends, Carries};
+ghost use Rattle.centre_rules.specs.History.{acted_by, claim_marks, act_marks, release_marks, close_marks};
+ghost use Rattle.incident_marks.specs.Marked.{IsFew, HaveActRoom, FitsAct};
+ghost use Rattle.incidents.specs.Tables.{TableValue};
+ghost use Rattle.centre_marks.specs.Taken.{Takes, MayTake, IsNoAdopt, marks_with};
+
+use account_rows::AccountRows;
+use arc_data::{Carried, Event, Message, Outcome, Reply, Step, Txt};
+use incidents::Table;
+
+/// Takes up the marks of a recorded event that is no Adopt, with its reply and the signals that it carries.
+pub fn mark(
+    rows: &mut AccountRows,
+    table: &mut Table,
+    event: Event,
+    at: u64,
+    reply: &Reply,
+    carried: &[Carried],
+)
+    requires other { IsNoAdopt event }
+    requires may { MayTake event at reply.now carried.now rows.old table.old }
+    ensures { Takes (marks_with carried.now event at reply.now) rows.old rows.new table.old table.new }
+{
+    match event {
+        Event::Start => start(rows, table, at),
+        Event::Message(message) => send(rows, table, message, at, carried),
+        Event::Beat { account } => rows.hear(&account, at),
+        Event::Tick => carry_all(rows, table, carried),
+        Event::Claim { operator, .. } | Event::Next { operator } => {
+            claim(table, operator, at, reply);
+        }
+        Event::Act {
+            operator,
+            step,
+            outcome,
+            ..
+        } => act(table, operator, step, outcome, at, reply),
+        Event::Release { .. } => release(table, reply),
+        Event::Close { .. } => close(table, reply),
+        Event::Adopt { .. } => {}
+        Event::Show { .. } | Event::List => {}
+    }
+}
+
+// A run starts.
+fn start(rows: &mut AccountRows, table: &mut Table, at: u64)
+    ensures { Takes (Starts at ∷ []) rows.old rows.new table.old table.new }
+{
+    rows.start(at);
+    incident_marks::start(table, at);
+}
+
+// A message is recorded, and its signals are taken up.
+fn send(
+    rows: &mut AccountRows,
+    table: &mut Table,
+    message: Message,
+    at: u64,
+    carried: &[Carried],
+)
+    requires bound { IsFew (2 ^ 61) table.old.opened table.old.incidents }
+    requires few { length carried.now ≤ 8000 }
+    requires accounts { 1 + length carried.now ≤ rows.old.room }
+    requires incidents { length table.old.incidents + length carried.now ≤ table.old.room }
+    ensures { Takes (Sends message at ∷ map Carries carried.now) rows.old rows.new table.old table.new }
+{
+    rows.send(message, at);
+    carry_all(rows, table, carried);
+}
+
+// Takes up signals, one after another.
+fn carry_all(rows: &mut AccountRows, table: &mut Table, carried: &[Carried])
+    requires bound { IsFew (2 ^ 61) table.old.opened table.old.incidents }
+    requires few { length carried.now ≤ 8000 }
+    requires accounts { length carried.now ≤ rows.old.room }
+    requires incidents { length table.old.incidents + length carried.now ≤ table.old.room }
+    ensures { Takes (map Carries carried.now) rows.old rows.new table.old table.new }
+{
+    for x in carried {
+        rows.carry(x);
+        incident_marks::carry(table, x);
+    }
+}
+
+// An operator holds an incident, if the reply says so.
+fn claim(table: &mut Table, operator: Txt, at: u64, reply: &Reply)
+    ensures { (v : RowsValue) → Takes (claim_marks operator at reply.now) v v table.old table.new }
+{
+    if let Reply::Claimed { number, .. } = reply {
+        incident_marks::claim(table, operator, *number, at);
+    }
+}
+
+// A step is recorded, if the reply says so.
+fn act(table: &mut Table, operator: Txt, step: Step, outcome: Outcome, at: u64, reply: &Reply)
+    requires fits { (n left : ℕ) → reply.now ≡ Recorded n left → FitsAct n (acted_by operator step outcome at) table.old.incidents }
+    requires acts { HaveActRoom table.old.incidents }
+    ensures { (v : RowsValue) → Takes (act_marks (acted_by operator step outcome at) reply.now) v v table.old table.new }
+{
+    if let Reply::Recorded { number, .. } = reply {
+        incident_marks::act(table, *number, step, outcome, at, operator);
+    }
+}
+
+// An incident is given back, if the reply says so.
+fn release(table: &mut Table, reply: &Reply)
+    ensures { (v : RowsValue) → Takes (release_marks reply.now) v v table.old table.new }
+{
+    if let Reply::Released { number } = reply {
+        incident_marks::release(table, *number);
+    }
+}
+
+// An incident is closed, if the reply says so.
+fn close(table: &mut Table, reply: &Reply)
+    requires { (n : ℕ) → reply.now ≡ Closed n → IsSome (find (has_number n) table.old.incidents) }
+    ensures { (v : RowsValue) → Takes (close_marks reply.now) v v table.old table.new }
+{
+    if let Reply::Closed { number } = reply {
+        incident_marks::close(table, *number);
+    }
+}

@@ -1,0 +1,159 @@
+-- What operators are answered, from the open incidents.
+use Rattle.std.specs.Prelude.{ℕ, List, [], ◌∷◌, ◌++◌, ◌==◌, ◌&&◌, ◌||◌, Bool, false, if◌then◌else◌, map, take, length}
+use Rattle.std.specs.Prelude.{Option, Some, None, is_none, nat_lt}
+use Rattle.std.specs.List.{filter, find}
+use Rattle.std.specs.Str.{bytes_eq}
+use Rattle.arc_data.specs.Classes.{priority_of}
+use Rattle.arc_data.specs.Steps.{same_step}
+use Rattle.arc_data.specs.declared.reply.Reply.{Reply}
+use Rattle.arc_data.specs.declared.reply.Reply.TheVariants.{Claimed, Recorded, Released, Closed, Shown, Listed, NotOpen, HeldBy}
+use Rattle.arc_data.specs.declared.reply.Reply.TheVariants.{BusyWith, NotYours, Expected, Missing, NoneWaiting}
+use Rattle.arc_data.specs.declared.listing.Row.{Row}
+use Rattle.arc_data.specs.declared.listing.View.{View}
+use Rattle.arc_data.specs.declared.step.Acted.{Acted}
+use Rattle.arc_data.specs.declared.step.Step.{Step}
+use Rattle.alarm_rules.specs.Plans.{expected_step, left}
+use Rattle.centre_rules.specs.Cases.{Incident, has_number}
+
+-- Which incident.
+
+abbrev pub numbered : ℕ → List Incident → Option Incident
+numbered number is = find (has_number number) is
+
+abbrev pub is_holder : List ℕ → Option (List ℕ) → Bool
+is_holder operator None = false
+is_holder operator (Some x) = bytes_eq x operator
+
+-- the operator holds the incident
+abbrev pub holds : List ℕ → Incident → Bool
+holds operator i = is_holder operator i.holder
+
+abbrev pub held_by : List ℕ → List Incident → Option Incident
+held_by operator is = find (holds operator) is
+
+abbrev pub is_free : Incident → Bool
+is_free i = is_none i.holder
+
+-- by (priority, number)
+abbrev pub is_before : Incident → Incident → Bool
+is_before i j =
+    nat_lt (priority_of i.class) (priority_of j.class)
+    || ((priority_of i.class == priority_of j.class) && nat_lt i.number j.number)
+
+abbrev pub lesser : Incident → Option Incident → Option Incident
+lesser i None = Some i
+lesser i (Some j) = if is_before j i then Some j else Some i
+
+abbrev pub least : List Incident → Option Incident
+least [] = None
+least (i ∷ is) = lesser i (least is)
+
+-- the least of those that nobody holds
+abbrev pub best : List Incident → Option Incident
+best is = least (filter is_free is)
+
+-- Claims.
+
+abbrev pub claimed : Incident → Reply
+claimed i = Claimed i.number i.class i.account
+
+-- where the operator holds an incident already, it is busy with that one
+abbrev pub claim_unless : Option Incident → Incident → Reply
+claim_unless None i = claimed i
+claim_unless (Some j) i = BusyWith j.number
+
+abbrev pub claim_from : List ℕ → List Incident → Incident → Option (List ℕ) → Reply
+claim_from operator is i None = claim_unless (held_by operator is) i
+claim_from operator is i (Some x) = if bytes_eq x operator then claim_unless (held_by operator is) i else HeldBy x
+
+-- not open; held by another; the operator holds an incident, this one included; else it is held
+abbrev pub claim_of : List ℕ → List Incident → ℕ → Option Incident → Reply
+claim_of operator is number None = NotOpen number
+claim_of operator is number (Some i) = claim_from operator is i i.holder
+
+abbrev pub on_claim : List ℕ → ℕ → List Incident → Reply
+on_claim operator number is = claim_of operator is number (numbered number is)
+
+-- the operator holds an incident; none waits; else the best is held
+abbrev pub next_of : Option Incident → Option Incident → Reply
+next_of (Some j) waiting = BusyWith j.number
+next_of None None = NoneWaiting
+next_of None (Some i) = claimed i
+
+abbrev pub on_next : List ℕ → List Incident → Reply
+on_next operator is = next_of (held_by operator is) (best is)
+
+-- Acts.
+
+-- where it is the first step that is not met, how many are not met after it
+abbrev pub act_when : Acted → Incident → Option Step → Reply
+act_when acted i None = Expected None
+act_when acted i (Some step) =
+    if same_step acted.step step then Recorded i.number (left i.steps (i.acts ++ acted ∷ [])) else Expected (Some step)
+
+-- not open; not held by the operator; not the expected step; else it is recorded
+abbrev pub act_of : Acted → ℕ → Option Incident → Reply
+act_of acted number None = NotOpen number
+act_of acted number (Some i) = if holds acted.operator i then act_when acted i (expected_step i.steps i.acts) else NotYours number
+
+abbrev pub on_act : Acted → ℕ → List Incident → Reply
+on_act acted number is = act_of acted number (numbered number is)
+
+-- Ends of holds.
+
+-- not open; not held by the operator; else the hold ends
+abbrev pub release_of : List ℕ → ℕ → Option Incident → Reply
+release_of operator number None = NotOpen number
+release_of operator number (Some i) = if holds operator i then Released number else NotYours number
+
+abbrev pub on_release : List ℕ → ℕ → List Incident → Reply
+on_release operator number is = release_of operator number (numbered number is)
+
+abbrev pub close_when : ℕ → Option Step → Reply
+close_when number None = Closed number
+close_when number (Some step) = Missing step
+
+-- not open; not held by the operator; a step is not met; else it is closed
+abbrev pub close_of : List ℕ → ℕ → Option Incident → Reply
+close_of operator number None = NotOpen number
+close_of operator number (Some i) = if holds operator i then close_when number (expected_step i.steps i.acts) else NotYours number
+
+abbrev pub on_close : List ℕ → ℕ → List Incident → Reply
+on_close operator number is = close_of operator number (numbered number is)
+
+-- What is shown.
+
+abbrev pub view_of : Incident → View
+view_of i = record {
+  number = i.number;
+  class = i.class;
+  account = i.account;
+  code = i.code;
+  at = i.at;
+  signals = i.signals;
+  restored = i.restored;
+  holder = i.holder;
+  expected = expected_step i.steps i.acts;
+}
+
+abbrev pub show_of : ℕ → Option Incident → Reply
+show_of number None = NotOpen number
+show_of number (Some i) = Shown (view_of i)
+
+abbrev pub on_show : ℕ → List Incident → Reply
+on_show number is = show_of number (numbered number is)
+
+abbrev pub inserted : Incident → List Incident → List Incident
+inserted i [] = i ∷ []
+inserted i (j ∷ js) = if is_before i j then i ∷ j ∷ js else j ∷ inserted i js
+
+abbrev pub sorted : List Incident → List Incident
+sorted [] = []
+sorted (i ∷ is) = inserted i (sorted is)
+
+abbrev pub row_of : Incident → Row
+row_of i = record { number = i.number; class = i.class; account = i.account; holder = i.holder }
+
+-- how many are open, and the first 16, those that are held among them
+abbrev pub on_list : List Incident → Reply
+on_list is = Listed (record { total = length is; rows = map row_of (take 16 (sorted is)) })

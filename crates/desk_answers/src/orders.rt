@@ -1,0 +1,189 @@
+// The answers to what operators order, and to a question for one incident.
+ghost use Rattle.std.specs.Prelude.{◌≡◌, Option, Some, None, length};
+ghost use Rattle.std.specs.Option.{option_map};
+ghost use Rattle.arc_data.specs.Incidents.{has_number};
+ghost use Rattle.centre_rules.specs.Desks.{holds as holds_it, held_by as held_in, is_before as comes_before, lesser as lesser_of, best as best_of};
+ghost use Rattle.centre_rules.specs.Desks.{claimed as claimed_one, on_claim, on_next, on_act, on_release, on_close, on_show, view_of};
+ghost use Rattle.incidents.specs.Tables.{number_of};
+ghost use Rattle.incident_marks.specs.Marked.{HaveActRoom};
+
+use action_plans::{expected_step, left};
+use arc_data::{Acted, Incident, Reply, Txt, View};
+use incidents::Table;
+
+/// The answer to a claim: another operator may hold the incident, or this one another incident.
+pub fn claim(table: &Table, operator: &Txt, number: u64) -> Reply
+    ensures { result ≡ on_claim operator.now number table.now.incidents }
+{
+    let Some(i) = table.get(number) else {
+        return Reply::NotOpen { number };
+    };
+    if let Some(holder) = i.holder {
+        if holder != *operator {
+            return Reply::HeldBy { operator: holder };
+        }
+    }
+    match held_by(table.items(), operator) {
+        Some(number) => Reply::BusyWith { number },
+        None => claimed(i),
+    }
+}
+
+/// The answer to an operator who asks for the next incident.
+pub fn next(table: &Table, operator: &Txt) -> Reply
+    ensures { result ≡ on_next operator.now table.now.incidents }
+{
+    if let Some(number) = held_by(table.items(), operator) {
+        return Reply::BusyWith { number };
+    }
+    match best(table.items()) {
+        Some(i) => claimed(i),
+        None => Reply::NoneWaiting,
+    }
+}
+
+/// The answer to a recorded step.
+pub fn act(table: &Table, acted: Acted, number: u64) -> Reply
+    requires { HaveActRoom table.now.incidents }
+    ensures { result ≡ on_act acted number table.now.incidents }
+{
+    let Some(i) = table.get(number) else {
+        return Reply::NotOpen { number };
+    };
+    if !holds(i, &acted.operator) {
+        return Reply::NotYours { number };
+    }
+    let Some(step) = expected_step(&i.steps, &i.acts) else {
+        return Reply::Expected { step: None };
+    };
+    if acted.step != step {
+        return Reply::Expected { step: Some(step) };
+    }
+    let mut acts = i.acts.copy();
+    let _ = acts.push(acted);
+    Reply::Recorded {
+        number: i.number,
+        left: left(&i.steps, &acts) as u64,
+    }
+}
+
+/// The answer to a release.
+pub fn release(table: &Table, operator: &Txt, number: u64) -> Reply
+    ensures { result ≡ on_release operator.now number table.now.incidents }
+{
+    match table.get(number) {
+        None => Reply::NotOpen { number },
+        Some(i) => {
+            if holds(i, operator) {
+                Reply::Released { number }
+            } else {
+                Reply::NotYours { number }
+            }
+        }
+    }
+}
+
+/// The answer to a closing.
+pub fn close(table: &Table, operator: &Txt, number: u64) -> Reply
+    ensures { result ≡ on_close operator.now number table.now.incidents }
+{
+    let Some(i) = table.get(number) else {
+        return Reply::NotOpen { number };
+    };
+    if !holds(i, operator) {
+        return Reply::NotYours { number };
+    }
+    match expected_step(&i.steps, &i.acts) {
+        Some(step) => Reply::Missing { step },
+        None => Reply::Closed { number },
+    }
+}
+
+/// The answer to a question for one incident.
+pub fn show(table: &Table, number: u64) -> Reply
+    ensures { result ≡ on_show number table.now.incidents }
+{
+    match table.get(number) {
+        None => Reply::NotOpen { number },
+        Some(i) => Reply::Shown(view(i)),
+    }
+}
+
+// The incident as it is shown.
+fn view(i: &Incident) -> View
+    ensures { result ≡ view_of i.now }
+{
+    View {
+        number: i.number,
+        class: i.class,
+        account: i.account,
+        code: i.code,
+        at: i.at,
+        signals: i.signals,
+        restored: i.restored,
+        holder: i.holder,
+        expected: expected_step(&i.steps, &i.acts),
+    }
+}
+
+fn claimed(i: &Incident) -> Reply
+    ensures { result ≡ claimed_one i.now }
+{
+    Reply::Claimed {
+        number: i.number,
+        class: i.class,
+        account: i.account,
+    }
+}
+
+fn holds(i: &Incident, operator: &Txt) -> bool
+    ensures { result ≡ holds_it operator.now i.now }
+{
+    match &i.holder {
+        Some(holder) => holder == operator,
+        None => false,
+    }
+}
+
+// The number of the incident that an operator holds.
+fn held_by(items: &[Incident], operator: &Txt) -> Option<u64>
+    ensures { result ≡ number_of (held_in operator.now items.now) }
+{
+    match items.iter().find(|i| holds(i, operator)) {
+        Some(i) => Some(i.number),
+        None => None,
+    }
+}
+
+// The most urgent incident that nobody holds.
+fn best(items: &[Incident]) -> Option<&Incident>
+    ensures { option_map (λ i. i.now) result ≡ best_of items.now }
+{
+    let mut best: Option<&Incident> = None;
+    for k in (0..items.len()).rev() {
+        let i = &items[k];
+        if i.holder.is_none() {
+            best = match best {
+                None => Some(i),
+                Some(j) => Some(lesser(i, j)),
+            };
+        }
+    }
+    best
+}
+
+// The more urgent of two.
+fn lesser<'a>(i: &'a Incident, j: &'a Incident) -> &'a Incident
+    ensures { Some result.now ≡ lesser_of i.now (Some j.now) }
+{
+    if is_before(j, i) { j } else { i }
+}
+
+// By priority, and of one priority by number.
+fn is_before(i: &Incident, j: &Incident) -> bool
+    ensures { result ≡ comes_before i.now j.now }
+{
+    let first = i.class.priority();
+    let second = j.class.priority();
+    first < second || first == second && i.number < j.number
+}

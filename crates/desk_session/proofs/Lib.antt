@@ -1,0 +1,10 @@
+pub mod Acting
+pub mod Completed
+pub mod Fed
+pub mod Followed
+pub mod Known
+pub mod Ported
+pub mod Quitting
+pub mod Said
+pub mod Served
+pub mod SoFar

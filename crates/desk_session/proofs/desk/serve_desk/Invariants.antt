@@ -1,0 +1,14 @@
+use Rattle.std.proofs.Common.{◌-◌}
+use Rattle.centre_core.specs.Halls.{IsKept}
+use Rattle.session_rules.specs.Inputs.{input_limit}
+use Rattle.desk_session.proofs.SoFar.{SoFar}
+use Rattle.desk_session.proofs.desk.serve_desk.Given as goal
+
+abbrev pub invariant-pieces : goal.invariant-pieces
+invariant-pieces g l = record {
+  kept : IsKept (g.H.Hall.seen l.initial.hall) (g.H.Hall.seen l.hall);
+  done : SoFar l.state (g.H.Hall.seen l.initial.hall) (g.H.Hall.seen l.hall) (g.P.Ends.seen l.initial.port) (g.P.Ends.seen l.port);
+}
+
+abbrev pub decreases-pieces : goal.decreases-pieces
+decreases-pieces g l = input_limit - l.state.count

@@ -1,0 +1,101 @@
+// Lines and what they are answered by.
+use super::{bytes_of, hall_of, port_of, word};
+use crate::{DeskEnd, DeskState, serve_desk};
+use std::alloc::Global;
+use std::process::Abort;
+use std::test::Fail;
+
+// What is typed, what is printed, how it ends, and how often the hall is asked. A bar is a line feed.
+const ROWS: &str = "\
+;;ended;0
+list|hello|login ann 9999|login ann 1234|list|quit|;denied|what|denied|ok ann|list 7|bye|;quit;1
+quit;bye|;quit;0
+quit|list|;bye|;quit;0
+quit|quit|quit;bye|;quit;0
+login ann 1234|quit|login bob 5678|list|;ok ann|bye|;quit;0
+login ann 1234|login bob 5678|next|;ok ann|ok bob|held by bob|;ended;1
+login ann 1234|login bob 9999|next;ok ann|denied|held by ann|;ended;1
+login ann 1234|login eve 1234|next;ok ann|denied|held by ann|;ended;1
+login ann 1234|login ann 5678|next;ok ann|denied|held by ann|;ended;1
+login ann 1234|login bob 567|next;ok ann|what|held by ann|;ended;1
+login ann 1234|claim 3|act 1 note done|act 2 police done|;ok ann|claimed 3 fire ?|recorded 1 left 0|missing police|;ended;3
+login bob 5678|release 5|close 6 real|show 7|list;ok bob|released 5|closed 6|not open 7|list 7|;ended;4
+next|claim 1|act 1 note done|release 1|close 1 test|show 1|list|;denied|denied|denied|denied|denied|denied|denied|;ended;0
+act 1 note reached|claim 0|list 1|;what|what|what|;ended;0
+login ann 1234|claim 0|claim 01|claim 18446744073709551616|;ok ann|what|what|what|;ended;0
+login ann 1234|claim 18446744073709551615|;ok ann|claimed 18446744073709551615 fire ?|;ended;1
+|next |what;what|what|what|;ended;0
+logi;what|;ended;0";
+
+// The four parts of a row.
+fn parts(row: &str) -> Option<(&str, &str, &str, &str)> {
+    let (typed, rest) = row.split_once(';')?;
+    let (printed, rest) = rest.split_once(';')?;
+    let (end, calls) = rest.split_once(';')?;
+    Some((typed, printed, end, calls))
+}
+
+fn try_row(rt: &impl Abort, alloc: Global, row: &str) -> Result<(), Fail> {
+    let (typed, printed, end, calls) = parts(row).ok_or("no row")?;
+    let (input, output) = (bytes_of(alloc, typed)?, bytes_of(alloc, printed)?);
+    let calls = calls.parse::<u64>()?;
+    let mut hall = hall_of(alloc)?;
+    let mut port = port_of(alloc, &input)?;
+    assert_eq!(rt; word(serve_desk(alloc, &mut hall, &mut port)), end, "at {row}");
+    assert_eq!(rt; (port.sink.bytes(), hall.calls), (output.as_slice(), calls), "at {row}");
+    Ok(())
+}
+
+#[test]
+fn lines_are_answered(rt: HostRuntime) -> Result<(), Fail> {
+    for row in ROWS.lines() {
+        try_row(&rt, rt.alloc(), row)?;
+    }
+    Ok(())
+}
+
+// Each byte in a piece of its own. What stands behind the last line feed may go on, and is not answered.
+#[test]
+fn pieces_of_one_byte(rt: HostRuntime) -> Result<(), Fail> {
+    let alloc = rt.alloc();
+    let mut hall = hall_of(alloc)?;
+    let mut port = port_of(alloc, b"")?;
+    let mut desk = DeskState::new();
+    for byte in b"login ann 1234\r\nlist\r\n\r\nnext\r\nli" {
+        assert_eq!(rt; desk.take(alloc, &mut hall, &mut port, &[*byte]), Ok(()));
+    }
+    assert_eq!(rt; port.sink.bytes(), b"ok ann\nlist 7\nwhat\nheld by ann\n".as_slice());
+    assert_eq!(rt; desk.take(alloc, &mut hall, &mut port, b"st\nquit\nlist\n"), Err(DeskEnd::Quit));
+    assert_eq!(rt; port.sink.bytes(), b"ok ann\nlist 7\nwhat\nheld by ann\nlist 7\nbye\n".as_slice());
+    assert_eq!(rt; hall.calls, 3);
+    Ok(())
+}
+
+// A last line keeps its carriage return.
+#[test]
+fn a_return_at_the_end(rt: HostRuntime) -> Result<(), Fail> {
+    let mut hall = hall_of(rt.alloc())?;
+    let mut port = port_of(rt.alloc(), b"list\r\nquit\r")?;
+    assert_eq!(rt; serve_desk(rt.alloc(), &mut hall, &mut port), DeskEnd::InputEnded);
+    assert_eq!(rt; port.sink.bytes(), b"denied\nwhat\n".as_slice());
+    Ok(())
+}
+
+// Lines of as many bytes as a line may have, of fewer and of more, and one that fills several pieces: each is answered once, and the
+// next line by itself.
+#[test]
+fn long_lines(rt: HostRuntime) -> Result<(), Fail> {
+    let alloc = rt.alloc();
+    for len in [1023, 1024, 1025, 10_000] {
+        for end in [b"\r\nquit\n".as_slice(), b"\nquit\n".as_slice()] {
+            let mut input = Vec::new(alloc);
+            input.resize(len, b'x')?;
+            input.extend_from_slice(end)?;
+            let mut hall = hall_of(alloc)?;
+            let mut port = port_of(alloc, &input)?;
+            assert_eq!(rt; serve_desk(alloc, &mut hall, &mut port), DeskEnd::Quit, "at {len}");
+            assert_eq!(rt; port.sink.bytes(), b"what\nbye\n".as_slice(), "at {len}");
+        }
+    }
+    Ok(())
+}

@@ -1,0 +1,17 @@
+//! What an operator types at a desk, and the lines that a desk prints.
+#![tactic(auto)]
+
+mod command;
+mod forms;
+mod laws;
+mod line;
+mod names;
+mod printing;
+mod texts;
+
+pub use command::Command;
+pub use laws::{law_read_is_spelled, law_spelled_is_read};
+pub use printing::{print, print_welcome};
+
+#[cfg(test)]
+mod tests;

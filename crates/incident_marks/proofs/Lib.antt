@@ -1,0 +1,4 @@
+pub mod ActRoom
+pub mod Bounds
+pub mod Carrying
+pub mod Pointwise

@@ -1,0 +1,1 @@
+use Rattle.incident_marks.proofs.marks.carry.Goals as goal

@@ -1,0 +1,2 @@
+pub use Rattle.centre_rules.specs.Answers
+pub mod Windows
