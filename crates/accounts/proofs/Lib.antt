@@ -9,4 +9,3 @@ pub mod ReadingLemmas
 pub mod StandLemmas
 pub mod TableLemmas
 pub mod TakenLemmas
-pub mod WordLemmas

@@ -35,7 +35,7 @@ module _ {A B : Type 0} (f : A → B) (p : B → Bool) where
   find-map [] = refl
   find-map (x ∷ xs) = found-first (p (f x)) x (find p (map f xs)) (find (λ y. p (f y)) xs) (find-map xs)
 
-  map-map : {C : Type 0} (g : B → C) (xs : List A) → map g (map f xs) ≡ map (λ x. g (f x)) xs
+  pub map-map : {C : Type 0} (g : B → C) (xs : List A) → map g (map f xs) ≡ map (λ x. g (f x)) xs
   map-map g [] = refl
   map-map g (x ∷ xs) = ap (λ ys. g (f x) ∷ ys) (map-map g xs)
 

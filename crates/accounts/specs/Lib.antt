@@ -1,5 +1,4 @@
 pub use Rattle.alarm_rules.specs.Setups
-pub mod Words
 pub mod Lines
 pub mod Said
 pub mod Entries

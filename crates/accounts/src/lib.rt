@@ -17,7 +17,6 @@ mod reading;
 mod setup;
 mod spelled;
 mod table;
-mod words;
 
 pub use account::Account;
 pub use arc_data::{LineKind, SetupFault};

@@ -10,9 +10,9 @@ ghost use Rattle.accounts.specs.Said.{said, said_account, said_hours, said_keyho
 use crate::named::{class, day, minute, planned};
 use crate::operator::Operator;
 use crate::spelled::{account, is_phone, key, minutes, name, pin, seconds};
-use crate::words::Words;
 use action_plans::Plan;
 use aes_chain::Key;
+use alarm_rules::Words;
 use arc_data::{Class, Txt, Window};
 
 /// The most bytes of a line, without its end.

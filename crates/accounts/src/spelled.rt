@@ -1,13 +1,12 @@
 // What words of a setup text spell.
 ghost use Rattle.std.specs.Prelude.{◌≡◌, ◌<◌, ◌≤◌, ℕ, IfSome};
-ghost use Rattle.std.specs.List.{list_all};
 ghost use Rattle.jiff_core.specs.Calendar.{IsWithin};
-ghost use Rattle.arc_data.specs.Digits.{is_run, is_digit, is_name_byte, is_name};
+ghost use Rattle.arc_data.specs.Digits.{is_name};
 ghost use Rattle.alarm_rules.specs.SetupWords.{account_named, key_spelled, seconds_spelled, minutes_spelled, number_between};
-ghost use Rattle.alarm_rules.specs.SetupWords.{is_phone, is_pin, word_that};
+ghost use Rattle.alarm_rules.specs.SetupWords.{is_dialled, is_phone, is_pin, word_that};
 
 use aes_chain::Key;
-use alarm_rules::is_account;
+use alarm_rules::{are_digits, is_account, is_name, is_pin};
 use arc_data::Txt;
 use arc_text::dec;
 
@@ -68,28 +67,11 @@ fn number(low: u64, high: u64, word: &[u8]) -> Option<u64>
     }
 }
 
-/// A name of 1 to 16 letters, digits, dots, lines and dashes.
+/// A name of 1 to 16 letters, digits, dots, underscores and hyphens.
 pub(crate) fn name(word: &[u8]) -> Option<Txt>
     ensures { result ≡ word_that is_name word.now }
 {
-    if word.is_empty() || word.len() > 16 || !are_of_names(word) {
-        return None;
-    }
-    Txt::of(word)
-}
-
-/// Whether each byte may stand in a name.
-fn are_of_names(word: &[u8]) -> bool
-    ensures { result ≡ list_all is_name_byte word.now }
-{
-    word.iter().all(|byte| is_name_byte(*byte))
-}
-
-/// A letter, a digit, `.`, `_` or `-`.
-fn is_name_byte(byte: u8) -> bool
-    ensures { result ≡ is_name_byte byte }
-{
-    byte.is_ascii_alphanumeric() || byte == b'.' || byte == b'_' || byte == b'-'
+    if is_name(word) { Txt::of(word) } else { None }
 }
 
 /// Whether it is a telephone number: 3 to 20 digits, before which a plus may stand.
@@ -97,41 +79,24 @@ pub(crate) fn is_phone(word: &[u8]) -> bool
     ensures { result ≡ is_phone word.now }
 {
     match word {
-        [b'+', digits @ ..] => are_so_many_digits(3, 20, digits),
-        digits => are_so_many_digits(3, 20, digits),
+        [b'+', digits @ ..] => are_dialled(digits),
+        digits => are_dialled(digits),
     }
+}
+
+/// Whether these are the digits of a telephone number.
+fn are_dialled(digits: &[u8]) -> bool
+    ensures { result ≡ is_dialled digits.now }
+{
+    if digits.len() < 3 || digits.len() > 20 {
+        return false;
+    }
+    are_digits(digits)
 }
 
 /// The 4 to 8 digits that an operator logs in with.
 pub(crate) fn pin(word: &[u8]) -> Option<Txt>
     ensures { result ≡ word_that is_pin word.now }
 {
-    if !are_so_many_digits(4, 8, word) {
-        return None;
-    }
-    Txt::of(word)
-}
-
-/// Whether the word has between so many and so many bytes, and each is a decimal digit.
-fn are_so_many_digits(fewest: usize, most: usize, word: &[u8]) -> bool
-    ensures { result ≡ is_run is_digit fewest most word.now }
-{
-    if word.len() < fewest || word.len() > most {
-        return false;
-    }
-    are_digits(word)
-}
-
-/// Whether each byte is a decimal digit.
-fn are_digits(word: &[u8]) -> bool
-    ensures { result ≡ list_all is_digit word.now }
-{
-    word.iter().all(|byte| is_digit(*byte))
-}
-
-/// Whether the byte is a decimal digit.
-fn is_digit(byte: u8) -> bool
-    ensures { result ≡ is_digit byte }
-{
-    byte.is_ascii_digit()
+    if is_pin(word) { Txt::of(word) } else { None }
 }

@@ -44,24 +44,24 @@ any_last p xs x e = list_any-append p xs (x ∷ []) ∙ or_right (list_any p xs)
 reached_more : (acts : List Acted) (a : Acted) (step : Step) → was_reached acts step ≡ true → was_reached (acts ++ a ∷ []) step ≡ true
 reached_more acts a step e =
     and_more (is_call step) (list_any (λ x. same_step x.step step && is_reached x.outcome) acts) (list_any (λ x. same_step x.step step && is_reached x.outcome) (acts ++ a ∷ []))
-      (any_more (λ x. same_step x.step step && is_reached x.outcome) acts (a ∷ [])) e
+    (any_more (λ x. same_step x.step step && is_reached x.outcome) acts (a ∷ [])) e
 
 any_reached : (acts : List Acted) (a : Acted) (earlier : List Step) → list_any (was_reached acts) earlier ≡ true → list_any (was_reached (acts ++ a ∷ [])) earlier ≡ true
 any_reached acts a [] e = e
 any_reached acts a (s ∷ earlier) e =
     or_more (was_reached acts s) (list_any (was_reached acts) earlier) (was_reached (acts ++ a ∷ []) s) (list_any (was_reached (acts ++ a ∷ [])) earlier)
-      (reached_more acts a s) (any_reached acts a earlier) e
+    (reached_more acts a s) (any_reached acts a earlier) e
 
 met_more : (acts : List Acted) (a : Acted) (earlier : List Step) (step : Step) → is_met acts earlier step ≡ true → is_met (acts ++ a ∷ []) earlier step ≡ true
 met_more acts a earlier step e =
     or_more (was_done acts step) (is_call step && list_any (was_reached acts) earlier) (was_done (acts ++ a ∷ []) step) (is_call step && list_any (was_reached (acts ++ a ∷ [])) earlier)
-      (any_more (λ x. same_step x.step step) acts (a ∷ []))
-      (and_more (is_call step) (list_any (was_reached acts) earlier) (list_any (was_reached (acts ++ a ∷ [])) earlier) (any_reached acts a earlier)) e
+    (any_more (λ x. same_step x.step step) acts (a ∷ []))
+    (and_more (is_call step) (list_any (was_reached acts) earlier) (list_any (was_reached (acts ++ a ∷ [])) earlier) (any_reached acts a earlier)) e
 
 unmet_back : (steps : List Step) (acts : List Acted) (a : Acted) (place : ℕ) → is_unmet steps (acts ++ a ∷ []) place ≡ true → is_unmet steps acts place ≡ true
 unmet_back steps acts a place e =
     not_back (is_met acts (take place steps) (get_or steps place Note)) (is_met (acts ++ a ∷ []) (take place steps) (get_or steps place Note))
-      (met_more acts a (take place steps) (get_or steps place Note)) e
+    (met_more acts a (take place steps) (get_or steps place Note)) e
 
 -- Of a list, a stronger test leaves fewer.
 

@@ -5,12 +5,12 @@
 mod names;
 mod words;
 
-pub use names::{is_name, is_pin};
-pub use words::Words;
-
 ghost use Rattle.std.specs.Prelude.{◌≡◌};
 ghost use Rattle.std.specs.List.{list_all};
 ghost use Rattle.arc_data.specs.Digits.{is_account, is_hex};
+
+pub use names::{are_digits, is_name, is_pin};
+pub use words::Words;
 
 /// Whether the text is an account: 3 to 16 hexadecimal digits, in either case (DC-09, the account field).
 pub fn is_account(text: &[u8]) -> bool

@@ -1,4 +1,4 @@
-// Names and PINs of operators.
+// Names and PINs of operators, and digits.
 ghost use Rattle.std.specs.Prelude.{◌≡◌, ◌≤◌, IsTrue, length};
 ghost use Rattle.std.specs.List.{list_all};
 ghost use Rattle.arc_data.specs.Digits.{is_digit, is_name, is_name_byte};
@@ -40,8 +40,8 @@ pub fn is_pin(text: &[u8]) -> bool
     are_digits(text)
 }
 
-// Whether each byte is a decimal digit.
-fn are_digits(text: &[u8]) -> bool
+/// Whether each byte is a decimal digit.
+pub fn are_digits(text: &[u8]) -> bool
     ensures { result ≡ list_all is_digit text.now }
 {
     text.iter().all(|byte| is_digit(*byte))

@@ -1,7 +1,8 @@
 // Words of a line.
 ghost use Rattle.std.specs.Prelude.{◌≡◌, ◌==◌, [], ◌∷◌, MatchOption, Some};
 ghost use Rattle.std.specs.List.{position};
-ghost use Rattle.alarm_rules.specs.SetupLines.{is_nil, words_of};
+ghost use Rattle.std.specs.Option.{option_copied, option_map};
+ghost use Rattle.alarm_rules.specs.SetupLines.{is_nil, optional, words_of};
 
 use std::marker::Model;
 
@@ -43,6 +44,22 @@ impl<'a> Words<'a> {
                 self.rest = None;
                 Some(rest)
             }
+        }
+    }
+
+    /// Takes an option off: where the first word is its name, that and the word behind it. `Some(None)` where no word or
+    /// another one is first, and then nothing is taken. None where the name stands last.
+    pub fn option(&mut self, name: &[u8]) -> Option<Option<&'a [u8]>>
+        ensures { option_map (λ value. (option_copied value, self.new)) result ≡ optional name.now Some self.old }
+    {
+        let mut ahead = Words { rest: self.rest };
+        match ahead.next() {
+            Some(word) if word == name => {
+                let value = ahead.next()?;
+                self.rest = ahead.rest;
+                Some(Some(value))
+            }
+            _ => Some(None),
         }
     }
 

@@ -1,7 +1,0 @@
-use Rattle.std.proofs.Common.{ap, ◌∙◌}
-use Rattle.alarm_rules.specs.SetupLines.{is_nil}
-use Rattle.accounts.proofs.WordLemmas.{is_nil-words_left}
-use Rattle.accounts.proofs.words.Words.is_empty.Goals as goal
-
-pub returns : goal.returns
-returns c = is_nil-words_left c.self.inside.rest c.is_none.result c.is_none.ensures ∙ ap is_nil c.self.view_is
