@@ -1,12 +1,13 @@
 -- An incident is closed only when each of its steps is met.
-use Rattle.std.specs.Prelude.{◌≡◌, ◌<◌, ◌⊎◌, ◌==◌, ℕ, List, [], ◌∷◌, ◌++◌, true, if◌then◌else◌, length, Option, Some, None}
+use Rattle.std.specs.Prelude.{◌≡◌, ◌<◌, ◌⊎◌, ◌==◌, ℕ, List, [], ◌∷◌, ◌++◌, true, if◌then◌else◌, length, take, slice_index_or, Option, Some, None}
 use Rattle.arc_data.specs.declared.event.Event.{Event}
 use Rattle.arc_data.specs.declared.event.Event.TheVariants.{Act as Do}
 use Rattle.arc_data.specs.declared.reply.Reply.{Reply}
 use Rattle.arc_data.specs.declared.reply.Reply.TheVariants.{Recorded, Closed}
 use Rattle.arc_data.specs.declared.step.Acted.{Acted}
 use Rattle.arc_data.specs.declared.step.Step.{Step}
-use Rattle.alarm_rules.specs.Plans.{is_met_at}
+use Rattle.arc_data.specs.declared.step.Step.TheVariants.{Note}
+use Rattle.alarm_rules.specs.Plans.{is_met}
 use Rattle.alarm_rules.specs.Setups.{Setup, steps_of}
 use Rattle.centre_rules.specs.Summary.{Summary}
 use Rattle.centre_rules.specs.Marks.{force}
@@ -32,9 +33,10 @@ abbrev pub acts_recorded : ℕ → List Entry → List Acted
 acts_recorded number [] = []
 acts_recorded number (e ∷ h) = acts_recorded number h ++ acted_of number e.event e.at e.reply
 
--- the acts meet each of the steps
+-- the acts meet each of the steps, which is judged by the steps before it
 abbrev pub MeetAll : List Acted → List Step → Type 0
-MeetAll acts steps = (place : ℕ) → place < length steps → is_met_at steps acts place ≡ true
+MeetAll acts steps =
+    (place : ℕ) → place < length steps → is_met acts (take place steps) (slice_index_or steps place Note) ≡ true
 
 -- After these entries e opened the incident, which stands so after it. Its steps are those of the setup then in force, for
 -- its account, its class and that moment.
