@@ -1,7 +1,7 @@
 -- Where a step is not met, there is room for an act.
 use Rattle.std.proofs.Common.{◌≡◌, ◌<◌, ◌≤◌, ℕ, ◌+◌, List, [], ◌∷◌, ◌++◌, map, length, take, Bool, true, false, cond, refl, sym, ap, ◌∙◌, Option, Some, None, arith, subst, length-append}
 use Rattle.std.specs.Prelude.{not, ◌&&◌, ◌||◌, option_and_then, slice_get, slice_index_or, IfSome, IsSome, is_some}
-use Rattle.std.specs.List.{find, filter, list_any, range_with_len}
+use Rattle.std.specs.List.{find, filter, list_any}
 use Rattle.std.proofs.lemmas.Bool.{eqb-true, false≢true}
 use Rattle.std.proofs.lemmas.List.FromFn.{length-range_with_len}
 use Rattle.std.proofs.lemmas.Option.{get_or_from_slice_get}
@@ -12,10 +12,10 @@ use Rattle.arc_data.specs.declared.step.Acted.{Acted}
 use Rattle.arc_data.specs.declared.step.Step.{Step}
 use Rattle.arc_data.specs.declared.step.Step.TheVariants.{Note}
 use Rattle.alarm_rules.specs.Plans.{unmet, is_unmet, is_met, is_call, is_reached, was_done, was_reached, places, remaining, expected_step, left}
-use Rattle.centre_rules.specs.Marks.{Mark, Starts, Carries, Claims, Acts, Releases, Closes, Carried}
+use Rattle.centre_rules.specs.Marks.{Mark, Carries, Acts, Closes, Carried}
 use Rattle.centre_rules.specs.Cases.{acts_at, opens, fresh}
 use Rattle.centre_rules.specs.Tables.{touched_by, table_after}
-use Rattle.centre_rules.specs.Desks.{numbered, is_holder, holds}
+use Rattle.centre_rules.specs.Desks.{numbered, is_holder}
 use Rattle.centre_rules.proofs.Tables.{all_found}
 use Rattle.incident_marks.specs.Marked.{HasActRoom, HaveActRoom, FitsAct}
 
@@ -43,21 +43,21 @@ module _ {X : Type 0} (p q : X → Bool) (less : (x : X) → q x ≡ true → p 
   filter_falls [] w e g = cc
   filter_falls (x ∷ xs) w e g = falls_if x w (p x) (q x) xs (filter p xs) (filter q xs) refl refl g (filter_less xs) (λ t. filter_falls xs w t g) e
 
+long_if : {X : Type 0} (x w : X) (b : Bool) (found : Option X) (xs : List X) → (found ≡ Some w → 0 < length xs) → cond b (Some x) found ≡ Some w → 0 < length (cond b (x ∷ xs) xs)
+long_if x w true found xs rest e = omega arith
+long_if x w false found xs rest e = rest e
+
 some_long : {X : Type 0} (p : X → Bool) (xs : List X) (w : X) → find p xs ≡ Some w → 0 < length (filter p xs)
 some_long p [] w e = cc
-some_long p (x ∷ xs) w e = long_if (p x) refl
-  where
-    long_if : (b : Bool) → p x ≡ b → 0 < length (cond b (x ∷ filter p xs) (filter p xs))
-    long_if true t = omega arith
-    long_if false t = some_long p xs w (rw t at e)
+some_long p (x ∷ xs) w e = long_if x w (p x) (find p xs) (filter p xs) (some_long p xs w) e
+
+short_if : {X : Type 0} (x : X) (b : Bool) (xs ys : List X) → length xs ≤ length ys → length (cond b (x ∷ xs) xs) ≤ length (x ∷ ys)
+short_if x true xs ys le = omega arith
+short_if x false xs ys le = omega arith
 
 filter_short : {X : Type 0} (p : X → Bool) (xs : List X) → length (filter p xs) ≤ length xs
 filter_short p [] = omega arith
-filter_short p (x ∷ xs) = short_if (p x)
-  where
-    short_if : (b : Bool) → length (cond b (x ∷ filter p xs) (filter p xs)) ≤ length xs + 1
-    short_if true = omega (arith, filter_short p xs)
-    short_if false = omega (arith, filter_short p xs)
+filter_short p (x ∷ xs) = short_if x (p x) (filter p xs) xs (filter_short p xs)
 
 -- What is met stays met, and a recorded step is met.
 
@@ -137,13 +137,13 @@ room_for i s r e = omega (arith, r, left_some i.steps i.acts s e)
 room_act : (i : Incident) (a : Acted) (s : Step) → HasActRoom i → same_step a.step s ≡ true → expected_step i.steps i.acts ≡ Some s → length (i.acts ++ a ∷ []) + left i.steps (i.acts ++ a ∷ []) ≤ 10
 room_act i a s r t e = omega (arith, r, left_falls i.steps i.acts a s e t, length-append i.acts (a ∷ []))
 
+found_if : (n : ℕ) (i j : Incident) (b : Bool) (found : Option Incident) → HasActRoom j → (found ≡ Some i → HasActRoom i) → cond b (Some j) found ≡ Some i → HasActRoom i
+found_if n i j true found r rest e = let same : j ≡ i = cc in subst HasActRoom same r
+found_if n i j false found r rest e = rest e
+
 pub found_room : (n : ℕ) (is : List Incident) (i : Incident) → HaveActRoom is → numbered n is ≡ Some i → HasActRoom i
 found_room n [] i r e = cc
-found_room n (j ∷ is) i r e = room_if (has_number n j) refl
-  where
-    room_if : (b : Bool) → has_number n j ≡ b → HasActRoom i
-    room_if true t = let same : j ≡ i = (let both : Some j ≡ Some i = rw t at e in cc) in subst HasActRoom same r.0
-    room_if false t = found_room n is i r.1 (rw t at e)
+found_room n (j ∷ is) i r e = found_if n i j (has_number n j) (numbered n is) r.0 (found_room n is i r.1) e
 
 pub fits_few : (n : ℕ) (a : Acted) (is : List Incident) → HaveActRoom is → FitsAct n a is → IfSome (find (has_number n) is) (λ i. length i.acts < 10)
 fits_few n a is r w = rw w.found (room_for w.incident w.wanted (found_room n is w.incident r w.found) w.first)

@@ -4,9 +4,9 @@ use Rattle.std.specs.Prelude.{not, ◌&&◌}
 use Rattle.std.specs.List.{filter}
 use Rattle.arc_data.specs.Incidents.{Each, is_of, has_number}
 use Rattle.arc_data.specs.declared.incident.Incident.{Incident}
-use Rattle.centre_rules.specs.Marks.{Mark, Starts, Carries, Claims, Acts, Releases, Closes, Carried}
+use Rattle.centre_rules.specs.Marks.{Mark, Carries, Closes, Carried}
 use Rattle.centre_rules.specs.Cases.{signals_at, opens, fresh, is_new}
-use Rattle.centre_rules.specs.Tables.{touched_by, with_opened, opened_after, table_after}
+use Rattle.centre_rules.specs.Tables.{touched_by, opened_after, table_after}
 use Rattle.incident_marks.specs.Marked.{IsFew}
 
 abbrev HasAtMost : ℕ → List Incident → Type 0

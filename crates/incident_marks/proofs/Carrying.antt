@@ -1,5 +1,5 @@
 -- A signal taken up in place is what its mark makes of all incidents.
-use Rattle.std.proofs.Common.{◌≡◌, ◌<◌, ◌≤◌, ◌^◌, ℕ, ◌+◌, List, [], ◌∷◌, ◌++◌, map, Bool, true, false, cond, refl, sym, ap, ◌∙◌, Option, Some, None, arith, subst, inl, inr}
+use Rattle.std.proofs.Common.{◌≡◌, ◌<◌, ◌≤◌, ◌^◌, ℕ, ◌+◌, List, [], ◌∷◌, ◌++◌, length, map, Bool, true, false, cond, refl, sym, ap, ◌∙◌, Option, Some, None, arith, subst, inl, inr}
 use Rattle.std.specs.Prelude.{not, ◌==◌, ◌&&◌, ◌||◌, ◌⊎◌, IfSome, nat_lt, nat_eq}
 use Rattle.std.specs.List.{find, list_any}
 use Rattle.std.specs.Str.{bytes_eq}
@@ -17,7 +17,9 @@ use Rattle.incidents.specs.Tables.{TableValue, IsSingle, at_number, attached, re
 use Rattle.centre_rules.specs.Marks.{Carries, Carried}
 use Rattle.centre_rules.specs.Cases.{opens, is_new, is_restore, fresh}
 use Rattle.centre_rules.specs.Tables.{touched_by}
-use Rattle.incident_marks.specs.Marked.{marked_table, HasFew}
+use Rattle.incident_marks.specs.Marked.{marked_table, HasFew, IsFew, HaveActRoom}
+use Rattle.incident_marks.proofs.ActRoom.{room_carries}
+use Rattle.incident_marks.proofs.Bounds.{few_carries}
 
 -- What a look-up finds.
 
@@ -231,8 +233,9 @@ raise_carries x t k lt e =
     opened_table x t (opens x t.incidents) t.incidents _ (does_open x.signal.kind (nat_lt 0 (priority_of x.signal.class)) (list_any (of_signal x) t.incidents) (news x.signal.kind k) (high (priority_of x.signal.class) lt) (none_any (of_signal x) t.incidents none))
     (map_miss (of_signal x) (touched_by (Carries x)) (missed x) t.incidents none) (new_one x (t.opened + 1) k)
 
-pub raise_none : (x : Carried) (is : List Incident) → number_of (find (of_signal x) is) ≡ None → find (of_signal x) is ≡ None
-raise_none x is e = number_none (find (of_signal x) is) e
+-- a table is its fields
+pub raised_table : (t u : TableValue) (is : List Incident) → u.opened ≡ t.opened + 1 → u.incidents ≡ is → u.room ≡ t.room → u ≡ record t { opened = t.opened + 1; incidents = is }
+raised_table t u is e f g = λ k. record { opened = e k; incidents = f k; room = g k }
 
 -- A signal that does nothing to the table.
 
@@ -247,8 +250,16 @@ map_quiet x (i ∷ is) f r = λ k. quiet_if x i (of_signal x i) refl f r k ∷ m
 no_new : (a b c : Bool) → a ≡ false → (a && b && c) ≡ false
 no_new a b c e = rw e refl
 
-pub quiet_carries : (x : Carried) (t : TableValue) → is_new x.signal.kind ≡ false → is_restore x.signal.kind ≡ false → t ≡ marked_table (Carries x) t
+quiet_carries : (x : Carried) (t : TableValue) → is_new x.signal.kind ≡ false → is_restore x.signal.kind ≡ false → t ≡ marked_table (Carries x) t
 quiet_carries x t f r = no_more x t t.incidents (no_new (is_new x.signal.kind) (nat_lt 0 (priority_of x.signal.class)) (not (list_any (of_signal x) t.incidents)) f) (map_quiet x t.incidents f r)
+
+unlisted : (k : Kind) → (k ≡ Opening) ⊎ ((k ≡ Closing) ⊎ (k ≡ LogOnly)) → (is_new k ≡ false) × (is_restore k ≡ false)
+unlisted k (inl e) = (ap is_new e, ap is_restore e)
+unlisted k (inr (inl e)) = (ap is_new e, ap is_restore e)
+unlisted k (inr (inr e)) = (ap is_new e, ap is_restore e)
+
+pub others_carry : (x : Carried) (t : TableValue) → (x.signal.kind ≡ Opening) ⊎ ((x.signal.kind ≡ Closing) ⊎ (x.signal.kind ≡ LogOnly)) → t ≡ marked_table (Carries x) t
+others_carry x t k = let w = unlisted x.signal.kind k in quiet_carries x t w.0 w.1
 
 -- the incident found by a number has few signals
 
@@ -259,3 +270,11 @@ few_if false i rest lt w = w
 pub few_at : (n : ℕ) (is : List Incident) → HasFew is → IfSome (find (has_number n) is) (λ i. i.signals < 2 ^ 62)
 few_at n [] w = tt
 few_at n (i ∷ is) w = few_if (has_number n i) i (find (has_number n) is) w.0 (few_at n is w.1)
+
+-- What follows for the counts and the room.
+
+pub few_after : (x : Carried) (t u : TableValue) → u ≡ marked_table (Carries x) t → (n : ℕ) → IsFew n t.opened t.incidents → IsFew (n + 1) u.opened u.incidents
+few_after x t u e n w = subst (λ (y : TableValue). IsFew (n + 1) y.opened y.incidents) (sym e) (few_carries x n t.opened t.incidents w)
+
+pub room_after : (x : Carried) (t u : TableValue) → u ≡ marked_table (Carries x) t → length x.steps ≤ 10 → HaveActRoom t.incidents → HaveActRoom u.incidents
+room_after x t u e few r = subst (λ (y : TableValue). HaveActRoom y.incidents) (sym e) (room_carries x t.opened t.incidents few r)

@@ -1,14 +1,14 @@
 -- A change of the one incident of a number is what the mark makes of each.
 use Rattle.std.proofs.Common.{◌≡◌, ℕ, List, [], ◌∷◌, map, Bool, true, false, cond, refl, sym, ap, ◌∙◌, Option, Some, None, subst}
-use Rattle.std.specs.Prelude.{not, is_some, IsSome, IfSome, ◌==◌, ◌&&◌}
+use Rattle.std.specs.Prelude.{not, is_some, IsSome, IfSome}
 use Rattle.std.specs.List.{find, filter}
-use Rattle.std.proofs.lemmas.Bool.{eqb-true, false≢true}
+use Rattle.std.proofs.lemmas.Bool.{eqb-true}
 use Rattle.arc_data.specs.Incidents.{has_number, Ascends, Each}
 use Rattle.arc_data.specs.declared.incident.Incident.{Incident}
 use Rattle.arc_data.specs.declared.step.Acted.{Acted}
 use Rattle.incidents.specs.Tables.{at_number, without, held, acted}
-use Rattle.centre_rules.specs.Marks.{Mark, Claims, Acts, Releases, Closes}
-use Rattle.centre_rules.specs.Tables.{touched_by, table_after}
+use Rattle.centre_rules.specs.Marks.{Claims, Acts, Releases, Closes}
+use Rattle.centre_rules.specs.Tables.{touched_by}
 use Rattle.centre_rules.specs.Desks.{numbered}
 use Rattle.centre_rules.proofs.Tables.{all_found}
 

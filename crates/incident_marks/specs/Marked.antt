@@ -19,8 +19,8 @@ abbrev pub HasFew : List Incident → Type 0
 HasFew is = Each (λ i. i.signals < 2 ^ 62) is
 
 -- at most so many were opened, and each has at most so many signals
-pub record IsFew (bound opened : ℕ) (is : List Incident) : Type 0 where
-  pub opened : opened ≤ bound
+pub record IsFew (bound count : ℕ) (is : List Incident) : Type 0 where
+  pub opened : count ≤ bound
   pub signals : Each (λ i. i.signals ≤ bound) is
 
 -- each has room for an act of each step that is not met

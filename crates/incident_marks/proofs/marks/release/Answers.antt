@@ -1,11 +1,9 @@
-use Rattle.std.proofs.Common.{List, refl, ap, ◌∙◌, subst, sym}
+use Rattle.std.proofs.Common.{List, refl, ap, ◌∙◌}
 use Rattle.arc_data.specs.declared.incident.Incident.{Incident}
-use Rattle.centre_rules.specs.Marks.{Starts, Claims, Releases}
-use Rattle.incidents.specs.Tables.{TableValue}
-use Rattle.incident_marks.specs.Marked.{IsFew, HaveActRoom, marked_table}
+use Rattle.centre_rules.specs.Marks.{Releases}
 use Rattle.incident_marks.proofs.ActRoom.{room_same}
 use Rattle.incident_marks.proofs.Bounds.{few_same}
-use Rattle.incident_marks.proofs.Pointwise.{claims_map, releases_map}
+use Rattle.incident_marks.proofs.Pointwise.{releases_map}
 use Rattle.incident_marks.proofs.marks.release.Goals as goal
 
 pub returns-clause-marked : goal.returns-clause-marked

@@ -1,11 +1,7 @@
-use Rattle.std.proofs.Common.{List, refl, ap, ◌∙◌, subst, sym}
-use Rattle.arc_data.specs.declared.incident.Incident.{Incident}
-use Rattle.centre_rules.specs.Marks.{Starts, Claims, Releases}
-use Rattle.incidents.specs.Tables.{TableValue}
-use Rattle.incident_marks.specs.Marked.{IsFew, HaveActRoom, marked_table}
+use Rattle.std.proofs.Common.{refl}
+use Rattle.centre_rules.specs.Marks.{Starts}
 use Rattle.incident_marks.proofs.ActRoom.{room_same}
 use Rattle.incident_marks.proofs.Bounds.{few_same}
-use Rattle.incident_marks.proofs.Pointwise.{claims_map, releases_map}
 use Rattle.incident_marks.proofs.marks.start.Goals as goal
 
 pub returns-clause-marked : goal.returns-clause-marked
