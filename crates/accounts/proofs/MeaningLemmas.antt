@@ -21,7 +21,7 @@ use Rattle.accounts.specs.declared.operator_table.OperatorEntry.{OperatorEntry}
 use Rattle.accounts.specs.declared.plan_list.ClassPlan.{ClassPlan}
 use Rattle.accounts.specs.declared.table.Table.{Table}
 use Rattle.accounts.specs.Accounts.{defined, IsReadFrom}
-use Rattle.accounts.specs.Entries.{is_numbered, find_number, is_named, find_name}
+use Rattle.accounts.specs.Entries.{is_numbered, find_number, find_name}
 use Rattle.accounts.specs.Said.{said_operator}
 use Rattle.accounts.specs.Standing.{entry_in, plan_entry, operator_entry, plans_for}
 use Rattle.accounts.proofs.StandLemmas.{find-map, map-map}
@@ -123,10 +123,10 @@ module _ (text : List ℕ) (table : Table) (read : IsReadFrom text table) where
   words-read account class kept is =
       ap (λ (setup : Setup). words_for setup account class) meaning-read
       ∙ ap (option_map (λ (plan : PlanLine). plan.words))
-        (find-map (λ thing. thing.1) (is_plan_of account class) (plans_in ls) ∙ ap (option_map (λ (thing : ℕ × PlanLine). thing.1)) (plans-found account class ls))
+      (find-map (λ thing. thing.1) (is_plan_of account class) (plans_in ls) ∙ ap (option_map (λ (thing : ℕ × PlanLine). thing.1)) (plans-found account class ls))
       ∙ words-of (find (λ thing. same_class class thing.1.class) (plans_for account ls))
       ∙ ap (option_map (λ (plan : ClassPlan). plan.plan))
-        (sym (ap (find (λ p. same_class class p.class)) is ∙ find-map plan_entry (λ p. same_class class p.class) (plans_for account ls)))
+      (sym (ap (find (λ p. same_class class p.class)) is ∙ find-map plan_entry (λ p. same_class class p.class) (plans_for account ls)))
 
   entry-plans : (place : ℕ) (entry : Entry) (things : List (ℕ × AccountLine)) → slice_get (map (entry_in ls) things) place ≡ Some entry
       → entry.plans ≡ map plan_entry (plans_for (Some entry.account.number) ls)
@@ -141,7 +141,7 @@ module _ (text : List ℕ) (table : Table) (read : IsReadFrom text table) where
       → own ≡ option_map (λ (p : ClassPlan). p.plan) (find (λ p. same_class class p.class) entry.plans)
       → general ≡ option_map (λ (p : ClassPlan). p.plan) (find (λ p. same_class class p.class) table.plans)
       → IfSome (slice_get (meaning text).accounts place)
-        (λ account. unwrap_or (option_or own general) (record { word = Note; closed = false } ∷ []) ≡ plan_of (meaning text) account.number class)
+      (λ account. unwrap_or (option_or own general) (record { word = Note; closed = false } ∷ []) ≡ plan_of (meaning text) account.number class)
   plan-read place entry class own general at is_own is_general =
       let kept = entry-plans place entry (accounts_in ls) (sym (ap (λ (es : List Entry). slice_get es place) read.stands.accounts) ∙ at) in
       let first = is_own ∙ sym (words-read (Some entry.account.number) class entry.plans kept) in

@@ -1,5 +1,5 @@
 -- One line after another.
-use Rattle.std.proofs.Common.{◌≡◌, ◌+◌, ℕ, List, [], ◌∷◌, ◌++◌, Option, Some, None, Result, Ok, Err, inl, inr, map, refl, sym, ap, ◌∙◌, append_assoc, append-nil}
+use Rattle.std.proofs.Common.{◌≡◌, ◌+◌, ℕ, List, [], ◌∷◌, ◌++◌, Some, None, inl, inr, map, refl, sym, ap, ◌∙◌, append_assoc, append-nil}
 use Rattle.std.specs.Prelude.{◌⊎◌}
 use Rattle.std.specs.List.{enumerate_from}
 use Rattle.std.specs.Option.{option_or}
@@ -9,7 +9,7 @@ use Rattle.arc_data.specs.declared.setup_fault.SetupFault.TheVariants.{Memory}
 use Rattle.alarm_rules.specs.SetupLines.{says}
 use Rattle.alarm_rules.specs.Setups.{Line, said_lines, fault_at, first_fault}
 use Rattle.accounts.specs.declared.table.Table.{Table}
-use Rattle.accounts.specs.Standing.{Stands, IsTaken}
+use Rattle.accounts.specs.Standing.{Stands}
 
 -- what the lines of a text say, from a number on
 abbrev said_from : ℕ → List ℕ → List Line

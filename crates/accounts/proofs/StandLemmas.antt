@@ -1,27 +1,25 @@
 -- What one more line adds to what the lines before it declare.
-use Rattle.std.proofs.Common.{◌≡◌, ◌<◌, ◌≤◌, ℕ, zero, suc, List, [], ◌∷◌, ◌++◌, Bool, true, false, cond, Option, Some, None, map, length, nat_lt, is_some, slice_get}
-use Rattle.std.proofs.Common.{inl, inr, refl, sym, ap, subst, ◌∙◌, arith, append-nil, length-append}
+use Rattle.std.proofs.Common.{◌≡◌, ◌<◌, ℕ, zero, suc, List, [], ◌∷◌, ◌++◌, Bool, true, false, cond, Option, Some, None, map, length, nat_lt, slice_get}
+use Rattle.std.proofs.Common.{inl, inr, refl, sym, ap, ◌∙◌, arith, append-nil}
 use Rattle.std.specs.Prelude.{if◌then◌else◌, IfSome}
 use Rattle.std.specs.List.{find, position, position_or_len}
-use Rattle.std.specs.Option.{option_map, option_or}
+use Rattle.std.specs.Option.{option_map}
 use Rattle.std.specs.Str.{bytes_eq}
 use Rattle.std.proofs.lemmas.Bool.{cases_Bool, cond-true, cond-false, false_from_ne_true, ltb-false}
-use Rattle.std.proofs.lemmas.List.{length-map, map-append}
 use Rattle.std.proofs.lemmas.List.Elements.{filter_map-append}
 use Rattle.std.proofs.lemmas.List.Folds.{find_at}
 use Rattle.std.proofs.lemmas.Option.{cond_some, slice_get_past}
 use Rattle.std.proofs.lemmas.Slice.Eq.{bytes_eq-Decides}
 use Rattle.arc_data.specs.declared.window.Window.{Window}
-use Rattle.alarm_rules.specs.SetupLines.{Said, Nothing, OfAccount, OfHours, OfKeyholder, OfPlan, OfOperator}
-use Rattle.alarm_rules.specs.SetupLines.{AccountLine, HoursLine, KeyholderLine, PlanLine, Operator}
-use Rattle.alarm_rules.specs.Setups.{Line, told, told_at, things, account_part, hours_part, keyholder_part, operator_part, accounts_in, windows_in, keyholders_in, operators_in, line_with, account_declared}
+use Rattle.alarm_rules.specs.SetupLines.{Said}
+use Rattle.alarm_rules.specs.SetupLines.{AccountLine, PlanLine}
+use Rattle.alarm_rules.specs.Setups.{Line, told, told_at, things, account_part, hours_part, keyholder_part, operator_part, accounts_in, windows_in, keyholders_in, operators_in, account_declared}
 use Rattle.accounts.specs.declared.entry.Entry.{Entry}
 use Rattle.accounts.specs.declared.keyholders.Keyholder.{Keyholder}
 use Rattle.accounts.specs.declared.plan_list.ClassPlan.{ClassPlan}
 use Rattle.accounts.specs.declared.table.Table.{Table}
-use Rattle.accounts.specs.Entries.{new_entry, is_numbered, find_number, changed, with_window, with_keyholder, with_plan}
-use Rattle.accounts.specs.Said.{said_account}
-use Rattle.accounts.specs.Standing.{keyholder_entry, plan_entry, operator_entry, plan_said, plan_for, plans_for, entry_in, IsSilent, Stands}
+use Rattle.accounts.specs.Entries.{is_numbered, find_number, changed}
+use Rattle.accounts.specs.Standing.{keyholder_entry, plan_entry, operator_entry, plan_for, plans_for, entry_in, IsSilent, Stands}
 use Rattle.accounts.proofs.LineLemmas.{cond_none}
 
 -- Finding.

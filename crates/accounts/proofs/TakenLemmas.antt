@@ -1,12 +1,12 @@
 -- Each kind of line taken up, and its faults.
 use Rattle.std.proofs.Common.{◌≡◌, ◌<◌, ◌≤◌, ℕ, List, [], ◌∷◌, ◌++◌, Bool, true, false, cond, ◌&&◌, Option, Some, None, map, length, nat_lt, is_some, slice_get}
-use Rattle.std.proofs.Common.{inl, inr, refl, sym, ap, ◌∙◌, arith, append-nil, length-append}
-use Rattle.std.specs.Prelude.{if◌then◌else◌, IfSome, option_and_then}
+use Rattle.std.proofs.Common.{refl, sym, ap, ◌∙◌, arith, append-nil}
+use Rattle.std.specs.Prelude.{if◌then◌else◌, IfSome}
 use Rattle.std.specs.Bool.{OnTrue}
 use Rattle.std.specs.List.{find, cons_option, position}
 use Rattle.std.specs.Option.{option_map, option_or}
 use Rattle.std.specs.Str.{bytes_eq}
-use Rattle.std.proofs.lemmas.Bool.{le-ltb, lt-ltb, cond-true, cond-false}
+use Rattle.std.proofs.lemmas.Bool.{le-ltb, lt-ltb}
 use Rattle.std.proofs.lemmas.List.{length-map, map-append}
 use Rattle.arc_data.specs.Classes.{same_class}
 use Rattle.arc_data.specs.declared.setup_fault.LineKind.TheVariants.{NoAccount}
@@ -16,7 +16,7 @@ use Rattle.arc_data.specs.declared.signal.Class.{Class}
 use Rattle.arc_data.specs.declared.window.Window.{Window}
 use Rattle.alarm_rules.specs.SetupLines.{Said, Nothing, OfAccount, OfHours, OfKeyholder, OfPlan, OfOperator}
 use Rattle.alarm_rules.specs.SetupLines.{AccountLine, HoursLine, KeyholderLine, PlanLine, Operator}
-use Rattle.alarm_rules.specs.Setups.{Line, told, things, hours_part, keyholder_part, plan_part, accounts_in, windows_in, keyholders_in, plans_in, operators_in}
+use Rattle.alarm_rules.specs.Setups.{Line, things, accounts_in, windows_in, keyholders_in, plans_in, operators_in}
 use Rattle.alarm_rules.specs.Setups.{line_with, account_declared, same_target, is_plan_of, no_account, two_same, too_many, fault_of}
 use Rattle.accounts.specs.declared.entry.Entry.{Entry}
 use Rattle.accounts.specs.declared.keyholders.Keyholder.{Keyholder}
@@ -27,7 +27,7 @@ use Rattle.accounts.specs.declared.plan_list.ClassPlan.{ClassPlan}
 use Rattle.accounts.specs.declared.table.Table.{Table}
 use Rattle.accounts.specs.Entries.{new_entry, is_numbered, find_number, find_name, is_named, changed, with_window, with_keyholder, with_plan}
 use Rattle.accounts.specs.Said.{said_account, said_operator}
-use Rattle.accounts.specs.Standing.{keyholder_entry, plan_entry, operator_entry, plan_said, plan_for, plans_for, entry_in, IsSilent, Stands}
+use Rattle.accounts.specs.Standing.{keyholder_entry, plan_entry, operator_entry, plan_said, plans_for, entry_in, IsSilent, Stands}
 use Rattle.accounts.proofs.StandLemmas.{shaped, built, find-map, entry-more, stands-more, accounts-silent, plans-silent, operators-silent, accounts-changed}
 use Rattle.accounts.proofs.StandLemmas.{Located, declared-is, declared-none, undeclared-other}
 

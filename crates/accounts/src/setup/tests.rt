@@ -186,9 +186,15 @@ fn plans_are_those_of_the_account_first(rt: HostRuntime) {
     assert!(rt; setup.count() == 2);
     let own = setup.plan(0, Class::Burglary).steps(false, 2);
     let holders = [Step::Holder(1), Step::Holder(2)];
-    assert_eq!(rt; own.items(), [Step::Premises, holders[0], holders[1], Step::Police].as_slice());
+    assert_eq!(rt;
+        own.items(),
+        [Step::Premises, holders[0], holders[1], Step::Police].as_slice()
+    );
     let open = setup.plan(0, Class::Burglary).steps(true, 2);
-    assert_eq!(rt; open.items(), [Step::Premises, holders[0], holders[1]].as_slice());
+    assert_eq!(rt;
+        open.items(),
+        [Step::Premises, holders[0], holders[1]].as_slice()
+    );
     let general = setup.plan(1, Class::Burglary).steps(true, 0);
     assert_eq!(rt; general.items(), [Step::Premises, Step::Police].as_slice());
     let fire = setup.plan(0, Class::Fire).steps(false, 2);

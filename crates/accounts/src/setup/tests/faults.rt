@@ -85,18 +85,36 @@ fn keys_of_no_form(rt: HostRuntime) {
     let cases = [
         ("account 123 key 000102030405060708090a0b0c0d0e0", bad(1)),
         ("account 123 key 000102030405060708090a0b0c0d0e0f1", bad(1)),
-        ("\naccount 123 key 000102030405060708090a0b0c0d0e0f10111213", bad(2)),
+        (
+            "\naccount 123 key 000102030405060708090a0b0c0d0e0f10111213",
+            bad(2),
+        ),
         ("account 123 key 000102030405060708090a0b0c0d0e0g\n", bad(1)),
         ("account 123  key 000102030405060708090a0b0c0d0e0f", bad(1)),
         ("account 123 key  000102030405060708090a0b0c0d0e0f", bad(1)),
-        ("account 123 key 000102030405060708090a0b0c0d0e0f \n", bad(1)),
-        ("account 123 key 000102030405060708090a0b0c0d0e0f\t\n", bad(1)),
+        (
+            "account 123 key 000102030405060708090a0b0c0d0e0f \n",
+            bad(1),
+        ),
+        (
+            "account 123 key 000102030405060708090a0b0c0d0e0f\t\n",
+            bad(1),
+        ),
         ("account 123 key\n", bad(1)),
         ("account 123 Key 000102030405060708090a0b0c0d0e0f", bad(1)),
         ("account 123 000102030405060708090a0b0c0d0e0f", bad(1)),
-        ("account 123 key key 000102030405060708090a0b0c0d0e0f", bad(1)),
-        ("account 123 key 000102030405060708090a0b0c0d0e0f 00", bad(1)),
-        ("account 123 beat 5 key 000102030405060708090a0b0c0d0e0f", bad(1)),
+        (
+            "account 123 key key 000102030405060708090a0b0c0d0e0f",
+            bad(1),
+        ),
+        (
+            "account 123 key 000102030405060708090a0b0c0d0e0f 00",
+            bad(1),
+        ),
+        (
+            "account 123 beat 5 key 000102030405060708090a0b0c0d0e0f",
+            bad(1),
+        ),
         ("account key 000102030405060708090a0b0c0d0e0f", bad(1)),
     ];
     assert_outcomes(&rt, rt.alloc(), &cases);
@@ -106,7 +124,10 @@ fn keys_of_no_form(rt: HostRuntime) {
 fn hours_of_accounts(rt: HostRuntime) {
     let cases = [
         ("account 123\nhours 123 sun 00:00 24:00", Ok(1)),
-        ("account abc\nhours ABC mon 23:59 24:00\nhours aBc mon 23:59 24:00", Ok(1)),
+        (
+            "account abc\nhours ABC mon 23:59 24:00\nhours aBc mon 23:59 24:00",
+            Ok(1),
+        ),
         ("account 123\nhours 123 mon 24:00 24:00", bad(2)),
         ("account 123\nhours 123 mon 00:00 24:01", bad(2)),
         ("account 123\nhours 123 mon 08:00 08:00", bad(2)),
@@ -129,8 +150,14 @@ fn keyholders_of_accounts(rt: HostRuntime) {
     let cases = [
         ("account 123\nkeyholder 123 A.b_c-9 123", Ok(1)),
         ("account 123\nkeyholder 123 a +12345678901234567890", Ok(1)),
-        ("account 123\nkeyholder 123 abcdefghijklmnop 123\nkeyholder 123 A 123", Ok(1)),
-        ("account 123\naccount 124\nkeyholder 123 a 123\nkeyholder 124 a 123", Ok(2)),
+        (
+            "account 123\nkeyholder 123 abcdefghijklmnop 123\nkeyholder 123 A 123",
+            Ok(1),
+        ),
+        (
+            "account 123\naccount 124\nkeyholder 123 a 123\nkeyholder 124 a 123",
+            Ok(2),
+        ),
         ("account 123\nkeyholder 123 a 12", bad(2)),
         ("account 123\nkeyholder 123 a +12", bad(2)),
         ("account 123\nkeyholder 123 a 123456789012345678901", bad(2)),
@@ -141,7 +168,10 @@ fn keyholders_of_accounts(rt: HostRuntime) {
         ("account 123\nkeyholder 123  123", bad(2)),
         ("account 123\nkeyholder 123 a", bad(2)),
         ("account 123\nkeyholder 12a a 123", missing(2)),
-        ("account 123\nkeyholder 123 a 123\n\nkeyholder 123 a 456", same(4, 2)),
+        (
+            "account 123\nkeyholder 123 a 123\n\nkeyholder 123 a 456",
+            same(4, 2),
+        ),
     ];
     assert_outcomes(&rt, rt.alloc(), &cases);
 }
@@ -149,9 +179,18 @@ fn keyholders_of_accounts(rt: HostRuntime) {
 #[test]
 fn plans_of_accounts(rt: HostRuntime) {
     let cases = [
-        ("plan * fire premises holders police fire ambulance guard note", Ok(0)),
-        ("account 123\nplan * fire note\nplan 123 fire note\nplan 123 gas note", Ok(1)),
-        ("plan * unlisted note@closed\nplan * irregular holders", Ok(0)),
+        (
+            "plan * fire premises holders police fire ambulance guard note",
+            Ok(0),
+        ),
+        (
+            "account 123\nplan * fire note\nplan 123 fire note\nplan 123 gas note",
+            Ok(1),
+        ),
+        (
+            "plan * unlisted note@closed\nplan * irregular holders",
+            Ok(0),
+        ),
         ("plan * fire", bad(1)),
         ("plan * fire ", bad(1)),
         ("plan * test note", bad(1)),
@@ -165,7 +204,10 @@ fn plans_of_accounts(rt: HostRuntime) {
         ("plan * fire note police@closed ", bad(1)),
         ("plan 123 fire note", missing(1)),
         ("plan * fire note\n\nplan * fire police", same(3, 1)),
-        ("account abc\nplan abc gas note\nplan * gas note\nplan ABC gas guard", same(4, 2)),
+        (
+            "account abc\nplan abc gas note\nplan * gas note\nplan ABC gas guard",
+            same(4, 2),
+        ),
     ];
     assert_outcomes(&rt, rt.alloc(), &cases);
 }
@@ -180,7 +222,10 @@ fn operators_of_stations(rt: HostRuntime) {
         ("operator a", bad(1)),
         ("operator a 1234 ", bad(1)),
         ("operator abcdefghijklmnopq 1234", bad(1)),
-        ("operator a 1234\noperator b 1234\noperator a 4321", same(3, 1)),
+        (
+            "operator a 1234\noperator b 1234\noperator a 4321",
+            same(3, 1),
+        ),
     ];
     assert_outcomes(&rt, rt.alloc(), &cases);
 }

@@ -1,7 +1,5 @@
-use Rattle.std.proofs.Common.{ap, sym, ◌∙◌, is_some, Bor}
-use Rattle.std.specs.Option.{option_copied}
+use Rattle.std.proofs.Common.{ap, ◌∙◌, is_some}
 use Rattle.alarm_rules.specs.Setups.{meaning, has_account}
-use Rattle.accounts.specs.declared.entry.Entry.{Entry}
 use Rattle.accounts.proofs.MeaningLemmas.{copied-some, knows-read}
 use Rattle.accounts.proofs.setup.Setup.knows.Goals as goal
 

@@ -1,5 +1,5 @@
 -- An account that is new, or stands already, or is one too many.
-use Rattle.std.proofs.Common.{inr, ◌≤◌, ◌∷◌, ◌++◌, [], refl, ap, ◌∙◌, arith}
+use Rattle.std.proofs.Common.{inr, ◌∷◌, ◌++◌, [], refl, ap, ◌∙◌, arith}
 use Rattle.accounts.proofs.TakenLemmas.{account-same, account-many, account-faultless, account-taken}
 use Rattle.accounts.proofs.table.Table.take_account.Goals as goal
 

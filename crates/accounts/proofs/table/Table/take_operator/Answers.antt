@@ -1,5 +1,5 @@
 -- An operator that is new, or stands already, or is one too many.
-use Rattle.std.proofs.Common.{inr, ◌≤◌, refl, arith}
+use Rattle.std.proofs.Common.{inr, refl, arith}
 use Rattle.accounts.proofs.TakenLemmas.{operator-same, operator-many, operator-faultless, operator-taken}
 use Rattle.accounts.proofs.table.Table.take_operator.Goals as goal
 
