@@ -38,6 +38,13 @@ number_none word none =
     first_from-none (λ u. bytes_eq word (decimal u)) 1 18_446_744_073_709_551_615 (λ u from below.
     false_from_ne_true (bytes_eq word (decimal u)) (λ same. none u from (omega arith) ((bytes_eq-Decides word (decimal u)).0 same)))
 
+-- zero is no number of an incident
+pub zero_none : (word : List ℕ) (n : ℕ) → word ≡ decimal n → n ≡ 0 → number_spelled word ≡ None
+zero_none word n is zero_is =
+    number_none word (λ u some small same.
+    let other : u ≡ n = decimal_injective u n small (omega arith) (sym same ∙ is) in
+    absurd (omega arith))
+
 -- what a number word is
 pub record IsNumber (word : List ℕ) (n : ℕ) : Type 0 where
   pub spelled : word ≡ decimal n

@@ -11,13 +11,18 @@ use arc_data::{CloseCode, Outcome, Step, Txt};
 pub enum Command {
     /// `login NAME PIN`: the session acts for this operator from now on. A name has 1 to 16 letters, digits, `.`, `_` and `-`, a
     /// PIN 4 to 8 digits.
-    Login { name: Txt, pin: Txt },
+    Login {
+        name: Txt,
+        pin: Txt,
+    },
     /// `quit`: the session ends.
     Quit,
     /// `next`: the most urgent incident that nobody holds is taken.
     Next,
     /// `claim NUMBER`: the incident is taken.
-    Claim { number: u64 },
+    Claim {
+        number: u64,
+    },
     /// `act NUMBER STEP OUTCOME`: what came of a step. The outcome fits the step.
     Act {
         number: u64,
@@ -25,11 +30,18 @@ pub enum Command {
         outcome: Outcome,
     },
     /// `release NUMBER`: the incident is given back.
-    Release { number: u64 },
+    Release {
+        number: u64,
+    },
     /// `close NUMBER CODE`: the incident is closed.
-    Close { number: u64, code: CloseCode },
+    Close {
+        number: u64,
+        code: CloseCode,
+    },
     /// `show NUMBER`: the incident is shown.
-    Show { number: u64 },
+    Show {
+        number: u64,
+    },
     /// `list`: the open incidents are shown.
     List,
 }

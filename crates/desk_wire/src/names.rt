@@ -83,8 +83,5 @@ pub(crate) fn code(word: &[u8]) -> Option<CloseCode>
 fn among<T: Copy>(word: &[u8], named: &[(&[u8], T)]) -> Option<T>
     ensures { result ≡ option_map (λ row. row.1) (find (λ row. bytes_eq word.now row.0.now) named.now) }
 {
-    named
-        .iter()
-        .find(|row| word == row.0)
-        .map(|row| row.1)
+    named.iter().find(|row| word == row.0).map(|row| row.1)
 }

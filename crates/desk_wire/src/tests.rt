@@ -110,7 +110,9 @@ fn reads_lines(rt: HostRuntime) {
 #[test]
 fn reads_the_parts_of_lines(rt: HostRuntime) {
     let login = Command::read(b"login bob 98765432");
-    assert!(rt; matches!(login, Some(Command::Login { name, pin }) if name.bytes() == b"bob".as_slice() && pin.bytes() == b"98765432".as_slice()));
+    assert!(rt;
+        matches!(login, Some(Command::Login { name, pin }) if name.bytes() == b"bob".as_slice() && pin.bytes() == b"98765432".as_slice())
+    );
     let (number, step, outcome) = (18446744073709551615, Step::Holder(3), Outcome::NoAnswer);
     let act = Command::Act {
         number,
@@ -157,8 +159,18 @@ fn prints_numbers(rt: HostRuntime) {
     compare(&rt, alloc, &Reply::Closed { number }, "closed 1\n");
     compare(&rt, alloc, &Reply::BusyWith { number }, "busy with 1\n");
     compare(&rt, alloc, &Reply::NotYours { number }, "not yours 1\n");
-    compare(&rt, alloc, &Reply::NotOpen { number: most }, "not open 18446744073709551615\n");
-    compare(&rt, alloc, &Reply::Recorded { number, left: 3 }, "recorded 1 left 3\n");
+    compare(
+        &rt,
+        alloc,
+        &Reply::NotOpen { number: most },
+        "not open 18446744073709551615\n",
+    );
+    compare(
+        &rt,
+        alloc,
+        &Reply::Recorded { number, left: 3 },
+        "recorded 1 left 3\n",
+    );
 }
 
 #[test]
@@ -171,15 +183,68 @@ fn prints_names(rt: HostRuntime) {
         account,
     };
     compare(&rt, alloc, &claimed, "claimed 1 burglary 1234\n");
-    compare(&rt, alloc, &Reply::HeldBy { operator: text(b"ann") }, "held by ann\n");
-    compare(&rt, alloc, &Reply::Expected { step: None }, "expected none\n");
-    compare(&rt, alloc, &Reply::Expected { step: Some(Step::Holder(2)) }, "expected holder2\n");
-    compare(&rt, alloc, &Reply::Missing { step: Step::Premises }, "missing premises\n");
-    compare(&rt, alloc, &Reply::Missing { step: Step::Police }, "missing police\n");
-    compare(&rt, alloc, &Reply::Missing { step: Step::Fire }, "missing fire\n");
-    compare(&rt, alloc, &Reply::Missing { step: Step::Ambulance }, "missing ambulance\n");
-    compare(&rt, alloc, &Reply::Missing { step: Step::Guard }, "missing guard\n");
-    compare(&rt, alloc, &Reply::Missing { step: Step::Note }, "missing note\n");
+    compare(
+        &rt,
+        alloc,
+        &Reply::HeldBy {
+            operator: text(b"ann"),
+        },
+        "held by ann\n",
+    );
+    compare(
+        &rt,
+        alloc,
+        &Reply::Expected { step: None },
+        "expected none\n",
+    );
+    compare(
+        &rt,
+        alloc,
+        &Reply::Expected {
+            step: Some(Step::Holder(2)),
+        },
+        "expected holder2\n",
+    );
+    compare(
+        &rt,
+        alloc,
+        &Reply::Missing {
+            step: Step::Premises,
+        },
+        "missing premises\n",
+    );
+    compare(
+        &rt,
+        alloc,
+        &Reply::Missing { step: Step::Police },
+        "missing police\n",
+    );
+    compare(
+        &rt,
+        alloc,
+        &Reply::Missing { step: Step::Fire },
+        "missing fire\n",
+    );
+    compare(
+        &rt,
+        alloc,
+        &Reply::Missing {
+            step: Step::Ambulance,
+        },
+        "missing ambulance\n",
+    );
+    compare(
+        &rt,
+        alloc,
+        &Reply::Missing { step: Step::Guard },
+        "missing guard\n",
+    );
+    compare(
+        &rt,
+        alloc,
+        &Reply::Missing { step: Step::Note },
+        "missing note\n",
+    );
     let mut out = MemSink::new(alloc, Vec::new(alloc));
     assert_eq!(rt; print_welcome(&text(b"ann"), &mut out), Ok(()));
     assert_eq!(rt; out.bytes(), b"ok ann\n".as_slice());
@@ -199,7 +264,8 @@ fn prints_incidents(rt: HostRuntime) {
         holder: None,
         expected: Some(Step::Note),
     };
-    let want = "incident 1 burglary 1234 code 131 opened 1000000000 signals 1 restored no holder none next note\n";
+    let want =
+        "incident 1 burglary 1234 code 131 opened 1000000000 signals 1 restored no holder none next note\n";
     compare(&rt, alloc, &Reply::Shown(view), want);
     let view = View {
         restored: true,
@@ -207,7 +273,8 @@ fn prints_incidents(rt: HostRuntime) {
         expected: None,
         ..view
     };
-    let want = "incident 1 burglary 1234 code 131 opened 1000000000 signals 1 restored yes holder bob next none\n";
+    let want =
+        "incident 1 burglary 1234 code 131 opened 1000000000 signals 1 restored yes holder bob next none\n";
     compare(&rt, alloc, &Reply::Shown(view), want);
 }
 
@@ -231,7 +298,12 @@ fn prints_lists(rt: HostRuntime) {
         ..row
     };
     assert!(rt; listing.push(row));
-    compare(&rt, alloc, &Reply::Listed(listing), "list 2 1/fire/12345A/- 2/unlisted/12345A/ann\n");
+    compare(
+        &rt,
+        alloc,
+        &Reply::Listed(listing),
+        "list 2 1/fire/12345A/- 2/unlisted/12345A/ann\n",
+    );
 }
 
 // The longest line: 16 incidents whose numbers and names are as long as they can be.
