@@ -1,6 +1,7 @@
 pub mod ChangeLemmas
 pub mod DigitPairs
 pub mod KeyLemmas
+pub mod LimitLemmas
 pub mod LineLemmas
 pub mod MeaningLemmas
 pub mod NamedLemmas

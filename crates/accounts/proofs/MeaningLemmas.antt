@@ -1,5 +1,5 @@
 -- What a text that was read means, by what its lines declare.
-use Rattle.std.proofs.Common.{◌≡◌, ◌≤◌, ◌<◌, ℕ, List, [], ◌∷◌, Bool, true, false, Option, Some, None, Result, Ok, Err, IsOk, length, map, Bor, refl, sym, ap, ◌∙◌, is_some, slice_get}
+use Rattle.std.proofs.Common.{◌≡◌, ◌≤◌, ◌<◌, ℕ, List, [], ◌∷◌, Bool, true, false, Option, Some, None, Result, Ok, Err, IsOk, length, map, Bor, refl, sym, ap, ◌∙◌, is_some, slice_get, arith}
 use Rattle.std.specs.Prelude.{if◌then◌else◌, option_and_then, IfSome}
 use Rattle.std.specs.List.{find, position}
 use Rattle.std.specs.Option.{option_copied, option_map, option_or, unwrap_or}
@@ -7,6 +7,7 @@ use Rattle.std.specs.Result.{result_unwrap_or}
 use Rattle.std.proofs.lemmas.Bool.{le-ltb, lt-ltb}
 use Rattle.std.proofs.lemmas.List.{length-map}
 use Rattle.std.proofs.lemmas.Option.{slice_get-map}
+use Rattle.std.proofs.lemmas.Slice.Eq.{bytes_eq-Decides}
 use Rattle.arc_data.specs.Classes.{same_class}
 use Rattle.arc_data.specs.declared.plan.Planned.{Planned}
 use Rattle.arc_data.specs.declared.plan.PlanWord.TheVariants.{Note}
@@ -24,7 +25,8 @@ use Rattle.accounts.specs.Accounts.{defined, IsReadFrom}
 use Rattle.accounts.specs.Entries.{is_numbered, find_number, find_name}
 use Rattle.accounts.specs.Said.{said_operator}
 use Rattle.accounts.specs.Standing.{entry_in, plan_entry, operator_entry, plans_for}
-use Rattle.accounts.proofs.StandLemmas.{find-map, map-map}
+use Rattle.accounts.proofs.LimitLemmas.{few-accounts, few-holders}
+use Rattle.accounts.proofs.StandLemmas.{find-map, find-passes, map-map, place-there}
 use Rattle.accounts.proofs.TableLemmas.{position-map}
 use Rattle.accounts.proofs.TakenLemmas.{plans-found}
 
@@ -51,6 +53,17 @@ account_kept entry = defined entry.account
 abbrev pub operator_kept : OperatorEntry → Operator
 operator_kept entry = said_operator entry.operator
 
+-- the account at the place that is told is the first one of that number
+pub there-numbered : (accounts : List Account) (number : List ℕ) (place : Option ℕ) → place ≡ position (has_number number) accounts
+    → IfSome place (λ i. IfSome (slice_get accounts i) (λ account. account.number ≡ number))
+there-numbered accounts number None is = tt
+there-numbered accounts number (Some i) is =
+    rw (place-there (has_number number) accounts (Some i) is) (by (find (has_number number) accounts) refl)
+  where
+    by : (found : Option Account) → find (has_number number) accounts ≡ found → IfSome found (λ account. account.number ≡ number)
+    by None is = tt
+    by (Some account) is = sym ((bytes_eq-Decides number account.number).0 (find-passes (has_number number) accounts account is))
+
 module _ (text : List ℕ) (table : Table) (read : IsReadFrom text table) where
   abbrev ls : List Line
   ls = said_lines text
@@ -75,6 +88,13 @@ module _ (text : List ℕ) (table : Table) (read : IsReadFrom text table) where
 
   pub count-read : length table.accounts ≡ length (meaning text).accounts
   count-read = sym (ap length accounts-read ∙ length-map table.accounts account_kept)
+
+  pub few-read : length table.accounts ≤ 2000
+  few-read = omega (arith, ap length read.stands.accounts, length-map (accounts_in ls) (entry_in ls), few-accounts ls read.faultless)
+
+  pub holders-read : (place : ℕ) (entry : Entry) → slice_get table.accounts place ≡ Some entry → entry.account.holders ≤ 4
+  holders-read place entry at =
+      few-holders ls read.faultless place entry (accounts_in ls) (sym (ap (λ (es : List Entry). slice_get es place) read.stands.accounts) ∙ at)
 
   pub place-read : (number : List ℕ) → position (is_numbered number) table.accounts ≡ place_of (meaning text) number
   place-read number = sym (ap (λ accounts. position (has_number number) accounts) accounts-read ∙ position-map account_kept (has_number number) table.accounts)

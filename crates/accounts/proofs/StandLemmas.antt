@@ -38,7 +38,7 @@ module _ {A B : Type 0} (f : A → B) (p : B → Bool) where
   map-map g (x ∷ xs) = ap (λ ys. g (f x) ∷ ys) (map-map g xs)
 
 module _ {A : Type 0} (p : A → Bool) where
-  find-passes : (xs : List A) (x : A) → find p xs ≡ Some x → p x ≡ true
+  pub find-passes : (xs : List A) (x : A) → find p xs ≡ Some x → p x ≡ true
   find-passes [] x is = cc
   find-passes (y ∷ ys) x is =
       elim (cases_Bool (p y)) [

@@ -1,7 +1,7 @@
 // A setup: its text and what the text means.
 ghost use Rattle.std.specs.Prelude.{◌≡◌, ◌≤◌, ◌<◌, ◌⊎◌, [], ◌∷◌, length, slice_get, false, Err, Some, IfErr, IfOk, IfSome, IsOk, OnOk};
 ghost use Rattle.std.specs.Option.{option_map};
-ghost use Rattle.alarm_rules.specs.Setups.{setup_of, meaning, place_of, has_account, key_of, operator_of, plan_of};
+ghost use Rattle.alarm_rules.specs.Setups.{setup_of, meaning, account_of, place_of, has_account, key_of, operator_of, plan_of};
 ghost use Rattle.accounts.specs.Accounts.{defined};
 ghost use Rattle.accounts.specs.Said.{said_operator};
 
@@ -79,7 +79,8 @@ impl Setup {
 
     /// How many accounts it has.
     pub fn count(&self) -> usize
-        ensures { result ≡ length (meaning self.now).accounts }
+        ensures value { result ≡ length (meaning self.now).accounts }
+        ensures few { result ≤ 2000 }
     {
         self.table.accounts.count()
     }
@@ -88,6 +89,8 @@ impl Setup {
     pub fn place(&self, account: &Txt) -> Option<usize>
         ensures place { result ≡ place_of (meaning self.now) account.now }
         ensures within { IfSome result (λ place. place < length (meaning self.now).accounts) }
+        ensures there { IfSome result (λ place. slice_get (meaning self.now).accounts place ≡ account_of (meaning self.now) account.now) }
+        ensures number { IfSome result (λ place. IfSome (slice_get (meaning self.now).accounts place) (λ found. found.number ≡ account.now)) }
     {
         self.table.accounts.place(account)
     }
@@ -110,7 +113,8 @@ impl Setup {
     /// The account at a place below the count.
     pub fn account(&self, place: usize) -> &Account
         requires { place < length (meaning self.now).accounts }
-        ensures { slice_get (meaning self.now).accounts place ≡ Some (defined result.now) }
+        ensures value { slice_get (meaning self.now).accounts place ≡ Some (defined result.now) }
+        ensures holders { result.now.holders ≤ 4 }
     {
         &self.table.accounts.at(place).account
     }
