@@ -1,22 +1,27 @@
 -- Marks taken up in place.
-use Rattle.std.proofs.Common.{◌≡◌, ◌<◌, ◌≤◌, ◌^◌, ℕ, ◌+◌, List, [], ◌∷◌, ◌++◌, map, length, take, Bool, true, false, cond, refl, sym, ap, ◌∙◌, Option, Some, arith, subst, length-append}
-use Rattle.std.proofs.lemmas.List.{take_more, take_all, length-map, map-append}
+use Rattle.std.proofs.Common.{◌≡◌, ◌<◌, ◌≤◌, ◌^◌, ℕ, ◌+◌, List, [], ◌∷◌, ◌++◌, map, length, take, Bool, true, false, cond, refl, sym, ap, ◌∙◌, Option, arith, subst, length-append, inl, inr}
+use Rattle.std.specs.Prelude.{◌⊎◌}
+use Rattle.std.proofs.lemmas.List.{take_all, length-map, map-append}
 use Rattle.arc_data.specs.Incidents.{Each}
+use Rattle.arc_data.specs.declared.event.Event.{Event}
+use Rattle.arc_data.specs.declared.event.Event.TheVariants.{Show, List as Rows}
 use Rattle.arc_data.specs.declared.event.Message.{Message}
 use Rattle.arc_data.specs.declared.incident.Incident.{Incident}
+use Rattle.arc_data.specs.declared.reply.Reply.{Reply}
+use Rattle.arc_data.specs.declared.reply.Reply.TheVariants.{Claimed, Recorded, Released, Closed}
+use Rattle.arc_data.specs.declared.signal.Class.{Class}
 use Rattle.arc_data.specs.declared.step.Acted.{Acted}
 use Rattle.account_rows.specs.Rows.{RowsValue, Marked}
-use Rattle.centre_rules.specs.Summary.{Summary}
-use Rattle.centre_rules.specs.Marks.{Mark, Starts, Sends, Hears, Carries, Claims, Acts, Releases, Closes, Carried, text_at}
+use Rattle.centre_rules.specs.Marks.{Mark, Sends, Hears, Carries, Claims, Acts, Releases, Closes, Carried, text_at}
 use Rattle.centre_rules.specs.Cases.{opens, fresh}
 use Rattle.centre_rules.specs.Tables.{touched_by, opened_after, table_after}
-use Rattle.centre_rules.specs.History.{onto}
+use Rattle.centre_rules.specs.History.{onto, claim_marks, act_marks, release_marks, close_marks}
 use Rattle.centre_rules.specs.State.{Same, IsMarked}
 use Rattle.centre_rules.proofs.Marked.{marked_same, marked_more}
-use Rattle.centre_rules.proofs.Sames.{same_refl, same_trans, same_onto}
+use Rattle.centre_rules.proofs.Sames.{same_trans, same_onto}
 use Rattle.incident_marks.specs.Marked.{IsFew, HasFew, HaveActRoom, marked_table}
 use Rattle.incidents.specs.Tables.{TableValue}
-use Rattle.centre_marks.specs.Taken.{sum_of, Takes}
+use Rattle.centre_marks.specs.Taken.{sum_of, Takes, marks_with}
 
 -- One mark.
 
@@ -48,6 +53,11 @@ one_taken m v w t u keeps rows opened incidents few acts = record {
   few = λ n x. few_more n (n + 8192) u.opened u.incidents (omega arith) (few n x);
   acts = acts;
 }
+
+-- a mark of the table alone
+pub table_taken : (m : Mark) (v : RowsValue) (t u : TableValue) → ((text : Option (List ℕ)) → text_at m text ≡ text) → Marked m v v → u ≡ marked_table m t
+    → ((n : ℕ) → IsFew n t.opened t.incidents → IsFew n u.opened u.incidents) → (HaveActRoom t.incidents → HaveActRoom u.incidents) → Takes (m ∷ []) v v t u
+table_taken m v t u keeps rows e few acts = one_taken m v v t u keeps rows (ap (λ (y : TableValue). y.opened) e) (ap (λ (y : TableValue). y.incidents) e) few acts
 
 -- no mark
 same_sums : (l r k q : ℕ) (text : Option (List ℕ)) (v : RowsValue) (t : TableValue) → Same (sum_of k q text v t) [] (sum_of l r text v t) []
@@ -155,3 +165,28 @@ sent_taken message at xs v w w' t u rows carried = record {
   few = carried.few;
   acts = carried.acts;
 }
+
+-- Replies that leave no mark.
+
+pub claim_other : (o : List ℕ) (at : ℕ) (r : Reply) → ((number : ℕ) (class : Class) (account : List ℕ) → r ≡ Claimed number class account → ⊥) → claim_marks o at r ≡ []
+claim_other o at (Claimed number class account) neither = absurd (neither number class account refl)
+claim_other o at r neither = refl
+
+pub act_other : (a : Acted) (r : Reply) → ((number left : ℕ) → r ≡ Recorded number left → ⊥) → act_marks a r ≡ []
+act_other a (Recorded number left) neither = absurd (neither number left refl)
+act_other a r neither = refl
+
+pub release_other : (r : Reply) → ((number : ℕ) → r ≡ Released number → ⊥) → release_marks r ≡ []
+release_other (Released number) neither = absurd (neither number refl)
+release_other r neither = refl
+
+pub close_other : (r : Reply) → ((number : ℕ) → r ≡ Closed number → ⊥) → close_marks r ≡ []
+close_other (Closed number) neither = absurd (neither number refl)
+close_other r neither = refl
+
+pub asked_none : (xs : List Carried) (e : Event) (at : ℕ) (r : Reply) → ((number : ℕ) × (e ≡ Show number)) ⊎ (e ≡ Rows) → marks_with xs e at r ≡ []
+asked_none xs e at r (inl (number, is)) = rw is refl
+asked_none xs e at r (inr is) = rw is refl
+
+pub none_by : (ms : List Mark) (v : RowsValue) (t : TableValue) → ms ≡ [] → Takes ms v v t t
+none_by ms v t e = rw e (none_taken v t)

@@ -75,4 +75,3 @@ pub record MayTake (event : Event) (at : ℕ) (reply : Reply) (carried : List Ca
   pub accounts : named_by event + length carried ≤ v.room
   pub incidents : length t.incidents + length carried ≤ t.room
   pub fits : Fits event at reply t.incidents
-

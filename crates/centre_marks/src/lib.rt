@@ -7,4 +7,3 @@ pub use account_rows::AccountRows;
 pub use arc_data::{Carried, Event, Message, Outcome, Reply, Step, Txt};
 pub use incidents::Table;
 pub use marks::mark;
-

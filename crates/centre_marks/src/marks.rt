@@ -57,13 +57,7 @@ fn start(rows: &mut AccountRows, table: &mut Table, at: u64)
 }
 
 // A message is recorded, and its signals are taken up.
-fn send(
-    rows: &mut AccountRows,
-    table: &mut Table,
-    message: Message,
-    at: u64,
-    carried: &[Carried],
-)
+fn send(rows: &mut AccountRows, table: &mut Table, message: Message, at: u64, carried: &[Carried])
     requires bound { IsFew (2 ^ 61) table.old.opened table.old.incidents }
     requires few { length carried.now ≤ 8000 }
     requires accounts { 1 + length carried.now ≤ rows.old.room }

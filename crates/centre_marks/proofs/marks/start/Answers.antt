@@ -1,0 +1,10 @@
+use Rattle.std.proofs.Common.{refl, ap}
+use Rattle.centre_rules.specs.Marks.{Starts}
+use Rattle.incidents.specs.Tables.{TableValue}
+use Rattle.centre_marks.proofs.Taking.{one_taken}
+use Rattle.centre_marks.proofs.marks.start.Goals as goal
+
+pub returns : goal.returns
+returns c =
+    one_taken (Starts c.args.at) c.args.rows.now c.start.new.self c.args.table.now c.start-2.new.table (λ text. refl) c.start.ensures.marked
+    (ap (λ (y : TableValue). y.opened) c.start-2.ensures.marked) (ap (λ (y : TableValue). y.incidents) c.start-2.ensures.marked) c.start-2.ensures.few c.start-2.ensures.room
