@@ -1,5 +1,5 @@
-//! The alarm receiving centre. `arc line` reads the setup from `setup.txt` in the working folder and serves one line on
-//! its standard input and output.
+//! The alarm receiving centre. `arc line` and `arc desk` read the setup from `setup.txt` in the working folder and serve one line,
+//! or one operator's desk, on their standard input and output.
 #![tactic(auto)]
 
 use arc_data::Txt;
@@ -11,7 +11,9 @@ use std::io::Write;
 use std::process::ExitCode;
 use std::{env, fs, io};
 
+mod form;
 mod run;
+mod session;
 mod status;
 #[cfg(test)]
 mod tests;

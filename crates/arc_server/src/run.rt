@@ -1,22 +1,24 @@
 // The top call.
-ghost use Rattle.std.specs.Prelude.{◌≡◌, ◌≢◌, ◌↔◌, ◌∷◌, [], List, ℕ, Some, false, IsTrue, IsOk, IfOk, IfErr, codes};
+ghost use Rattle.std.specs.Prelude.{◌≡◌, ◌≢◌, ◌↔◌, List, ℕ, Some, None, false, IsOk, IfOk, IfErr};
 ghost use Rattle.alarm_rules.specs.Setups.{setup_of};
 ghost use Rattle.centre_rules.specs.Summary.{nothing};
 ghost use Rattle.centre_core.specs.Runs.{begun};
 ghost use Rattle.centre_core.specs.Setting.{IsSetFor, text_of};
-ghost use Rattle.arc_server.specs.LineRuns.{IsRun, IsServed, IsSetupEnd, ReadsText};
+ghost use Rattle.arc_server.specs.Forms.{form_of as form_by};
+ghost use Rattle.arc_server.specs.WholeRuns.{IsRun, IsServed, IsSetupEnd, ReadsText};
 
+use crate::form::{Form, form_of};
+use crate::session::{SessionEnd, serve};
 use crate::status::{Status, Which};
 use arc_data::{SetupFault, Txt};
 use arc_io::{Port, ReadEnd, Source, read_all};
 use centre_core::{Centre, RamHall, Setup, Stop};
-use line_session::{LineEnd, serve_line};
 use std::alloc::Global;
 
 // How many bytes of a setup text are read at most: one more than a setup may have.
 const SETUP_READ: usize = 4_194_305;
 
-/// What a run is handed: the source of the setup text, and the port of the line.
+/// What a run is handed: the source of the setup text, and the port of the line or the desk.
 #[derive(Drop)]
 pub struct Outside<S, P> {
     pub setup: S,
@@ -31,8 +33,8 @@ pub struct Ended<S, P> {
     pub centre: Option<Centre>,
 }
 
-/// Does what the words say. The one form of them that is built is `line`: the setup is read, and one line session is served
-/// on the port.
+/// Does what the words say. Two forms of them are built, `line` and `desk`: the setup is read, and one session is served on the
+/// port, of a line or of a desk, over a centre of its own.
 pub fn run<R, S: Source, P: Port>(
     _rt: &R,
     alloc: Global,
@@ -41,23 +43,24 @@ pub fn run<R, S: Source, P: Port>(
 ) -> Ended<S, P>
     requires setup { (S.seen outside.setup).ended ≡ false }
     requires port { (P.seen outside.port).ended ≡ false }
-    ensures usage { (result.status ≡ Status.Usage) ↔ (words.now ≢ codes "line" ∷ []) }
-    ensures untouched { result.status ≡ Status.Usage → result.outside ≡ outside }
-    ensures line { IsRun result.status (S.seen outside.setup) (S.seen result.outside.setup) (P.seen outside.port) (P.seen result.outside.port)
+    ensures usage { (result.status ≡ Status.Usage) ↔ (form_by words.now ≡ None) }
+    ensures untouched { result.status ≡ Status.Usage → (result.outside ≡ outside) × (result.centre ≡ None) }
+    ensures ran { (form : Form) → form_by words.now ≡ Some form →
+        IsRun form result.status (S.seen outside.setup) (S.seen result.outside.setup) (P.seen outside.port) (P.seen result.outside.port)
         result.centre }
 {
-    if !is_line(words) {
+    let Some(form) = form_of(words) else {
         return Ended {
             status: Status::Usage,
             outside,
             centre: None,
         };
-    }
+    };
     let Outside {
         mut setup,
         mut port,
     } = outside;
-    let (status, centre) = line(alloc, &mut setup, &mut port);
+    let (status, centre) = run_form(form, alloc, &mut setup, &mut port);
     Ended {
         status,
         outside: Outside { setup, port },
@@ -65,21 +68,17 @@ pub fn run<R, S: Source, P: Port>(
     }
 }
 
-// The words are the one word `line`.
-fn is_line(words: &[Txt]) -> bool
-    ensures { IsTrue result ↔ (words.now ≡ codes "line" ∷ []) }
-{
-    let [word] = words else { return false };
-    word.bytes() == b"line".as_slice()
-}
-
-// Reads the setup, begins a run, and serves the line.
-fn line<S: Source, P: Port>(alloc: Global, source: &mut S, port: &mut P) -> (Status, Option<Centre>)
+// Reads the setup, begins a run, and serves the session.
+fn run_form<S: Source, P: Port>(
+    form: Form,
+    alloc: Global,
+    source: &mut S,
+    port: &mut P,
+) -> (Status, Option<Centre>)
     requires setup { (S.seen source.old).ended ≡ false }
     requires port { (P.seen port.old).ended ≡ false }
     ensures usage { result.0 ≢ Status.Usage }
-    ensures line { IsRun result.0 (S.seen source.old) (S.seen source.new) (P.seen port.old) (P.seen port.new)
-        result.1 }
+    ensures ran { IsRun form result.0 (S.seen source.old) (S.seen source.new) (P.seen port.old) (P.seen port.new) result.1 }
 {
     let setup = match read_setup(alloc, source) {
         Ok(setup) => setup,
@@ -89,7 +88,7 @@ fn line<S: Source, P: Port>(alloc: Global, source: &mut S, port: &mut P) -> (Sta
     let Ok(mut hall) = RamHall::new(alloc, setup, clock) else {
         return (Status::Memory, None);
     };
-    let status = status_of_line(alloc, &mut hall, port);
+    let status = status_of(form, alloc, &mut hall, port);
     (status, Some(hall.into_centre()))
 }
 
@@ -115,28 +114,28 @@ fn read_setup<S: Source>(alloc: Global, source: &mut S) -> Result<Setup, Status>
     }
 }
 
-// Serves the line. The status is the end that this makes.
-fn status_of_line<P: Port>(alloc: Global, hall: &mut RamHall, port: &mut P) -> Status
+// Serves the session. The status is the end that this makes.
+fn status_of<P: Port>(form: Form, alloc: Global, hall: &mut RamHall, port: &mut P) -> Status
     requires { (P.seen port.old).ended ≡ false }
     ensures begun { result ≢ Status.Usage }
     ensures served { (text : List ℕ) (clock : ℕ) → IsSetFor nothing hall.old (begun text clock) → text_of hall.old ≡ text →
-        IsServed result text clock (P.seen port.old) (P.seen port.new) hall.new }
+        IsServed form result text clock (P.seen port.old) (P.seen port.new) hall.new }
 {
     let reads = port.read_faults();
     let writes = port.write_faults();
-    match serve_line(alloc, hall, port) {
-        LineEnd::InputEnded => Status::Done,
-        LineEnd::ReadFault => Status::ReadFault {
+    match serve(form, alloc, hall, port) {
+        SessionEnd::Quit | SessionEnd::InputEnded => Status::Done,
+        SessionEnd::ReadFault => Status::ReadFault {
             input: Which::Input,
             before: reads,
             now: port.read_faults(),
         },
-        LineEnd::WriteFault => Status::WriteFault {
+        SessionEnd::WriteFault => Status::WriteFault {
             before: writes,
             now: port.write_faults(),
         },
-        LineEnd::Spent => Status::Spent,
-        LineEnd::Stopped(Stop::Memory) => Status::Memory,
-        LineEnd::Stopped(Stop::Worn { count }) => Status::Worn { count },
+        SessionEnd::Spent => Status::Spent,
+        SessionEnd::Stopped(Stop::Memory) => Status::Memory,
+        SessionEnd::Stopped(Stop::Worn { count }) => Status::Worn { count },
     }
 }

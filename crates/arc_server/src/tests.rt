@@ -9,7 +9,7 @@ use arc_io::{ListClock, ListNoise, MemPort, MemSink, MemSource};
 use std::alloc::Global;
 use std::test::Fail;
 
-const SETUP: &[u8] = b"account 1234\n";
+const SETUP: &[u8] = b"account 1234\noperator ann 1234\noperator bob 5678\n";
 
 const ALARM: &[u8] = b"\n2EE70027\"ADM-CID\"0001L0#1234[#1234|1131 01 001]\r";
 
@@ -52,9 +52,10 @@ fn outside_of(
     })
 }
 
-// A run of `line` over them.
+// A run of this word over them.
 fn ran(
     rt: &HostRuntime,
+    word: &[u8],
     setup: &[u8],
     input: &[u8],
     readings: &[u64],
@@ -63,9 +64,18 @@ fn ran(
     requires { All (λ r. r < 253_402_300_800) readings.now }
 {
     let alloc = rt.alloc();
-    let word = Txt::of(b"line").ok_or("a short word")?;
+    let word = Txt::of(word).ok_or("a short word")?;
     let outside = outside_of(alloc, setup, input, readings, failing)?;
     Ok(run(rt, alloc, &[word], outside))
+}
+
+// A run of `line` over one alarm.
+fn ran_alarm(
+    rt: &HostRuntime,
+    setup: &[u8],
+    failing: &Failing,
+) -> Result<Ended<MemSource, MemPort>, Fail> {
+    ran(rt, b"line", setup, ALARM, &[1_000_000_000], failing)
 }
 
 // How many entries the centre that a run handed back has recorded.
@@ -84,223 +94,208 @@ fn joined(alloc: Global, pieces: &[&[u8]]) -> Result<Vec<u8>, Fail> {
 
 #[test]
 fn one_alarm_is_acknowledged(rt: HostRuntime) -> Result<(), Fail> {
-    let ended = ran(&rt, SETUP, ALARM, &[1_000_000_000], &NONE)?;
+    let ended = ran_alarm(&rt, SETUP, &NONE)?;
     assert_eq!(rt; ended.status, Status::Done);
     assert_eq!(rt; ended.outside.port.sink.bytes(), ACKNOWLEDGEMENT);
     assert_eq!(rt; recorded(&ended), Some(3));
     Ok(())
 }
 
-// The same alarm three times, at the moments of these readings: each is acknowledged, and so many entries are recorded.
-#[test]
-fn a_repeat_is_not_recorded_again(rt: HostRuntime) -> Result<(), Fail> {
+// The same alarm three times, the last two at these moments after a beginning and an alarm at others: each is acknowledged, and
+// the last alone is recorded again.
+fn repeats(rt: &HostRuntime, readings: &[u64]) -> Result<(), Fail>
+    requires { All (λ r. r < 253_402_300_800) readings.now }
+{
     let alloc = rt.alloc();
     let input = joined(alloc, &[ALARM, ALARM, ALARM])?;
     let output = joined(alloc, &[ACKNOWLEDGEMENT, ACKNOWLEDGEMENT, ACKNOWLEDGEMENT])?;
-    // 300 seconds after the first, and 301.
-    let ended = ran(
-        &rt,
-        SETUP,
-        &input,
-        &[1_000_000_000, 1_000_000_000, 1_000_000_300, 1_000_000_301],
-        &NONE,
-    )?;
-    assert_eq!(rt; ended.outside.port.sink.bytes(), output.as_slice());
-    assert_eq!(rt; recorded(&ended), Some(4));
-    // A reading that falls behind the last entry's moment counts as that moment: 300 seconds after it, and 301.
-    let ended = ran(
-        &rt,
-        SETUP,
-        &input,
-        &[1_000_000_300, 1_000_000_000, 1_000_000_600, 1_000_000_601],
-        &NONE,
-    )?;
+    let ended = ran(rt, b"line", SETUP, &input, readings, &NONE)?;
     assert_eq!(rt; ended.outside.port.sink.bytes(), output.as_slice());
     assert_eq!(rt; recorded(&ended), Some(4));
     Ok(())
 }
 
 #[test]
-fn each_fault_has_its_status(rt: HostRuntime) -> Result<(), Fail> {
-    let cases: [(&[u8], Failing, Status, &[u8], Option<u64>); 6] = [
-        (
-            SETUP,
-            Failing {
-                setup: &[1],
-                reads: &[],
-                writes: &[],
-            },
-            Status::ReadFault {
-                input: Which::Setup,
-                before: 0,
-                now: 1,
-            },
-            b"",
-            None,
-        ),
-        (
-            SETUP,
-            Failing {
-                setup: &[],
-                reads: &[2],
-                writes: &[],
-            },
-            Status::ReadFault {
-                input: Which::Input,
-                before: 0,
-                now: 1,
-            },
-            ACKNOWLEDGEMENT,
-            Some(3),
-        ),
-        // The message whose reply was not written stands.
-        (
-            SETUP,
-            Failing {
-                setup: &[],
-                reads: &[],
-                writes: &[1],
-            },
-            Status::WriteFault { before: 0, now: 1 },
-            b"",
-            Some(3),
-        ),
-        (
-            b"account 1234\naccount 1234\n",
-            NONE,
-            Status::SetupBad(SetupFault::TwoSame { line: 2, first: 1 }),
-            b"",
-            None,
-        ),
-        (
-            b"# one panel\n\naccount 1234 \n",
-            NONE,
-            Status::SetupBad(SetupFault::BadLine {
-                line: 3,
-                kind: LineKind::Form,
-            }),
-            b"",
-            None,
-        ),
-        (
-            b"# one panel\n\naccount 1234\n",
-            NONE,
-            Status::Done,
-            ACKNOWLEDGEMENT,
-            Some(3),
-        ),
-    ];
-    for (setup, failing, status, output, count) in cases {
-        let ended = ran(&rt, setup, ALARM, &[1_000_000_000], &failing)?;
-        assert_eq!(rt; ended.status, status);
-        assert_eq!(rt; ended.outside.port.sink.bytes(), output);
-        assert_eq!(rt; recorded(&ended), count);
-    }
+fn a_repeat_is_not_recorded_again(rt: HostRuntime) -> Result<(), Fail> {
+    // 300 seconds after the first, and 301.
+    repeats(
+        &rt,
+        &[1_000_000_000, 1_000_000_000, 1_000_000_300, 1_000_000_301],
+    )?;
+    // A reading that falls behind the last entry's moment counts as that moment: 300 seconds after it, and 301.
+    repeats(
+        &rt,
+        &[1_000_000_300, 1_000_000_000, 1_000_000_600, 1_000_000_601],
+    )
+}
+
+#[test]
+fn an_operator_at_a_desk(rt: HostRuntime) -> Result<(), Fail> {
+    let typed = b"list\nhello\nlogin ann 9999\nlogin ann 1234\nlist\nquit\nlist\n";
+    let ended = ran(&rt, b"desk", SETUP, typed, &[1_000_000_000], &NONE)?;
+    assert_eq!(rt; ended.status, Status::Done);
+    let answers = b"denied\nwhat\ndenied\nok ann\nlist 0\nbye\n".as_slice();
+    assert_eq!(rt; ended.outside.port.sink.bytes(), answers);
+    assert_eq!(rt; recorded(&ended), Some(2));
+    Ok(())
+}
+
+#[test]
+fn a_desk_whose_input_ends(rt: HostRuntime) -> Result<(), Fail> {
+    let typed = b"login bob 5678\nnext\nshow 1";
+    let ended = ran(&rt, b"desk", SETUP, typed, &[1_000_000_000], &NONE)?;
+    assert_eq!(rt; ended.status, Status::Done);
+    let answers = b"ok bob\nnone waiting\nnot open 1\n".as_slice();
+    assert_eq!(rt; ended.outside.port.sink.bytes(), answers);
+    Ok(())
+}
+
+#[test]
+fn reads_that_fail(rt: HostRuntime) -> Result<(), Fail> {
+    let failing = Failing {
+        setup: &[1],
+        reads: &[],
+        writes: &[],
+    };
+    let ended = ran_alarm(&rt, SETUP, &failing)?;
+    let (before, now) = (0, 1);
+    let input = Which::Setup;
+    assert_eq!(rt; ended.status, Status::ReadFault { input, before, now });
+    assert_eq!(rt; recorded(&ended), None);
+    let failing = Failing {
+        setup: &[],
+        reads: &[2],
+        writes: &[],
+    };
+    let ended = ran_alarm(&rt, SETUP, &failing)?;
+    let input = Which::Input;
+    assert_eq!(rt; ended.status, Status::ReadFault { input, before, now });
+    assert_eq!(rt; ended.outside.port.sink.bytes(), ACKNOWLEDGEMENT);
+    Ok(())
+}
+
+// The message whose reply was not written stands.
+#[test]
+fn a_write_that_fails(rt: HostRuntime) -> Result<(), Fail> {
+    let failing = Failing {
+        setup: &[],
+        reads: &[],
+        writes: &[1],
+    };
+    let ended = ran_alarm(&rt, SETUP, &failing)?;
+    assert_eq!(rt; ended.status, Status::WriteFault { before: 0, now: 1 });
+    assert_eq!(rt; ended.outside.port.sink.bytes(), b"".as_slice());
+    assert_eq!(rt; recorded(&ended), Some(3));
+    Ok(())
+}
+
+#[test]
+fn a_setup_that_is_none(rt: HostRuntime) -> Result<(), Fail> {
+    let ended = ran_alarm(&rt, b"account 1234\naccount 1234\n", &NONE)?;
+    let fault = SetupFault::TwoSame { line: 2, first: 1 };
+    assert_eq!(rt; ended.status, Status::SetupBad(fault));
+    assert_eq!(rt; recorded(&ended), None);
+    let ended = ran_alarm(&rt, b"# one panel\n\naccount 1234 \n", &NONE)?;
+    let kind = LineKind::Form;
+    let fault = SetupFault::BadLine { line: 3, kind };
+    assert_eq!(rt; ended.status, Status::SetupBad(fault));
     Ok(())
 }
 
 #[test]
 fn a_setup_has_at_most_4_194_304_bytes(rt: HostRuntime) -> Result<(), Fail> {
-    let alloc = rt.alloc();
-    let mut setup = SETUP.to_vec(alloc)?;
-    for _ in setup.len()..4_194_304 {
-        setup.push(b'\n')?;
-    }
-    let ended = ran(&rt, &setup, ALARM, &[1_000_000_000], &NONE)?;
+    let mut setup = SETUP.to_vec(rt.alloc())?;
+    setup.resize(4_194_304, b'\n')?;
+    let ended = ran_alarm(&rt, &setup, &NONE)?;
     assert_eq!(rt; ended.status, Status::Done);
     setup.push(b'\n')?;
-    let ended = ran(&rt, &setup, ALARM, &[1_000_000_000], &NONE)?;
+    let ended = ran_alarm(&rt, &setup, &NONE)?;
     assert_eq!(rt; ended.status, Status::SetupBad(SetupFault::TooLarge));
     Ok(())
 }
 
+// A status of each kind, by a name.
+fn status_named(name: &str) -> Option<Status> {
+    let (before, now) = (0, 1);
+    let (line, first) = (12, 3);
+    match name {
+        "done" => Some(Status::Done),
+        "usage" => Some(Status::Usage),
+        "large" => Some(Status::SetupBad(SetupFault::TooLarge)),
+        "form" => Some(bad_line(LineKind::Form)),
+        "account" => Some(bad_line(LineKind::NoAccount)),
+        "same" => Some(Status::SetupBad(SetupFault::TwoSame { line, first })),
+        "many" => Some(Status::SetupBad(SetupFault::TooMany { line, limit: 2000 })),
+        "setup" => Some(Status::ReadFault {
+            input: Which::Setup,
+            before,
+            now,
+        }),
+        "input" => Some(Status::ReadFault {
+            input: Which::Input,
+            before,
+            now,
+        }),
+        "write" => Some(Status::WriteFault { before, now }),
+        "memory" => Some(Status::Memory),
+        "spent" => Some(Status::Spent),
+        "worn" => Some(Status::Worn { count: 1 << 48 }),
+        _ => None,
+    }
+}
+
+fn bad_line(kind: LineKind) -> Status {
+    Status::SetupBad(SetupFault::BadLine { line: 7, kind })
+}
+
+// The name, the number and the text of each status.
+const STATUSES: &str = "\
+done/0/
+usage/1/usage: line | desk | script | report | drill N | serve LINES DESKS SESSIONS
+large/2/setup: too large
+form/2/setup: line 7: not a setup line
+account/2/setup: line 7: no such account
+same/2/setup: line 12: same as line 3
+many/2/setup: line 12: more than 2000
+setup/3/read fault on setup
+input/3/read fault on input
+write/4/write fault
+memory/10/out of memory
+spent/11/input too long
+worn/12/count spent
+";
+
 #[test]
 fn statuses_have_their_numbers_and_texts(rt: HostRuntime) -> Result<(), Fail> {
-    let fault = SetupFault::TwoSame { line: 12, first: 3 };
-    let form = SetupFault::BadLine {
-        line: 7,
-        kind: LineKind::Form,
-    };
-    let missing = SetupFault::BadLine {
-        line: 8,
-        kind: LineKind::NoAccount,
-    };
-    let many = SetupFault::TooMany {
-        line: 2001,
-        limit: 2000,
-    };
-    let setup = Status::ReadFault {
-        input: Which::Setup,
-        before: 0,
-        now: 1,
-    };
-    let input = Status::ReadFault {
-        input: Which::Input,
-        before: 0,
-        now: 1,
-    };
-    let usage: &[u8] =
-        b"usage: line | desk | script | report | drill N | serve LINES DESKS SESSIONS\n";
-    let cases: [(Status, u8, &[u8]); 13] = [
-        (Status::Done, 0, b""),
-        (Status::Usage, 1, usage),
-        (
-            Status::SetupBad(SetupFault::TooLarge),
-            2,
-            b"setup: too large\n",
-        ),
-        (
-            Status::SetupBad(form),
-            2,
-            b"setup: line 7: not a setup line\n",
-        ),
-        (
-            Status::SetupBad(fault),
-            2,
-            b"setup: line 12: same as line 3\n",
-        ),
-        (
-            Status::SetupBad(missing),
-            2,
-            b"setup: line 8: no such account\n",
-        ),
-        (
-            Status::SetupBad(many),
-            2,
-            b"setup: line 2001: more than 2000\n",
-        ),
-        (setup, 3, b"read fault on setup\n"),
-        (input, 3, b"read fault on input\n"),
-        (
-            Status::WriteFault { before: 0, now: 1 },
-            4,
-            b"write fault\n",
-        ),
-        (Status::Memory, 10, b"out of memory\n"),
-        (Status::Spent, 11, b"input too long\n"),
-        (Status::Worn { count: 1 << 48 }, 12, b"count spent\n"),
-    ];
-    for (status, number, text) in cases {
-        let alloc = rt.alloc();
+    let alloc = rt.alloc();
+    for row in STATUSES.lines() {
+        let (name, rest) = row.split_once('/').ok_or("no name")?;
+        let (number, text) = rest.split_once('/').ok_or("no number")?;
+        let status = status_named(name).ok_or("no status")?;
         let mut out = MemSink::new(alloc, Vec::new(alloc));
         assert!(rt; status.text(&mut out).is_ok());
-        assert_eq!(rt; out.bytes(), text);
-        assert_eq!(rt; status.number(), number);
+        let told = out.bytes().strip_suffix(b"\n").unwrap_or(b"");
+        assert_eq!(rt; told, text.as_bytes(), "{name}");
+        assert_eq!(rt; status.number(), number.parse::<u8>()?, "{name}");
     }
+    Ok(())
+}
+
+// A run of these words over one alarm: its status, and what was written.
+fn refused(rt: &HostRuntime, words: &[Txt]) -> Result<(), Fail> {
+    let alloc = rt.alloc();
+    let outside = outside_of(alloc, SETUP, ALARM, &[], &NONE)?;
+    let ended = run(rt, alloc, words, outside);
+    assert_eq!(rt; ended.status, Status::Usage);
+    assert_eq!(rt; recorded(&ended), None);
     Ok(())
 }
 
 #[test]
 fn other_words_are_refused(rt: HostRuntime) -> Result<(), Fail> {
-    let alloc = rt.alloc();
     let line = Txt::of(b"line").ok_or("a short word")?;
-    let desk = Txt::of(b"desk").ok_or("a short word")?;
-    let cases: [&[Txt]; 3] = [&[], &[line, line], &[desk]];
-    for words in cases {
-        let outside = outside_of(alloc, SETUP, ALARM, &[], &NONE)?;
-        let ended = run(&rt, alloc, words, outside);
-        assert_eq!(rt; ended.status, Status::Usage);
-        assert_eq!(rt; recorded(&ended), None);
-    }
-    Ok(())
+    let report = Txt::of(b"report").ok_or("a short word")?;
+    refused(&rt, &[])?;
+    refused(&rt, &[line, line])?;
+    refused(&rt, &[report])
 }

@@ -1,4 +1,4 @@
--- What a run of `line` did, by its status.
+-- What a run did, by its status.
 use Rattle.std.specs.Prelude.{◌≡◌, ◌≤◌, ◌^◌, ◌⊎◌, ℕ, List, Option, Some, None, Err, IsOk, length}
 use Rattle.std.specs.Io.KnownBytes.{prepend_known}
 use Rattle.arc_io.specs.Causes.{Rose}
@@ -10,10 +10,11 @@ use Rattle.centre_core.specs.Setting.{IsSetFor, ram_seen, text_of}
 use Rattle.centre_core.specs.declared.hall.Stop.TheVariants.{Memory as MemoryWanted, Worn as HallWorn}
 use Rattle.centre_rules.specs.Summary.{nothing}
 use Rattle.centre_rules.specs.State.{State}
-use Rattle.line_session.specs.Lines.{ReadsLine, ServesLine}
-use Rattle.line_session.specs.declared.line_end.LineEnd.{LineEnd}
-use Rattle.line_session.specs.declared.line_end.LineEnd.TheVariants.{InputEnded, ReadFault as NotRead, WriteFault as NotWritten}
-use Rattle.line_session.specs.declared.line_end.LineEnd.TheVariants.{Spent as InputSpent, Stopped}
+use Rattle.arc_server.specs.Served.{Did}
+use Rattle.arc_server.specs.declared.form.Form.{Form}
+use Rattle.arc_server.specs.declared.session.SessionEnd.{SessionEnd}
+use Rattle.arc_server.specs.declared.session.SessionEnd.TheVariants.{Quit, InputEnded, ReadFault as NotRead, WriteFault as NotWritten}
+use Rattle.arc_server.specs.declared.session.SessionEnd.TheVariants.{Spent as InputSpent, Stopped}
 use Rattle.arc_server.specs.declared.status.Status.{Status}
 use Rattle.arc_server.specs.declared.status.Status.TheVariants.{Done, Usage, SetupBad, ReadFault, WriteFault, Memory, Spent, Worn}
 use Rattle.arc_server.specs.declared.status.Which.TheVariants.{Setup, Input}
@@ -34,30 +35,37 @@ pub record HasRisen (first second entry end : ℕ) : Type 0 where
   pub now : second ≡ end
   pub rose : Rose first second
 
--- A line was served to this end, from the beginning of the run on, an Adopt of the setup's text and a Start. The centre that is
--- handed back stands for the history that the session ended with.
-pub record ServesRun (end : LineEnd) (text : List ℕ) (clock : ℕ) (p p' : PortSeen) (state : State) : Type 0 where
+-- From the beginning of the run on, an Adopt of the setup's text and a Start, a session of this form came to this end. The centre that
+-- is handed back stands for the history that the session ended with.
+pub record ServesRun (form : Form) (end : SessionEnd) (text : List ℕ) (clock : ℕ) (p p' : PortSeen) (state : State) : Type 0 where
   pub first : State
   pub begins : IsSetFor nothing first (begun text clock)
   pub under : text_of first ≡ text
-  pub read : List ℕ
-  pub reads : ReadsLine end read p p'
-  pub line : ServesLine end read nothing (begun text clock) (ram_seen first) (ram_seen state) p p'
+  pub did : Did form end (begun text clock) (ram_seen first) (ram_seen state) p p'
+
+-- the session went on to its own end
+abbrev pub IsWhole : SessionEnd → Type 0
+IsWhole Quit = Unit {0}
+IsWhole InputEnded = Unit {0}
+IsWhole NotRead = ⊥
+IsWhole NotWritten = ⊥
+IsWhole InputSpent = ⊥
+IsWhole (Stopped stop) = ⊥
 
 -- What a status shows where a run began, at this reading of the clock: a centre in this state is handed back.
-abbrev pub IsServed : Status → List ℕ → ℕ → PortSeen → PortSeen → State → Type 0
-IsServed Done text clock p p' state = ServesRun InputEnded text clock p p' state
-IsServed Usage text clock p p' state = ⊥
-IsServed (SetupBad fault) text clock p p' state = ⊥
-IsServed (ReadFault Setup before now) text clock p p' state = ⊥
-IsServed (ReadFault Input before now) text clock p p' state =
-    HasRisen before now p.read_faults p'.read_faults × ServesRun NotRead text clock p p' state
-IsServed (WriteFault before now) text clock p p' state =
-    HasRisen before now p.write_faults p'.write_faults × ServesRun NotWritten text clock p p' state
-IsServed Memory text clock p p' state = ServesRun (Stopped MemoryWanted) text clock p p' state
-IsServed Spent text clock p p' state = ServesRun InputSpent text clock p p' state
-IsServed (Worn count) text clock p p' state =
-    (count ≡ state.entries) × (2 ^ 48 ≤ count) × ServesRun (Stopped (HallWorn count)) text clock p p' state
+abbrev pub IsServed : Form → Status → List ℕ → ℕ → PortSeen → PortSeen → State → Type 0
+IsServed form Done text clock p p' state = (end : SessionEnd) × IsWhole end × ServesRun form end text clock p p' state
+IsServed form Usage text clock p p' state = ⊥
+IsServed form (SetupBad fault) text clock p p' state = ⊥
+IsServed form (ReadFault Setup before now) text clock p p' state = ⊥
+IsServed form (ReadFault Input before now) text clock p p' state =
+    HasRisen before now p.read_faults p'.read_faults × ServesRun form NotRead text clock p p' state
+IsServed form (WriteFault before now) text clock p p' state =
+    HasRisen before now p.write_faults p'.write_faults × ServesRun form NotWritten text clock p p' state
+IsServed form Memory text clock p p' state = ServesRun form (Stopped MemoryWanted) text clock p p' state
+IsServed form Spent text clock p p' state = ServesRun form InputSpent text clock p p' state
+IsServed form (Worn count) text clock p p' state =
+    (count ≡ state.entries) × (2 ^ 48 ≤ count) × ServesRun form (Stopped (HallWorn count)) text clock p p' state
 
 -- What a status shows where the setup was not read or is none.
 abbrev pub IsSetupEnd : Status → PortSeen → PortSeen → Type 0
@@ -76,16 +84,15 @@ abbrev pub DoesNotBegin : PortSeen → PortSeen → PortSeen → PortSeen → Ty
 DoesNotBegin q q' p p' =
     (text : List ℕ) × (clock : ℕ) × ReadsText q q' text × IsOk (setup_of text) × (p' ≡ after_reading clock p)
 
--- What a status shows where no run began: the words were at fault and nothing was touched; or the setup was not read or is none,
--- and the port was not touched; or memory was wanted for the beginning.
+-- What a status shows where no run began: the setup was not read or is none, and the port was not touched; or memory was wanted
+-- for the beginning.
 abbrev pub EndsEarly : Status → PortSeen → PortSeen → PortSeen → PortSeen → Type 0
-EndsEarly Usage q q' p p' = (q' ≡ q) × (p' ≡ p)
 EndsEarly Memory q q' p p' = (IsSetupEnd Memory q q' × (p' ≡ p)) ⊎ DoesNotBegin q q' p p'
 EndsEarly status q q' p p' = IsSetupEnd status q q' × (p' ≡ p)
 
 -- What a run did: no centre was made, or a setup was read, a run began at the first reading, and its centre is handed back.
-abbrev pub IsRun : Status → PortSeen → PortSeen → PortSeen → PortSeen → Option State → Type 0
-IsRun status q q' p p' None = EndsEarly status q q' p p'
-IsRun status q q' p p' (Some state) =
+abbrev pub IsRun : Form → Status → PortSeen → PortSeen → PortSeen → PortSeen → Option State → Type 0
+IsRun form status q q' p p' None = EndsEarly status q q' p p'
+IsRun form status q q' p p' (Some state) =
     (text : List ℕ) × (clock : ℕ) × ReadsText q q' text × IsOk (setup_of text)
-    × IsServed status text clock (after_reading clock p) p' state
+    × IsServed form status text clock (after_reading clock p) p' state

@@ -1,0 +1,16 @@
+-- The forms of the words that a run is called with.
+use Rattle.std.specs.Prelude.{ℕ, if◌then◌else◌, List, [], ◌∷◌, Option, Some, None, codes}
+use Rattle.std.specs.Str.{bytes_eq}
+use Rattle.arc_server.specs.declared.form.Form.{Form}
+use Rattle.arc_server.specs.declared.form.Form.TheVariants.{Line, Desk}
+
+abbrev pub form_named : List ℕ → Option Form
+form_named word =
+    if bytes_eq word (codes "line") then Some Line
+    else if bytes_eq word (codes "desk") then Some Desk
+    else None
+
+-- the one word `line`, or the one word `desk`
+abbrev pub form_of : List (List ℕ) → Option Form
+form_of (word ∷ []) = form_named word
+form_of words = None
