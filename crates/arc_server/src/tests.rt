@@ -2,6 +2,9 @@
 ghost use Rattle.std.specs.Prelude.{◌≡◌, ◌<◌, All, false, IfOk};
 ghost use Rattle.arc_io.specs.Memory.{port_seen, source_seen};
 
+mod plays;
+mod station;
+
 use crate::run::{Ended, Outside, run};
 use crate::status::{Status, Which};
 use arc_data::{LineKind, SetupFault, Txt};
