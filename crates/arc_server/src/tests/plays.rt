@@ -199,6 +199,29 @@ fn a_plan_outside_open_hours(rt: HostRuntime) -> Result<(), Fail> {
     play(&rt, A_SHOP, A_PLAN_OUTSIDE_OPEN_HOURS)
 }
 
+const A_WHOLE_SHIFT: &str = "\
+T 1000000000 > raised 0
+M \"ADM-CID\"0001L0#1234[#1234|1131 01 001] > \"ACK\"0001L0#1234[]
+D 1 login ann 1234 > ok ann
+D 1 list > list 1 1/burglary/1234/-
+D 1 next > claimed 1 burglary 1234
+D 1 show 1 > incident 1 burglary 1234 code 131 opened 1000000000 signals 1 restored no holder ann next premises
+D 1 act 1 police done > expected premises
+D 1 act 1 premises noanswer > recorded 1 left 3
+D 1 act 1 holder1 reached > recorded 1 left 1
+D 1 close 1 real > missing police
+D 1 act 1 police done > recorded 1 left 0
+D 1 act 1 police done > expected none
+D 1 close 1 real > closed 1
+D 1 list > list 0
+";
+
+// The shift that the manual of the desk shows.
+#[test]
+fn a_whole_shift(rt: HostRuntime) -> Result<(), Fail> {
+    play(&rt, A_SHOP, A_WHOLE_SHIFT)
+}
+
 const A_PLAN_IN_OPEN_HOURS: &str = "\
 T 1000026000 > raised 0
 M \"ADM-CID\"0001L0#1234[#1234|1131 01 001] > \"ACK\"0001L0#1234[]
