@@ -15,6 +15,7 @@ use Rattle.centre_laws.specs.Repeats.{TellsTheSame, is_repeat, unrepeated, Quiet
 tells : (s : Summary) (h k : List Entry) → marks s h ≡ marks s k → last s h ≡ last s k → TellsTheSame s h k
 tells s h k e lasts = record {
   last = lasts;
+  marks = e;
   force = ap (force s) e;
   start = ap (start s) e;
   repeats = λ m at. ap (λ (ms : List Mark). repeat_of s ms m at) e;

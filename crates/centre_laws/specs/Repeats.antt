@@ -12,7 +12,7 @@ use Rattle.centre_rules.specs.History.{Entry, recorded, last, marks}
 use Rattle.centre_rules.specs.Desks.{best}
 use Rattle.centre_rules.specs.Answers.{answer, repeat_of, IsLegal}
 
--- Two histories tell the same of everything that is asked of one.
+-- Two histories tell the same of everything that is asked of one, and leave the same marks, the signals that they carry among them.
 pub record TellsTheSame (s : Summary) (h k : List Entry) : Type 0 where
   pub last : last s h ≡ last s k
   pub force : force s (marks s h) ≡ force s (marks s k)
@@ -26,6 +26,7 @@ pub record TellsTheSame (s : Summary) (h k : List Entry) : Type 0 where
   pub best : best (incidents s (marks s h)) ≡ best (incidents s (marks s k))
   pub incidents : incidents s (marks s h) ≡ incidents s (marks s k)
   pub answers : (e : Event) (at : ℕ) → answer s h e at ≡ answer s k e at
+  pub marks : marks s h ≡ marks s k
 
 abbrev pub is_repeat : Reply → Bool
 is_repeat (Repeat first) = true
