@@ -1,2 +1,2 @@
-pub mod Listing
-pub mod Orders
+pub mod ListingLemmas
+pub mod OrderLemmas

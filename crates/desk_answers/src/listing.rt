@@ -1,6 +1,6 @@
 // The answer to a question for the open incidents.
 ghost use Rattle.std.specs.Prelude.{◌≡◌, ◌≤◌, take, length, OnOk, IfOk};
-ghost use Rattle.std.specs.List.{position_or_len};
+ghost use Rattle.std.specs.List.{position, position_or_len};
 ghost use Rattle.centre_rules.specs.Desks.{on_list, row_of};
 ghost use Rattle.desk_answers.specs.Rows.{comes_before, put_in};
 
@@ -51,10 +51,16 @@ fn place_of(rows: &[Row], row: &Row) -> usize
     ensures place { result ≡ position_or_len (comes_before row.now) rows.now }
     ensures within { result ≤ length rows.now }
 {
-    match rows.iter().position(|other| is_before(row, other)) {
+    match first_after(rows, row) {
         Some(place) => place,
         None => rows.len(),
     }
+}
+
+fn first_after(rows: &[Row], row: &Row) -> Option<usize>
+    ensures { result ≡ position (comes_before row.now) rows.now }
+{
+    rows.iter().position(|other| is_before(row, other))
 }
 
 // By priority, and of one priority by number.
