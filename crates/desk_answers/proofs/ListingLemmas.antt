@@ -1,6 +1,6 @@
 -- The first rows of a list that is put in order.
 use Rattle.std.proofs.Common.{◌≡◌, ◌≤◌, ◌<◌, ◌+◌, ℕ, zero, suc, List, [], ◌∷◌, ◌++◌, map, length, take, drop, Bool, true, false, cond, refl, sym, ap, ◌∙◌, arith, get_or, drop-cons}
-use Rattle.std.specs.Prelude.{not, nat_lt, IsTrue, Option, Some, None}
+use Rattle.std.specs.Prelude.{not, nat_lt, IsTrue, Some, None}
 use Rattle.std.specs.List.{insert, position, position_or_len}
 use Rattle.std.proofs.lemmas.Bool.{false≢true}
 use Rattle.std.proofs.lemmas.Bool.Decides.{nat_tests}

@@ -1,5 +1,4 @@
-use Rattle.std.proofs.Common.{◌≡◌, ◌<◌, ◌≤◌, ◌+◌, ◌-◌, ℕ, List, length, sym, ap, ◌∙◌, arith}
-use Rattle.arc_data.specs.declared.listing.Row.{Row}
+use Rattle.std.proofs.Common.{◌≤◌, ◌-◌, length, drop, ◌∙◌, arith}
 use Rattle.desk_answers.proofs.ListingLemmas.{row_more, row_pushed, few_rows}
 use Rattle.desk_answers.proofs.listing.list.Goals as goal
 
@@ -10,6 +9,6 @@ loop-k-preserved c =
 
 pub loop-row-preserved : goal.loop-row-preserved
 loop-row-preserved c =
-    let few : length c.deref-row-items.result.now ≤ 16 = few_rows _ c.deref-row-items.result.now (c.deref-row-items.ensures.value ∙ c.loop-k.invariant) in
+    let few : length c.deref-row-items.result.now ≤ 16 = few_rows (drop c.loop-k.k c.args.items.now) c.deref-row-items.result.now (c.deref-row-items.ensures.value ∙ c.loop-k.invariant) in
     row_pushed c.deref-row-items.result.now c.loop-row.row-index c.row-item.result (length c.args.items.now) c.loop-row.listing c.push.new.self c.push.result few c.loop-row-test.true c.row-item.is
     c.loop-row.invariant c.push.ensures.room.1 c.push.ensures.pushed

@@ -1,5 +1,4 @@
 use Rattle.std.proofs.Common.{◌≡◌, length, take, drop}
-use Rattle.arc_data.specs.declared.listing.Row.{Row}
 use Rattle.desk_answers.proofs.ListingLemmas.{first_rows}
 use Rattle.desk_answers.proofs.listing.list.Given as goal
 

@@ -1,4 +1,4 @@
-use Rattle.std.proofs.Common.{List, sym, ◌∙◌}
+use Rattle.std.proofs.Common.{sym, ◌∙◌}
 use Rattle.desk_answers.proofs.ListingLemmas.{place_told, place_last}
 use Rattle.desk_answers.proofs.listing.place_of.Goals as goal
 

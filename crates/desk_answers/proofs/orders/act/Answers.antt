@@ -1,6 +1,5 @@
-use Rattle.std.proofs.Common.{List, sym, ap, ◌∙◌}
+use Rattle.std.proofs.Common.{sym, ap, ◌∙◌}
 use Rattle.std.specs.Option.{option_map}
-use Rattle.arc_data.specs.declared.incident.Incident.{Incident}
 use Rattle.desk_answers.proofs.OrderLemmas.{few_acts, acts_pushed, recorded}
 use Rattle.desk_answers.proofs.orders.act.Goals as goal
 
