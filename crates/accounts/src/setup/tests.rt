@@ -1,129 +1,254 @@
+// Setups and their faults, from the grammar of setup lines and its table of faults.
+ghost use Rattle.arc_data.specs.Moments.{IsMoment};
+
 use super::*;
 use arc_data::{LineKind, Step};
+use arc_text::dec;
+use open_schedules::Week;
 use std::alloc::AllocError;
 use std::test::Fail;
 
-mod faults;
-mod limits;
+// What is told of a text: how many accounts it has, or its fault. `/` stands for a line feed, `^` for a carriage return.
+const TEXTS: &str = "\
+0 accounts;
+0 accounts;//# a remark/#^/^/#account 1234
+0 accounts;operator ann 1234/plan * fire fire/
+1 accounts;account 1234
+1 accounts;account 1234^/
+1 accounts;account 0123456789abcdeF/
+2 accounts;account bbb/# next//account AAA
+form 1;account 1234^
+form 1;^
+form 1;account 1234^^/
+form 1;account 12/
+form 1;account 12345678901234567/
+form 1;account 12g4/
+form 1;account  1234/
+form 1;account 1234 /
+form 1; account 1234/
+form 1;Account 1234/
+form 1;account/
+form 1;account /
+form 1;account\t1234/
+form 1;account1234/
+form 1; # no remark/
+form 1; /
+form 3;# one//hours 1234/
+form 3;account 1234//x/account 1234/
+same 2 1;account 1234/account 1234/x/
+same 5 2;# a/account 123//# b/account 123/
+same 3 1;account ABC^/account 123^/account aBc beat 5^/
+missing 1;hours 1234 mon 08:00 18:00/account 1234/
+missing 2;account 123/plan 1234 fire note/x
+1 accounts;account 123 beat 1 offset -840
+1 accounts;account 123 beat 1000000
+1 accounts;account 123 offset 840
+1 accounts;account 123 offset 0
+form 1;account 123 beat 0
+form 1;account 123 beat 1000001
+form 1;account 123 beat 01
+form 1;account 123 beat +1
+form 1;account 123 beat 18446744073709551617
+form 1;account 123 beat
+form 1;account 123 beat \n\
+form 1;account 123 beat 5 beat 5
+form 1;account 123 offset 841
+form 1;account 123 offset -841
+form 1;account 123 offset -0
+form 1;account 123 offset 00
+form 1;account 123 offset -01
+form 1;account 123 offset --1
+form 1;account 123 offset -
+form 1;account 123 offset 1 beat 1
+form 1;account 123 Beat 1
+1 accounts;account 123 key 000102030405060708090a0b0c0d0e0f beat 5 offset 5
+form 1;account 123 key 000102030405060708090a0b0c0d0e0
+form 1;account 123 key 000102030405060708090a0b0c0d0e0f1
+form 1;account 123 key 000102030405060708090a0b0c0d0e0f10111213
+form 1;account 123 key 000102030405060708090a0b0c0d0e0g
+form 1;account 123 key  000102030405060708090a0b0c0d0e0f
+form 1;account 123 key
+form 1;account 123 000102030405060708090a0b0c0d0e0f
+form 1;account 123 beat 5 key 000102030405060708090a0b0c0d0e0f
+1 accounts;account 123/hours 123 sun 00:00 24:00
+1 accounts;account abc/hours ABC mon 23:59 24:00/hours aBc mon 23:59 24:00
+form 2;account 123/hours 123 mon 24:00 24:00
+form 2;account 123/hours 123 mon 00:00 24:01
+form 2;account 123/hours 123 mon 08:00 08:00
+form 2;account 123/hours 123 mon 8:00 09:00
+form 2;account 123/hours 123 mon 08:60 09:00
+form 2;account 123/hours 123 mon 08.00 09:00
+form 2;account 123/hours 123 Mon 08:00 09:00
+form 2;account 123/hours 123 mon 08:00
+form 2;account 123/hours 12 mon 08:00 09:00
+missing 2;account 123/hours 124 mon 08:00 09:00
+1 accounts;account 123/keyholder 123 A.b_c-9 123
+1 accounts;account 123/keyholder 123 a +12345678901234567890
+1 accounts;account 123/keyholder 123 abcdefghijklmnop 123/keyholder 123 A 123
+2 accounts;account 123/account 124/keyholder 123 a 123/keyholder 124 a 123
+form 2;account 123/keyholder 123 a 12
+form 2;account 123/keyholder 123 a +12
+form 2;account 123/keyholder 123 a 123456789012345678901
+form 2;account 123/keyholder 123 a ++123
+form 2;account 123/keyholder 123 abcdefghijklmnopq 123
+form 2;account 123/keyholder 123 a@b 123
+form 2;account 123/keyholder 123 a
+missing 2;account 123/keyholder 12a a 123
+same 4 2;account 123/keyholder 123 a 123//keyholder 123 a 456
+0 accounts;plan * fire premises holders police fire ambulance guard note
+1 accounts;account 123/plan * fire note/plan 123 fire note/plan 123 gas note
+0 accounts;plan * unlisted note@closed/plan * irregular holders/plan * lateclose note
+form 1;plan * fire
+form 1;plan * test note
+form 1;plan * openclose note
+form 1;plan * fire note note
+form 1;plan * fire note police note@closed
+form 1;plan * fire note@open
+form 1;plan * fire @closed
+form 1;plan ** fire note
+form 1;plan fire note
+missing 1;plan 123 fire note
+same 3 1;plan * fire note//plan * fire police
+same 4 2;account abc/plan abc gas note/plan * gas note/plan ABC gas guard
+0 accounts;operator a 1234/operator A 12345678
+form 1;operator a 123
+form 1;operator a 123456789
+form 1;operator a 12a4
+form 1;operator a
+form 1;operator abcdefghijklmnopq 1234
+same 3 1;operator a 1234/operator b 1234/operator a 4321";
 
-// How many accounts the text has, or its fault.
-fn outcome(alloc: Global, text: &[u8]) -> Result<usize, SetupFault> {
-    let setup = Setup::read(alloc, text)?;
-    Ok(setup.count())
+// What is told of a text of a beginning, of a part so many times, and of an end. In the part `%` stands for 1000, 1001 and so on.
+const LONG_TEXTS: &str = "\
+2000 accounts;;account %/;2000;operator a 1234
+many 2001 2000;;account %/;2000;account abc
+same 2001 1000;;account %/;2000;account 1999
+1 accounts;;operator o% 1234/;64;account abc
+many 65 64;;operator o% 1234/;64;operator a 1234
+same 65 64;;operator o% 1234/;64;operator o1063 1234
+2 accounts;account 123/account 124/;keyholder 123 k% 12345/;4;keyholder 124 k1000 12345
+many 7 4;account 123/account 124/;keyholder 123 k% 12345/;4;keyholder 123 a 12345
+same 7 6;account 123/account 124/;keyholder 123 k% 12345/;4;keyholder 123 k1003 12345
+2 accounts;account 123/account 124/;hours 123 mon 08:00 09:00/;28;hours 124 mon 08:00 09:00
+many 31 28;account 123/account 124/;hours 123 mon 08:00 09:00/;28;hours 123 mon 08:00 09:00
+missing 31;account 123/account 124/;hours 123 mon 08:00 09:00/;28;hours 125 tue 08:00 09:00
+0 accounts;;#;1024;
+0 accounts;;#;1024;^/
+form 1;;#;1024;^
+form 1;;#;1025;
+form 1;;#;1025;/x
+same 3 2;;#;1024;/account 123/account 123
+1 accounts;account 123/###################/;#%%%%%%%##/;131071;
+large;account 123/###################/;#%%%%%%%##/;131071;/
+form 1;x/#############################/;#%%%%%%%##/;131071;
+large;x/#############################/;#%%%%%%%##/;131071;#";
+
+// What is told of a text.
+fn told(alloc: Global, text: &[u8]) -> Result<String, AllocError> {
+    match Setup::read(alloc, text) {
+        Ok(setup) => format!(in alloc; "{} accounts", setup.count()),
+        Err(SetupFault::TooLarge) => format!(in alloc; "large"),
+        Err(SetupFault::BadLine { line, kind }) => match kind {
+            LineKind::Form => format!(in alloc; "form {line}"),
+            LineKind::NoAccount => format!(in alloc; "missing {line}"),
+        },
+        Err(SetupFault::TwoSame { line, first }) => format!(in alloc; "same {line} {first}"),
+        Err(SetupFault::TooMany { line, limit }) => format!(in alloc; "many {line} {limit}"),
+        Err(SetupFault::Memory) => format!(in alloc; "memory"),
+    }
 }
 
-fn bad(line: u64) -> Result<usize, SetupFault> {
-    Err(SetupFault::BadLine {
-        line,
-        kind: LineKind::Form,
-    })
-}
-
-fn missing(line: u64) -> Result<usize, SetupFault> {
-    Err(SetupFault::BadLine {
-        line,
-        kind: LineKind::NoAccount,
-    })
-}
-
-fn same(line: u64, first: u64) -> Result<usize, SetupFault> {
-    Err(SetupFault::TwoSame { line, first })
-}
-
-fn many(line: u64, limit: u64) -> Result<usize, SetupFault> {
-    Err(SetupFault::TooMany { line, limit })
-}
-
-// The numbers of the accounts of a setup, each with a space before it, and an asterisk after it where there is a key.
-fn numbers(alloc: Global, setup: &Setup) -> Result<Vec<u8>, AllocError> {
-    let mut all = Vec::new(alloc);
-    for place in 0..setup.count() {
-        all.push(b' ')?;
-        let account = setup.account(place);
-        all.extend_from_slice(account.number.bytes())?;
-        if account.key.is_some() {
-            all.push(b'*')?;
+// Puts a part of a text last, which begins with a row's sign for each line feed and carriage return, and for a number.
+fn put(text: &mut Vec<u8>, part: &str, number: usize) -> Result<(), AllocError> {
+    for byte in part.bytes() {
+        match byte {
+            b'/' => text.push(b'\n')?,
+            b'^' => text.push(b'\r')?,
+            b'%' => put_number(text, number)?,
+            _ => text.push(byte)?,
         }
     }
-    Ok(all)
+    Ok(())
 }
 
-#[test]
-fn texts_of_setups(rt: HostRuntime) -> Result<(), Fail> {
-    for (text, want) in [
-        ("", ""),
-        ("\n\n# a remark\n#\r\n\r\n#account 1234", ""),
-        ("operator ann 1234\nplan * fire fire\n", ""),
-        ("account 1234", " 1234"),
-        ("account 1234\r\n", " 1234"),
-        ("account 0123456789abcdeF\n", " 0123456789ABCDEF"),
-        ("account bbb\n# next\n\naccount AAA", " BBB AAA"),
-        ("account 123\naccount 0123\n", " 123 0123"),
-        (
-            "account a9f key 000102030405060708090a0b0c0d0e0f\r\naccount 123\n",
-            " A9F* 123",
-        ),
-    ] {
-        let setup = Setup::read(rt.alloc(), text.as_bytes()).expect(&rt, "a setup");
-        let all = numbers(rt.alloc(), &setup)?;
-        assert_eq!(rt; all.as_slice(), want.as_bytes(), "{text:?}");
+// Puts the last four digits of a number last.
+fn put_number(text: &mut Vec<u8>, number: usize) -> Result<(), AllocError> {
+    for power in [1000, 100, 10, 1] {
+        text.push(b'0' + (number / power % 10) as u8)?;
     }
     Ok(())
 }
 
 #[test]
-fn places_of_numbers(rt: HostRuntime) -> Result<(), Fail> {
-    let text = b"account abc\n\naccount 0DE";
-    let setup = Setup::read(rt.alloc(), text).expect(&rt, "a setup");
-    for (number, place) in [
-        ("ABC", Some(0)),
-        ("0DE", Some(1)),
-        ("abc", None),
-        ("DE", None),
-        ("ABCD", None),
-        ("", None),
-    ] {
-        let number = Txt::of(number.as_bytes()).ok_or("a long number")?;
-        assert_eq!(rt; setup.place(&number), place);
-        assert_eq!(rt; setup.knows(&number), place.is_some());
+fn texts(rt: HostRuntime) -> Result<(), Fail> {
+    let alloc = rt.alloc();
+    for row in TEXTS.lines() {
+        let (want, signs) = row.split_once(';').ok_or("no row")?;
+        let mut text = Vec::new(alloc);
+        put(&mut text, signs, 0)?;
+        assert_eq!(rt; told(alloc, &text)?.as_str(), want, "{row}");
     }
     Ok(())
 }
 
-// The number of the bytes 00, 11 to ff, encrypted by the account's key. None where there is no key.
-fn encrypted(setup: &Setup, account: &Txt) -> Option<u128> {
-    let mut block = (0x00112233_44556677_8899aabb_ccddeeff_u128).to_be_bytes();
-    aes_chain::encrypt_block(setup.key(account)?, &mut block);
-    Some(u128::from_be_bytes(block))
+#[test]
+fn long_texts(rt: HostRuntime) -> Result<(), Fail> {
+    let alloc = rt.alloc();
+    for row in LONG_TEXTS.lines() {
+        let (want, rest) = row.split_once(';').ok_or("no row")?;
+        let (first, rest) = rest.split_once(';').ok_or("no row")?;
+        let (part, rest) = rest.split_once(';').ok_or("no row")?;
+        let (count, last) = rest.split_once(';').ok_or("no row")?;
+        let mut text = Vec::new(alloc);
+        put(&mut text, first, 0)?;
+        for i in 0..dec(count.as_bytes()).ok_or("no number")? {
+            put(&mut text, part, (i % 9000) as usize + 1000)?;
+        }
+        put(&mut text, last, 0)?;
+        assert_eq!(rt; told(alloc, &text)?.as_str(), want, "{row}");
+    }
+    Ok(())
 }
 
-#[test]
-fn keys_of_accounts(rt: HostRuntime) -> Result<(), Fail> {
-    let text = b"\
+// Accounts with keys, and the block 00 11 to ff that they encrypt: FIPS 197, appendix C; the last is of openssl.
+const KEYS: &[u8] = b"\
 account 016 key 000102030405060708090a0b0c0d0e0f
 account 000
 account b24 key 000102030405060708090A0B0C0D0E0F1011121314151617 beat 7
 account B32 key 000102030405060708090a0b0c0d0e0F101112131415161718191a1B1C1D1E1F
 account FFF key 69c4e0d86a7b0430d8cdb78070b4c55a";
-    let setup = Setup::read(rt.alloc(), text).expect(&rt, "a setup");
-    let copy = setup.copy(rt.alloc()).expect(&rt, "a copy");
-    // FIPS 197, appendix C; the last is of openssl.
-    for (account, want) in [
-        ("016", Some(0x69c4e0d8_6a7b0430_d8cdb780_70b4c55a)),
-        ("000", None),
-        ("B24", Some(0xdda97ca4_864cdfe0_6eaf70a0_ec0d7191)),
-        ("b24", None),
-        ("B32", Some(0x8ea2b7ca_516745bf_eafc4990_4b496089)),
-        ("FFF", Some(0x78cf9c98_7f9c7feb_514fe4a4_197b7283)),
-    ] {
-        let account = Txt::of(account.as_bytes()).ok_or("a long number")?;
-        assert_eq!(rt; encrypted(&setup, &account), want);
-        assert_eq!(rt; encrypted(&copy, &account), want);
-    }
-    Ok(())
+
+fn encrypted(setup: &Setup, account: &[u8]) -> Option<u128> {
+    let mut block = (0x00112233_44556677_8899aabb_ccddeeff_u128).to_be_bytes();
+    aes_chain::encrypt_block(setup.key(&Txt::of(account)?)?, &mut block);
+    Some(u128::from_be_bytes(block))
 }
 
-// A small station, on 9 September 2001, a Sunday.
+#[test]
+fn keys(rt: HostRuntime) {
+    let setup = Setup::read(rt.alloc(), KEYS).expect(&rt, "a setup");
+    let setup = setup.copy(rt.alloc()).expect(&rt, "a copy");
+    assert_eq!(rt;
+        encrypted(&setup, b"016"),
+        Some(0x69c4e0d8_6a7b0430_d8cdb780_70b4c55a)
+    );
+    assert_eq!(rt;
+        encrypted(&setup, b"B24"),
+        Some(0xdda97ca4_864cdfe0_6eaf70a0_ec0d7191)
+    );
+    assert_eq!(rt;
+        encrypted(&setup, b"B32"),
+        Some(0x8ea2b7ca_516745bf_eafc4990_4b496089)
+    );
+    assert_eq!(rt;
+        encrypted(&setup, b"FFF"),
+        Some(0x78cf9c98_7f9c7feb_514fe4a4_197b7283)
+    );
+    assert!(rt; encrypted(&setup, b"000").is_none());
+    assert!(rt; encrypted(&setup, b"b24").is_none());
+}
+
+// A small station.
 const STATION: &[u8] = b"\
 # the station of Main Street
 account 1234 beat 60
@@ -138,88 +263,119 @@ plan * burglary premises police
 plan 1234 burglary premises holders police@closed
 plan * fire holders@closed";
 
-#[test]
-fn accounts_have_what_their_lines_say(rt: HostRuntime) {
-    let setup = Setup::read(rt.alloc(), STATION).expect(&rt, "a setup");
-    assert_eq!(rt; setup.count(), 2);
-    let (first, second) = (setup.account(0), setup.account(1));
-    assert_eq!(rt; first.beat, Some(60));
-    assert_eq!(rt; first.holders, 2);
-    assert_eq!(rt; first.week.offset(), 0);
-    assert!(rt; !first.week.in_hours(1_000_000_000));
-    assert!(rt; first.week.in_hours(1_000_026_000));
-    assert_eq!(rt; first.week.next_close(1_000_000_000), Some(1_000_058_400));
-    assert_eq!(rt; second.beat, None);
-    assert_eq!(rt; second.holders, 0);
-    assert_eq!(rt; second.week.offset(), -840);
-    assert_eq!(rt; second.week.windows().len(), 1);
-    assert_eq!(rt; second.week.windows()[0].weekday, 0);
-    assert_eq!(rt; second.week.windows()[0].from, 22 * 60 + 30);
-    assert_eq!(rt; second.week.windows()[0].to, 24 * 60);
+// Accounts and moments, where 1000000000 is Sunday, 9 September 2001, at 01:46:40, and what their hours are.
+const HOURS: &str = "\
+1234;1000000000;closed until 1000058400
+1234;1000026000;open until 1000058400
+1234;1000058400;closed until 1000663200
+ABCD;1000000000;closed until 1000216800
+ABCD;1000211400;open until 1000216800";
+
+// Accounts and classes, in or outside open hours, and the steps of their plans.
+const PLANS: &str = "\
+1234 burglary closed;premises holder1 holder2 police
+1234 burglary open;premises holder1 holder2
+1234 fire closed;holder1 holder2
+1234 fire open;
+1234 gas open;note
+ABCD burglary open;premises police
+ABCD fire closed;
+ABCD test closed;note";
+
+// What the hours of a week are: whether a moment is in them, and the closing moment after it, which is 0 where there is none.
+fn hours(alloc: Global, week: &Week, moment: u64) -> Result<String, AllocError>
+    requires { IsMoment moment }
+{
+    let word = if week.in_hours(moment) {
+        "open"
+    } else {
+        "closed"
+    };
+    let close = week.next_close(moment).unwrap_or(0);
+    format!(in alloc; "{word} until {close}")
+}
+
+fn class(word: &str) -> Class {
+    match word {
+        "burglary" => Class::Burglary,
+        "fire" => Class::Fire,
+        "gas" => Class::Gas,
+        _ => Class::Test,
+    }
+}
+
+fn word(step: Step) -> &'static str {
+    match step {
+        Step::Premises => "premises",
+        Step::Holder(1) => "holder1",
+        Step::Holder(2) => "holder2",
+        Step::Police => "police",
+        Step::Note => "note",
+        _ => "another step",
+    }
+}
+
+// Whether the steps have these words, in order.
+fn are_steps(steps: &[Step], words: &str) -> bool {
+    let mut left = words.split_whitespace();
+    for step in steps {
+        if left.next() != Some(word(*step)) {
+            return false;
+        }
+    }
+    left.next().is_none()
+}
+
+// A copy of the station.
+fn station(alloc: Global) -> Option<Setup> {
+    Setup::read(alloc, STATION).ok()?.copy(alloc).ok()
 }
 
 #[test]
-fn operators_have_their_pins(rt: HostRuntime) -> Result<(), Fail> {
-    let setup = Setup::read(rt.alloc(), STATION).expect(&rt, "a setup");
-    let copy = setup.copy(rt.alloc()).expect(&rt, "a copy");
-    for (name, pin) in [
-        ("ann", Some("1234")),
-        ("bob", Some("56789")),
-        ("Ann", None),
-        ("kim", None),
-    ] {
-        let name = Txt::of(name.as_bytes()).ok_or("a long name")?;
-        for setup in [&setup, &copy] {
-            let found = setup.operator(&name);
-            assert_eq!(rt; found.is_some(), pin.is_some());
-            if let (Some(operator), Some(pin)) = (found, pin) {
-                assert_eq!(rt; operator.pin.bytes(), pin.as_bytes());
-            }
-        }
+fn hours_of_accounts(rt: HostRuntime) -> Result<(), Fail> {
+    let setup = station(rt.alloc()).ok_or("no setup")?;
+    for row in HOURS.lines() {
+        let (account, rest) = row.split_once(';').ok_or("no row")?;
+        let (moment, want) = rest.split_once(';').ok_or("no row")?;
+        let account = Txt::of(account.as_bytes()).ok_or("a long number")?;
+        let place = setup.place(&account).ok_or("no account")?;
+        let moment = dec(moment.as_bytes()).ok_or("no number")?;
+        assert!(rt; moment < 253_402_300_800);
+        let told = hours(rt.alloc(), &setup.account(place).week, moment)?;
+        assert_eq!(rt; told.as_str(), want, "{row}");
     }
     Ok(())
 }
 
 #[test]
-fn plans_are_those_of_the_account_first(rt: HostRuntime) {
-    let setup = Setup::read(rt.alloc(), STATION).expect(&rt, "a setup");
-    assert!(rt; setup.count() == 2);
-    let own = setup.plan(0, Class::Burglary).steps(false, 2);
-    let holders = [Step::Holder(1), Step::Holder(2)];
-    assert_eq!(rt;
-        own.items(),
-        [Step::Premises, holders[0], holders[1], Step::Police].as_slice()
-    );
-    let open = setup.plan(0, Class::Burglary).steps(true, 2);
-    assert_eq!(rt;
-        open.items(),
-        [Step::Premises, holders[0], holders[1]].as_slice()
-    );
-    let general = setup.plan(1, Class::Burglary).steps(true, 0);
-    assert_eq!(rt; general.items(), [Step::Premises, Step::Police].as_slice());
-    let fire = setup.plan(0, Class::Fire).steps(false, 2);
-    assert_eq!(rt; fire.items(), holders.as_slice());
-    assert_eq!(rt; setup.plan(0, Class::Fire).steps(true, 2).count(), 0);
-    for class in [Class::Gas, Class::Test] {
-        let none = setup.plan(1, class).steps(true, 0);
-        assert_eq!(rt; none.items(), [Step::Note].as_slice());
+fn plans_of_accounts(rt: HostRuntime) -> Result<(), Fail> {
+    let setup = station(rt.alloc()).ok_or("no setup")?;
+    for row in PLANS.lines() {
+        let (what, words) = row.split_once(';').ok_or("no row")?;
+        let (account, rest) = what.split_once(' ').ok_or("no row")?;
+        let (name, hours) = rest.split_once(' ').ok_or("no row")?;
+        let account = Txt::of(account.as_bytes()).ok_or("a long number")?;
+        let place = setup.place(&account).ok_or("no account")?;
+        let holders = setup.account(place).holders;
+        let plan = setup.plan(place, class(name));
+        let steps = plan.steps(hours == "open", holders);
+        assert!(rt; are_steps(steps.items(), words), "{row}");
     }
+    Ok(())
 }
 
 #[test]
-fn copies(rt: HostRuntime) -> Result<(), Fail> {
-    let setup = Setup::read(rt.alloc(), STATION).expect(&rt, "a setup");
-    let copy = setup.copy(rt.alloc()).expect(&rt, "a copy");
-    for setup in [&setup, &copy] {
-        assert_eq!(rt; setup.text(), STATION);
-        assert!(rt; setup.count() == 2);
-        let number = Txt::of(b"ABCD").ok_or("a long number")?;
-        assert_eq!(rt; setup.place(&number), Some(1));
-        assert_eq!(rt; setup.account(0).beat, Some(60));
-        assert_eq!(rt; setup.account(0).holders, 2);
-        assert_eq!(rt; setup.account(1).week.windows().len(), 1);
-        assert_eq!(rt; setup.plan(0, Class::Burglary).steps(false, 2).count(), 4);
-        assert_eq!(rt; setup.plan(1, Class::Burglary).steps(false, 0).count(), 2);
-    }
+fn parts_of_a_station(rt: HostRuntime) -> Result<(), Fail> {
+    let setup = station(rt.alloc()).ok_or("no setup")?;
+    assert_eq!(rt; setup.text(), STATION);
+    assert!(rt; setup.count() == 2);
+    assert_eq!(rt; setup.account(0).beat, Some(60));
+    assert_eq!(rt; setup.account(1).beat, None);
+    assert_eq!(rt; setup.account(1).number.bytes(), b"ABCD".as_slice());
+    assert!(rt; setup.knows(&setup.account(1).number));
+    let ann = setup.operator(&Txt::of(b"ann").ok_or("a long name")?);
+    assert!(rt; ann.is_some_and(|operator| operator.pin.bytes() == b"1234".as_slice()));
+    let kim = setup.operator(&Txt::of(b"kim").ok_or("a long name")?);
+    assert!(rt; kim.is_none());
     Ok(())
 }
