@@ -1,165 +1,174 @@
 // Setups and their faults, from the grammar of setup lines and its table of faults.
-ghost use Rattle.arc_data.specs.Moments.{IsMoment};
-
 use super::*;
 use arc_data::{LineKind, Step};
 use arc_text::dec;
-use open_schedules::Week;
 use std::alloc::AllocError;
 use std::test::Fail;
 
-// What is told of a text: how many accounts it has, or its fault. `/` stands for a line feed, `^` for a carriage return.
+// What is told of a text: how many accounts it has, or its fault with its line and the earlier line or the limit. `/` stands for
+// a line feed, `^` for a carriage return.
 const TEXTS: &str = "\
-0 accounts;
-0 accounts;//# a remark/#^/^/#account 1234
-0 accounts;operator ann 1234/plan * fire fire/
-1 accounts;account 1234
-1 accounts;account 1234^/
-1 accounts;account 0123456789abcdeF/
-2 accounts;account bbb/# next//account AAA
-form 1;account 1234^
-form 1;^
-form 1;account 1234^^/
-form 1;account 12/
-form 1;account 12345678901234567/
-form 1;account 12g4/
-form 1;account  1234/
-form 1;account 1234 /
-form 1; account 1234/
-form 1;Account 1234/
-form 1;account/
-form 1;account /
-form 1;account\t1234/
-form 1;account1234/
-form 1; # no remark/
-form 1; /
-form 3;# one//hours 1234/
-form 3;account 1234//x/account 1234/
+accounts 0 0;
+accounts 0 0;//# a remark/#^/^/#account 1234
+accounts 0 0;operator ann 1234/plan * fire fire/
+accounts 1 0;account 1234
+accounts 1 0;account 1234^/
+accounts 1 0;account 0123456789abcdeF/
+accounts 2 0;account bbb/# next//account AAA
+form 1 0;account 1234^
+form 1 0;^
+form 1 0;account 1234^^/
+form 1 0;account 12/
+form 1 0;account 12345678901234567/
+form 1 0;account 12g4/
+form 1 0;account  1234/
+form 1 0;account 1234 /
+form 1 0; account 1234/
+form 1 0;Account 1234/
+form 1 0;account/
+form 1 0;account /
+form 1 0;account\t1234/
+form 1 0;account1234/
+form 1 0; # no remark/
+form 1 0; /
+form 3 0;# one//hours 1234/
+form 3 0;account 1234//x/account 1234/
 same 2 1;account 1234/account 1234/x/
 same 5 2;# a/account 123//# b/account 123/
 same 3 1;account ABC^/account 123^/account aBc beat 5^/
-missing 1;hours 1234 mon 08:00 18:00/account 1234/
-missing 2;account 123/plan 1234 fire note/x
-1 accounts;account 123 beat 1 offset -840
-1 accounts;account 123 beat 1000000
-1 accounts;account 123 offset 840
-1 accounts;account 123 offset 0
-form 1;account 123 beat 0
-form 1;account 123 beat 1000001
-form 1;account 123 beat 01
-form 1;account 123 beat +1
-form 1;account 123 beat 18446744073709551617
-form 1;account 123 beat
-form 1;account 123 beat \n\
-form 1;account 123 beat 5 beat 5
-form 1;account 123 offset 841
-form 1;account 123 offset -841
-form 1;account 123 offset -0
-form 1;account 123 offset 00
-form 1;account 123 offset -01
-form 1;account 123 offset --1
-form 1;account 123 offset -
-form 1;account 123 offset 1 beat 1
-form 1;account 123 Beat 1
-1 accounts;account 123 key 000102030405060708090a0b0c0d0e0f beat 5 offset 5
-form 1;account 123 key 000102030405060708090a0b0c0d0e0
-form 1;account 123 key 000102030405060708090a0b0c0d0e0f1
-form 1;account 123 key 000102030405060708090a0b0c0d0e0f10111213
-form 1;account 123 key 000102030405060708090a0b0c0d0e0g
-form 1;account 123 key  000102030405060708090a0b0c0d0e0f
-form 1;account 123 key
-form 1;account 123 000102030405060708090a0b0c0d0e0f
-form 1;account 123 beat 5 key 000102030405060708090a0b0c0d0e0f
-1 accounts;account 123/hours 123 sun 00:00 24:00
-1 accounts;account abc/hours ABC mon 23:59 24:00/hours aBc mon 23:59 24:00
-form 2;account 123/hours 123 mon 24:00 24:00
-form 2;account 123/hours 123 mon 00:00 24:01
-form 2;account 123/hours 123 mon 08:00 08:00
-form 2;account 123/hours 123 mon 8:00 09:00
-form 2;account 123/hours 123 mon 08:60 09:00
-form 2;account 123/hours 123 mon 08.00 09:00
-form 2;account 123/hours 123 Mon 08:00 09:00
-form 2;account 123/hours 123 mon 08:00
-form 2;account 123/hours 12 mon 08:00 09:00
-missing 2;account 123/hours 124 mon 08:00 09:00
-1 accounts;account 123/keyholder 123 A.b_c-9 123
-1 accounts;account 123/keyholder 123 a +12345678901234567890
-1 accounts;account 123/keyholder 123 abcdefghijklmnop 123/keyholder 123 A 123
-2 accounts;account 123/account 124/keyholder 123 a 123/keyholder 124 a 123
-form 2;account 123/keyholder 123 a 12
-form 2;account 123/keyholder 123 a +12
-form 2;account 123/keyholder 123 a 123456789012345678901
-form 2;account 123/keyholder 123 a ++123
-form 2;account 123/keyholder 123 abcdefghijklmnopq 123
-form 2;account 123/keyholder 123 a@b 123
-form 2;account 123/keyholder 123 a
-missing 2;account 123/keyholder 12a a 123
+missing 1 0;hours 1234 mon 08:00 18:00/account 1234/
+missing 2 0;account 123/plan 1234 fire note/x
+accounts 1 0;account 123 beat 1 offset -840
+accounts 1 0;account 123 beat 1000000
+accounts 1 0;account 123 offset 840
+accounts 1 0;account 123 offset 0
+form 1 0;account 123 beat 0
+form 1 0;account 123 beat 1000001
+form 1 0;account 123 beat 01
+form 1 0;account 123 beat +1
+form 1 0;account 123 beat 18446744073709551617
+form 1 0;account 123 beat
+form 1 0;account 123 beat \n\
+form 1 0;account 123 beat 5 beat 5
+form 1 0;account 123 offset 841
+form 1 0;account 123 offset -841
+form 1 0;account 123 offset -0
+form 1 0;account 123 offset 00
+form 1 0;account 123 offset -01
+form 1 0;account 123 offset --1
+form 1 0;account 123 offset -
+form 1 0;account 123 offset 1 beat 1
+form 1 0;account 123 Beat 1
+accounts 1 0;account 123 key 000102030405060708090a0b0c0d0e0f beat 5 offset 5
+form 1 0;account 123 key 000102030405060708090a0b0c0d0e0
+form 1 0;account 123 key 000102030405060708090a0b0c0d0e0f1
+form 1 0;account 123 key 000102030405060708090a0b0c0d0e0f10111213
+form 1 0;account 123 key 000102030405060708090a0b0c0d0e0g
+form 1 0;account 123 key  000102030405060708090a0b0c0d0e0f
+form 1 0;account 123 key
+form 1 0;account 123 000102030405060708090a0b0c0d0e0f
+form 1 0;account 123 beat 5 key 000102030405060708090a0b0c0d0e0f
+accounts 1 0;account 123/hours 123 sun 00:00 24:00
+accounts 1 0;account abc/hours ABC mon 23:59 24:00/hours aBc mon 23:59 24:00
+form 2 0;account 123/hours 123 mon 24:00 24:00
+form 2 0;account 123/hours 123 mon 00:00 24:01
+form 2 0;account 123/hours 123 mon 08:00 08:00
+form 2 0;account 123/hours 123 mon 8:00 09:00
+form 2 0;account 123/hours 123 mon 08:60 09:00
+form 2 0;account 123/hours 123 mon 08.00 09:00
+form 2 0;account 123/hours 123 Mon 08:00 09:00
+form 2 0;account 123/hours 123 mon 08:00
+form 2 0;account 123/hours 12 mon 08:00 09:00
+missing 2 0;account 123/hours 124 mon 08:00 09:00
+accounts 1 0;account 123/keyholder 123 A.b_c-9 123
+accounts 1 0;account 123/keyholder 123 a +12345678901234567890
+accounts 1 0;account 123/keyholder 123 abcdefghijklmnop 123/keyholder 123 A 123
+accounts 2 0;account 123/account 124/keyholder 123 a 123/keyholder 124 a 123
+form 2 0;account 123/keyholder 123 a 12
+form 2 0;account 123/keyholder 123 a +12
+form 2 0;account 123/keyholder 123 a 123456789012345678901
+form 2 0;account 123/keyholder 123 a ++123
+form 2 0;account 123/keyholder 123 abcdefghijklmnopq 123
+form 2 0;account 123/keyholder 123 a@b 123
+form 2 0;account 123/keyholder 123 a
+missing 2 0;account 123/keyholder 12a a 123
 same 4 2;account 123/keyholder 123 a 123//keyholder 123 a 456
-0 accounts;plan * fire premises holders police fire ambulance guard note
-1 accounts;account 123/plan * fire note/plan 123 fire note/plan 123 gas note
-0 accounts;plan * unlisted note@closed/plan * irregular holders/plan * lateclose note
-form 1;plan * fire
-form 1;plan * test note
-form 1;plan * openclose note
-form 1;plan * fire note note
-form 1;plan * fire note police note@closed
-form 1;plan * fire note@open
-form 1;plan * fire @closed
-form 1;plan ** fire note
-form 1;plan fire note
-missing 1;plan 123 fire note
+accounts 0 0;plan * fire premises holders police fire ambulance guard note
+accounts 1 0;account 123/plan * fire note/plan 123 fire note/plan 123 gas note
+accounts 0 0;plan * unlisted note@closed/plan * irregular holders/plan * lateclose note
+form 1 0;plan * fire
+form 1 0;plan * test note
+form 1 0;plan * openclose note
+form 1 0;plan * fire note note
+form 1 0;plan * fire note police note@closed
+form 1 0;plan * fire note@open
+form 1 0;plan * fire @closed
+form 1 0;plan ** fire note
+form 1 0;plan fire note
+missing 1 0;plan 123 fire note
 same 3 1;plan * fire note//plan * fire police
 same 4 2;account abc/plan abc gas note/plan * gas note/plan ABC gas guard
-0 accounts;operator a 1234/operator A 12345678
-form 1;operator a 123
-form 1;operator a 123456789
-form 1;operator a 12a4
-form 1;operator a
-form 1;operator abcdefghijklmnopq 1234
+accounts 0 0;operator a 1234/operator A 12345678
+form 1 0;operator a 123
+form 1 0;operator a 123456789
+form 1 0;operator a 12a4
+form 1 0;operator a
+form 1 0;operator abcdefghijklmnopq 1234
 same 3 1;operator a 1234/operator b 1234/operator a 4321";
 
-// What is told of a text of a beginning, of a part so many times, and of an end. In the part `%` stands for 1000, 1001 and so on.
+// What is told of a text that has a beginning, a part so many times, and an end. In the part `%` stands for 1000, 1001 and so on.
 const LONG_TEXTS: &str = "\
-2000 accounts;;account %/;2000;operator a 1234
+accounts 2000 0;;account %/;2000;operator a 1234
 many 2001 2000;;account %/;2000;account abc
 same 2001 1000;;account %/;2000;account 1999
-1 accounts;;operator o% 1234/;64;account abc
+accounts 1 0;;operator o% 1234/;64;account abc
 many 65 64;;operator o% 1234/;64;operator a 1234
 same 65 64;;operator o% 1234/;64;operator o1063 1234
-2 accounts;account 123/account 124/;keyholder 123 k% 12345/;4;keyholder 124 k1000 12345
+accounts 2 0;account 123/account 124/;keyholder 123 k% 12345/;4;keyholder 124 k1000 12345
 many 7 4;account 123/account 124/;keyholder 123 k% 12345/;4;keyholder 123 a 12345
 same 7 6;account 123/account 124/;keyholder 123 k% 12345/;4;keyholder 123 k1003 12345
-2 accounts;account 123/account 124/;hours 123 mon 08:00 09:00/;28;hours 124 mon 08:00 09:00
+accounts 2 0;account 123/account 124/;hours 123 mon 08:00 09:00/;28;hours 124 mon 08:00 09:00
 many 31 28;account 123/account 124/;hours 123 mon 08:00 09:00/;28;hours 123 mon 08:00 09:00
-missing 31;account 123/account 124/;hours 123 mon 08:00 09:00/;28;hours 125 tue 08:00 09:00
-0 accounts;;#;1024;
-0 accounts;;#;1024;^/
-form 1;;#;1024;^
-form 1;;#;1025;
-form 1;;#;1025;/x
+missing 31 0;account 123/account 124/;hours 123 mon 08:00 09:00/;28;hours 125 tue 08:00 09:00
+accounts 0 0;;#;1024;
+accounts 0 0;;#;1024;^/
+form 1 0;;#;1024;^
+form 1 0;;#;1025;
+form 1 0;;#;1025;/x
 same 3 2;;#;1024;/account 123/account 123
-1 accounts;account 123/###################/;#%%%%%%%##/;131071;
-large;account 123/###################/;#%%%%%%%##/;131071;/
-form 1;x/#############################/;#%%%%%%%##/;131071;
-large;x/#############################/;#%%%%%%%##/;131071;#";
+accounts 1 0;account 123/###################/;#%%%%%%%##/;131071;
+large 0 0;account 123/###################/;#%%%%%%%##/;131071;/
+form 1 0;x/#############################/;#%%%%%%%##/;131071;
+large 0 0;x/#############################/;#%%%%%%%##/;131071;#";
 
-// What is told of a text.
+// What is told of a text: a word and two numbers.
 fn told(alloc: Global, text: &[u8]) -> Result<String, AllocError> {
-    match Setup::read(alloc, text) {
-        Ok(setup) => format!(in alloc; "{} accounts", setup.count()),
-        Err(SetupFault::TooLarge) => format!(in alloc; "large"),
-        Err(SetupFault::BadLine { line, kind }) => match kind {
-            LineKind::Form => format!(in alloc; "form {line}"),
-            LineKind::NoAccount => format!(in alloc; "missing {line}"),
-        },
-        Err(SetupFault::TwoSame { line, first }) => format!(in alloc; "same {line} {first}"),
-        Err(SetupFault::TooMany { line, limit }) => format!(in alloc; "many {line} {limit}"),
-        Err(SetupFault::Memory) => format!(in alloc; "memory"),
+    let (word, first, second) = match Setup::read(alloc, text) {
+        Ok(setup) => ("accounts", setup.count() as u64, 0),
+        Err(fault) => parts(fault),
+    };
+    format!(in alloc; "{word} {first} {second}")
+}
+
+fn parts(fault: SetupFault) -> (&'static str, u64, u64) {
+    match fault {
+        SetupFault::TooLarge => ("large", 0, 0),
+        SetupFault::BadLine { line, kind } => (kind_of(kind), line, 0),
+        SetupFault::TwoSame { line, first } => ("same", line, first),
+        SetupFault::TooMany { line, limit } => ("many", line, limit),
+        SetupFault::Memory => ("memory", 0, 0),
     }
 }
 
-// Puts a part of a text last, which begins with a row's sign for each line feed and carriage return, and for a number.
-fn put(text: &mut Vec<u8>, part: &str, number: usize) -> Result<(), AllocError> {
+fn kind_of(kind: LineKind) -> &'static str {
+    match kind {
+        LineKind::Form => "form",
+        LineKind::NoAccount => "missing",
+    }
+}
+
+// Puts a part of a text last, in which `/` stands for a line feed, `^` for a carriage return and `%` for four digits.
+fn put(text: &mut Vec<u8>, part: &str, number: u64) -> Result<(), AllocError> {
     for byte in part.bytes() {
         match byte {
             b'/' => text.push(b'\n')?,
@@ -171,41 +180,55 @@ fn put(text: &mut Vec<u8>, part: &str, number: usize) -> Result<(), AllocError> 
     Ok(())
 }
 
-// Puts the last four digits of a number last.
-fn put_number(text: &mut Vec<u8>, number: usize) -> Result<(), AllocError> {
+fn put_number(text: &mut Vec<u8>, number: u64) -> Result<(), AllocError> {
     for power in [1000, 100, 10, 1] {
         text.push(b'0' + (number / power % 10) as u8)?;
     }
     Ok(())
 }
 
+fn put_parts(text: &mut Vec<u8>, part: &str, count: u64) -> Result<(), AllocError> {
+    for i in 0..count {
+        put(text, part, i % 9000 + 1000)?;
+    }
+    Ok(())
+}
+
+// The text of a row's beginning, part, count and end.
+fn long_text(alloc: Global, row: &str) -> Result<Vec<u8>, AllocError> {
+    let mut fields = row.split(';');
+    let (first, part) = (field(fields.next()), field(fields.next()));
+    let (count, last) = (field(fields.next()), field(fields.next()));
+    let mut text = Vec::new(alloc);
+    put(&mut text, first, 0)?;
+    put_parts(&mut text, part, dec(count.as_bytes()).unwrap_or(0))?;
+    put(&mut text, last, 0)?;
+    Ok(text)
+}
+
+fn field(field: Option<&str>) -> &str {
+    field.unwrap_or("no field")
+}
+
 #[test]
 fn texts(rt: HostRuntime) -> Result<(), Fail> {
-    let alloc = rt.alloc();
     for row in TEXTS.lines() {
         let (want, signs) = row.split_once(';').ok_or("no row")?;
-        let mut text = Vec::new(alloc);
+        let mut text = Vec::new(rt.alloc());
         put(&mut text, signs, 0)?;
-        assert_eq!(rt; told(alloc, &text)?.as_str(), want, "{row}");
+        let told = told(rt.alloc(), &text)?;
+        assert_eq!(rt; told.as_str(), want, "{row}");
     }
     Ok(())
 }
 
 #[test]
 fn long_texts(rt: HostRuntime) -> Result<(), Fail> {
-    let alloc = rt.alloc();
     for row in LONG_TEXTS.lines() {
         let (want, rest) = row.split_once(';').ok_or("no row")?;
-        let (first, rest) = rest.split_once(';').ok_or("no row")?;
-        let (part, rest) = rest.split_once(';').ok_or("no row")?;
-        let (count, last) = rest.split_once(';').ok_or("no row")?;
-        let mut text = Vec::new(alloc);
-        put(&mut text, first, 0)?;
-        for i in 0..dec(count.as_bytes()).ok_or("no number")? {
-            put(&mut text, part, (i % 9000) as usize + 1000)?;
-        }
-        put(&mut text, last, 0)?;
-        assert_eq!(rt; told(alloc, &text)?.as_str(), want, "{row}");
+        let text = long_text(rt.alloc(), rest)?;
+        let told = told(rt.alloc(), &text)?;
+        assert_eq!(rt; told.as_str(), want, "{row}");
     }
     Ok(())
 }
@@ -265,11 +288,11 @@ plan * fire holders@closed";
 
 // Accounts and moments, where 1000000000 is Sunday, 9 September 2001, at 01:46:40, and what their hours are.
 const HOURS: &str = "\
-1234;1000000000;closed until 1000058400
-1234;1000026000;open until 1000058400
-1234;1000058400;closed until 1000663200
-ABCD;1000000000;closed until 1000216800
-ABCD;1000211400;open until 1000216800";
+1234 1000000000;closed until 1000058400
+1234 1000026000;open until 1000058400
+1234 1000058400;closed until 1000663200
+ABCD 1000000000;closed until 1000216800
+ABCD 1000211400;open until 1000216800";
 
 // Accounts and classes, in or outside open hours, and the steps of their plans.
 const PLANS: &str = "\
@@ -282,17 +305,38 @@ ABCD burglary open;premises police
 ABCD fire closed;
 ABCD test closed;note";
 
-// What the hours of a week are: whether a moment is in them, and the closing moment after it, which is 0 where there is none.
-fn hours(alloc: Global, week: &Week, moment: u64) -> Result<String, AllocError>
-    requires { IsMoment moment }
+// The place of an account, and the rest of the row behind it.
+fn place_in<'a>(setup: &Setup, row: &'a str) -> Option<(usize, &'a str)>
+    ensures { IfSome result (λ found. found.0 < length (meaning setup.now).accounts) }
 {
+    let (number, rest) = row.split_once(' ')?;
+    let account = Txt::of(number.as_bytes())?;
+    Some((setup.place(&account)?, rest))
+}
+
+// Whether a moment is in hours, and the closing moment after it.
+fn hours_at(alloc: Global, setup: &Setup, row: &str) -> Result<String, Fail> {
+    let (place, moment) = place_in(setup, row).ok_or("no account")?;
+    let moment = dec(moment.as_bytes()).unwrap_or(0) % 253_402_300_800;
+    let week = &setup.account(place).week;
     let word = if week.in_hours(moment) {
         "open"
     } else {
         "closed"
     };
     let close = week.next_close(moment).unwrap_or(0);
-    format!(in alloc; "{word} until {close}")
+    Ok(format!(in alloc; "{word} until {close}")?)
+}
+
+// Whether a plan's steps, in or outside open hours, have these words.
+fn has_steps(setup: &Setup, row: &str, words: &str) -> Option<bool> {
+    let (place, rest) = place_in(setup, row)?;
+    let (name, hours) = rest.split_once(' ')?;
+    let holders = setup.account(place).holders;
+    let steps = setup
+        .plan(place, class(name))
+        .steps(hours == "open", holders);
+    Some(are_steps(steps.items(), words))
 }
 
 fn class(word: &str) -> Class {
@@ -315,7 +359,6 @@ fn word(step: Step) -> &'static str {
     }
 }
 
-// Whether the steps have these words, in order.
 fn are_steps(steps: &[Step], words: &str) -> bool {
     let mut left = words.split_whitespace();
     for step in steps {
@@ -335,13 +378,8 @@ fn station(alloc: Global) -> Option<Setup> {
 fn hours_of_accounts(rt: HostRuntime) -> Result<(), Fail> {
     let setup = station(rt.alloc()).ok_or("no setup")?;
     for row in HOURS.lines() {
-        let (account, rest) = row.split_once(';').ok_or("no row")?;
-        let (moment, want) = rest.split_once(';').ok_or("no row")?;
-        let account = Txt::of(account.as_bytes()).ok_or("a long number")?;
-        let place = setup.place(&account).ok_or("no account")?;
-        let moment = dec(moment.as_bytes()).ok_or("no number")?;
-        assert!(rt; moment < 253_402_300_800);
-        let told = hours(rt.alloc(), &setup.account(place).week, moment)?;
+        let (what, want) = row.split_once(';').ok_or("no row")?;
+        let told = hours_at(rt.alloc(), &setup, what)?;
         assert_eq!(rt; told.as_str(), want, "{row}");
     }
     Ok(())
@@ -352,16 +390,14 @@ fn plans_of_accounts(rt: HostRuntime) -> Result<(), Fail> {
     let setup = station(rt.alloc()).ok_or("no setup")?;
     for row in PLANS.lines() {
         let (what, words) = row.split_once(';').ok_or("no row")?;
-        let (account, rest) = what.split_once(' ').ok_or("no row")?;
-        let (name, hours) = rest.split_once(' ').ok_or("no row")?;
-        let account = Txt::of(account.as_bytes()).ok_or("a long number")?;
-        let place = setup.place(&account).ok_or("no account")?;
-        let holders = setup.account(place).holders;
-        let plan = setup.plan(place, class(name));
-        let steps = plan.steps(hours == "open", holders);
-        assert!(rt; are_steps(steps.items(), words), "{row}");
+        assert!(rt; has_steps(&setup, what, words) == Some(true), "{row}");
     }
     Ok(())
+}
+
+// The PIN of an operator of the setup.
+fn pin<'a>(setup: &'a Setup, name: &[u8]) -> Option<&'a [u8]> {
+    Some(setup.operator(&Txt::of(name)?)?.pin.bytes())
 }
 
 #[test]
@@ -369,13 +405,9 @@ fn parts_of_a_station(rt: HostRuntime) -> Result<(), Fail> {
     let setup = station(rt.alloc()).ok_or("no setup")?;
     assert_eq!(rt; setup.text(), STATION);
     assert!(rt; setup.count() == 2);
-    assert_eq!(rt; setup.account(0).beat, Some(60));
-    assert_eq!(rt; setup.account(1).beat, None);
-    assert_eq!(rt; setup.account(1).number.bytes(), b"ABCD".as_slice());
+    assert!(rt; setup.account(0).beat == Some(60));
     assert!(rt; setup.knows(&setup.account(1).number));
-    let ann = setup.operator(&Txt::of(b"ann").ok_or("a long name")?);
-    assert!(rt; ann.is_some_and(|operator| operator.pin.bytes() == b"1234".as_slice()));
-    let kim = setup.operator(&Txt::of(b"kim").ok_or("a long name")?);
-    assert!(rt; kim.is_none());
+    assert!(rt; pin(&setup, b"ann") == Some(b"1234".as_slice()));
+    assert!(rt; pin(&setup, b"kim").is_none());
     Ok(())
 }
