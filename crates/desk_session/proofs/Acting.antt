@@ -4,7 +4,9 @@ use Rattle.std.specs.Prelude.{is_some, IfSome}
 use Rattle.arc_data.specs.Digits.{is_name}
 use Rattle.alarm_rules.specs.Setups.{Setup, operator_of}
 use Rattle.alarm_rules.specs.SetupLines.{Operator}
+use Rattle.desk_wire.specs.Commands.{command_of}
 use Rattle.desk_wire.specs.Laws.{IsCommand}
+use Rattle.desk_wire.proofs.CommandLaws.{read_is_spelled}
 use Rattle.desk_wire.specs.declared.command.Command.{Command}
 use Rattle.desk_wire.specs.declared.command.Command.TheVariants.{Login, Quit, Next, Claim, Act, Release, Close, Show, List as Rows}
 use Rattle.desk_session.specs.Events.{command_in, has_pin, is_by_pin, acts_after, acts_over, is_known, is_named}
@@ -54,3 +56,8 @@ module _ (setup : Setup) where
   after_named operator (Some (Close number code)) ranges named = named
   after_named operator (Some (Show number)) ranges named = named
   after_named operator (Some Rows) ranges named = named
+
+-- what a line is read as is in its ranges
+pub read_ranges : (line : List ℕ) (o : Option Command) → o ≡ command_of line → IfSome o IsCommand
+read_ranges line None is = tt
+read_ranges line (Some command) is = (read_is_spelled line command (sym is)).ranges

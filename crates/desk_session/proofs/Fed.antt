@@ -7,7 +7,8 @@ use Rattle.arc_text.specs.LineCutting.{LineCutterValue, WasFed, cut_of, line_of,
 use Rattle.arc_text.specs.Lines.{ended_lines}
 use Rattle.arc_text.proofs.LineLaws.{ended_more}
 use Rattle.desk_wire.specs.declared.command.Command.{Command}
-use Rattle.desk_session.specs.Desks.{HasTaken, IsFed}
+use Rattle.std.specs.Str.Lines.{lines}
+use Rattle.desk_session.specs.Desks.{HasTaken, IsFed, IsFinished}
 use Rattle.desk_session.specs.Events.{command_in, acts_after, acts_over, ends, is_known, is_quit, line_limit, quits}
 use Rattle.desk_session.specs.Sessions.{IsCutShort}
 use Rattle.desk_session.specs.declared.desk_end.DeskEnd.{DeskEnd}
@@ -90,3 +91,13 @@ fed_err ReadFault setup stream front c operator more short quit all = short
 fed_err WriteFault setup stream front c operator more short quit all = tt
 fed_err Spent setup stream front c operator more short quit all = short
 fed_err (Stopped stop) setup stream front c operator more short quit all = tt
+
+-- and of one that ended with the last line
+pub finished_err : (end : DeskEnd) (stream line : List ℕ) → IsCutShort (Err end) → lines stream ≡ ended_lines stream ++ line ∷ [] → quits (ended_lines stream) ≡ false → (end ≡ Quit → is_quit line ≡ true)
+    → IsFinished end stream
+finished_err Quit stream line short all goes_on quit = ap quits all ∙ quits_next (ended_lines stream) line true goes_on (quit refl)
+finished_err InputEnded stream line short all goes_on quit = absurd short
+finished_err ReadFault stream line short all goes_on quit = short
+finished_err WriteFault stream line short all goes_on quit = tt
+finished_err Spent stream line short all goes_on quit = short
+finished_err (Stopped stop) stream line short all goes_on quit = tt

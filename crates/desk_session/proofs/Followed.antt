@@ -64,8 +64,7 @@ module _ (b : Summary) {hall mid : HallSeen} (kept : IsKept hall mid) where
     turns = λ x y ts us f n.
         let setup = meaning hall.text in
         let goes_on : early ≡ acts_over setup first (pieces_of desk_turns ts) = sym (f.1 ∙ same) in
-        let ended : acts_over setup early (pieces_of desk_turns us) ≡ end = subst (λ (t : List ℕ). acts_over (meaning t) early (pieces_of desk_turns us) ≡ end) kept.text n.1 in
-        (
+        let ended : acts_over setup early (pieces_of desk_turns us) ≡ end = subst (λ (t : List ℕ). acts_over (meaning t) early (pieces_of desk_turns us) ≡ end) kept.text n.1 in (
           turns_more b setup hall.caller first h x y ts us f.0 (subst (λ (o : Option (List ℕ)). AreTurns b setup hall.caller o x y us) goes_on (turns_under early x y us n.0)),
           ap (acts_over setup first) (pieces-append desk_turns ts us)
               ∙ acts_over-append setup first (pieces_of desk_turns ts) (pieces_of desk_turns us)

@@ -17,7 +17,7 @@ use Rattle.session_rules.specs.Sessions.{Ending, answered, cut_off, stopped, Rea
 use Rattle.session_rules.specs.Turns.{pieces_of}
 use Rattle.session_rules.proofs.Ahead.{reads_no_further}
 use Rattle.session_rules.proofs.Joined.{all_pieces, session_read, session_then}
-use Rattle.desk_session.specs.Desks.{typed_lines, ServesLines, ServesDesk, IsTaken, IsFinished, HasEnded, QuitsInTime, DeskValue, lines_read}
+use Rattle.desk_session.specs.Desks.{typed_lines, ServesBytes, ServesLines, ServesDesk, IsTaken, IsFinished, HasEnded, QuitsInTime, DeskValue, lines_read}
 use Rattle.desk_session.specs.Events.{acts_over, quits, up_to_quit}
 use Rattle.desk_session.specs.Sessions.{IsDesk, ending_of, desk_rules}
 use Rattle.desk_session.specs.Turns.{desk_turns}
@@ -43,28 +43,28 @@ module _ (b : Summary) (h : List Entry) where
       let all = desk_read same only d in
       record { desk = all; ahead = tt; complete = completes all }
 
-  module _ (stream : List ℕ) (goes_on : quits (ended_lines stream) ≡ false) {hall mid hall' : HallSeen} {p q q' r : PortSeen} (kept : IsKept hall mid) (only : OnlyReads q q')
+  module _ (stream : List ℕ) (goes_on : quits (ended_lines stream) ≡ false) {hall mid : HallSeen} {p q q' : PortSeen} (kept : IsKept hall mid) (only : OnlyReads q q')
       (first : IsDesk answered b None (ended_lines stream) h hall mid p q) where
     acts : acts_over (meaning mid.text) None (ended_lines stream) ≡ acts_over (meaning hall.text) None (ended_lines stream)
     acts = ap (λ (t : List ℕ). acts_over (meaning t) None (ended_lines stream)) kept.text
 
-    came : (end : Result (Unit {0}) DeskEnd) (after : List (List ℕ)) (x : List Entry) (n : ServesLines end (ended_lines stream) after b x mid hall' q' r) → up_to_quit after ≡ ended_lines stream ++ n.more
-    came end after x n = n.came ∙ ap (λ (l : List (List ℕ)). l ++ n.more) (up_all (ended_lines stream) goes_on)
+    came : {hall' : HallSeen} {r : PortSeen} (end : Result (Unit {0}) DeskEnd) (after : List (List ℕ)) (x : List Entry) (n : ServesLines end (ended_lines stream) after b x mid hall' q' r) → up_to_quit after ≡ ended_lines stream ++ n.more
+    came {hall'} {r} end after x n = n.came ∙ ap (λ (l : List (List ℕ)). l ++ n.more) (up_all (ended_lines stream) goes_on)
 
     -- A session goes on behind a piece.
-    pub desk_goes : (after : List (List ℕ)) → quits after ≡ false → ((x : List Entry) → mid.stands b x → ServesLines (Ok tt) (ended_lines stream) after b x mid hall' q' r)
+    pub desk_goes : {hall' : HallSeen} {r : PortSeen} (after : List (List ℕ)) → quits after ≡ false → ((x : List Entry) → mid.stands b x → ServesLines (Ok tt) (ended_lines stream) after b x mid hall' q' r)
         → IsDesk answered b None after h hall hall' p r
-    unfolding desk_read
-    desk_goes after still next =
+    unfolding desk_read session_read
+    desk_goes {hall'} {r} after still next =
         let d : IsDesk answered b None (ended_lines stream) h hall mid p q' = desk_read refl only first in
         let n = next first.session.history first.session.holds in
         desk_read (sym (up_all after still) ∙ came (Ok tt) after first.session.history n) (record { rest = refl }) (desk_then kept acts d n.desk)
 
     -- A session ends within its last piece, or at the input's end.
-    pub desk_ends : (read piece : List ℕ) (end : DeskEnd) (after : List (List ℕ)) → read ≡ stream ++ piece → length piece ≤ 4096 → lines_read r.ended read ≡ after
+    pub desk_ends : {hall' : HallSeen} {r : PortSeen} (read piece : List ℕ) (end : DeskEnd) (after : List (List ℕ)) → read ≡ stream ++ piece → length piece ≤ 4096 → lines_read r.ended read ≡ after
         → ((x : List Entry) → mid.stands b x → ServesLines (Err end) (ended_lines stream) after b x mid hall' q' r) → ServesDesk end read b h hall hall' p r
     unfolding desk_read desk_then session_read session_then
-    desk_ends read piece end after parts short is next =
+    desk_ends {hall'} {r} read piece end after parts short is next =
         let n = next first.session.history first.session.holds in
         let d : IsDesk answered b None (ended_lines stream) h hall mid p q' = desk_read refl only first in
         let all : IsDesk (ending_of (Err end)) b None (up_to_quit (lines_read r.ended read)) h hall hall' p r =
@@ -85,20 +85,20 @@ rose_earlier first before now le rose = omega (arith, le, rose)
 pub ended_by : (end : DeskEnd) (stream piece : List ℕ) (s : DeskValue) (setup : Setup) (p p' : PortSeen) → IsTaken (Err end) setup stream piece s → in_limit stream piece ≡ piece
     → quits (ended_lines stream) ≡ false → p'.ended ≡ false → length piece ≤ 4096 → length stream < input_limit → length piece ≤ input_limit - length stream
     → (end ≡ WriteFault → Rose p.write_faults p'.write_faults) → HasEnded end (stream ++ piece) p p'
-ended_by Quit stream piece s setup p p' taken all goes_on open short room fits rose = (
-  ap quits (read_lines p'.ended (stream ++ piece) open) ∙ ap (λ (l : List ℕ). quits (ended_lines (stream ++ l))) (sym all) ∙ taken,
+ended_by Quit stream piece s setup p p' taken all goes_on out short room fits rose = (
+  ap quits (read_lines p'.ended (stream ++ piece) out) ∙ ap (λ (l : List ℕ). quits (ended_lines (stream ++ l))) (sym all) ∙ taken,
   record { front = stream; last = piece; parts = refl; short = short; before = goes_on },
   omega (arith, length-append stream piece, room, fits),
 )
-ended_by InputEnded stream piece s setup p p' taken all goes_on open short room fits rose = absurd taken
-ended_by ReadFault stream piece s setup p p' taken all goes_on open short room fits rose = absurd taken
-ended_by WriteFault stream piece s setup p p' taken all goes_on open short room fits rose = (rose refl, omega (arith, length-append stream piece, room, fits))
-ended_by Spent stream piece s setup p p' taken all goes_on open short room fits rose = (
-  open,
+ended_by InputEnded stream piece s setup p p' taken all goes_on out short room fits rose = absurd taken
+ended_by ReadFault stream piece s setup p p' taken all goes_on out short room fits rose = absurd taken
+ended_by WriteFault stream piece s setup p p' taken all goes_on out short room fits rose = (rose refl, omega (arith, length-append stream piece, room, fits))
+ended_by Spent stream piece s setup p p' taken all goes_on out short room fits rose = (
+  out,
   ap (λ (l : List ℕ). quits (ended_lines (stream ++ l))) (sym all) ∙ taken.1,
   omega (arith, length-append stream piece, room, fits, taken.0),
 )
-ended_by (Stopped stop) stream piece s setup p p' taken all goes_on open short room fits rose = omega (arith, length-append stream piece, room, fits)
+ended_by (Stopped stop) stream piece s setup p p' taken all goes_on out short room fits rose = omega (arith, length-append stream piece, room, fits)
 
 -- and at the input's end
 pub finished_by : (end : DeskEnd) (stream : List ℕ) (p p' : PortSeen) → IsFinished end stream → quits (ended_lines stream) ≡ false → p'.ended ≡ true → length stream < input_limit
@@ -121,3 +121,8 @@ all_in_limit stream piece fits = take_all (input_limit - length stream) piece fi
 -- two bytes that were read, one behind the other
 pub read_more : (known mid left : Option (List ℕ)) (xs ys : List ℕ) → known ≡ prepend_known xs mid → mid ≡ prepend_known ys left → known ≡ prepend_known (xs ++ ys) left
 read_more known mid left xs ys first next = first ∙ ap (prepend_known xs) next ∙ known_taken left xs ys
+
+-- a piece that was taken whole was served whole
+pub served_all : (end : Result (Unit {0}) DeskEnd) (stream piece : List ℕ) {b : Summary} {h : List Entry} {hall hall' : HallSeen} {p p' : PortSeen} → in_limit stream piece ≡ piece
+    → ServesBytes end stream (in_limit stream piece) b h hall hall' p p' → ServesBytes end stream piece b h hall hall' p p'
+served_all end stream piece {b} {h} {hall} {hall'} {p} {p'} all s = subst (λ (l : List ℕ). ServesBytes end stream l b h hall hall' p p') all s

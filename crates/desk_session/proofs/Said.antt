@@ -20,10 +20,10 @@ use Rattle.desk_wire.specs.declared.command.Command.{Command}
 use Rattle.session_rules.specs.Sessions.{answered, cut_off, stopped}
 use Rattle.session_rules.specs.Turns.{entries_of}
 use Rattle.session_rules.proofs.Made.{session_sent, session_cut, session_stopped}
-use Rattle.desk_session.specs.Asking.{Asked, Left, Asks, said_as, IsSaid}
+use Rattle.desk_session.specs.Asking.{Asked, Left, Asks, IsAsked, said_as, IsSaid}
 use Rattle.desk_session.specs.Events.{command_in, acts_after, event_of, text_of}
 use Rattle.desk_session.specs.Turns.{Turn, desk_turns, IsAnswered, IsTurn, TakesEntry}
-use Rattle.desk_session.specs.Sessions.{IsDesk, ending_of, desk_rules}
+use Rattle.desk_session.specs.Sessions.{IsCutShort, IsDesk, ending_of, desk_rules}
 use Rattle.desk_session.specs.declared.desk_end.DeskEnd.{DeskEnd}
 use Rattle.desk_session.specs.declared.desk_end.DeskEnd.TheVariants.{Quit, InputEnded, ReadFault, WriteFault, Spent, Stopped}
 
@@ -170,3 +170,16 @@ module _ (b : Summary) (operator : Option (List ℕ)) (h : List Entry) (line : L
     session_asked (Err InputEnded) a = absurd a
     session_asked (Err ReadFault) a = absurd a
     session_asked (Err Spent) a = absurd a
+
+-- asking comes to no quit
+pub asked_short : (end : Result (Unit {0}) DeskEnd) → IsAsked end → IsCutShort end
+asked_short (Ok tt) how = how
+asked_short (Err Quit) how = absurd how
+asked_short (Err InputEnded) how = how
+asked_short (Err ReadFault) how = how
+asked_short (Err WriteFault) how = how
+asked_short (Err Spent) how = how
+asked_short (Err (Stopped stop)) how = how
+
+pub asked_no_quit : (end : Result (Unit {0}) DeskEnd) → IsAsked end → end ≡ Err Quit → ⊥
+asked_no_quit end how is = subst IsAsked is how

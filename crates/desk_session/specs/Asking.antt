@@ -34,6 +34,16 @@ Asks (Err InputEnded) b h hall hall' event p p' = ⊥
 Asks (Err ReadFault) b h hall hall' event p p' = ⊥
 Asks (Err Spent) b h hall hall' event p p' = ⊥
 
+-- what asking can come to
+abbrev pub IsAsked : Result (Unit {0}) DeskEnd → Type 0
+IsAsked (Ok done) = Unit {0}
+IsAsked (Err Quit) = ⊥
+IsAsked (Err InputEnded) = ⊥
+IsAsked (Err ReadFault) = ⊥
+IsAsked (Err WriteFault) = Unit {0}
+IsAsked (Err Spent) = ⊥
+IsAsked (Err (Stopped stop)) = Unit {0}
+
 -- how printing went: a `quit` is answered
 abbrev pub said_as : Result (Unit {0}) DeskEnd → Result (Unit {0}) DeskEnd
 said_as (Ok done) = Ok tt

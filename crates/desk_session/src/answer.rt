@@ -43,8 +43,8 @@ pub(crate) fn answer<H: Hall, P: Port>(
     ensures stop { HasShown (H.seen hall.new) (ending_of result) }
     ensures port { Answers (result ≡ Err DeskEnd.WriteFault) (P.seen port.old) (P.seen port.new) }
 {
-    match event_of(*operator, command) {
+    match event_of(operator, &command) {
         Some(event) => ask(alloc, hall, port, event),
-        None => say(hall, port, operator, command),
+        None => say(hall, port, operator, &command),
     }
 }

@@ -7,7 +7,7 @@ ghost use Rattle.centre_core.specs.Runs.{IsSubmitted};
 ghost use Rattle.centre_rules.specs.Summary.{Summary};
 ghost use Rattle.centre_rules.specs.History.{Entry};
 ghost use Rattle.session_rules.specs.Sessions.{HasShown};
-ghost use Rattle.desk_session.specs.Asking.{Asks};
+ghost use Rattle.desk_session.specs.Asking.{Asks, IsAsked};
 ghost use Rattle.desk_session.specs.Sessions.{ending_of};
 
 use crate::desk_end::DeskEnd;
@@ -30,6 +30,7 @@ pub(crate) fn ask<H: Hall, P: Port>(
     ensures kept { IsKept (H.seen hall.old) (H.seen hall.new) }
     ensures asked { (b : Summary) (h : List Entry) → (H.seen hall.old).stands b h →
         Asks result b h (H.seen hall.old) (H.seen hall.new) event (P.seen port.old) (P.seen port.new) }
+    ensures how { IsAsked result }
     ensures stop { HasShown (H.seen hall.new) (ending_of result) }
     ensures port { Answers (result ≡ Err DeskEnd.WriteFault) (P.seen port.old) (P.seen port.new) }
 {

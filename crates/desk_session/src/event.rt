@@ -11,10 +11,10 @@ use desk_wire::Command;
 
 /// What is submitted of a command, for the operator for whom the session acts. Nothing is of no command, of a login, of a `quit`, and
 /// where the session acts for nobody.
-pub(crate) fn event_of(operator: Option<Txt>, command: Option<Command>) -> Option<Event>
-    requires named { is_named operator ≡ true }
-    requires ranges { IfSome command IsCommand }
-    ensures value { result ≡ event_of operator command }
+pub(crate) fn event_of(operator: &Option<Txt>, command: &Option<Command>) -> Option<Event>
+    requires named { is_named operator.now ≡ true }
+    requires ranges { IfSome command.now IsCommand }
+    ensures value { result ≡ event_of operator.now command.now }
     ensures formed { IfSome result IsWellFormed }
     ensures submitted { IfSome result IsSubmitted }
 {
@@ -25,14 +25,15 @@ pub(crate) fn event_of(operator: Option<Txt>, command: Option<Command>) -> Optio
 }
 
 // The event of a command of this operator.
-fn event_by(operator: Txt, command: Command) -> Option<Event>
-    requires named { is_name operator ≡ true }
-    requires ranges { IsCommand command }
-    ensures value { result ≡ event_by operator command }
+fn event_by(operator: &Txt, command: &Command) -> Option<Event>
+    requires named { is_name operator.now ≡ true }
+    requires ranges { IsCommand command.now }
+    ensures value { result ≡ event_by operator.now command.now }
     ensures formed { IfSome result IsWellFormed }
     ensures submitted { IfSome result IsSubmitted }
 {
-    match command {
+    let operator = *operator;
+    match *command {
         Command::Login { .. } | Command::Quit => None,
         Command::Next => Some(Event::Next { operator }),
         Command::Claim { number } => Some(Event::Claim { operator, number }),

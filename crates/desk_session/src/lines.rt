@@ -91,6 +91,8 @@ impl Lines {
         requires ready { (H.seen hall.old).ready }
         requires limit { self.old.cutter.limit ≡ line_limit }
         requires named { is_named self.old.operator ≡ true }
+        ensures limit { self.new.cutter.limit ≡ line_limit }
+        ensures named { is_named self.new.operator ≡ true }
         ensures kept { IsKept (H.seen hall.old) (H.seen hall.new) }
         ensures ended { (stream : List ℕ) → HasTaken (meaning (H.seen hall.old).text) stream self.old.cutter self.old.operator →
             IsFinished result stream }

@@ -18,14 +18,14 @@ pub(crate) fn say<H: Hall, P: Port>(
     hall: &H,
     port: &mut P,
     operator: &mut Option<Txt>,
-    command: Option<Command>,
+    command: &Option<Command>,
 ) -> Result<(), DeskEnd>
     requires { (H.seen hall.now).ready }
-    ensures acts { operator.new ≡ acts_after (meaning (H.seen hall.now).text) operator.old command }
-    ensures said { Puts (P.seen port.old) (P.seen port.new) (said_as result) (text_of (meaning (H.seen hall.now).text) command) }
+    ensures acts { operator.new ≡ acts_after (meaning (H.seen hall.now).text) operator.old command.now }
+    ensures said { Puts (P.seen port.old) (P.seen port.new) (said_as result) (text_of (meaning (H.seen hall.now).text) command.now) }
     ensures how { IsSaid result }
-    ensures quit { result ≡ Err DeskEnd.Quit → ends command ≡ true }
-    ensures goes_on { result ≡ Ok tt → ends command ≡ false }
+    ensures quit { result ≡ Err DeskEnd.Quit → ends command.now ≡ true }
+    ensures goes_on { result ≡ Ok tt → ends command.now ≡ false }
 {
     match command {
         None => tell(port, b"what\n"),
@@ -43,19 +43,19 @@ fn log_in<H: Hall, P: Port>(
     hall: &H,
     port: &mut P,
     operator: &mut Option<Txt>,
-    name: Txt,
-    pin: Txt,
+    name: &Txt,
+    pin: &Txt,
 ) -> Result<(), DeskEnd>
     requires { (H.seen hall.now).ready }
-    ensures acts { operator.new ≡ (if has_pin (meaning (H.seen hall.now).text) name pin then Some name else operator.old) }
-    ensures said { Puts (P.seen port.old) (P.seen port.new) result (login_text (has_pin (meaning (H.seen hall.now).text) name pin) name) }
+    ensures acts { operator.new ≡ (if has_pin (meaning (H.seen hall.now).text) name.now pin.now then Some name.now else operator.old) }
+    ensures said { Puts (P.seen port.old) (P.seen port.new) result (login_text (has_pin (meaning (H.seen hall.now).text) name.now pin.now) name.now) }
     ensures how { IfErr result (λ end. end ≡ DeskEnd.WriteFault) }
 {
-    if !has_pin(hall.setup(), &name, &pin) {
+    if !has_pin(hall.setup(), name, pin) {
         return tell(port, b"denied\n");
     }
-    *operator = Some(name);
-    match print_welcome(&name, port) {
+    *operator = Some(*name);
+    match print_welcome(name, port) {
         Ok(()) => Ok(()),
         Err(Failed) => Err(DeskEnd::WriteFault),
     }

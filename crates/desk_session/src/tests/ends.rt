@@ -12,7 +12,13 @@ fn each_fault_has_its_end(rt: HostRuntime) -> Result<(), Fail> {
     let alloc = rt.alloc();
     let input = b"login ann 1234\nlist\nnext\nclaim 1";
     let cases: [(&[u64], &[u64], &str, &[u8], u64); 5] = [
-        (&[], &[], "ended", b"ok ann\nlist 7\nheld by ann\nclaimed 1 fire ?\n", 3),
+        (
+            &[],
+            &[],
+            "ended",
+            b"ok ann\nlist 7\nheld by ann\nclaimed 1 fire ?\n",
+            3,
+        ),
         (&[1], &[], "read", b"", 0),
         // What a failed read cuts short is not carried out.
         (&[2], &[], "read", b"ok ann\nlist 7\nheld by ann\n", 2),

@@ -41,8 +41,16 @@ fn try_row(rt: &impl Abort, alloc: Global, row: &str) -> Result<(), Fail> {
     let calls = calls.parse::<u64>()?;
     let mut hall = hall_of(alloc)?;
     let mut port = port_of(alloc, &input)?;
-    assert_eq!(rt; word(serve_desk(alloc, &mut hall, &mut port)), end, "at {row}");
-    assert_eq!(rt; (port.sink.bytes(), hall.calls), (output.as_slice(), calls), "at {row}");
+    assert_eq!(rt;
+        word(serve_desk(alloc, &mut hall, &mut port)),
+        end,
+        "at {row}"
+    );
+    assert_eq!(rt;
+        (port.sink.bytes(), hall.calls),
+        (output.as_slice(), calls),
+        "at {row}"
+    );
     Ok(())
 }
 
@@ -64,9 +72,18 @@ fn pieces_of_one_byte(rt: HostRuntime) -> Result<(), Fail> {
     for byte in b"login ann 1234\r\nlist\r\n\r\nnext\r\nli" {
         assert_eq!(rt; desk.take(alloc, &mut hall, &mut port, &[*byte]), Ok(()));
     }
-    assert_eq!(rt; port.sink.bytes(), b"ok ann\nlist 7\nwhat\nheld by ann\n".as_slice());
-    assert_eq!(rt; desk.take(alloc, &mut hall, &mut port, b"st\nquit\nlist\n"), Err(DeskEnd::Quit));
-    assert_eq!(rt; port.sink.bytes(), b"ok ann\nlist 7\nwhat\nheld by ann\nlist 7\nbye\n".as_slice());
+    assert_eq!(rt;
+        port.sink.bytes(),
+        b"ok ann\nlist 7\nwhat\nheld by ann\n".as_slice()
+    );
+    assert_eq!(rt;
+        desk.take(alloc, &mut hall, &mut port, b"st\nquit\nlist\n"),
+        Err(DeskEnd::Quit)
+    );
+    assert_eq!(rt;
+        port.sink.bytes(),
+        b"ok ann\nlist 7\nwhat\nheld by ann\nlist 7\nbye\n".as_slice()
+    );
     assert_eq!(rt; hall.calls, 3);
     Ok(())
 }
@@ -76,7 +93,10 @@ fn pieces_of_one_byte(rt: HostRuntime) -> Result<(), Fail> {
 fn a_return_at_the_end(rt: HostRuntime) -> Result<(), Fail> {
     let mut hall = hall_of(rt.alloc())?;
     let mut port = port_of(rt.alloc(), b"list\r\nquit\r")?;
-    assert_eq!(rt; serve_desk(rt.alloc(), &mut hall, &mut port), DeskEnd::InputEnded);
+    assert_eq!(rt;
+        serve_desk(rt.alloc(), &mut hall, &mut port),
+        DeskEnd::InputEnded
+    );
     assert_eq!(rt; port.sink.bytes(), b"denied\nwhat\n".as_slice());
     Ok(())
 }
@@ -93,7 +113,11 @@ fn long_lines(rt: HostRuntime) -> Result<(), Fail> {
             input.extend_from_slice(end)?;
             let mut hall = hall_of(alloc)?;
             let mut port = port_of(alloc, &input)?;
-            assert_eq!(rt; serve_desk(alloc, &mut hall, &mut port), DeskEnd::Quit, "at {len}");
+            assert_eq!(rt;
+                serve_desk(alloc, &mut hall, &mut port),
+                DeskEnd::Quit,
+                "at {len}"
+            );
             assert_eq!(rt; port.sink.bytes(), b"what\nbye\n".as_slice(), "at {len}");
         }
     }

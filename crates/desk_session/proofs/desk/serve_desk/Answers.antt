@@ -11,7 +11,7 @@ use Rattle.session_rules.specs.Inputs.{input_limit, in_limit}
 use Rattle.desk_session.specs.Desks.{TookStream, ServesLines, lines_read}
 use Rattle.desk_session.specs.declared.desk_end.DeskEnd.TheVariants.{ReadFault}
 use Rattle.desk_session.proofs.Followed.{kept_more}
-use Rattle.desk_session.proofs.Ported.{desk_rests, desk_goes, desk_ends, rose_earlier, ended_by, finished_by, all_in_limit, read_more, read_lines, read_all_lines}
+use Rattle.desk_session.proofs.Ported.{desk_rests, desk_goes, desk_ends, rose_earlier, ended_by, finished_by, served_all, all_in_limit, read_more, read_lines, read_all_lines}
 use Rattle.desk_session.proofs.Served.{desk_none}
 use Rattle.desk_session.proofs.desk.serve_desk.Goals as goal
 
@@ -94,7 +94,7 @@ returns-in-Err-take-clause-desk g c =
       },
       λ b h s. desk_ends b h stream goes_on kept c.read_piece.ensures.told.others (done.desk b h s) (stream ++ piece) piece end (ended_lines (stream ++ piece)) refl short
           (read_lines (g.P.Ends.seen c.take.new.port).ended (stream ++ piece) not_ended)
-          (λ x sx. subst (λ (l : List ℕ). ServesLines (Err end) (ended_lines stream) (ended_lines (stream ++ l)) b x _ _ _ _) all (c.in-Err-take.ensures.served stream b x took sx)),
+          (λ x sx. served_all (Err end) stream piece all (c.in-Err-take.ensures.served stream b x took sx)),
     )
 
 pub pieces-preserved : goal.pieces-preserved
@@ -122,6 +122,6 @@ pieces-preserved g c =
         reads = omega (arith, done.reads, told.cause.later, ap (λ (p : PortSeen). p.read_faults) port.rest);
         writes = omega (arith, done.writes, ap (λ (p : PortSeen). p.write_faults) c.read_piece.ensures.told.others.rest, port.later);
         desk = λ b h s. desk_goes b h stream goes_on kept c.read_piece.ensures.told.others (done.desk b h s) (ended_lines (stream ++ piece)) now.taken.goes_on
-            (λ x sx. subst (λ (l : List ℕ). ServesLines (Ok tt) (ended_lines stream) (ended_lines (stream ++ l)) b x _ _ _ _) all (c.in_default.ensures.served stream b x took sx));
+            (λ x sx. served_all (Ok tt) stream piece all (c.in_default.ensures.served stream b x took sx));
       };
     }
