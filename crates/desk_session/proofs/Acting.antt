@@ -1,5 +1,5 @@
 -- For whom a desk acts behind lines.
-use Rattle.std.proofs.Common.{◌≡◌, ◌∷◌, ◌++◌, ℕ, List, [], Bool, true, false, cond, Option, Some, None, refl, sym, ◌∙◌, ap}
+use Rattle.std.proofs.Common.{◌≡◌, ◌∷◌, ◌++◌, ℕ, List, [], Bool, true, false, cond, Option, Some, None, refl, sym}
 use Rattle.std.specs.Prelude.{is_some, IfSome}
 use Rattle.arc_data.specs.Digits.{is_name}
 use Rattle.alarm_rules.specs.Setups.{Setup, operator_of}

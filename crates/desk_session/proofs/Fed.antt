@@ -1,5 +1,5 @@
 -- The bytes of a piece, fed to a desk behind a stream.
-use Rattle.std.proofs.Common.{◌≡◌, ◌+◌, ◌∷◌, ◌++◌, ℕ, List, [], take, drop, Bool, true, false, Option, Some, None, Ok, Err, refl, sym, ◌∙◌, ap, subst, append_assoc, take-append-drop}
+use Rattle.std.proofs.Common.{◌≡◌, ◌+◌, ◌∷◌, ◌++◌, ℕ, List, [], take, drop, true, false, Option, Some, None, Err, refl, sym, ◌∙◌, ap, subst, append_assoc, take-append-drop}
 use Rattle.std.proofs.Math.Seq.{take-add}
 use Rattle.alarm_rules.specs.Setups.{Setup}
 use Rattle.arc_text.specs.declared.line_cut.LineCut.{LineCut}
@@ -9,7 +9,7 @@ use Rattle.arc_text.proofs.LineLaws.{ended_more}
 use Rattle.desk_wire.specs.declared.command.Command.{Command}
 use Rattle.std.specs.Str.Lines.{lines}
 use Rattle.desk_session.specs.Desks.{HasTaken, IsFed, IsFinished}
-use Rattle.desk_session.specs.Events.{command_in, acts_after, acts_over, ends, is_known, is_quit, line_limit, quits}
+use Rattle.desk_session.specs.Events.{command_in, acts_after, acts_over, ends, is_known, is_quit, quits}
 use Rattle.desk_session.specs.Sessions.{IsCutShort}
 use Rattle.desk_session.specs.declared.desk_end.DeskEnd.{DeskEnd}
 use Rattle.desk_session.specs.declared.desk_end.DeskEnd.TheVariants.{Quit, InputEnded, ReadFault, WriteFault, Spent, Stopped}

@@ -11,7 +11,7 @@ use Rattle.session_rules.specs.Turns.{pieces_of}
 use Rattle.session_rules.proofs.Appended.{pieces-append}
 use Rattle.session_rules.proofs.Joined.{Follows, session_then, all_pieces}
 use Rattle.desk_session.specs.Events.{command_in, acts_after, acts_over, event_of, text_of}
-use Rattle.desk_session.specs.Turns.{Turn, desk_turns, TakesNothing, TakesEntry, IsAnswered, AreTurns}
+use Rattle.desk_session.specs.Turns.{Turn, desk_turns, IsAnswered, AreTurns}
 use Rattle.desk_session.specs.Sessions.{IsDesk, desk_rules}
 use Rattle.desk_session.proofs.Acting.{acts_over-append}
 

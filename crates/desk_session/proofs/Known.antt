@@ -1,5 +1,5 @@
 -- What a desk submits is not unknown to its hall.
-use Rattle.std.proofs.Common.{◌≡◌, ◌∷◌, ◌++◌, ℕ, List, [], Bool, true, false, cond, Option, Some, None, sym, ◌∙◌, ap, subst}
+use Rattle.std.proofs.Common.{◌≡◌, ◌∷◌, ℕ, List, Bool, true, false, cond, Option, Some, None, sym, ◌∙◌, ap, subst}
 use Rattle.std.specs.Prelude.{if◌then◌else◌}
 use Rattle.arc_data.specs.declared.event.Event.{Event}
 use Rattle.arc_data.specs.declared.event.Event.TheVariants.{Next as TheNext, Claim as TheClaim, Act as TheAct, Release as TheRelease}
@@ -14,7 +14,7 @@ use Rattle.alarm_rules.specs.Plans.{expected_step}
 use Rattle.alarm_rules.specs.Setups.{Setup, meaning, has_operator}
 use Rattle.centre_core.specs.Halls.{HallSeen, IsKept, TookEvent}
 use Rattle.centre_rules.specs.Cases.{Incident, incidents}
-use Rattle.centre_rules.specs.Desks.{numbered, held_by, best, holds, claim_unless, claim_from, claim_of, on_claim, next_of, on_next, act_when, act_of, on_act, release_of, on_release, close_when, close_of, on_close, show_of, on_show, on_list}
+use Rattle.centre_rules.specs.Desks.{numbered, held_by, best, holds, claim_unless, claim_from, claim_of, next_of, act_when, act_of, release_of, close_when, close_of, show_of}
 use Rattle.centre_rules.specs.Summary.{Summary}
 use Rattle.centre_rules.specs.Marks.{Mark, force}
 use Rattle.centre_rules.specs.History.{Entry, is_recorded, marks, marks_of, onto, acted_by}

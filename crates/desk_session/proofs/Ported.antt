@@ -1,5 +1,5 @@
 -- Desk sessions over a port, read piece by piece.
-use Rattle.std.proofs.Common.{◌≡◌, ◌<◌, ◌≤◌, ◌-◌, ◌++◌, ℕ, List, [], length, Bool, true, false, if◌then◌else◌, Option, None, Ok, Err, Result, refl, sym, ◌∙◌, ap, subst, append-nil, length-append, arith}
+use Rattle.std.proofs.Common.{◌≡◌, ◌<◌, ◌≤◌, ◌-◌, ◌++◌, ℕ, List, [], length, Bool, true, false, Option, None, Ok, Err, Result, refl, sym, ◌∙◌, ap, subst, append-nil, length-append, arith}
 use Rattle.std.specs.Io.KnownBytes.{prepend_known}
 use Rattle.std.specs.Str.Lines.{lines}
 use Rattle.std.proofs.lemmas.List.{take_all}
@@ -13,18 +13,17 @@ use Rattle.centre_core.specs.Halls.{HallSeen, IsKept}
 use Rattle.centre_rules.specs.Summary.{Summary}
 use Rattle.centre_rules.specs.History.{Entry}
 use Rattle.session_rules.specs.Inputs.{input_limit, in_limit}
-use Rattle.session_rules.specs.Sessions.{Ending, answered, cut_off, stopped, ReadsNoFurther}
-use Rattle.session_rules.specs.Turns.{pieces_of}
+use Rattle.session_rules.specs.Sessions.{answered, ReadsNoFurther}
 use Rattle.session_rules.proofs.Ahead.{reads_no_further}
 use Rattle.session_rules.proofs.Joined.{all_pieces, session_read, session_then}
-use Rattle.desk_session.specs.Desks.{typed_lines, ServesBytes, ServesLines, ServesDesk, IsTaken, IsFinished, HasEnded, QuitsInTime, DeskValue, lines_read}
+use Rattle.desk_session.specs.Desks.{typed_lines, ServesBytes, ServesLines, ServesDesk, IsTaken, IsFinished, HasEnded, DeskValue, lines_read}
 use Rattle.desk_session.specs.Events.{acts_over, quits, up_to_quit}
 use Rattle.desk_session.specs.Sessions.{IsDesk, ending_of, desk_rules}
 use Rattle.desk_session.specs.Turns.{desk_turns}
 use Rattle.desk_session.specs.declared.desk_end.DeskEnd.{DeskEnd}
 use Rattle.desk_session.specs.declared.desk_end.DeskEnd.TheVariants.{Quit, InputEnded, ReadFault, WriteFault, Spent, Stopped}
 use Rattle.desk_session.proofs.Completed.{completes}
-use Rattle.desk_session.proofs.Followed.{desk_then, desk_follows, acts_at_last}
+use Rattle.desk_session.proofs.Followed.{desk_then}
 use Rattle.desk_session.proofs.Quitting.{up_all}
 use Rattle.desk_session.proofs.Served.{desk_read}
 

@@ -1,7 +1,6 @@
 -- Lines up to a `quit`.
-use Rattle.std.proofs.Common.{◌≡◌, ◌∷◌, ◌++◌, ℕ, List, [], Bool, true, false, ◌||◌, cond, refl, sym, ◌∙◌, ap, append-nil, append_assoc}
-use Rattle.std.specs.List.{list_any}
-use Rattle.std.proofs.lemmas.Bool.{or_parts, or_from}
+use Rattle.std.proofs.Common.{◌≡◌, ◌∷◌, ◌++◌, ℕ, List, [], Bool, true, false, ◌||◌, cond, refl, sym, ◌∙◌, ap, append-nil}
+use Rattle.std.proofs.lemmas.Bool.{or_parts}
 use Rattle.std.proofs.lemmas.List.Folds.{list_any-append}
 use Rattle.desk_session.specs.Events.{is_quit, quits, up_to_quit}
 

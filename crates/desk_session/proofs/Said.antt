@@ -1,16 +1,16 @@
 -- Desk sessions over one line.
-use Rattle.std.proofs.Common.{◌≡◌, ◌≢◌, ◌<◌, ◌∷◌, ◌++◌, ℕ, List, [], Bool, true, false, Option, Some, None, Result, Ok, Err, take, length, refl, sym, ◌∙◌, ap, subst}
+use Rattle.std.proofs.Common.{◌≡◌, ◌≢◌, ◌<◌, ◌∷◌, ◌++◌, ℕ, List, [], Option, Some, None, Result, Ok, Err, take, length, refl, sym, ◌∙◌, ap, subst}
 use Rattle.std.specs.Prelude.{reverse}
 use Rattle.std.specs.Io.KnownBytes.{append_known}
 use Rattle.arc_data.specs.declared.event.Event.{Event}
 use Rattle.arc_data.specs.declared.reply.Reply.TheVariants.{Unknown}
-use Rattle.alarm_rules.specs.Setups.{Setup, meaning}
-use Rattle.arc_io.specs.Added.{Added, Adds}
+use Rattle.alarm_rules.specs.Setups.{meaning}
+use Rattle.arc_io.specs.Added.{Adds}
 use Rattle.arc_io.specs.Seen.{PortSeen}
 use Rattle.arc_io.specs.Told.{OnlyWrites, Puts, after_reading, after_noise}
 use Rattle.arc_io.proofs.Adding.{adds_put, adds_front, noise_none}
 use Rattle.arc_io.proofs.KnownMore.{known_none}
-use Rattle.centre_core.specs.Halls.{HallSeen, TookEvent, LeftEvent}
+use Rattle.centre_core.specs.Halls.{HallSeen, TookEvent}
 use Rattle.centre_core.specs.declared.hall.Stop.{Stop}
 use Rattle.centre_rules.specs.Summary.{Summary}
 use Rattle.centre_rules.specs.History.{Entry}
@@ -22,7 +22,7 @@ use Rattle.session_rules.specs.Turns.{entries_of}
 use Rattle.session_rules.proofs.Made.{session_sent, session_cut, session_stopped}
 use Rattle.desk_session.specs.Asking.{Asked, Left, Asks, IsAsked, said_as, IsSaid}
 use Rattle.desk_session.specs.Events.{command_in, acts_after, event_of, text_of}
-use Rattle.desk_session.specs.Turns.{Turn, desk_turns, IsAnswered, IsTurn, TakesEntry}
+use Rattle.desk_session.specs.Turns.{Turn, desk_turns, IsAnswered, IsTurn}
 use Rattle.desk_session.specs.Sessions.{IsCutShort, IsDesk, ending_of, desk_rules}
 use Rattle.desk_session.specs.declared.desk_end.DeskEnd.{DeskEnd}
 use Rattle.desk_session.specs.declared.desk_end.DeskEnd.TheVariants.{Quit, InputEnded, ReadFault, WriteFault, Spent, Stopped}

@@ -1,5 +1,5 @@
 -- Desk sessions over the lines of a stream.
-use Rattle.std.proofs.Common.{◌≡◌, ◌∷◌, ◌++◌, ℕ, List, [], Bool, true, false, Option, None, Result, Ok, Err, refl, sym, ◌∙◌, ap, subst, append_assoc, append-nil}
+use Rattle.std.proofs.Common.{◌≡◌, ◌∷◌, ◌++◌, ℕ, List, [], true, false, Option, None, Result, Ok, Err, refl, sym, ◌∙◌, ap, subst, append_assoc, append-nil}
 use Rattle.alarm_rules.specs.Setups.{meaning}
 use Rattle.arc_io.specs.Seen.{PortSeen}
 use Rattle.arc_io.specs.Told.{OnlyReads}
@@ -7,18 +7,18 @@ use Rattle.centre_core.specs.Halls.{HallSeen, IsKept}
 use Rattle.centre_rules.specs.Summary.{Summary}
 use Rattle.centre_rules.specs.History.{Entry}
 use Rattle.centre_rules.specs.Answers.{IsLegal}
-use Rattle.session_rules.specs.Sessions.{Ending, answered, cut_off, stopped}
+use Rattle.session_rules.specs.Sessions.{Ending, answered}
 use Rattle.session_rules.proofs.Joined.{IsEarly, session_wider, session_read}
 use Rattle.session_rules.proofs.Made.{session_none}
 use Rattle.desk_session.specs.Desks.{ServesLines}
-use Rattle.desk_session.specs.Events.{acts_over, is_quit, quits, up_to_quit}
+use Rattle.desk_session.specs.Events.{acts_over, quits, up_to_quit}
 use Rattle.desk_session.specs.Sessions.{IsDesk, IsCutShort, ending_of, desk_rules}
 use Rattle.desk_session.specs.Turns.{desk_turns}
 use Rattle.desk_session.specs.declared.desk_end.DeskEnd.{DeskEnd}
 use Rattle.desk_session.specs.declared.desk_end.DeskEnd.TheVariants.{Quit, InputEnded, ReadFault, WriteFault, Spent, Stopped}
 use Rattle.desk_session.proofs.Acting.{acts_over-append}
 use Rattle.desk_session.proofs.Followed.{desk_then}
-use Rattle.desk_session.proofs.Quitting.{IsWider, up_all, up_next, wider}
+use Rattle.desk_session.proofs.Quitting.{up_all, up_next, wider}
 
 -- the same session, over the same lines and to the same port but for reads
 unfoldable pub desk_read : {end : Ending} {b : Summary} {first : Option (List ℕ)} {xs ys : List (List ℕ)} {h : List Entry} {hall hall' : HallSeen} {p q r : PortSeen}

@@ -1,5 +1,5 @@
 -- What a desk's state keeps of the bytes that it took, and what a session over a port did.
-use Rattle.std.specs.Prelude.{◌≡◌, ◌<◌, ◌≤◌, ◌++◌, ℕ, List, [], Bool, true, false, if◌then◌else◌, Option, None, Result, Ok, Err, length}
+use Rattle.std.specs.Prelude.{◌≡◌, ◌<◌, ◌≤◌, ◌++◌, ℕ, List, Bool, true, false, if◌then◌else◌, Option, None, Result, Ok, Err, length}
 use Rattle.std.specs.Io.KnownBytes.{prepend_known, IsAtEnd}
 use Rattle.std.specs.Str.Lines.{lines}
 use Rattle.alarm_rules.specs.Setups.{Setup, meaning}
@@ -13,7 +13,7 @@ use Rattle.centre_rules.specs.History.{Entry}
 use Rattle.session_rules.specs.Inputs.{input_limit, in_limit}
 use Rattle.session_rules.specs.Sessions.{ReadsNoFurther}
 use Rattle.desk_session.specs.Completeness.{IsComplete}
-use Rattle.desk_session.specs.Events.{line_limit, acts_over, quits, up_to_quit}
+use Rattle.desk_session.specs.Events.{acts_over, quits, up_to_quit}
 use Rattle.desk_session.specs.Sessions.{IsDesk, ending_of}
 use Rattle.desk_session.specs.Turns.{desk_turns}
 use Rattle.desk_session.specs.declared.desk_end.DeskEnd.{DeskEnd}

@@ -1,13 +1,13 @@
 -- Commands as they are spelled and as they are read.
-use Rattle.std.proofs.Common.{◌≡◌, ◌<◌, ◌^◌, ℕ, List, [], ◌∷◌, ◌++◌, Bool, true, false, cond, eqb, leb, Option, Some, None, refl, sym, ◌∙◌, ap, subst, append_assoc, arith}
+use Rattle.std.proofs.Common.{◌≡◌, ℕ, List, [], ◌∷◌, ◌++◌, Bool, true, false, cond, eqb, leb, Option, Some, None, refl, sym, ◌∙◌, ap, subst, append_assoc, arith}
 use Rattle.std.specs.Prelude.{decimal, codes}
-use Rattle.std.specs.List.{list_any, list_all, slice_split, onto_first, join_with_byte}
+use Rattle.std.specs.List.{list_any, list_all, join_with_byte}
 use Rattle.std.specs.Option.{option_map}
 use Rattle.std.specs.Str.{bytes_eq}
 use Rattle.std.proofs.lemmas.Bool.{and_parts, or_parts, or_from, eqb-true, leb-true}
 use Rattle.std.proofs.lemmas.List.Splits.{join_with_byte-slice_split}
 use Rattle.std.proofs.lemmas.Slice.Eq.{bytes_eq-Decides}
-use Rattle.alarm_rules.specs.SetupLines.{words_of, after, is_nil, provided}
+use Rattle.alarm_rules.specs.SetupLines.{words_of, after, provided}
 use Rattle.alarm_rules.specs.SetupWords.{is_pin}
 use Rattle.arc_data.specs.Digits.{is_name, is_name_byte, is_digit}
 use Rattle.arc_data.specs.Steps.{fits, is_step}
@@ -19,10 +19,10 @@ use Rattle.arc_data.specs.declared.step.Step.{Step}
 use Rattle.arc_data.specs.declared.step.Step.TheVariants.{Premises, Holder, Police, Fire, Ambulance, Guard, Note}
 use Rattle.desk_wire.specs.Commands.{login_line, alone, one_number, act_line, close_line, command_of_words, command_of}
 use Rattle.desk_wire.specs.Names.{step_name, outcome_name, code_name, step_named, outcome_named, code_named, number_spelled}
-use Rattle.desk_wire.specs.Laws.{spelling, IsTyped, IsLogin, IsAct, IsCommand, IsRead}
+use Rattle.desk_wire.specs.Laws.{spelling, IsTyped, IsCommand, IsRead}
 use Rattle.desk_wire.specs.declared.command.Command.{Command}
 use Rattle.desk_wire.specs.declared.command.Command.TheVariants.{Login, Quit, Next, Claim, Act, Release, Close, Show, List as Rows}
-use Rattle.desk_wire.proofs.NumberLaws.{IsNumber, number_is, number_found, step_is, outcome_is, code_is, step_found, outcome_found, code_found, is_space, IsWord, decimal_word}
+use Rattle.desk_wire.proofs.NumberLaws.{number_is, number_found, step_is, outcome_is, code_is, step_found, outcome_found, code_found, is_space, IsWord, decimal_word}
 
 -- What is read.
 

@@ -1,15 +1,13 @@
 -- Numbers, steps, outcomes and codes by their names.
-use Rattle.std.proofs.Common.{◌≡◌, ◌<◌, ◌≤◌, ◌+◌, ◌-◌, ◌/◌, ◌%◌, ◌^◌, ℕ, zero, suc, List, [], ◌∷◌, ◌++◌, Bool, true, false, cond, eqb, leb, Option, Some, None, refl, sym, ◌∙◌, ap, subst, arith, inl, inr}
-use Rattle.std.specs.Prelude.{decimal, codes}
+use Rattle.std.proofs.Common.{◌≡◌, ◌<◌, ◌≤◌, ◌+◌, ◌%◌, ◌^◌, ℕ, zero, suc, List, [], ◌∷◌, Bool, true, false, cond, eqb, leb, Option, Some, None, refl, sym, ◌∙◌, ap, arith}
+use Rattle.std.specs.Prelude.{decimal}
 use Rattle.std.specs.List.{find, list_any, list_all}
 use Rattle.std.specs.Str.{bytes_eq}
 use Rattle.std.proofs.lemmas.Bool.{false_from_ne_true, ne_eqb, or_from, and_parts, leb-true}
 use Rattle.std.proofs.lemmas.Fmt.{decimal_injective, decimal_by_steps, decimal_digit}
 use Rattle.std.proofs.lemmas.List.Folds.{list_any-append}
 use Rattle.std.proofs.lemmas.Slice.Eq.{bytes_eq-Decides}
-use Rattle.alarm_rules.specs.FirstFrom.{first_from}
-use Rattle.alarm_rules.proofs.FirstNumbers.{IsFirst, first_from-first, first_from-none, first_from-found}
-use Rattle.arc_data.specs.Digits.{is_between}
+use Rattle.alarm_rules.proofs.FirstNumbers.{first_from-first, first_from-none, first_from-found}
 use Rattle.arc_data.specs.Steps.{is_step}
 use Rattle.arc_data.specs.declared.event.CloseCode.{CloseCode}
 use Rattle.arc_data.specs.declared.event.CloseCode.TheVariants.{Real, False, Test}

@@ -1,7 +1,6 @@
 -- How steps, outcomes, codes and numbers are written at a desk.
 use Rattle.std.specs.Prelude.{ℕ, ◌++◌, List, [], ◌∷◌, Option, codes, decimal}
 use Rattle.std.specs.List.{find}
-use Rattle.std.specs.Option.{option_map}
 use Rattle.std.specs.Str.{bytes_eq}
 use Rattle.alarm_rules.specs.SetupWords.{number_between}
 use Rattle.arc_data.specs.declared.event.CloseCode.{CloseCode}

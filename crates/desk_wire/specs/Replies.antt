@@ -1,5 +1,5 @@
 -- The line that a desk prints for each reply of the centre.
-use Rattle.std.specs.Prelude.{ℕ, ◌++◌, List, [], Bool, true, false, if◌then◌else◌, Option, Some, None, codes, decimal}
+use Rattle.std.specs.Prelude.{ℕ, ◌++◌, List, Bool, if◌then◌else◌, Option, Some, None, codes, decimal}
 use Rattle.std.specs.List.{flat_map}
 use Rattle.arc_data.specs.Classes.{name_of}
 use Rattle.arc_data.specs.declared.listing.Listing.{Listing}

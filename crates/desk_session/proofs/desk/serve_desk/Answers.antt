@@ -1,15 +1,13 @@
-use Rattle.std.proofs.Common.{◌≡◌, ◌≤◌, ◌-◌, ◌++◌, [], ℕ, List, length, take, None, Ok, Err, refl, sym, ◌∙◌, ap, subst, arith, append-nil, length-take}
+use Rattle.std.proofs.Common.{◌≤◌, ◌-◌, ◌++◌, [], ℕ, List, length, take, None, Ok, Err, refl, sym, ◌∙◌, ap, subst, arith, append-nil, length-take}
 use Rattle.std.specs.Io.KnownBytes.{prepend_known, IsAtEnd}
 use Rattle.std.specs.Str.Lines.{lines}
-use Rattle.std.specs.Prelude.{Option, Bool, true, false}
 use Rattle.alarm_rules.specs.Setups.{meaning}
 use Rattle.arc_io.specs.Causes.{Rose}
 use Rattle.arc_io.specs.Seen.{PortSeen}
-use Rattle.arc_io.proofs.KnownMore.{prepend_none, known_taken}
+use Rattle.arc_io.proofs.KnownMore.{prepend_none}
 use Rattle.arc_text.specs.Lines.{ended_lines}
-use Rattle.session_rules.specs.Inputs.{input_limit, in_limit}
-use Rattle.desk_session.specs.Desks.{TookStream, ServesLines, lines_read}
-use Rattle.desk_session.specs.declared.desk_end.DeskEnd.TheVariants.{ReadFault}
+use Rattle.session_rules.specs.Inputs.{input_limit}
+use Rattle.desk_session.specs.Desks.{TookStream}
 use Rattle.desk_session.proofs.Followed.{kept_more}
 use Rattle.desk_session.proofs.Ported.{desk_rests, desk_goes, desk_ends, rose_earlier, ended_by, finished_by, served_all, all_in_limit, read_more, read_lines, read_all_lines}
 use Rattle.desk_session.proofs.Served.{desk_none}

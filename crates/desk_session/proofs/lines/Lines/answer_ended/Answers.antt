@@ -1,11 +1,11 @@
-use Rattle.std.proofs.Common.{◌≡◌, ◌+◌, ◌∷◌, ◌++◌, [], ℕ, List, take, drop, None, Some, Ok, Err, refl, sym, ◌∙◌, ap, subst, append-nil, arith}
+use Rattle.std.proofs.Common.{◌≡◌, ◌+◌, ◌∷◌, ◌++◌, [], ℕ, List, take, drop, Ok, Err, refl, sym, ◌∙◌, ap, subst, append-nil, arith}
 use Rattle.std.proofs.lemmas.List.{take_rest, take_all}
 use Rattle.std.proofs.lemmas.Result.{err_from_is_err_and}
 use Rattle.alarm_rules.specs.Setups.{meaning}
 use Rattle.arc_io.proofs.Frames.{answers_none, answers_more, unfailed}
 use Rattle.arc_text.specs.LineCutting.{Feeds, cut_of}
 use Rattle.arc_text.specs.Lines.{ended_lines}
-use Rattle.desk_session.specs.Desks.{HasTaken, ServesBytes}
+use Rattle.desk_session.specs.Desks.{HasTaken}
 use Rattle.desk_session.specs.Events.{acts_after, is_known, up_to_quit}
 use Rattle.desk_session.proofs.Fed.{came_none, came_line, taken_none, taken_line, taken_known, quits_by, lines_behind, fed_err}
 use Rattle.desk_session.proofs.Followed.{kept_more}

@@ -1,4 +1,4 @@
-use Rattle.std.proofs.Common.{◌≡◌, ◌∷◌, ◌++◌, [], Ok, Err, refl, sym, ◌∙◌, ap}
+use Rattle.std.proofs.Common.{◌∷◌, ◌++◌, [], Ok, Err, refl, sym, ◌∙◌, ap}
 use Rattle.std.specs.Str.Lines.{lines}
 use Rattle.alarm_rules.specs.Setups.{meaning}
 use Rattle.arc_text.specs.LineCutting.{cut_of}
