@@ -1,6 +1,6 @@
 // Lines of a desk as they are read and printed, from the desk's grammar and its table of replies.
 use super::*;
-use arc_data::{Class, CloseCode, Listing, Outcome, Reply, Row, Step, Txt, View};
+use arc_data::{Class, Listing, Outcome, Reply, Row, Step, Txt, View};
 use arc_io::{Failed, MemSink};
 use std::alloc::Global;
 use std::process::Abort;
@@ -107,25 +107,30 @@ fn reads_lines(rt: HostRuntime) {
     }
 }
 
+// What stands in commands is tied to their spelling by laws; here it is read once.
 #[test]
 fn reads_the_parts_of_lines(rt: HostRuntime) {
     let login = Command::read(b"login bob 98765432");
-    assert!(rt;
-        matches!(login, Some(Command::Login { name, pin }) if name.bytes() == b"bob".as_slice() && pin.bytes() == b"98765432".as_slice())
-    );
-    let (number, step, outcome) = (18446744073709551615, Step::Holder(3), Outcome::NoAnswer);
-    let act = Command::Act {
-        number,
-        step,
-        outcome,
+    let Some(Command::Login { name, pin }) = &login else {
+        panic!(rt; "no login");
     };
-    assert!(rt; Command::read(b"act 18446744073709551615 holder3 noanswer") == Some(act));
-    assert!(rt; Command::read(b"claim 12") == Some(Command::Claim { number: 12 }));
-    assert!(rt; Command::read(b"release 13") == Some(Command::Release { number: 13 }));
-    assert!(rt; Command::read(b"show 14") == Some(Command::Show { number: 14 }));
-    let code = CloseCode::Test;
-    assert!(rt; Command::read(b"close 15 test") == Some(Command::Close { number: 15, code }));
-    assert!(rt; Command::read(b"claim 12\r").is_none());
+    assert_eq!(rt;
+        (name.bytes(), pin.bytes()),
+        (b"bob".as_slice(), b"98765432".as_slice())
+    );
+    let act = Command::read(b"act 18446744073709551615 holder3 noanswer");
+    let Some(
+        Command::Act {
+            number,
+            step,
+            outcome,
+        },
+    ) = &act
+    else {
+        panic!(rt; "no act");
+    };
+    assert_eq!(rt; *number, u64::MAX);
+    assert_eq!(rt; (*step, *outcome), (Step::Holder(3), Outcome::NoAnswer));
 }
 
 fn text(bytes: &[u8]) -> Txt {
@@ -250,32 +255,42 @@ fn prints_names(rt: HostRuntime) {
     assert_eq!(rt; out.bytes(), b"ok ann\n".as_slice());
 }
 
-#[test]
-fn prints_incidents(rt: HostRuntime) {
-    let alloc = rt.alloc();
-    let view = View {
+// An incident as it is shown.
+fn view(restored: bool, holder: Option<Txt>, expected: Option<Step>) -> View {
+    View {
         number: 1,
         class: Class::Burglary,
         account: text(b"1234"),
         code: text(b"131"),
-        at: 1000000000,
+        at: 1_000_000_000,
         signals: 1,
-        restored: false,
-        holder: None,
-        expected: Some(Step::Note),
-    };
+        restored,
+        holder,
+        expected,
+    }
+}
+
+#[test]
+fn prints_incidents(rt: HostRuntime) {
+    let alloc = rt.alloc();
+    let waiting = Reply::Shown(view(false, None, Some(Step::Note)));
     let want =
         "incident 1 burglary 1234 code 131 opened 1000000000 signals 1 restored no holder none next note\n";
-    compare(&rt, alloc, &Reply::Shown(view), want);
-    let view = View {
-        restored: true,
-        holder: Some(text(b"bob")),
-        expected: None,
-        ..view
-    };
+    compare(&rt, alloc, &waiting, want);
+    let done = Reply::Shown(view(true, Some(text(b"bob")), None));
     let want =
         "incident 1 burglary 1234 code 131 opened 1000000000 signals 1 restored yes holder bob next none\n";
-    compare(&rt, alloc, &Reply::Shown(view), want);
+    compare(&rt, alloc, &done, want);
+}
+
+// An incident of a list.
+fn row(number: u64, class: Class, account: &[u8], holder: Option<Txt>) -> Row {
+    Row {
+        number,
+        class,
+        account: text(account),
+        holder,
+    }
 }
 
 #[test]
@@ -283,21 +298,8 @@ fn prints_lists(rt: HostRuntime) {
     let alloc = rt.alloc();
     compare(&rt, alloc, &Reply::Listed(Listing::new(0)), "list 0\n");
     let mut listing = Listing::new(2);
-    let (class, account) = (Class::Fire, text(b"12345A"));
-    let row = Row {
-        number: 1,
-        class,
-        account,
-        holder: None,
-    };
-    assert!(rt; listing.push(row));
-    let row = Row {
-        number: 2,
-        class: Class::Unlisted,
-        holder: Some(text(b"ann")),
-        ..row
-    };
-    assert!(rt; listing.push(row));
+    let _ = listing.push(row(1, Class::Fire, b"12345A", None));
+    let _ = listing.push(row(2, Class::Unlisted, b"12345A", Some(text(b"ann"))));
     compare(
         &rt,
         alloc,
@@ -309,16 +311,10 @@ fn prints_lists(rt: HostRuntime) {
 // The longest line: 16 incidents whose numbers and names are as long as they can be.
 #[test]
 fn prints_the_longest_list(rt: HostRuntime) {
-    let name = text(b"abcdefghijklmnopqrstuvwxyzabcdef");
-    let mut listing = Listing::new(18446744073709551615);
-    let row = Row {
-        number: 18446744073709551615,
-        class: Class::Environment,
-        account: name,
-        holder: Some(name),
-    };
+    let name = b"abcdefghijklmnopqrstuvwxyzabcdef";
+    let mut listing = Listing::new(u64::MAX);
     for _ in 0..17u8 {
-        let _ = listing.push(row);
+        let _ = listing.push(row(u64::MAX, Class::Environment, name, Some(text(name))));
     }
     let mut out = MemSink::new(rt.alloc(), Vec::new(rt.alloc()));
     assert_eq!(rt; print(&Reply::Listed(listing), &mut out), Ok(()));
