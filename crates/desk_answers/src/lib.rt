@@ -8,3 +8,6 @@ pub use arc_data::{Acted, Incident, Memory, Reply, Txt};
 pub use incidents::Table;
 pub use listing::list;
 pub use orders::{act, claim, close, next, release, show};
+
+#[cfg(test)]
+mod tests;
