@@ -3,8 +3,8 @@ use Rattle.std.proofs.Common.{◌≡◌, ◌∷◌, ℕ, List, Bool, true, Optio
 use Rattle.std.specs.Prelude.{◌&&◌, if◌then◌else◌, Result, Ok, Err, IfErr}
 use Rattle.arc_data.specs.declared.event.Event.{Event}
 use Rattle.arc_data.specs.declared.event.Event.TheVariants.{Message as Sent, Beat as Heartbeat}
-use Rattle.arc_data.specs.declared.event.Reply.{Reply}
-use Rattle.arc_data.specs.declared.event.Reply.TheVariants.{Heard, Unknown}
+use Rattle.arc_data.specs.declared.reply.Reply.{Reply}
+use Rattle.arc_data.specs.declared.reply.Reply.TheVariants.{Heard, Unknown}
 use Rattle.alarm_rules.specs.Setups.{Setup, meaning}
 use Rattle.alarm_rules.specs.Signals.{has_signals}
 use Rattle.arc_io.specs.Seen.{PortSeen}

@@ -3,7 +3,7 @@ use Rattle.std.specs.Prelude.{◌≡◌, ◌≢◌, ℕ, List, true, Result, Ok,
 use Rattle.arc_data.specs.WellFormed.{IsWellFormed}
 use Rattle.arc_data.specs.declared.event.Event.{Event}
 use Rattle.arc_data.specs.declared.event.Event.TheVariants.{Message as Sent, Beat as Heartbeat}
-use Rattle.arc_data.specs.declared.event.Reply.TheVariants.{Unknown}
+use Rattle.arc_data.specs.declared.reply.Reply.TheVariants.{Unknown}
 use Rattle.arc_io.specs.Seen.{PortSeen}
 use Rattle.arc_io.specs.Told.{Puts, after_noise}
 use Rattle.alarm_rules.specs.Setups.{Setup, meaning, has_account}

@@ -3,7 +3,7 @@ use Rattle.std.specs.Prelude.{◌≡◌, ◌≢◌, ℕ, List, [], ◌∷◌, Bo
 use Rattle.arc_data.specs.Digits.{capitals}
 use Rattle.arc_data.specs.declared.event.Event.{Event}
 use Rattle.arc_data.specs.declared.event.Event.TheVariants.{Message as Sent, Beat as Heartbeat}
-use Rattle.arc_data.specs.declared.event.Reply.TheVariants.{Unknown}
+use Rattle.arc_data.specs.declared.reply.Reply.TheVariants.{Unknown}
 use Rattle.alarm_rules.specs.Setups.{Setup, key_of}
 use Rattle.centre_rules.specs.Summary.{Summary}
 use Rattle.centre_rules.specs.History.{Entry, Extends, moment_after}
