@@ -1,4 +1,7 @@
 // Setups and their faults, from the grammar of setup lines and its table of faults.
+ghost use Rattle.std.specs.Prelude.{◌<◌, length, IfSome};
+ghost use Rattle.alarm_rules.specs.Setups.{meaning};
+
 use super::*;
 use arc_data::{LineKind, Step};
 use arc_text::dec;
