@@ -7,7 +7,9 @@ use Rattle.centre_rules.specs.History.{Entry, is_recorded, marks, marks_of, onto
 use Rattle.centre_rules.specs.Answers.{answer_over}
 use Rattle.centre_rules.specs.State.{State, Same, StandsFor, Plan, IsSound, Grows, entry_of}
 use Rattle.centre_rules.specs.Summary.{Summary}
+use Rattle.arc_data.specs.declared.reply.Reply.{Reply}
 use Rattle.centre_rules.proofs.Grown.{grown, quiet_grows}
+use Rattle.centre_rules.proofs.Sames.{answer_same}
 use Rattle.centre_rules.proofs.Marked.{recorded_grows}
 use Rattle.centre_rules.proofs.Standing.{is_adopt, text_marked}
 use Rattle.centre_core.specs.Kept.{Records}
@@ -36,6 +38,10 @@ stands_same b s t h entries sum w = record {
   last = ap (λ (x : Summary). x.last) sum ∙ w.last;
   same = subst (λ (x : Summary). Same x [] b (marks b h)) (sym sum) w.same;
 }
+
+-- the answer over what is kept is that over the whole history
+pub answered : (b : Summary) (s t : State) (h : List Entry) (e : Event) (at : ℕ) (r : Reply) → s.sum ≡ t.sum → r ≡ answer_over t.sum [] e at → StandsFor b s h → r ≡ answer_over b (marks b h) e at
+answered b s t h e at r sum is w = is ∙ ap (λ (x : Summary). answer_over x [] e at) (sym sum) ∙ answer_same w.same e at
 
 -- what was worked out over a state, and made there, is the next entry
 pub applied : (b : Summary) (p : Plan) (s t : State) (h : List Entry) (caller : ℕ) → IsSound p → s.sum ≡ p.of.sum → Grows s t (entry_of caller p) → StandsFor b s h → StandsFor b t (entry_of caller p ∷ h)

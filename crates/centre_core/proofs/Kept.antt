@@ -18,7 +18,7 @@ use Rattle.centre_rules.specs.History.{is_recorded, marks_of, onto}
 use Rattle.centre_rules.specs.Answers.{answer_over, if_known}
 use Rattle.centre_rules.specs.State.{Same, State, Plan, IsSound, IsMarked}
 use Rattle.centre_rules.proofs.Marked.{marked_same}
-use Rattle.centre_marks.specs.Taken.{sum_of, marks_with, Takes, MayTake, Fits, named_by}
+use Rattle.centre_marks.specs.Taken.{sum_of, marks_with, Takes, MayTake, Fits, named_by, IsNoAdopt}
 use Rattle.centre_marks.proofs.Taking.{few_more, map_same}
 use Rattle.incident_marks.specs.Marked.{IsFew, HaveActRoom}
 use Rattle.incidents.specs.Tables.{TableValue}
@@ -43,7 +43,7 @@ marks_are s Rows at r = refl
 -- Setups.
 
 adopts_if : (read : Result Setup SetupFault) (r : Reply) → r ≡ if_known (is_ok read) Adopted → is_recorded r ≡ true → IsErr read → ⊥
-adopts_if (Ok setup) r e q is = false≢true (sym is)
+adopts_if (Ok setup) r e q is = false≢true is
 adopts_if (Err fault) r e q is = false≢true (rw e at q)
 
 carries_read : (text : List ℕ) (setup : Option (List ℕ)) (r : Reply) → r ≡ if_known (is_ok (setup_of text)) Adopted → is_recorded r ≡ true → IsSetupOf text setup → (setup ≡ Some text) × IsOk (setup_of text)
@@ -79,9 +79,13 @@ may_record p setup s t ready sum rooms entries same more few recorded =
 
 -- Taken up.
 
-pub may_take : (s : State) (e : Event) (at : ℕ) (r : Reply) (setup : Option (List ℕ)) (xs : List Carried) (v : RowsValue) (t : TableValue) (last recorded : ℕ) (text : Option (List ℕ))
-    → MayRecord s e at r setup xs → s.sum ≡ sum_of last recorded text v t → s.rooms ≡ record { incidents = t.room; accounts = v.room } → IsCentre s.entries recorded last text t → MayTake e at r xs v t
-may_take s e at r setup xs v t last recorded text may sum rooms kept = record {
+pub no_adopt : (e : Event) → ((text : List ℕ) → e ≡ Adopt text → ⊥) → IsNoAdopt e
+no_adopt (Adopt text) other = other text refl
+no_adopt event other = tt
+
+pub may_take : (s : State) (e : Event) (at : ℕ) (r : Reply) (setup : Option (List ℕ)) (xs : List Carried) (v : RowsValue) (t : TableValue) (entries last recorded : ℕ) (text : Option (List ℕ))
+    → MayRecord s e at r setup xs → s.sum ≡ sum_of last recorded text v t → s.rooms ≡ record { incidents = t.room; accounts = v.room } → IsCentre entries recorded last text v t → MayTake e at r xs v t
+may_take s e at r setup xs v t entries last recorded text may sum rooms kept = record {
   bound = few_more (recorded * 8192) (2 ^ 61) t.opened t.incidents (omega (arith, kept.few, kept.bound)) kept.counts;
   acts = kept.acts;
   few = may.worked.few;

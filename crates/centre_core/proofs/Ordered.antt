@@ -1,6 +1,7 @@
 -- Answers to operators.
 use Rattle.std.proofs.Common.{◌≡◌, ℕ, List, [], ◌∷◌, ◌++◌, Bool, true, false, cond, Option, Some, None, refl, sym, ap, ◌∙◌}
-use Rattle.std.specs.Prelude.{IsSome, is_some}
+use Rattle.std.specs.Prelude.{IsSome, is_some, IfOk, Result, Ok, Err}
+use Rattle.arc_data.specs.declared.blob.Memory.{Memory}
 use Rattle.std.specs.List.{find}
 use Rattle.std.proofs.lemmas.Bool.{false≢true}
 use Rattle.arc_data.specs.Incidents.{has_number}
@@ -19,6 +20,7 @@ use Rattle.centre_rules.specs.Cases.{incidents}
 use Rattle.centre_rules.specs.Marks.{force}
 use Rattle.centre_rules.specs.History.{acted_by}
 use Rattle.centre_rules.specs.Desks.{numbered, holds, on_claim, on_next, on_act, on_release, on_close, on_show, on_list, act_of, act_when, close_of, close_when}
+use Rattle.centre_rules.specs.State.{State}
 use Rattle.centre_rules.specs.Answers.{answer_over, if_known, knows_operator}
 use Rattle.centre_rules.proofs.Steps.{incidents_begin}
 use Rattle.centre_rules.proofs.Tables.{numbered_number}
@@ -30,6 +32,17 @@ pub answer_of : (s : Summary) (o : List ℕ) (k : Bool) (r : Reply) (of : List I
     → if_known k r ≡ if_known (knows_operator (force s []) o) (of (incidents s []))
 answer_of s o k r of known is =
     ap (λ b. if_known b r) known ∙ ap (if_known (knows_operator (force s []) o)) (is ∙ ap of (sym (incidents_begin s)))
+
+-- the open incidents of a centre are those of its state
+pub of_table : (s t : State) (reply : Reply) (of : List Incident → Reply) → s ≡ t → reply ≡ of s.sum.incidents → reply ≡ of t.sum.incidents
+of_table s t reply of same is = is ∙ ap (λ (x : State). of x.sum.incidents) same
+
+pub asked : (s : Summary) (reply : Reply) (of : List Incident → Reply) → reply ≡ of s.incidents → reply ≡ of (incidents s [])
+asked s reply of is = is ∙ ap of (sym (incidents_begin s))
+
+pub ok_more : (r : Result Reply Memory) (P Q : Reply → Type 0) → ((x : Reply) → P x → Q x) → IfOk r P → IfOk r Q
+ok_more (Ok x) P Q f h = f x h
+ok_more (Err e) P Q f h = tt
 
 -- What a recorded act says of its incident.
 

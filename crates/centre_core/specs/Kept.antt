@@ -13,15 +13,19 @@ use Rattle.centre_rules.specs.State.{State, Rooms, Same, Plan, IsSound}
 use Rattle.centre_marks.specs.Taken.{named_by}
 use Rattle.incident_marks.specs.Marked.{IsFew, HaveActRoom}
 use Rattle.incidents.specs.Tables.{TableValue}
+use Rattle.account_rows.specs.Rows.{RowsValue}
+use Rattle.centre_core.specs.Raised.{AreOpenedAtMoments}
 
--- a setup that is kept is the one that its text means, and a recorded entry raises no count by more than 8,192
-pub record IsCentre (entries recorded last : ℕ) (text : Option (List ℕ)) (t : TableValue) : Type 0 where
+-- a setup that is kept is the one that its text means, a recorded entry raises no count by more than 8,192, and each account
+-- that is open was opened at a moment
+pub record IsCentre (entries recorded last : ℕ) (text : Option (List ℕ)) (v : RowsValue) (t : TableValue) : Type 0 where
   pub few : recorded ≤ entries
   pub bound : entries ≤ 2 ^ 48
   pub moment : IsMoment last
   pub valid : IfSome text (λ x. IsOk (setup_of x))
   pub counts : IsFew (recorded * 8192) t.opened t.incidents
   pub acts : HaveActRoom t.incidents
+  pub openings : AreOpenedAtMoments v
 
 -- Setups.
 
@@ -60,10 +64,10 @@ pub record HasRoomFor (event : Event) (carried : List Carried) (s : State) : Typ
 -- What has been worked out.
 
 -- for an event at a moment, over a summary: the reply, and where it is recorded, the signals
-pub record IsWorked (s : Summary) (event : Event) (at : ℕ) (reply : Reply) (carried : List Carried) : Type 0 where
+pub record IsWorked (s : Summary) (event : Event) (at : ℕ) (reply : Reply) (signals : List Carried) : Type 0 where
   pub answer : reply ≡ answer_over s [] event at
-  pub carried : is_recorded reply ≡ true → carried ≡ carried_by s [] event at
-  pub few : length carried ≤ 8000
+  pub carried : is_recorded reply ≡ true → signals ≡ carried_by s [] event at
+  pub few : length signals ≤ 8000
 
 -- it is sound, the setup of an Adopt was read, and there is room
 pub record IsReady (p : Plan) (setup : Option (List ℕ)) : Type 0 where
@@ -73,10 +77,10 @@ pub record IsReady (p : Plan) (setup : Option (List ℕ)) : Type 0 where
   pub room : is_recorded p.reply ≡ true → HasRoomFor p.event p.carried p.of
 
 -- a recorded entry of this event can be kept, once it is counted
-pub record MayRecord (s : State) (event : Event) (at : ℕ) (reply : Reply) (setup : Option (List ℕ)) (carried : List Carried) : Type 0 where
+pub record MayRecord (s : State) (event : Event) (at : ℕ) (reply : Reply) (read : Option (List ℕ)) (carried : List Carried) : Type 0 where
   pub count : s.sum.recorded < s.entries
   pub moment : IsMoment at
-  pub setup : CarriesSetup event setup
+  pub setup : CarriesSetup event read
   pub worked : IsWorked s.sum event at reply carried
   pub recorded : is_recorded reply ≡ true
   pub room : HasRoomFor event carried s

@@ -117,7 +117,9 @@ impl Centre {
             }
             Event::Release { operator, number } => Ok(self.on_release(operator, *number)),
             Event::Close {
-                operator, number, ..
+                operator,
+                number,
+                ..
             } => Ok(self.on_close(operator, *number)),
             Event::Show { number } => Ok(desk_answers::show(&self.table, *number)),
             Event::List => desk_answers::list(alloc, self.table.items()),

@@ -6,7 +6,7 @@ ghost use Rattle.alarm_rules.specs.Setups.{account_of, meaning, steps_of};
 ghost use Rattle.centre_rules.specs.Carrying.{carried as carried_of, carried_sent, own_signal as plain_signal, is_irregular as irregular_at};
 ghost use Rattle.centre_rules.specs.Carrying.{raised_where, is_silent, is_late};
 ghost use Rattle.centre_rules.specs.History.{IsMoment};
-ghost use Rattle.centre_core.specs.Raised.{rows_sum};
+ghost use Rattle.centre_core.specs.Raised.{rows_sum, AreOpenedAtMoments};
 
 use crate::watch;
 use account_rows::AccountRows;
@@ -23,7 +23,8 @@ pub(crate) fn signals_sent(
     at: u64,
     signals: &Signals,
 ) -> Result<Vec<Carried>, Memory>
-    requires { IsMoment at }
+    requires moment { IsMoment at }
+    requires few { length signals.now ≤ 8 }
     ensures sent { IfOk result (λ v. v.items ≡ flat_map (carried_sent (meaning setup.now) account.now at) signals.now) }
     ensures few { IfOk result (λ v. length v.items ≤ 16) }
 {
@@ -42,7 +43,8 @@ pub(crate) fn raise(
     rows: &AccountRows,
     at: u64,
 ) -> Result<Vec<Carried>, Memory>
-    requires { IsMoment at }
+    requires moment { IsMoment at }
+    requires openings { AreOpenedAtMoments rows.now }
     ensures raised { IfOk result (λ v. v.items ≡ raised_where (is_silent (rows_sum rows.now) [] at) CommFail at (meaning setup.now)
         ++ raised_where (is_late (rows_sum rows.now) [] at) LateClose at (meaning setup.now)) }
     ensures few { IfOk result (λ v. length v.items ≤ 4000) }
@@ -65,8 +67,9 @@ fn push_sent(
     ensures sent { OnOk result (sent.new.items ≡ sent.old.items ++ carried_sent (meaning setup.now) account.now at signal) }
     ensures few { length sent.new.items ≤ length sent.old.items + 2 }
 {
+    let irregular = is_irregular(setup, account, signal.kind, at);
     push(sent, carried(setup, account, at, false, signal))?;
-    if is_irregular(setup, account, signal.kind, at) {
+    if irregular {
         let irregular = own_signal(Class::Irregular);
         push(sent, carried(setup, account, at, false, irregular))?;
     }
@@ -102,7 +105,8 @@ fn raise_late(
     rows: &AccountRows,
     at: u64,
 ) -> Result<(), Memory>
-    requires { IsMoment at }
+    requires moment { IsMoment at }
+    requires openings { AreOpenedAtMoments rows.now }
     ensures raised { OnOk result (raised.new.items ≡ raised.old.items
         ++ raised_where (is_late (rows_sum rows.now) [] at) LateClose at (meaning setup.now)) }
     ensures few { length raised.new.items ≤ length raised.old.items + 2000 }

@@ -40,7 +40,7 @@ impl Model for Centre {
 
     ghost view = { λ c. record { entries = c.entries; sum = sum_of c.last c.recorded c.setup c.rows c.table; rooms = record { incidents = c.table.room; accounts = c.rows.room } } };
 
-    ghost invariant = { λ c. IsCentre c.entries c.recorded c.last c.setup c.table };
+    ghost invariant = { λ c. IsCentre c.entries c.recorded c.last c.setup c.rows c.table };
 }
 
 impl Centre {

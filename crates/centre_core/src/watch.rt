@@ -2,7 +2,7 @@
 ghost use Rattle.std.specs.Prelude.{◌≡◌, []};
 ghost use Rattle.accounts.specs.Accounts.{defined};
 ghost use Rattle.centre_rules.specs.Carrying.{is_silent as silent_at, is_late as late_at, is_past as past_by};
-ghost use Rattle.centre_core.specs.Raised.{rows_sum};
+ghost use Rattle.centre_core.specs.Raised.{rows_sum, AreOpenedAtMoments};
 
 use account_rows::AccountRows;
 use accounts::Account;
@@ -21,6 +21,7 @@ pub(crate) fn is_silent(account: &Account, rows: &AccountRows, at: u64) -> bool
 
 /// Whether an account is open, although it should be closed since more than 900 seconds, and no LateClose was raised since.
 pub(crate) fn is_late(account: &Account, rows: &AccountRows, at: u64) -> bool
+    requires { AreOpenedAtMoments rows.now }
     ensures { result ≡ late_at (rows_sum rows.now) [] at (defined account.now) }
 {
     match rows.opening(&account.number) {

@@ -185,7 +185,10 @@ fn shown(alloc: Global, view: &View) -> Result<String, Fail> {
     let restored = if view.restored { "yes" } else { "no" };
     let (class, code) = (view.class.name(), text(&view.code));
     let next = step_or_none(&view.expected);
-    Ok(format!(in alloc; "shown {class} {code} signals {} restored {restored} holder {holder} next {next}", view.signals)?)
+    Ok(format!(in alloc;
+        "shown {class} {code} signals {} restored {restored} holder {holder} next {next}",
+        view.signals
+    )?)
 }
 
 fn listed(alloc: Global, reply: &Reply) -> Result<String, Fail> {

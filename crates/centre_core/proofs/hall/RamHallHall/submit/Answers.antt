@@ -1,11 +1,28 @@
-use Rattle.std.proofs.Common.{◌≡◌, ◌∷◌, [], refl, sym, ◌∙◌, ap, subst}
+use Rattle.std.proofs.Common.{◌≡◌, ◌∷◌, [], List, ℕ, Option, refl, sym, ◌∙◌, ap, subst}
+use Rattle.std.specs.Prelude.{unwrap_or}
 use Rattle.centre_rules.specs.History.{Entry}
+use Rattle.centre_rules.specs.Summary.{Summary}
 use Rattle.centre_rules.specs.State.{State, StandsFor, entry_of}
 use Rattle.centre_rules.specs.Answers.{IsLegal}
 use Rattle.centre_core.specs.Runs.{IsSubmitted}
 use Rattle.centre_core.specs.Setting.{IsSetting}
 use Rattle.centre_core.proofs.Applied.{text_stays}
 use Rattle.centre_core.proofs.hall.RamHallHall.submit.Goals as goal
+
+pub invariant_of-self : goal.invariant_of-self
+invariant_of-self c =
+    let sent = subst IsSubmitted (sym c.in-Ok.ensures.event) c.requires.submitted in
+    let text = text_stays c.prepare.new.self c.apply.new.self (entry_of 0 c.in-Ok.ready) sent c.apply.ensures.grows ∙ ap (λ (x : Summary). x.text) c.in-Ok.ensures.sum in
+    subst IsSetting (sym text) c.self.invariant
+
+pub returns-in-Ok-clause-text : goal.returns-in-Ok-clause-text
+returns-in-Ok-clause-text c =
+    let sent = subst IsSubmitted (sym c.in-Ok.ensures.event) c.requires.submitted in
+    text_stays c.prepare.new.self c.apply.new.self (entry_of 0 c.in-Ok.ready) sent c.apply.ensures.grows
+    ∙ ap (λ (x : Summary). x.text) c.in-Ok.ensures.sum ∙ ap (λ (x : State). x.sum.text) c.self.view_is
+
+pub returns-in-Ok-clause-kept : goal.returns-in-Ok-clause-kept
+returns-in-Ok-clause-kept c = record { ready = tt; text = ap (λ (t : Option (List ℕ)). unwrap_or t []) (returns-in-Ok-clause-text c); caller = refl }
 
 pub returns-in-Ok-clause-done : goal.returns-in-Ok-clause-done
 returns-in-Ok-clause-done c b h s =

@@ -1,0 +1,10 @@
+use Rattle.std.proofs.Common.{◌≡◌, false, None, Option, sym, ap, ◌∙◌, List}
+use Rattle.alarm_rules.specs.Setups.{Account, meaning, account_of}
+use Rattle.centre_rules.specs.Carrying.{is_irregular}
+use Rattle.centre_core.proofs.Carried.{no_account}
+use Rattle.centre_core.proofs.carrying.is_irregular.Goals as goal
+
+pub returns-in_default-place : goal.returns-in_default-place
+returns-in_default-place c =
+    let lacks : account_of (meaning c.args.setup.now) c.args.account.now ≡ None = no_account (meaning c.args.setup.now) c.args.account.now (sym c.place.ensures.place ∙ c.in_default-place.is) in
+    sym (ap (λ (a : Option Account). is_irregular a c.args.kind c.args.at) lacks)

@@ -1,0 +1,9 @@
+use Rattle.std.proofs.Common.{◌≡◌, None, sym, ◌∙◌}
+use Rattle.alarm_rules.specs.Setups.{meaning, account_of}
+use Rattle.centre_core.proofs.Carried.{no_account, no_steps}
+use Rattle.centre_core.proofs.carrying.steps_for.Goals as goal
+
+pub returns-in_default : goal.returns-in_default
+returns-in_default c =
+    c.new.ensures ∙ sym (no_steps (meaning c.args.setup.now) c.args.account.now c.args.class c.args.at
+    (no_account (meaning c.args.setup.now) c.args.account.now (sym c.place.ensures.place ∙ c.in_default.is)))
