@@ -53,7 +53,7 @@ fn start(rows: &mut AccountRows, table: &mut Table, at: u64)
     ensures { Takes (Starts at ∷ []) rows.old rows.new table.old table.new }
 {
     rows.start(at);
-    incident_marks::start(table, at);
+    incident_marks::start(table);
 }
 
 // A message is recorded, and its signals are taken up.

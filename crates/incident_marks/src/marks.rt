@@ -10,12 +10,11 @@ use arc_data::{Carried, Kind, Outcome, Step, Txt};
 use incidents::Table;
 
 /// A run starts: nobody holds an incident any more.
-pub fn start(table: &mut Table, at: u64)
-    ensures marked { table.new ≡ marked_table (Starts at) table.old }
+pub fn start(table: &mut Table)
+    ensures marked { (at : ℕ) → table.new ≡ marked_table (Starts at) table.old }
     ensures few { (n : ℕ) → IsFew n table.old.opened table.old.incidents → IsFew n table.new.opened table.new.incidents }
     ensures room { HaveActRoom table.old.incidents → HaveActRoom table.new.incidents }
 {
-    let _at = at;
     table.release_all();
 }
 

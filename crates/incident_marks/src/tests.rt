@@ -41,7 +41,7 @@ fn from_opening_to_closing(rt: HostRuntime) -> Result<(), Fail> {
     let first = table.get(1).ok_or("not open")?;
     assert_eq!(rt; (first.holder, first.touched), (None, 0));
     claim(&mut table, ann, 1, 300);
-    start(&mut table, 400);
+    start(&mut table);
     let first = table.get(1).ok_or("not open")?;
     assert_eq!(rt; (first.holder, first.touched), (None, 0));
     close(&mut table, 1);

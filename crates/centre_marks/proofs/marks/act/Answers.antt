@@ -1,3 +1,4 @@
+-- Where the reply is Recorded, the table has the mark; any other reply leaves none.
 use Rattle.std.proofs.Common.{refl}
 use Rattle.centre_rules.specs.Marks.{Acts}
 use Rattle.centre_rules.specs.History.{acted_by}

@@ -1,3 +1,4 @@
+-- Each signal is a mark more.
 use Rattle.std.proofs.Common.{◌≡◌, ◌^◌, ◌+◌, take, ◌++◌, ◌∷◌, [], sym, ap, ◌∙◌, arith}
 use Rattle.std.proofs.lemmas.List.{take_more}
 use Rattle.centre_rules.specs.Marks.{Carried}

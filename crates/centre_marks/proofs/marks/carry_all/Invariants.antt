@@ -1,3 +1,4 @@
+-- So many of the signals are taken up.
 use Rattle.centre_marks.proofs.Taking.{CarriesSome}
 use Rattle.centre_marks.proofs.marks.carry_all.Given as goal
 

@@ -1,3 +1,4 @@
+-- Where the reply is Claimed, the table has the mark; any other reply leaves none.
 use Rattle.std.proofs.Common.{refl}
 use Rattle.centre_rules.specs.Marks.{Claims}
 use Rattle.centre_marks.proofs.Taking.{table_taken, rows_claims, none_by, claim_other}

@@ -1,3 +1,4 @@
+-- Where the reply is Closed, the table has the mark; any other reply leaves none.
 use Rattle.std.proofs.Common.{refl}
 use Rattle.centre_rules.specs.Marks.{Closes}
 use Rattle.centre_marks.proofs.Taking.{one_taken, rows_closes, none_by, close_other}

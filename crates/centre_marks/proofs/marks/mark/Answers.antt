@@ -1,3 +1,4 @@
+-- A heartbeat is in the rows alone; what only asks leaves no mark.
 use Rattle.std.proofs.Common.{refl, sym}
 use Rattle.centre_rules.specs.Marks.{Hears}
 use Rattle.centre_marks.proofs.Taking.{one_taken, heard_same, none_by, asked_none}

@@ -1,3 +1,4 @@
+-- Where the reply is Released, the table has the mark; any other reply leaves none.
 use Rattle.std.proofs.Common.{refl}
 use Rattle.centre_rules.specs.Marks.{Releases}
 use Rattle.centre_marks.proofs.Taking.{table_taken, rows_releases, none_by, release_other}

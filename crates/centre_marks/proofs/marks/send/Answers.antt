@@ -1,3 +1,4 @@
+-- The mark of the message stands before those of its signals.
 use Rattle.centre_marks.proofs.Taking.{sent_taken}
 use Rattle.centre_marks.proofs.marks.send.Goals as goal
 

@@ -1,3 +1,4 @@
+-- One incident more from the back; then row after row is pushed, and there is room for all.
 use Rattle.std.proofs.Common.{◌≤◌, ◌-◌, length, drop, ◌∙◌, arith}
 use Rattle.desk_answers.proofs.ListingLemmas.{row_more, row_pushed, few_rows}
 use Rattle.desk_answers.proofs.listing.list.Goals as goal

@@ -1,3 +1,4 @@
+-- The first rows of the incidents from k on; then so many of the rows are pushed.
 use Rattle.std.proofs.Common.{◌≡◌, length, take, drop}
 use Rattle.desk_answers.proofs.ListingLemmas.{first_rows}
 use Rattle.desk_answers.proofs.listing.list.Given as goal

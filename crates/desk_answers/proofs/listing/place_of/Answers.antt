@@ -1,3 +1,4 @@
+-- The place that the search told, or the end.
 use Rattle.std.proofs.Common.{sym, ◌∙◌}
 use Rattle.desk_answers.proofs.ListingLemmas.{place_told, place_last}
 use Rattle.desk_answers.proofs.listing.place_of.Goals as goal

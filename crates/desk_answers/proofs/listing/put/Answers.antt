@@ -1,3 +1,4 @@
+-- The row stands in its place, and the first 16 are kept.
 use Rattle.std.proofs.Common.{List, ℕ, take, ap, ◌∙◌}
 use Rattle.std.specs.List.{insert, position_or_len}
 use Rattle.arc_data.specs.declared.listing.Row.{Row}

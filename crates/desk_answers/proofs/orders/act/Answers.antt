@@ -1,3 +1,4 @@
+-- There is room for the act in the copy, so as many steps are left as it says.
 use Rattle.std.proofs.Common.{sym, ap, ◌∙◌}
 use Rattle.std.specs.Option.{option_map}
 use Rattle.desk_answers.proofs.OrderLemmas.{few_acts, acts_pushed, recorded}

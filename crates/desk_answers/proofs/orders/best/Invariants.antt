@@ -1,3 +1,4 @@
+-- The best of the incidents from k on.
 use Rattle.std.proofs.Common.{◌≡◌, drop}
 use Rattle.std.specs.Option.{option_map}
 use Rattle.centre_rules.specs.Desks.{best}

@@ -1,3 +1,4 @@
+-- An act that fits is recorded of the incident that is held.
 use Rattle.std.proofs.Common.{List, refl, ap, ◌∙◌}
 use Rattle.arc_data.specs.declared.incident.Incident.{Incident}
 use Rattle.centre_rules.specs.History.{acted_by}

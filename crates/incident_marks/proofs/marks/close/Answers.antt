@@ -1,3 +1,4 @@
+-- The incident of the number is taken out.
 use Rattle.std.proofs.Common.{ap, ◌∙◌}
 use Rattle.incidents.specs.Tables.{TableValue}
 use Rattle.incident_marks.proofs.ActRoom.{room_closes}

@@ -1,3 +1,4 @@
+-- The incident of the number is held by nobody, and no other changes.
 use Rattle.std.proofs.Common.{List, refl, ap, ◌∙◌}
 use Rattle.arc_data.specs.declared.incident.Incident.{Incident}
 use Rattle.centre_rules.specs.Marks.{Releases}
