@@ -105,21 +105,23 @@ fn a_return_at_the_end(rt: HostRuntime) -> Result<(), Fail> {
 // next line by itself.
 #[test]
 fn long_lines(rt: HostRuntime) -> Result<(), Fail> {
-    let alloc = rt.alloc();
     for len in [1023, 1024, 1025, 10_000] {
-        for end in [b"\r\nquit\n".as_slice(), b"\nquit\n".as_slice()] {
-            let mut input = Vec::new(alloc);
-            input.resize(len, b'x')?;
-            input.extend_from_slice(end)?;
-            let mut hall = hall_of(alloc)?;
-            let mut port = port_of(alloc, &input)?;
-            assert_eq!(rt;
-                serve_desk(alloc, &mut hall, &mut port),
-                DeskEnd::Quit,
-                "at {len}"
-            );
-            assert_eq!(rt; port.sink.bytes(), b"what\nbye\n".as_slice(), "at {len}");
-        }
+        try_long(&rt, rt.alloc(), len, b"\r\nquit\n")?;
+        try_long(&rt, rt.alloc(), len, b"\nquit\n")?;
     }
+    Ok(())
+}
+
+fn try_long(rt: &impl Abort, alloc: Global, len: usize, end: &[u8]) -> Result<(), Fail> {
+    let mut input = vec![in alloc; b'x'; len]?;
+    input.extend_from_slice(end)?;
+    let mut hall = hall_of(alloc)?;
+    let mut port = port_of(alloc, &input)?;
+    assert_eq!(rt;
+        word(serve_desk(alloc, &mut hall, &mut port)),
+        "quit",
+        "at {len}"
+    );
+    assert_eq!(rt; port.sink.bytes(), b"what\nbye\n".as_slice(), "at {len}");
     Ok(())
 }
