@@ -1,5 +1,5 @@
 -- The signals of items, where there are no more than fit.
-use Rattle.std.specs.Prelude.{◌≡◌, ℕ, List, [], ◌++◌, if◌then◌else◌, Option, Some, None, nat_le, length}
+use Rattle.std.specs.Prelude.{ℕ, List, [], ◌++◌, if◌then◌else◌, Option, Some, None, nat_le, length}
 use Rattle.std.specs.List.{filter_map}
 use Rattle.arc_data.specs.declared.signal.Signal.{Signal}
 use Rattle.alarm_rules.specs.SiaCodes.{Item, items_of, signal_of_item}
@@ -15,8 +15,3 @@ signals_with signals (Some items) = up_to_eight (signals ++ filter_map signal_of
 -- the signals of all items of a text, which may be none
 abbrev pub signals_of : List ℕ → Option (List Signal)
 signals_of text = signals_with [] (items_of text)
-
--- what a function returned, seen by view, is what the definition gives
-abbrev pub Gives : {X Y : Type 0} → (X → Y) → Option X → Option Y → Type 0
-Gives view None wanted = wanted ≡ None
-Gives view (Some x) wanted = wanted ≡ Some (view x)

@@ -1,9 +1,9 @@
 // The signals of SIA data.
-ghost use Rattle.std.specs.Prelude.{◌≡◌, ◌≤◌, ◌++◌, length, option_to_list, IsSome};
+ghost use Rattle.std.specs.Prelude.{◌≡◌, ◌≤◌, ◌++◌, length, option_to_list, IsSome, MatchOption, Some, None};
 ghost use Rattle.std.specs.Bool.{OnFalse, OnTrue};
 ghost use Rattle.alarm_rules.specs.SiaCodes.{after_letter, after_slash, sia_signals};
 ghost use Rattle.alarm_rules.specs.Signals.{data_of};
-ghost use Rattle.sia_codes.specs.Events.{signals_of, Gives};
+ghost use Rattle.sia_codes.specs.Events.{signals_of};
 
 use crate::item::{Item, item_at};
 use alarm_signal::{Signal, Signals, data_of};
@@ -27,7 +27,7 @@ pub fn read(content: &[u8]) -> Option<Signals>
 
 // What follows the letter that begins the data.
 fn after_letter(data: &[u8]) -> Option<&[u8]>
-    ensures { Gives (λ rest. rest.now) result (after_letter «data».now) }
+    ensures { MatchOption result (after_letter «data».now ≡ None) (λ rest. after_letter «data».now ≡ Some rest.now) }
 {
     match data {
         [b'N' | b'O', rest @ ..] => Some(rest),
