@@ -1,0 +1,105 @@
+-- The one spelling of each event that is kept, at a moment.
+use Rattle.std.specs.Prelude.{ℕ, ◌+◌, List, [], ◌∷◌, ◌++◌, length, Option, Some, None}
+use Rattle.std.specs.Int.{w16, w32, w64, to_be_bytes}
+use Rattle.arc_data.specs.Moments.{IsMoment}
+use Rattle.arc_data.specs.WellFormed.{IsWellFormed}
+use Rattle.arc_data.specs.declared.event.Event.{Event}
+use Rattle.arc_data.specs.declared.event.Event.TheVariants.{Adopt, Start, Message as Sent, Beat, Tick}
+use Rattle.arc_data.specs.declared.event.Event.TheVariants.{Claim, Next, Act, Release, Close, Show, List as Rows}
+use Rattle.arc_data.specs.declared.event.Message.{Message}
+use Rattle.arc_data.specs.declared.event.Token.{Token}
+use Rattle.arc_data.specs.declared.event.Token.TheVariants.{SiaDcs, AdmCid}
+use Rattle.arc_data.specs.declared.event.CloseCode.{CloseCode}
+use Rattle.arc_data.specs.declared.event.CloseCode.TheVariants.{Real, False, Test}
+use Rattle.arc_data.specs.declared.step.Outcome.{Outcome}
+use Rattle.arc_data.specs.declared.step.Outcome.TheVariants.{Reached, NoAnswer, Done}
+use Rattle.arc_data.specs.declared.step.Step.{Step}
+use Rattle.arc_data.specs.declared.step.Step.TheVariants.{Premises, Holder, Police, Fire, Ambulance, Guard, Note}
+
+-- a short text: a byte of length, and that many bytes
+abbrev pub short_text : List ℕ → List ℕ
+short_text text = length text ∷ text
+
+-- the `R` digits; no digits stand for no `R` field
+abbrev pub receiver_text : Option (List ℕ) → List ℕ
+receiver_text None = 0 ∷ []
+receiver_text (Some digits) = short_text digits
+
+abbrev pub token_byte : Token → ℕ
+token_byte SiaDcs = 1
+token_byte AdmCid = 2
+
+-- the premises are 1, keyholders 2 to 5
+abbrev pub step_byte : Step → ℕ
+step_byte Premises = 1
+step_byte (Holder number) = number + 1
+step_byte Police = 6
+step_byte Fire = 7
+step_byte Ambulance = 8
+step_byte Guard = 9
+step_byte Note = 10
+
+abbrev pub outcome_byte : Outcome → ℕ
+outcome_byte Reached = 1
+outcome_byte NoAnswer = 2
+outcome_byte Done = 3
+
+abbrev pub code_byte : CloseCode → ℕ
+code_byte Real = 1
+code_byte False = 2
+code_byte Test = 3
+
+-- an operator and the number of an incident
+abbrev pub order_fields : List ℕ → ℕ → List ℕ
+order_fields operator number = short_text operator ++ to_be_bytes w64 number
+
+-- account, `R` digits, `L` digits, sequence, token, length and content
+abbrev pub message_fields : Message → List ℕ
+message_fields m = short_text m.account ++ (receiver_text m.receiver ++ (short_text m.line ++ (to_be_bytes w16 m.seq
+    ++ (token_byte m.token ∷ (to_be_bytes w16 (length m.content) ++ m.content)))))
+
+-- a number of its own for each kind of event that is kept
+abbrev pub tag : Event → ℕ
+tag (Adopt text) = 1
+tag Start = 2
+tag (Sent message) = 3
+tag (Beat account) = 4
+tag Tick = 5
+tag (Claim operator number) = 6
+tag (Next operator) = 7
+tag (Act operator number step outcome) = 8
+tag (Release operator number) = 9
+tag (Close operator number code) = 10
+tag (Show number) = 0
+tag Rows = 0
+
+-- what stands behind the moment
+abbrev pub fields : Event → List ℕ
+fields (Adopt text) = to_be_bytes w32 (length text) ++ text
+fields Start = []
+fields (Sent message) = message_fields message
+fields (Beat account) = short_text account
+fields Tick = []
+fields (Claim operator number) = order_fields operator number
+fields (Next operator) = short_text operator
+fields (Act operator number step outcome) = order_fields operator number ++ step_byte step ∷ outcome_byte outcome ∷ []
+fields (Release operator number) = order_fields operator number
+fields (Close operator number code) = order_fields operator number ++ code_byte code ∷ []
+fields (Show number) = []
+fields Rows = []
+
+-- a tag, the moment in eight bytes, and the fields; all numbers have their highest byte first
+abbrev pub spelling : Event → ℕ → List ℕ
+spelling event at = tag event ∷ to_be_bytes w64 at ++ fields event
+
+-- questions are not kept
+abbrev pub IsKept : Event → Type 0
+IsKept (Show number) = ⊥
+IsKept Rows = ⊥
+IsKept other = Unit {0}
+
+-- what has a spelling: a well-formed event that is kept, at a moment
+pub record HasSpelling (event : Event) (at : ℕ) : Type 0 where
+  pub kept : IsKept event
+  pub well_formed : IsWellFormed event
+  pub moment : IsMoment at
