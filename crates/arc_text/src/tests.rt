@@ -1,53 +1,80 @@
+// Numbers and hexadecimal words at their limits, and streams cut into lines.
 use super::*;
+use std::alloc::Global;
+use std::process::Abort;
+use std::test::Fail;
 
 mod lines;
 
-#[test]
-fn reads_numbers(rt: HostRuntime) {
-    let table = [
-        ("0", Some(0)),
-        ("7", Some(7)),
-        ("65536", Some(65536)),
-        ("18446744073709551615", Some(18446744073709551615)),
-        ("18446744073709551616", None),
-        ("99999999999999999999", None),
-        ("", None),
-        ("00", None),
-        ("01", None),
-        ("+1", None),
-        ("-1", None),
-        ("-0", None),
-        (" 1", None),
-        ("1 ", None),
-        ("1a", None),
-        ("0x10", None),
-    ];
-    for (text, want) in table {
-        assert_eq!(rt; dec(text.as_bytes()), want, "at {text}");
-    }
-}
+// A text, and its number or `-`.
+const NUMBERS: &str = "\
+0=0
+7=7
+65536=65536
+18446744073709551615=18446744073709551615
+18446744073709551616=-
+99999999999999999999=-
+=-
+00=-
+01=-
++1=-
+-1=-
+-0=-
+ 1=-
+1 =-
+1a=-
+0x10=-";
 
 #[test]
-fn reads_hexadecimal_words(rt: HostRuntime) {
-    let table = [
-        ("0000", Some(0)),
-        ("0fFf", Some(4095)),
-        ("BB3D", Some(47933)),
-        ("bb3d", Some(47933)),
-        ("ffff", Some(65535)),
-        ("9aAf", Some(39599)),
-        ("", None),
-        ("BB3", None),
-        ("BB3D0", None),
-        ("BB3G", None),
-        ("+123", None),
-        ("/000", None),
-        (":000", None),
-        ("@000", None),
-        ("`000", None),
-        ("g000", None),
-    ];
-    for (text, want) in table {
-        assert_eq!(rt; hex_word(text.as_bytes()), want, "at {text}");
+fn reads_numbers(rt: HostRuntime) -> Result<(), Fail> {
+    for row in NUMBERS.lines() {
+        let (text, want) = row.split_once('=').ok_or("no row")?;
+        let number = dec(text.as_bytes());
+        compare(&rt, rt.alloc(), row, number, want)?;
     }
+    Ok(())
+}
+
+// A text, and the number of its hexadecimal word or `-`.
+const WORDS: &str = "\
+0000=0
+0fFf=4095
+BB3D=47933
+bb3d=47933
+ffff=65535
+9aAf=39599
+=-
+BB3=-
+BB3D0=-
+BB3G=-
++123=-
+/000=-
+:000=-
+@000=-
+`000=-
+g000=-";
+
+#[test]
+fn reads_hexadecimal_words(rt: HostRuntime) -> Result<(), Fail> {
+    for row in WORDS.lines() {
+        let (text, want) = row.split_once('=').ok_or("no row")?;
+        let number = hex_word(text.as_bytes()).map(u64::from);
+        compare(&rt, rt.alloc(), row, number, want)?;
+    }
+    Ok(())
+}
+
+fn compare(
+    rt: &impl Abort,
+    alloc: Global,
+    row: &str,
+    number: Option<u64>,
+    want: &str,
+) -> Result<(), Fail> {
+    let told = match number {
+        Some(number) => format!(in alloc; "{number}")?,
+        None => format!(in alloc; "-")?,
+    };
+    assert_eq!(rt; told.as_str(), want, "{row}");
+    Ok(())
 }
