@@ -1,124 +1,174 @@
-// The disk in memory, and what a stop within one of its calls leaves.
+// The disk in memory, what a stop within one of its calls leaves, and areas that are files. Calls and answers stand in rows.
+use super::{numbers, three, told};
 use crate::{Area, Disk, Failed, FileDisk, Fill, MemDisk, write_synced};
 use std::alloc::Global;
+use std::process::Abort;
+use std::str::from_utf8;
 use std::test::Fail;
 use std::{env, fs};
 
-// The calls that the tests number: `abcd` is written and synced, and then `XYZ` from its last byte on.
-fn write_twice(disk: &mut MemDisk) -> [Result<(), Failed>; 4] {
-    let first = disk.write_at(Area::A, 0, b"abcd");
-    let second = disk.sync(Area::A);
-    let at = disk.bytes(Area::A).len().min(3);
-    let third = disk.write_at(Area::A, at as u64, b"XYZ");
-    [first, second, third, disk.sync(Area::A)]
+// Compares what the disk says to each call of a row with the answer behind its `=`. Between two calls stands a `;`.
+fn compare<D: Disk>(rt: &impl Abort, alloc: Global, disk: &mut D, row: &str) -> Result<(), Fail> {
+    for part in row.split(';') {
+        compare_call(rt, alloc, disk, part)?;
+    }
+    Ok(())
 }
 
-fn empty(alloc: Global, failing: &[u64]) -> Result<MemDisk, Fail> {
-    Ok(MemDisk::new(alloc, failing.to_vec(alloc)?))
+fn compare_call<D: Disk>(
+    rt: &impl Abort,
+    alloc: Global,
+    disk: &mut D,
+    part: &str,
+) -> Result<(), Fail> {
+    let (call, want) = part.split_once('=').ok_or("no call")?;
+    let answer = said(alloc, disk, call)?;
+    assert_eq!(rt; answer.as_str(), want, "{part}");
+    Ok(())
 }
+
+// What the disk says to a call: `length AREA`, `sync AREA`, `read AREA AT`, `write AREA AT BYTES`, `add AREA BYTES` or `faults`.
+fn said<D: Disk>(alloc: Global, disk: &mut D, call: &str) -> Result<String, Fail> {
+    let (word, rest) = call.split_once(' ').unwrap_or((call, ""));
+    let (name, rest) = rest.split_once(' ').unwrap_or((rest, ""));
+    let area = if name == "B" { Area::B } else { Area::A };
+    match word {
+        "faults" => told(alloc, Ok(disk.faults())),
+        "length" => told(alloc, disk.length(area)),
+        "sync" => told(alloc, done(disk.sync(area))),
+        "read" => read(alloc, disk, area, rest.parse()?),
+        "add" => told(alloc, add(disk, area, rest.as_bytes())),
+        "write" => {
+            let (at, bytes) = rest.split_once(' ').ok_or("no place")?;
+            told(alloc, write(disk, area, at.parse()?, bytes.as_bytes()))
+        }
+        _ => Err("no such call")?,
+    }
+}
+
+fn done(answer: Result<(), Failed>) -> Result<u64, Failed> {
+    answer?;
+    Ok(0)
+}
+
+// How many bytes were read, and the buffer of three bytes.
+fn read<D: Disk>(alloc: Global, disk: &mut D, area: Area, at: u64) -> Result<String, Fail> {
+    let mut buf = [b'-'; 3];
+    let Ok(count) = disk.read_at(area, at, &mut buf) else {
+        return Ok(format!(in alloc; "failed")?);
+    };
+    let bytes = from_utf8(&buf)?;
+    Ok(format!(in alloc; "{count} {bytes}")?)
+}
+
+// Asks first how long the area is, and writes nothing behind its end. How many bytes were written.
+fn write<D: Disk>(disk: &mut D, area: Area, at: u64, bytes: &[u8]) -> Result<u64, Failed> {
+    let end = disk.length(area)?;
+    if at > end || at >= 1 << 62 || bytes.len() >= 1 << 62 {
+        return Err(Failed);
+    }
+    disk.write_at(area, at, bytes)?;
+    Ok(bytes.len() as u64)
+}
+
+// Writes behind the end and syncs. How many bytes were written.
+fn add<D: Disk>(disk: &mut D, area: Area, bytes: &[u8]) -> Result<u64, Failed> {
+    let end = disk.length(area)?;
+    if end >= 1 << 62 || bytes.len() >= 1 << 62 {
+        return Err(Failed);
+    }
+    write_synced(disk, area, end, bytes)?;
+    Ok(bytes.len() as u64)
+}
+
+// Each row has the numbers of the calls that fail, the calls, and what area A has at the end. A write is a second call, behind one that
+// asks for the length.
+const FAILING: &str = "\
+|write A 0 abcd=4;sync A=0;write A 3 XYZ=3;sync A=0;faults=0|abcXYZ
+5|write A 0 abcd=4;sync A=0;write A 3 XYZ=failed;sync A=0;faults=1|abcd
+6 3|write A 0 abcd=4;sync A=failed;write A 3 XYZ=3;sync A=failed;faults=2|abcXYZ
+0 7|write A 0 abcd=4;sync A=0;write A 3 XYZ=3;sync A=0;faults=0|abcXYZ
+2|add A abcd=failed;add A abcd=4;add B xy=2;length A=4;length B=2;faults=1|abcd
+4|write A 0 abcd=4;read A 0=3 abc;read A 1=failed;read A 2=2 cd-;read A 4=0 ---;read B 0=0 ---;faults=1|abcd
+|write A 0 abcd=4;read A 18446744073709551615=0 ---;write A 4 =0;length A=4|abcd";
 
 #[test]
 fn a_failing_call_changes_nothing(rt: HostRuntime) -> Result<(), Fail> {
-    let cases: [(&[u64], [Result<(), Failed>; 4], &[u8], u64); 4] = [
-        (&[], [Ok(()), Ok(()), Ok(()), Ok(())], b"abcXYZ", 0),
-        (&[3], [Ok(()), Ok(()), Err(Failed), Ok(())], b"abcd", 1),
-        (
-            &[4, 2],
-            [Ok(()), Err(Failed), Ok(()), Err(Failed)],
-            b"abcXYZ",
-            2,
-        ),
-        (&[0, 5], [Ok(()), Ok(()), Ok(()), Ok(())], b"abcXYZ", 0),
-    ];
-    for (failing, want, bytes, faults) in cases {
-        let mut disk = empty(rt.alloc(), failing)?;
-        let answers = write_twice(&mut disk);
-        let got = (answers, disk.bytes(Area::A), disk.faults());
-        assert_eq!(rt; got, (want, bytes, faults), "at {failing:?}");
-        assert_eq!(rt; (disk.calls(), disk.bytes(Area::B)), (4, b"".as_slice()));
+    for row in FAILING.lines() {
+        compare_failing(&rt, rt.alloc(), row)?;
     }
     Ok(())
 }
 
-// What one call of `read_at` gave, in a buffer of three bytes.
-fn read_three(disk: &mut MemDisk, area: Area, at: u64) -> Result<(usize, [u8; 3]), Failed> {
-    let mut buf = [b'-'; 3];
-    let count = disk.read_at(area, at, &mut buf)?;
-    Ok((count, buf))
-}
-
-#[test]
-fn reads_what_stands_there(rt: HostRuntime) -> Result<(), Fail> {
-    let alloc = rt.alloc();
-    let (a, b) = (b"abcd".to_vec(alloc)?, b"xy".to_vec(alloc)?);
-    let mut disk = MemDisk::of(alloc, a, b, [4].to_vec(alloc)?)?;
-    assert_eq!(rt; disk.length(Area::A), Ok(4));
-    assert_eq!(rt; disk.length(Area::B), Ok(2));
-    let cases = [
-        (Area::A, 0, Ok((3, *b"abc"))),
-        (Area::A, 1, Err(Failed)),
-        (Area::A, 2, Ok((2, *b"cd-"))),
-        (Area::A, 4, Ok((0, *b"---"))),
-        (Area::A, u64::MAX, Ok((0, *b"---"))),
-        (Area::B, 0, Ok((2, *b"xy-"))),
-    ];
-    for (area, at, want) in cases {
-        assert_eq!(rt; read_three(&mut disk, area, at), want, "from {at} on");
-    }
-    assert_eq!(rt; (disk.calls(), disk.faults()), (8, 1));
+fn compare_failing(rt: &impl Abort, alloc: Global, row: &str) -> Result<(), Fail> {
+    let (failing, calls, want) = three(row)?;
+    let mut disk = MemDisk::new(alloc, numbers(alloc, failing)?);
+    compare(rt, alloc, &mut disk, calls)?;
+    assert_eq!(rt; disk.bytes(Area::A), want.as_bytes(), "{row}");
     Ok(())
 }
 
-// What a stop within this call leaves.
-fn left_within(disk: &MemDisk, alloc: Global, call: u64, fill: Fill) -> Result<MemDisk, Fail> {
-    if call == 0 || call > disk.calls() {
-        return Err("no such call".into());
-    }
-    Ok(disk.stopped(alloc, call, fill)?)
-}
+// The call within which the disk stops, how what was not synced is filled, and what both areas then have. The disk began with the
+// synced bytes `old` in area B; its calls are those of the first row above, and a write to B that was not synced.
+const STOPS: &str = "\
+1 old=,old
+2 old=,old
+2 new=abcd,old
+2 torn=....,old
+3 old=,old
+3 new=abcd,old
+3 torn=....,old
+5 old=abcd,old
+5 new=abcXYZ,old
+5 torn=abc...,old
+6 old=abcd,old
+6 torn=abc...,old
+8 old=abcXYZ,old
+8 new=abcXYZ,oldest
+8 torn=abcXYZ,old...";
 
 #[test]
 fn a_stop_leaves_what_was_synced_and_the_rest_by_its_fill(rt: HostRuntime) -> Result<(), Fail> {
-    // The call within which the disk stops, and what its area then has by each fill.
-    let cases: [(u64, &[u8], &[u8], &[u8]); 4] = [
-        (1, b"", b"abcd", b"...."),
-        (2, b"", b"abcd", b"...."),
-        (3, b"abcd", b"abcXYZ", b"abc..."),
-        (4, b"abcd", b"abcXYZ", b"abc..."),
-    ];
-    let mut disk = empty(rt.alloc(), &[])?;
-    let _ = write_twice(&mut disk);
-    for (call, old, new, torn) in cases {
-        for (fill, want) in [(Fill::Old, old), (Fill::New, new), (Fill::Torn(b'.'), torn)] {
-            let left = left_within(&disk, rt.alloc(), call, fill)?;
-            assert_eq!(rt; left.bytes(Area::A), want, "within {call} by {fill:?}");
-            assert_eq!(rt; (left.calls(), left.faults()), (0, 0));
-        }
+    compare_stops(&rt, rt.alloc())
+}
+
+fn compare_stops(rt: &impl Abort, alloc: Global) -> Result<(), Fail> {
+    let old = b"old".to_vec(alloc)?;
+    let mut disk = MemDisk::of(alloc, Vec::new(alloc), old, Vec::new(alloc))?;
+    let calls = "write A 0 abcd=4;sync A=0;write A 3 XYZ=3;sync A=0;write B 3 est=3";
+    compare(rt, alloc, &mut disk, calls)?;
+    for row in STOPS.lines() {
+        compare_stop(rt, alloc, &disk, row)?;
     }
     Ok(())
 }
 
-// A synced write, through the bound.
-fn put_at<D: Disk>(disk: &mut D, area: Area, bytes: &[u8]) -> Result<u64, Failed> {
-    let at = disk.length(area)?;
-    if at >= 1 << 62 || bytes.len() >= 1 << 62 {
-        return Err(Failed);
-    }
-    write_synced(disk, area, at, bytes)?;
-    disk.length(area)
+fn compare_stop(rt: &impl Abort, alloc: Global, disk: &MemDisk, row: &str) -> Result<(), Fail> {
+    let (stop, want) = row.split_once('=').ok_or("no row")?;
+    let left = left_by(alloc, disk, stop)?;
+    assert_eq!(rt; left.as_str(), want, "{row}");
+    Ok(())
 }
 
-#[test]
-fn each_area_is_synced_alone(rt: HostRuntime) -> Result<(), Fail> {
-    let mut disk = empty(rt.alloc(), &[])?;
-    assert_eq!(rt; disk.write_at(Area::A, 0, b"lost"), Ok(()));
-    assert_eq!(rt; put_at(&mut disk, Area::B, b"kept"), Ok(4));
-    let left = left_within(&disk, rt.alloc(), 5, Fill::Old)?;
-    assert_eq!(rt;
-        (left.bytes(Area::A), left.bytes(Area::B)),
-        (b"".as_slice(), b"kept".as_slice())
-    );
-    Ok(())
+// What both areas have after a stop.
+fn left_by(alloc: Global, disk: &MemDisk, stop: &str) -> Result<String, Fail> {
+    let (call, fill) = stop.split_once(' ').ok_or("no stop")?;
+    let call: u64 = call.parse()?;
+    if call == 0 || call > disk.calls() {
+        return Err("no such call")?;
+    }
+    let left = disk.stopped(alloc, call, fill_of(fill))?;
+    let a = from_utf8(left.bytes(Area::A))?;
+    let b = from_utf8(left.bytes(Area::B))?;
+    Ok(format!(in alloc; "{a},{b}")?)
+}
+
+fn fill_of(word: &str) -> Fill {
+    match word {
+        "old" => Fill::Old,
+        "new" => Fill::New,
+        _ => Fill::Torn(b'.'),
+    }
 }
 
 // A new folder among the temporary ones, which no other run of the tests uses.
@@ -131,74 +181,116 @@ fn new_folder(rt: &HostRuntime, name: &str) -> Result<String, Fail> {
     Ok(folder)
 }
 
+// Compares the calls of a row on a disk of the folder, which is let go then.
+fn compare_at(rt: &impl Abort, host: HostRuntime, folder: &str, row: &str) -> Result<(), Fail> {
+    let mut disk = FileDisk::new(host, host.alloc(), folder)?;
+    compare(rt, host.alloc(), &mut disk, row)
+}
+
+// Compares what the file of the folder has. `-` stands for no file.
+fn compare_file(rt: &impl Abort, host: HostRuntime, folder: &str, row: &str) -> Result<(), Fail> {
+    let (name, want) = row.split_once('=').ok_or("no row")?;
+    let held = held(host, folder, name)?;
+    assert_eq!(rt; held.as_slice(), want.as_bytes(), "{row}");
+    Ok(())
+}
+
+fn held(host: HostRuntime, folder: &str, name: &str) -> Result<Vec<u8>, Fail> {
+    let path = format!(in host.alloc(); "{folder}/{name}")?;
+    if fs::exists(&host, path.as_str())? {
+        Ok(fs::read(&host, path.as_str())?)
+    } else {
+        Ok(b"-".to_vec(host.alloc())?)
+    }
+}
+
+// Makes a folder in the folder.
+fn make_folder(host: HostRuntime, folder: &str, name: &str) -> Result<(), Fail> {
+    let path = format!(in host.alloc(); "{folder}/{name}")?;
+    fs::create_dir(&host, path.as_str())?;
+    Ok(())
+}
+
+// One row: `disk` and calls on a disk of the folder, `file` and what a file has, or `folder` and the name of a folder to be made.
+fn compare_step(rt: &impl Abort, host: HostRuntime, folder: &str, row: &str) -> Result<(), Fail> {
+    let (word, rest) = row.split_once(' ').ok_or("no row")?;
+    match word {
+        "disk" => compare_at(rt, host, folder, rest),
+        "file" => compare_file(rt, host, folder, rest),
+        _ => make_folder(host, folder, rest),
+    }
+}
+
+// Compares the rows in a new folder, and removes it.
+fn compare_in(rt: &impl Abort, host: HostRuntime, name: &str, rows: &str) -> Result<(), Fail> {
+    let folder = new_folder(&host, name)?;
+    for row in rows.lines() {
+        compare_step(rt, host, &folder, row)?;
+    }
+    fs::remove_dir_all(&host, folder.as_str())?;
+    Ok(())
+}
+
+const AREAS: &str = "\
+disk sync A=0;length A=0;read A 0=0 ---
+file journal.a=-
+disk write A 0 abcd=4;sync A=0;write A 3 XYZ=3;sync A=0;length A=6;read A 4=2 YZ-;faults=0
+file journal.a=abcXYZ
+file journal.b=-";
+
 #[test]
 fn areas_are_files_of_a_folder(rt: HostRuntime) -> Result<(), Fail> {
-    let folder = new_folder(&rt, "areas")?;
-    let path = format!(in rt.alloc(); "{folder}/journal.a")?;
-    let other = format!(in rt.alloc(); "{folder}/journal.b")?;
-    let mut disk = FileDisk::new(rt, rt.alloc(), folder.as_str())?;
-    let mut buf = [b'-'; 4];
-    let got = (
-        disk.sync(Area::A),
-        disk.length(Area::A),
-        disk.read_at(Area::A, 0, &mut buf),
-    );
-    assert_eq!(rt; got, (Ok(()), Ok(0), Ok(0)));
-    assert!(rt; !fs::exists(&rt, path.as_str())?, "made by a read");
-    let got = (
-        disk.write_at(Area::A, 0, b"abcd"),
-        disk.sync(Area::A),
-        disk.write_at(Area::A, 3, b"XYZ"),
-        disk.sync(Area::A),
-        disk.length(Area::A),
-        disk.read_at(Area::A, 4, &mut buf),
-    );
-    assert_eq!(rt; got, (Ok(()), Ok(()), Ok(()), Ok(()), Ok(6), Ok(2)));
-    assert_eq!(rt; (buf, disk.faults()), (*b"YZ--", 0));
-    let whole = fs::read(&rt, path.as_str())?;
-    assert_eq!(rt; whole.as_slice(), b"abcXYZ".as_slice());
-    assert!(rt;
-        !fs::exists(&rt, other.as_str())?,
-        "made with the other one"
-    );
-    fs::remove_dir_all(&rt, folder.as_str())?;
-    Ok(())
+    compare_in(&rt, rt, "areas", AREAS)
+}
+
+const OTHERS: &str = "\
+folder journal.a
+disk length A=failed;length B=0;faults=1";
+
+#[test]
+fn only_what_is_a_file_is_used(rt: HostRuntime) -> Result<(), Fail> {
+    compare_in(&rt, rt, "others", OTHERS)?;
+    // There is no such folder.
+    compare_at(&rt, rt, "/arc_io/none", "length A=0;write A 0 x=failed")
 }
 
 #[test]
 fn a_file_that_another_has_fails(rt: HostRuntime) -> Result<(), Fail> {
-    let folder = new_folder(&rt, "locks")?;
-    let path = format!(in rt.alloc(); "{folder}/journal.a")?;
-    fs::write(&rt, path.as_str(), b"abcd".as_slice())?;
-    let mut one = FileDisk::new(rt, rt.alloc(), folder.as_str())?;
-    let mut two = FileDisk::new(rt, rt.alloc(), folder.as_str())?;
-    assert_eq!(rt; (one.sync(Area::A), one.length(Area::A)), (Ok(()), Ok(4)));
-    let got = (two.sync(Area::A), two.length(Area::A), two.faults());
-    assert_eq!(rt; got, (Err(Failed), Err(Failed), 2));
-    drop(one);
-    assert_eq!(rt; (two.length(Area::A), two.faults()), (Ok(4), 2));
-    fs::remove_dir_all(&rt, folder.as_str())?;
+    compare_locked(&rt, rt)
+}
+
+fn compare_locked(rt: &impl Abort, host: HostRuntime) -> Result<(), Fail> {
+    let folder = new_folder(&host, "locks")?;
+    let mut disk = FileDisk::new(host, host.alloc(), folder.as_str())?;
+    compare(rt, host.alloc(), &mut disk, "write A 0 abcd=4")?;
+    compare_at(rt, host, &folder, "sync A=failed;length A=failed;faults=2")?;
+    drop(disk);
+    compare_at(rt, host, &folder, "length A=4;faults=0")?;
+    fs::remove_dir_all(&host, folder.as_str())?;
     Ok(())
 }
 
 #[test]
-fn only_what_is_a_file_is_used(rt: HostRuntime) -> Result<(), Fail> {
-    let folder = new_folder(&rt, "others")?;
-    let a = format!(in rt.alloc(); "{folder}/journal.a")?;
-    let b = format!(in rt.alloc(); "{folder}/journal.b")?;
-    fs::create_dir(&rt, a.as_str())?;
-    let mut disk = FileDisk::new(rt, rt.alloc(), folder.as_str())?;
-    let got = (disk.length(Area::A), disk.length(Area::B));
-    assert_eq!(rt; got, (Err(Failed), Ok(0)));
-    // It has come since the disk looked for it, so it is another's.
-    fs::write(&rt, b.as_str(), b"other".as_slice())?;
-    let got = (disk.write_at(Area::B, 0, b"mine"), disk.faults());
-    assert_eq!(rt; got, (Err(Failed), 2));
-    let whole = fs::read(&rt, b.as_str())?;
-    assert_eq!(rt; whole.as_slice(), b"other".as_slice());
-    fs::remove_dir_all(&rt, folder.as_str())?;
-    let mut nowhere = FileDisk::new(rt, rt.alloc(), folder.as_str())?;
-    let got = (nowhere.length(Area::A), nowhere.write_at(Area::A, 0, b"x"));
-    assert_eq!(rt; got, (Ok(0), Err(Failed)));
+fn a_file_that_came_later_is_not_used(rt: HostRuntime) -> Result<(), Fail> {
+    compare_late(&rt, rt)
+}
+
+// A file that has come since the disk looked for it is another's.
+fn compare_late(rt: &impl Abort, host: HostRuntime) -> Result<(), Fail> {
+    let folder = new_folder(&host, "later")?;
+    let mut disk = FileDisk::new(host, host.alloc(), folder.as_str())?;
+    compare(rt, host.alloc(), &mut disk, "length B=0")?;
+    make_file(host, &folder)?;
+    if disk.write_at(Area::B, 0, b"mine").is_ok() {
+        return Err("no fault")?;
+    }
+    compare_file(rt, host, &folder, "journal.b=other")?;
+    fs::remove_dir_all(&host, folder.as_str())?;
+    Ok(())
+}
+
+fn make_file(host: HostRuntime, folder: &str) -> Result<(), Fail> {
+    let path = format!(in host.alloc(); "{folder}/journal.b")?;
+    fs::write(&host, path.as_str(), b"other".as_slice())?;
     Ok(())
 }

@@ -1,6 +1,8 @@
 // Reading and writing over many calls.
 use crate::{Ends, Failed, MemSource, ReadEnd, Sink, Source, put, read_all};
 use std::alloc::Global;
+use std::process::Abort;
+use std::str::from_utf8;
 use std::test::Fail;
 
 // The bytes 0, 1, .. 250, 0, 1, ..
@@ -12,58 +14,76 @@ fn counting(alloc: Global, len: usize) -> Result<Vec<u8>, Fail> {
     Ok(bytes)
 }
 
+// The bytes of the input, the limit, the bytes that are read, and those that are left.
+const LIMITS: &str = "\
+0 0=0 0
+0 9=0 0
+9 0=0 9
+9 8=8 1
+9 9=9 0
+9 10=9 0
+4096 4095=4095 1
+4096 4096=4096 0
+4096 4097=4096 0
+10000 9999=9999 1
+10000 10000=10000 0
+10000 10001=10000 0
+10000 18446744073709551615=10000 0";
+
 #[test]
 fn reads_to_the_end_or_the_limit(rt: HostRuntime) -> Result<(), Fail> {
-    // The bytes of the input, the limit, the bytes that are read, and those that are left.
-    let cases = [
-        (0, 0, 0, 0),
-        (0, 9, 0, 0),
-        (9, 0, 0, 9),
-        (9, 8, 8, 1),
-        (9, 9, 9, 0),
-        (9, 10, 9, 0),
-        (4096, 4095, 4095, 1),
-        (4096, 4096, 4096, 0),
-        (4096, 4097, 4096, 0),
-        (10_000, 9_999, 9_999, 1),
-        (10_000, 10_000, 10_000, 0),
-        (10_000, 10_001, 10_000, 0),
-        (10_000, usize::MAX, 10_000, 0),
-    ];
-    for (len, limit, read, left) in cases {
-        let input = counting(rt.alloc(), len)?;
-        let mut source = MemSource::new(input.clone()?, Vec::new(rt.alloc()));
-        let mut bytes = read_all(rt.alloc(), &mut source, limit)?;
-        let rest = if bytes.len() < limit {
-            Vec::new(rt.alloc())
-        } else {
-            read_all(rt.alloc(), &mut source, usize::MAX)?
-        };
-        let lengths = (bytes.len(), rest.len());
-        assert_eq!(rt; lengths, (read, left), "{len} bytes, limit {limit}");
-        bytes.extend_from_slice(&rest)?;
-        assert!(rt;
-            bytes.as_slice() == input.as_slice(),
-            "{len} bytes, limit {limit}"
-        );
+    for row in LIMITS.lines() {
+        compare_limit(&rt, rt.alloc(), row)?;
     }
     Ok(())
 }
 
+fn compare_limit(rt: &impl Abort, alloc: Global, row: &str) -> Result<(), Fail> {
+    let (sizes, want) = row.split_once('=').ok_or("no row")?;
+    let (len, limit) = sizes.split_once(' ').ok_or("no row")?;
+    let told = read_within(alloc, len.parse()?, limit.parse()?)?;
+    assert_eq!(rt; told.as_str(), want, "{row}");
+    Ok(())
+}
+
+// How many bytes of the input are read, and how many are left. They are the input's.
+fn read_within(alloc: Global, len: usize, limit: usize) -> Result<String, Fail> {
+    let input = counting(alloc, len)?;
+    let mut source = MemSource::new(input.clone()?, Vec::new(alloc));
+    let mut bytes = read_all(alloc, &mut source, limit)?;
+    let read = bytes.len();
+    if read == limit {
+        bytes.extend_from_slice(&read_all(alloc, &mut source, usize::MAX)?)?;
+    }
+    if bytes.as_slice() != input.as_slice() {
+        return Err("other bytes")?;
+    }
+    Ok(format!(in alloc; "{read} {}", bytes.len().saturating_sub(read))?)
+}
+
 #[test]
 fn a_failed_read_ends_the_reading(rt: HostRuntime) -> Result<(), Fail> {
+    check_a_failed_read_ends_the_reading(&rt, rt.alloc())
+}
+
+fn check_a_failed_read_ends_the_reading(rt: &impl Abort, alloc: Global) -> Result<(), Fail> {
     // The failing call, and the bytes that are left after it, of 10000.
-    for (failing, left) in [(1, 10_000), (2, 5_904), (3, 1_808), (4, 0)] {
-        let failing = [failing].to_vec(rt.alloc())?;
-        let mut source = MemSource::new(counting(rt.alloc(), 10_000)?, failing);
-        let Err(end) = read_all(rt.alloc(), &mut source, usize::MAX) else {
-            return Err("a read that fails".into());
-        };
-        let rest = read_all(rt.alloc(), &mut source, usize::MAX)?;
-        let got = (end, source.read_faults(), rest.len());
-        assert_eq!(rt; got, (ReadEnd::Failed, 1, left));
+    for (failing, left) in [(1, 10_000), (3, 1_808), (4, 0)] {
+        assert_eq!(rt; left_behind(alloc, failing)?, left);
     }
     Ok(())
+}
+
+// How many bytes of 10000 are left behind the call that fails.
+fn left_behind(alloc: Global, failing: u64) -> Result<usize, Fail> {
+    let mut source = MemSource::new(counting(alloc, 10_000)?, [failing].to_vec(alloc)?);
+    let Err(ReadEnd::Failed) = read_all(alloc, &mut source, usize::MAX) else {
+        return Err("a read that fails")?;
+    };
+    if source.read_faults() != 1 {
+        return Err("one fault")?;
+    }
+    Ok(read_all(alloc, &mut source, usize::MAX)?.len())
 }
 
 // A sink that takes one byte in each call, and fails at one of them.
@@ -99,40 +119,41 @@ impl Sink for Drip {
     }
 }
 
+// The failing call, the answer, the bytes taken, and the calls made.
+const PUTS: &str = "\
+0 done hello 5
+1 failed  1
+5 failed hell 5
+6 done hello 5";
+
 #[test]
 fn puts_all_byte_by_byte(rt: HostRuntime) -> Result<(), Fail> {
-    // The failing call, the answer, the bytes taken, and the calls made.
-    let cases: [(u64, Result<(), Failed>, &[u8], u64); 4] = [
-        (0, Ok(()), b"hello", 5),
-        (1, Err(Failed), b"", 1),
-        (5, Err(Failed), b"hell", 5),
-        (6, Ok(()), b"hello", 5),
-    ];
-    for (fails_at, answer, bytes, calls) in cases {
-        let mut sink = Drip {
-            bytes: Vec::new(rt.alloc()),
-            calls: 0,
-            fails_at,
-            faults: 0,
-        };
-        let got = (put(&mut sink, b"hello"), sink.calls, sink.write_faults());
-        let faults = u64::from(answer.is_err());
-        assert_eq!(rt; got, (answer, calls, faults), "fails at {fails_at}");
-        assert_eq!(rt; sink.bytes.as_slice(), bytes, "fails at {fails_at}");
+    check_puts_all_byte_by_byte(&rt, rt.alloc())
+}
+
+fn check_puts_all_byte_by_byte(rt: &impl Abort, alloc: Global) -> Result<(), Fail> {
+    for row in PUTS.lines() {
+        let (fails_at, want) = row.split_once(' ').ok_or("no row")?;
+        let told = put_failing_at(alloc, fails_at.parse()?, b"hello")?;
+        assert_eq!(rt; told.as_str(), want, "{row}");
     }
+    // Without bytes there is no call.
+    let told = put_failing_at(alloc, 1, b"")?;
+    assert_eq!(rt; told.as_str(), "done  0");
     Ok(())
 }
 
-#[test]
-fn nothing_is_put_without_a_call(rt: HostRuntime) {
+fn put_failing_at(alloc: Global, fails_at: u64, bytes: &[u8]) -> Result<String, Fail> {
     let mut sink = Drip {
-        bytes: Vec::new(rt.alloc()),
+        bytes: Vec::new(alloc),
         calls: 0,
-        fails_at: 1,
+        fails_at,
         faults: 0,
     };
-    assert_eq!(rt;
-        (put(&mut sink, b""), sink.calls, sink.faults),
-        (Ok(()), 0, 0)
-    );
+    let word = match put(&mut sink, bytes) {
+        Ok(()) => "done",
+        Err(Failed) => "failed",
+    };
+    let taken = from_utf8(&sink.bytes)?;
+    Ok(format!(in alloc; "{word} {taken} {}", sink.calls)?)
 }
