@@ -1,3 +1,4 @@
+// The laws of dates, stamps and local time.
 ghost use Rattle.civil_time.specs.Laws.{DatesAreCounted, DatesAreReached, MomentsEnd, StampsDiffer, StampsAreRead, StampsArePlain, LocalTimesAddUp};
 
 /// The date of each day number is in the calendar, and that many days lie between 1 January 1970 and it.

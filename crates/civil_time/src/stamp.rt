@@ -1,3 +1,4 @@
+// Stamps: the text of a moment, how it is read, and whether it is fresh.
 ghost use Rattle.std.specs.Prelude.{◌≡◌, ◌↔◌, ◌+◌, ◌*◌, ◌/◌, ◌%◌, ◌<◌, ◌≤◌, ℕ, pos, IsTrue, IfSome, IfNone, length, slice_index, slice_set};
 ghost use Rattle.jiff_core.specs.Calendar.{IsCivilDate, days_from_civil};
 ghost use Rattle.jiff_core.specs.Date.{epoch_day};

@@ -1,180 +1,215 @@
-use crate::{Local, fresh, local, read_stamp, stamp_of};
-use months::{YEAR_1970, YEAR_2000, YEAR_2023, YEAR_2024, YEAR_2100, YEAR_9999};
+// Stamps, freshness and local time, as `date` of another machine has them.
+ghost use Rattle.std.specs.Prelude.{IfOk};
+ghost use Rattle.arc_data.specs.Moments.{IsMoment};
+
+use crate::{fresh, local, read_stamp, stamp_of};
+use std::alloc::Global;
 use std::process::Abort;
+use std::test::Fail;
 
 mod months;
 
 // The first second of the year 10000.
 const END: u64 = 253_402_300_800;
 
-// Each text is the stamp of its moment, and is read as that moment.
-fn assert_stamps(rt: &impl Abort, cases: &[(u64, &str)]) {
-    for &(moment, text) in cases {
-        assert!(rt; moment < END);
-        assert_eq!(rt; stamp_of(moment).as_slice(), text.as_bytes(), "at {moment}");
-        assert_eq!(rt; read_stamp(text.as_bytes()), Some(moment), "{text}");
+fn moment_of(word: &str) -> Result<u64, Fail>
+    ensures { IfOk result IsMoment }
+{
+    let moment = word.parse()?;
+    if moment >= END {
+        return Err("no moment")?;
     }
+    Ok(moment)
+}
+
+// A row is a moment and its stamp, which is read as that moment.
+fn compare_stamps(rt: &impl Abort, rows: &str) -> Result<(), Fail> {
+    for row in rows.lines() {
+        compare_stamp(rt, row)?;
+    }
+    Ok(())
+}
+
+fn compare_stamp(rt: &impl Abort, row: &str) -> Result<(), Fail> {
+    let (moment, text) = row.split_once(' ').ok_or("no row")?;
+    let moment = moment_of(moment)?;
+    assert_eq!(rt; stamp_of(moment).as_slice(), text.as_bytes(), "{row}");
+    assert_eq!(rt; read_stamp(text.as_bytes()), Some(moment), "{row}");
+    Ok(())
 }
 
 #[test]
-fn months_begin_and_end(rt: HostRuntime) {
-    assert_stamps(&rt, &YEAR_1970);
-    assert_stamps(&rt, &YEAR_2000);
-    assert_stamps(&rt, &YEAR_2023);
-    assert_stamps(&rt, &YEAR_2024);
-    assert_stamps(&rt, &YEAR_2100);
-    assert_stamps(&rt, &YEAR_9999);
+fn months_begin_and_end(rt: HostRuntime) -> Result<(), Fail> {
+    compare_stamps(&rt, months::MONTHS)
 }
 
+const STAMPS: &str = "\
+999999999 _01:46:39,09-09-2001
+1000000000 _01:46:40,09-09-2001
+1000000040 _01:47:20,09-09-2001
+1000000060 _01:47:40,09-09-2001
+1000000061 _01:47:41,09-09-2001
+951782400 _00:00:00,02-29-2000
+1709164800 _00:00:00,02-29-2024
+253402207201 _22:00:01,12-30-9999";
+
 #[test]
-fn stamps_are_those_of_the_machine(rt: HostRuntime) {
-    let cases = [
-        (999_999_999, "_01:46:39,09-09-2001"),
-        (1_000_000_000, "_01:46:40,09-09-2001"),
-        (1_000_000_040, "_01:47:20,09-09-2001"),
-        (1_000_000_060, "_01:47:40,09-09-2001"),
-        (1_000_000_061, "_01:47:41,09-09-2001"),
-        (951_782_400, "_00:00:00,02-29-2000"),
-        (1_709_164_800, "_00:00:00,02-29-2024"),
-        (253_402_207_201, "_22:00:01,12-30-9999"),
-    ];
-    assert_stamps(&rt, &cases);
+fn stamps_are_those_of_the_machine(rt: HostRuntime) -> Result<(), Fail> {
+    compare_stamps(&rt, STAMPS)
 }
+
+// Texts that are no stamps: of another length; with another byte in place of each mark; with a blank in place of each first digit, or
+// a byte beside the digits; past the clock and the calendar; and before 1970.
+const OTHERS: &str = "\n\
+_01:46:40,09-09-200
+_01:46:40,09-09-20010
+_01:46:40,09-09-2001 
+ _01:46:40,09-09-2001
+-01:46:40,09-09-2001
+_01.46:40,09-09-2001
+_01:46.40,09-09-2001
+_01:46:40 09-09-2001
+_01:46:40,09/09-2001
+_01:46:40,09-09/2001
+_ 1:46:40,09-09-2001
+_01: 6:40,09-09-2001
+_01:46: 0,09-09-2001
+_01:46:40, 9-09-2001
+_01:46:40,09- 9-2001
+_01:46:40,09-09- 001
+_01:46:4/,09-09-2001
+_01:46:4:,09-09-2001
+_0:46:40,009-09-2001
+_24:00:00,09-09-2001
+_01:60:00,09-09-2001
+_01:46:60,09-09-2001
+_01:46:40,13-09-2001
+_01:46:40,00-09-2001
+_01:46:40,09-00-2001
+_01:46:40,09-31-2001
+_01:46:40,10-32-2001
+_00:00:00,02-30-2000
+_00:00:00,02-29-2023
+_00:00:00,02-30-2024
+_00:00:00,02-29-2100
+_23:59:59,12-31-1969
+_00:00:00,01-01-0000";
 
 #[test]
 fn other_texts_are_no_stamps(rt: HostRuntime) {
-    let cases = [
-        "",
-        "_01:46:40,09-09-200",
-        "_01:46:40,09-09-20010",
-        "_01:46:40,09-09-2001 ",
-        " _01:46:40,09-09-2001",
-        // another byte in place of each mark
-        "-01:46:40,09-09-2001",
-        "_01.46:40,09-09-2001",
-        "_01:46.40,09-09-2001",
-        "_01:46:40 09-09-2001",
-        "_01:46:40,09/09-2001",
-        "_01:46:40,09-09/2001",
-        // a blank in place of each first digit, and the bytes beside the digits
-        "_ 1:46:40,09-09-2001",
-        "_01: 6:40,09-09-2001",
-        "_01:46: 0,09-09-2001",
-        "_01:46:40, 9-09-2001",
-        "_01:46:40,09- 9-2001",
-        "_01:46:40,09-09- 001",
-        "_01:46:4/,09-09-2001",
-        "_01:46:4:,09-09-2001",
-        "_0:46:40,009-09-2001",
-        // past the clock and the calendar
-        "_24:00:00,09-09-2001",
-        "_01:60:00,09-09-2001",
-        "_01:46:60,09-09-2001",
-        "_01:46:40,13-09-2001",
-        "_01:46:40,00-09-2001",
-        "_01:46:40,09-00-2001",
-        "_01:46:40,09-31-2001",
-        "_01:46:40,10-32-2001",
-        "_00:00:00,02-30-2000",
-        "_00:00:00,02-29-2023",
-        "_00:00:00,02-30-2024",
-        "_00:00:00,02-29-2100",
-        // before 1970
-        "_23:59:59,12-31-1969",
-        "_00:00:00,01-01-0000",
-    ];
-    for text in cases {
+    for text in OTHERS.lines() {
         assert_eq!(rt; read_stamp(text.as_bytes()), None, "{text}");
     }
 }
 
-#[test]
-fn freshness_has_both_ends(rt: HostRuntime) {
-    let cases = [
-        (1_000_000_000, 1_000_000_040, true),
-        (1_000_000_000, 1_000_000_041, false),
-        (1_000_000_020, 1_000_000_000, true),
-        (1_000_000_021, 1_000_000_000, false),
-        (1_000_000_000, 1_000_000_000, true),
-        (0, 40, true),
-        (0, 41, false),
-        (20, 0, true),
-        (21, 0, false),
-        (END - 41, END - 1, true),
-        (END - 42, END - 1, false),
-        (END - 1, END - 21, true),
-        (END - 1, END - 22, false),
-    ];
-    for (stamp, now, want) in cases {
-        assert!(rt; stamp < END && now < END);
-        assert_eq!(rt; fresh(stamp, now), want, "{stamp} at {now}");
-    }
-}
+// A stamp, the time, and whether it is fresh.
+const FRESHNESS: &str = "\
+1000000000 1000000040 true
+1000000000 1000000041 false
+1000000020 1000000000 true
+1000000021 1000000000 false
+1000000000 1000000000 true
+0 40 true
+0 41 false
+20 0 true
+21 0 false
+253402300759 253402300799 true
+253402300758 253402300799 false
+253402300799 253402300779 true
+253402300799 253402300778 false";
 
 #[test]
-fn local_time_is_that_of_the_machine(rt: HostRuntime) {
-    let cases = [
-        (0, -840, 2, 600, -1),
-        (0, 0, 3, 0, 0),
-        (0, 840, 3, 840, 0),
-        (35_999, -840, 2, 1199, -1),
-        (35_999, 0, 3, 599, 0),
-        (35_999, 840, 3, 1439, 0),
-        (36_000, -840, 2, 1200, -1),
-        (36_000, 0, 3, 600, 0),
-        (36_000, 840, 4, 0, 1),
-        (50_399, -840, 2, 1439, -1),
-        (50_399, 0, 3, 839, 0),
-        (50_399, 840, 4, 239, 1),
-        (50_400, -840, 3, 0, 0),
-        (50_400, 0, 3, 840, 0),
-        (50_400, 840, 4, 240, 1),
-        (86_399, -840, 3, 599, 0),
-        (86_399, 0, 3, 1439, 0),
-        (86_399, 840, 4, 839, 1),
-        (86_400, -840, 3, 600, 0),
-        (86_400, 0, 4, 0, 1),
-        (86_400, 840, 4, 840, 1),
-        (0, -1, 2, 1439, -1),
-        (59, -1, 2, 1439, -1),
-        (60, -1, 3, 0, 0),
-        (0, 1, 3, 1, 0),
-        (60, -2, 2, 1439, -1),
-        (1_000_000_000, -840, 5, 706, 11_573),
-        (1_000_000_000, -107, 5, 1439, 11_573),
-        (1_000_000_000, -106, 6, 0, 11_574),
-        (1_000_000_000, 0, 6, 106, 11_574),
-        (1_000_000_000, 840, 6, 946, 11_574),
-        (951_782_399, -840, 0, 599, 11_015),
-        (951_782_399, 0, 0, 1439, 11_015),
-        (951_782_399, 840, 1, 839, 11_016),
-        (951_782_400, -840, 0, 600, 11_015),
-        (951_782_400, 0, 1, 0, 11_016),
-        (951_782_400, 840, 1, 840, 11_016),
-        (4_107_542_399, -840, 6, 599, 47_540),
-        (4_107_542_399, 0, 6, 1439, 47_540),
-        (4_107_542_399, 840, 0, 839, 47_541),
-        (4_107_542_400, -840, 6, 600, 47_540),
-        (4_107_542_400, 0, 0, 0, 47_541),
-        (4_107_542_400, 840, 0, 840, 47_541),
-        (253_402_250_399, -840, 3, 1199, 2_932_895),
-        (253_402_250_399, -1, 4, 598, 2_932_896),
-        (253_402_250_399, 0, 4, 599, 2_932_896),
-        (253_402_250_399, 1, 4, 600, 2_932_896),
-        (253_402_250_399, 840, 4, 1439, 2_932_896),
-        (253_402_300_799, -840, 4, 599, 2_932_896),
-        (253_402_300_799, -1, 4, 1438, 2_932_896),
-        (253_402_300_799, 0, 4, 1439, 2_932_896),
-        (253_402_300_799, 1, 5, 0, 2_932_897),
-        (253_402_300_799, 840, 5, 839, 2_932_897),
-    ];
-    for (moment, offset, weekday, minute, day) in cases {
-        assert!(rt; moment < END && -840 <= offset && offset <= 840);
-        let want = Local {
-            weekday,
-            minute,
-            day,
-        };
-        assert_eq!(rt; local(moment, offset), want, "{moment} at {offset}");
+fn freshness_has_both_ends(rt: HostRuntime) -> Result<(), Fail> {
+    for row in FRESHNESS.lines() {
+        compare_freshness(&rt, row)?;
     }
+    Ok(())
+}
+
+fn compare_freshness(rt: &impl Abort, row: &str) -> Result<(), Fail> {
+    let (stamp, rest) = row.split_once(' ').ok_or("no row")?;
+    let (now, want) = rest.split_once(' ').ok_or("no row")?;
+    let told = fresh(moment_of(stamp)?, moment_of(now)?);
+    assert_eq!(rt; told, want == "true", "{row}");
+    Ok(())
+}
+
+// A moment and an offset, and the weekday, the minute and the day.
+const LOCAL_TIMES: &str = "\
+0 -840=2 600 -1
+0 0=3 0 0
+0 840=3 840 0
+35999 -840=2 1199 -1
+35999 0=3 599 0
+35999 840=3 1439 0
+36000 -840=2 1200 -1
+36000 0=3 600 0
+36000 840=4 0 1
+50399 -840=2 1439 -1
+50399 0=3 839 0
+50399 840=4 239 1
+50400 -840=3 0 0
+50400 0=3 840 0
+50400 840=4 240 1
+86399 -840=3 599 0
+86399 0=3 1439 0
+86399 840=4 839 1
+86400 -840=3 600 0
+86400 0=4 0 1
+86400 840=4 840 1
+0 -1=2 1439 -1
+59 -1=2 1439 -1
+60 -1=3 0 0
+0 1=3 1 0
+60 -2=2 1439 -1
+1000000000 -840=5 706 11573
+1000000000 -107=5 1439 11573
+1000000000 -106=6 0 11574
+1000000000 0=6 106 11574
+1000000000 840=6 946 11574
+951782399 -840=0 599 11015
+951782399 0=0 1439 11015
+951782399 840=1 839 11016
+951782400 -840=0 600 11015
+951782400 0=1 0 11016
+951782400 840=1 840 11016
+4107542399 -840=6 599 47540
+4107542399 0=6 1439 47540
+4107542399 840=0 839 47541
+4107542400 -840=6 600 47540
+4107542400 0=0 0 47541
+4107542400 840=0 840 47541
+253402250399 -840=3 1199 2932895
+253402250399 -1=4 598 2932896
+253402250399 0=4 599 2932896
+253402250399 1=4 600 2932896
+253402250399 840=4 1439 2932896
+253402300799 -840=4 599 2932896
+253402300799 -1=4 1438 2932896
+253402300799 0=4 1439 2932896
+253402300799 1=5 0 2932897
+253402300799 840=5 839 2932897";
+
+#[test]
+fn local_time_is_that_of_the_machine(rt: HostRuntime) -> Result<(), Fail> {
+    for row in LOCAL_TIMES.lines() {
+        compare_local(&rt, rt.alloc(), row)?;
+    }
+    Ok(())
+}
+
+fn compare_local(rt: &impl Abort, alloc: Global, row: &str) -> Result<(), Fail> {
+    let (words, want) = row.split_once('=').ok_or("no row")?;
+    let (moment, offset) = words.split_once(' ').ok_or("no row")?;
+    let told = local_at(alloc, moment_of(moment)?, offset.parse()?)?;
+    assert_eq!(rt; told.as_str(), want, "{row}");
+    Ok(())
+}
+
+fn local_at(alloc: Global, moment: u64, offset: i16) -> Result<String, Fail> {
+    if moment >= END || offset < -840 || offset > 840 {
+        return Err("no time")?;
+    }
+    let time = local(moment, offset);
+    Ok(format!(in alloc; "{} {} {}", time.weekday, time.minute, time.day)?)
 }

@@ -1,3 +1,4 @@
+// Local time: the weekday, the minute and the day of a moment.
 ghost use Rattle.std.specs.Prelude.{◌≡◌};
 ghost use Rattle.jiff_core.specs.Calendar.{IsWithin};
 ghost use Rattle.arc_data.specs.Moments.{IsMoment};
