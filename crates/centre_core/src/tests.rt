@@ -1,8 +1,7 @@
 // What no clause says: that calls succeed, and answers of the centre worked out by hand. Each row of a play is a moment in
 // seconds from the beginning of a run, an event in words, and the answer in words, with a `;` between.
 ghost use Rattle.std.specs.Prelude.{◌≡◌, ◌<◌, ◌≤◌, ◌^◌, ℕ, List, true, IfOk, length};
-ghost use Rattle.arc_data.specs.Digits.{is_run, is_hex, is_capital_hex, is_name, AreBytes};
-ghost use Rattle.arc_data.specs.Steps.{is_step};
+ghost use Rattle.arc_data.specs.Digits.{is_run, is_capital_hex};
 ghost use Rattle.arc_data.specs.WellFormed.{IsWellFormed};
 ghost use Rattle.centre_rules.specs.Summary.{Summary};
 ghost use Rattle.centre_rules.specs.History.{Entry, IsMoment};
@@ -23,6 +22,7 @@ const BEGIN: u64 = 1_000_000_000;
 
 const SETUP: &[u8] = b"account 1234
 account ABC
+account BEE beat 300
 hours 1234 sun 08:00 18:00
 keyholder 1234 kim +4312345
 keyholder 1234 lee +4367890

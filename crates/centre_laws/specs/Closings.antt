@@ -1,5 +1,6 @@
 -- An incident is closed only when each of its steps is met.
-use Rattle.std.specs.Prelude.{◌≡◌, ◌<◌, ◌⊎◌, ◌==◌, ℕ, List, [], ◌∷◌, ◌++◌, true, if◌then◌else◌, length, take, slice_index_or, Option, Some, None}
+use Rattle.std.specs.Prelude.{◌≡◌, ◌<◌, ◌⊎◌, ◌==◌, ℕ, List, [], ◌∷◌, ◌++◌, true, if◌then◌else◌, Option, Some, None}
+use Rattle.std.specs.Prelude.{length, take, slice_index_or}
 use Rattle.arc_data.specs.declared.event.Event.{Event}
 use Rattle.arc_data.specs.declared.event.Event.TheVariants.{Act as Do}
 use Rattle.arc_data.specs.declared.reply.Reply.{Reply}

@@ -151,3 +151,86 @@ fn the_first_16_of_17(rt: HostRuntime) -> Result<(), Fail> {
     assert_eq!(rt; centre.table().count(), 17);
     Ok(())
 }
+
+// An account that has to be heard every 300 seconds.
+const SILENCE: &str = "300;tick;raised 0
+301;tick;raised 1
+301;tick;raised 0
+301;show 1;shown commfail - signals 1 restored no holder none next note
+900;tick;raised 0
+# It is heard, and silent again. The signal is attached.
+900;beat BEE;heard
+1200;tick;raised 0
+1201;tick;raised 1
+1201;show 1;shown commfail - signals 2 restored no holder none next note
+# A clock that goes back.
+500;tick;raised 0
+# A panel's own report of failed communication is heard like any message.
+1202;cid 1 BEE 1350 01 001;taken
+1502;tick;raised 0
+1503;tick;raised 1
+1503;show 1;shown commfail - signals 4 restored no holder none next note
+# A repeat is not heard.
+1600;cid 2 BEE 1602 01 001;taken
+1890;cid 2 BEE 1602 01 001;repeat 1600
+1900;tick;raised 0
+1901;tick;raised 1
+# At a start each account is heard.
+2000;start;started
+2300;tick;raised 0
+2301;tick;raised 1
+2301;show 1;shown commfail - signals 6 restored no holder none next note";
+
+#[test]
+fn a_silent_account(rt: HostRuntime) -> Result<(), Fail> {
+    let centre = play(&rt, rt.alloc(), SILENCE)?;
+    assert_eq!(rt; centre.table().opened(), 1);
+    Ok(())
+}
+
+// Hours end on Sunday, 18:00:00, at 58400; a silent account comes before one that closes late.
+const LATE: &str = "26000;cid 1 1234 1401 01 001;taken
+26001;cid 2 1234 1401 01 001;taken
+26001;show 1;not open 1
+59300;beat BEE;heard
+59300;tick;raised 0
+59301;tick;raised 1
+59302;tick;raised 0
+59302;show 1;shown lateclose - signals 1 restored no holder none next note
+59303;cid 3 1234 3401 01 001;taken
+59304;cid 4 1234 3401 01 001;taken
+# Opened outside the hours, it should be closed when the hours of the next week end.
+59400;cid 5 1234 1401 01 001;taken
+59400;show 2;shown irregular - signals 1 restored no holder none next note
+663200;tick;raised 1
+663200;show 3;shown commfail - signals 1 restored no holder none next note
+664100;tick;raised 0
+664101;tick;raised 1
+664101;show 1;shown lateclose - signals 2 restored no holder none next note
+# A panel's own report of a late closing does not count as raised.
+664200;cid 7 1234 1401 01 001;taken
+664201;cid 8 1234 1454 01 001;taken
+1268900;beat BEE;heard
+1268900;tick;raised 0
+1270000;tick;raised 2
+1270000;show 1;shown lateclose - signals 4 restored no holder none next note
+1270000;show 3;shown commfail - signals 2 restored no holder none next note";
+
+#[test]
+fn a_late_closing(rt: HostRuntime) -> Result<(), Fail> {
+    let centre = play(&rt, rt.alloc(), LATE)?;
+    assert_eq!(rt; centre.table().opened(), 3);
+    Ok(())
+}
+
+// The two signals of one Tick, in order: of the silent account, and of the one that closes late.
+const BOTH: &str = "26000;cid 1 1234 1401 01 001;taken
+59301;tick;raised 2
+59301;list;listed 2 1/commfail 2/lateclose";
+
+#[test]
+fn a_tick_that_raises_two(rt: HostRuntime) -> Result<(), Fail> {
+    let centre = play(&rt, rt.alloc(), BOTH)?;
+    assert_eq!(rt; centre.table().opened(), 2);
+    Ok(())
+}

@@ -1,4 +1,9 @@
 // Events and answers in words.
+ghost use Rattle.std.specs.Prelude.{◌≡◌, ◌≤◌, true, length, IfOk};
+ghost use Rattle.arc_data.specs.Digits.{is_run, is_hex, is_capital_hex, is_name, AreBytes};
+ghost use Rattle.arc_data.specs.Steps.{is_step, fits};
+ghost use Rattle.arc_data.specs.WellFormed.{IsWellFormed};
+
 use super::*;
 use arc_data::{CloseCode, Outcome, Step, View};
 use std::str::from_utf8;
@@ -38,18 +43,37 @@ fn message(alloc: Global, token: Token, rest: &str) -> Result<Event, Fail>
 {
     let (seq, rest) = rest.split_once(' ').ok_or("no sequence")?;
     let (number, data) = rest.split_once(' ').ok_or("no account")?;
-    let seq: u16 = seq.parse()?;
-    if seq > 9999 || data.len() > 4095 {
-        return Err("too much")?;
-    }
+    let seq = sequence(seq)?;
+    let content = content(alloc, data)?;
     Ok(Event::Message(Message {
         account: account(number),
         receiver: None,
         line: line(),
         seq,
         token,
-        content: Blob::of(alloc, data.as_bytes())?,
+        content,
     }))
+}
+
+fn sequence(word: &str) -> Result<u16, Fail>
+    ensures { IfOk result (λ seq. seq ≤ 9999) }
+{
+    let seq: u16 = word.parse()?;
+    if seq > 9999 {
+        return Err("no sequence")?;
+    }
+    Ok(seq)
+}
+
+fn content(alloc: Global, data: &str) -> Result<Blob, Fail>
+    ensures size { IfOk result (λ content. length content ≤ 4095) }
+    ensures bytes { IfOk result AreBytes }
+{
+    let data = data.as_bytes();
+    if data.len() > 4095 {
+        return Err("too long")?;
+    }
+    Ok(Blob::of(alloc, data)?)
 }
 
 fn order(word: &str, rest: &str) -> Result<Event, Fail>
@@ -77,14 +101,7 @@ fn act(rest: &str) -> Result<Event, Fail>
     let (number, rest) = rest.split_once(' ').ok_or("no number")?;
     let (step, outcome) = rest.split_once(' ').ok_or("no step")?;
     let step = step_of(step);
-    let outcome = match outcome {
-        "reached" => Outcome::Reached,
-        "noanswer" => Outcome::NoAnswer,
-        _ => Outcome::Done,
-    };
-    if !action_plans::fits(step, outcome) {
-        return Err("an outcome of another step")?;
-    }
+    let outcome = outcome_of(step, outcome);
     Ok(Event::Act {
         operator: operator(name),
         number: number.parse()?,
@@ -93,12 +110,24 @@ fn act(rest: &str) -> Result<Event, Fail>
     })
 }
 
+// A call is reached or not answered, and any other step is done.
+fn outcome_of(step: Step, word: &str) -> Outcome
+    ensures { fits step result ≡ true }
+{
+    match step {
+        Step::Premises | Step::Holder(_) if word == "reached" => Outcome::Reached,
+        Step::Premises | Step::Holder(_) => Outcome::NoAnswer,
+        _ => Outcome::Done,
+    }
+}
+
 fn account(number: &str) -> Txt
     ensures { is_run is_capital_hex 3 16 result ≡ true }
 {
     let account = match number {
         "1234" => Txt::of(b"1234"),
         "ABC" => Txt::of(b"ABC"),
+        "BEE" => Txt::of(b"BEE"),
         _ => Txt::of(b"9999"),
     };
     account.unwrap()
