@@ -1,150 +1,146 @@
+// Weeks and moments worked out by hand, weeks that were drawn, and the room for windows.
 use crate::{Week, Window};
+use std::alloc::Global;
 use std::process::Abort;
+use std::test::Fail;
 
 mod drawn;
 
-// The beginning of Monday, 4 March 2024, in GMT.
-const MONDAY: u64 = 1_709_510_400;
-
-// An hour and a day in seconds.
-const HOUR: u64 = 3600;
-
-const DAY: u64 = 86_400;
-
-// The last second of the year 9999, which is a Friday.
+// The last second of the year 9999.
 const LAST: u64 = 253_402_300_799;
 
-// The hours with these windows.
-fn week_of(rt: &impl Abort, offset: i16, windows: &[(u8, u16, u16)]) -> Week {
-    assert!(rt; -840 <= offset && offset <= 840);
-    let mut week = Week::new(offset);
-    for &(weekday, from, to) in windows {
-        assert!(rt; weekday <= 6 && from < to && to <= 1440);
-        assert!(rt; week.add(weekday, from, to));
+// Compares the hours at moments. A row `W` has the offset of a week and its windows, each as `WEEKDAY/FROM-TO`. A row `T` has a
+// moment, whether it lies in the hours, and the next close of the last week above it. Any other row is a remark.
+fn compare(rt: &impl Abort, alloc: Global, rows: &str) -> Result<(), Fail> {
+    let mut week = Week::new(0);
+    for row in rows.lines() {
+        let (word, rest) = row.split_once(' ').ok_or("no row")?;
+        match word {
+            "W" => week = week_of(rest)?,
+            "T" => compare_moment(rt, alloc, &week, rest)?,
+            _ => {}
+        }
     }
-    week
+    Ok(())
 }
 
-// The hours are these at the moment, and close next at the other.
-fn assert_closes(rt: &impl Abort, week: &Week, moment: u64, within: bool, close: Option<u64>) {
-    assert!(rt; moment <= LAST);
-    assert_eq!(rt; week.in_hours(moment), within, "at {moment}");
-    assert_eq!(rt; week.next_close(moment), close, "after {moment}");
+fn compare_moment(rt: &impl Abort, alloc: Global, week: &Week, row: &str) -> Result<(), Fail> {
+    let (moment, want) = row.split_once(' ').ok_or("no row")?;
+    let told = hours_at(alloc, week, moment.parse()?)?;
+    assert_eq!(rt; told.as_str(), want, "{row}");
+    Ok(())
+}
+
+fn week_of(words: &str) -> Result<Week, Fail> {
+    let (offset, windows) = words.split_once(' ').unwrap_or((words, ""));
+    let offset: i16 = offset.parse()?;
+    if offset < -840 || offset > 840 {
+        return Err("no offset")?;
+    }
+    let mut week = Week::new(offset);
+    for window in windows.split_whitespace() {
+        add(&mut week, window)?;
+    }
+    Ok(week)
+}
+
+fn add(week: &mut Week, window: &str) -> Result<(), Fail> {
+    let (weekday, from, to) = window_of(window)?;
+    if weekday > 6 || from >= to || to > 1440 {
+        return Err("no window")?;
+    }
+    if !week.add(weekday, from, to) {
+        return Err("no room")?;
+    }
+    Ok(())
+}
+
+fn window_of(window: &str) -> Result<(u8, u16, u16), Fail> {
+    let (weekday, minutes) = window.split_once('/').ok_or("no window")?;
+    let (from, to) = minutes.split_once('-').ok_or("no window")?;
+    Ok((weekday.parse()?, from.parse()?, to.parse()?))
+}
+
+// Whether the moment lies in the hours, and when they close next.
+fn hours_at(alloc: Global, week: &Week, moment: u64) -> Result<String, Fail> {
+    if moment > LAST {
+        return Err("no moment")?;
+    }
+    let within = u8::from(week.in_hours(moment));
+    match week.next_close(moment) {
+        Some(close) => Ok(format!(in alloc; "{within} {close}")?),
+        None => Ok(format!(in alloc; "{within} -")?),
+    }
+}
+
+// 1709510400 is the beginning of Monday, 4 March 2024, in GMT, and the last second of the year 9999 is a Friday.
+const WEEKS: &str = "\
+# An office closes each working day.
+W 60 0/480-1080 1/480-1080 2/480-1080 3/480-1080 4/480-1080
+T 1709510400 0 1709571600
+T 1709571599 1 1709571600
+T 1709571600 0 1709658000
+T 1709917200 0 1710176400
+W -300 0/480-1080 1/480-1080 2/480-1080 3/480-1080 4/480-1080
+T 1709510400 0 1709593200
+# Windows that meet close once.
+W 0 5/1320-1440 6/0-360
+T 1709510400 0 1710050400
+W 0 0/480-720 0/600-900 0/900-960
+T 1709510400 0 1709568000
+W 0 6/1200-1440 0/0-120
+T 1709510400 1 1709517600
+T 1710100800 1 1710122400
+# The greatest offsets shift by 14 hours.
+W 840 6/600-1440
+T 1709510400 0 1710064800
+W -840 6/600-1440
+T 1709510400 1 1709560800
+# The first and the last moments have hours.
+W -840 2/600-1440
+T 0 1 50400
+W 840 3/840-841
+T 0 1 60
+W 0 4/0-1
+T 253402300799 0 253402819260
+# Hours without an end never close.
+W 0
+T 1709510400 0 -
+W 0 0/0-1440 1/0-1440 2/0-1440 3/0-1440 4/0-1440 5/0-1440 6/0-1440
+T 1709510400 1 -
+# 1000000000 is a Sunday, 01:46:40.
+W 0 6/480-1080
+T 1000000000 0 1000058400
+T 1000026000 1 1000058400
+T 1000058400 0 1000663200";
+
+#[test]
+fn hours_and_closes(rt: HostRuntime) -> Result<(), Fail> {
+    compare(&rt, rt.alloc(), WEEKS)
 }
 
 #[test]
-fn an_office_closes_each_working_day(rt: HostRuntime) {
-    let days = [
-        (0, 480, 1080),
-        (1, 480, 1080),
-        (2, 480, 1080),
-        (3, 480, 1080),
-        (4, 480, 1080),
-    ];
-    let week = week_of(&rt, 60, &days);
-    let five = MONDAY + 17 * HOUR;
-    assert_closes(&rt, &week, MONDAY, false, Some(five));
-    assert_closes(&rt, &week, five - 1, true, Some(five));
-    assert_closes(&rt, &week, five, false, Some(five + DAY));
-    assert_closes(&rt, &week, five + 4 * DAY, false, Some(five + 7 * DAY));
-    let week = week_of(&rt, -300, &days);
-    assert_closes(&rt, &week, MONDAY, false, Some(MONDAY + 23 * HOUR));
+fn hours_and_closes_of_drawn_weeks(rt: HostRuntime) -> Result<(), Fail> {
+    compare(&rt, rt.alloc(), drawn::DRAWN)
 }
 
 #[test]
-fn windows_that_meet_close_once(rt: HostRuntime) {
-    let night = week_of(&rt, 0, &[(5, 1320, 1440), (6, 0, 360)]);
-    assert_closes(
-        &rt,
-        &night,
-        MONDAY,
-        false,
-        Some(MONDAY + 6 * DAY + 6 * HOUR),
-    );
-    let lapping = week_of(&rt, 0, &[(0, 480, 720), (0, 600, 900), (0, 900, 960)]);
-    assert_closes(&rt, &lapping, MONDAY, false, Some(MONDAY + 16 * HOUR));
-    let over_sunday = week_of(&rt, 0, &[(6, 1200, 1440), (0, 0, 120)]);
-    assert_closes(&rt, &over_sunday, MONDAY, true, Some(MONDAY + 2 * HOUR));
-    assert_closes(
-        &rt,
-        &over_sunday,
-        MONDAY + 6 * DAY + 20 * HOUR,
-        true,
-        Some(MONDAY + 7 * DAY + 2 * HOUR),
-    );
-}
-
-#[test]
-fn the_greatest_offsets_shift_by_14_hours(rt: HostRuntime) {
-    let windows = [(6, 600, 1440)];
-    let east = week_of(&rt, 840, &windows);
-    assert_closes(
-        &rt,
-        &east,
-        MONDAY,
-        false,
-        Some(MONDAY + 6 * DAY + 10 * HOUR),
-    );
-    let west = week_of(&rt, -840, &windows);
-    assert_closes(&rt, &west, MONDAY, true, Some(MONDAY + 14 * HOUR));
-}
-
-#[test]
-fn the_first_and_the_last_moments_have_hours(rt: HostRuntime) {
-    let west = week_of(&rt, -840, &[(2, 600, 1440)]);
-    assert_closes(&rt, &west, 0, true, Some(14 * HOUR));
-    let east = week_of(&rt, 840, &[(3, 840, 841)]);
-    assert_closes(&rt, &east, 0, true, Some(60));
-    let thursday = week_of(&rt, 0, &[(4, 0, 1)]);
-    assert_closes(&rt, &thursday, LAST, false, Some(LAST + 518_461));
-}
-
-#[test]
-fn hours_without_an_end_never_close(rt: HostRuntime) {
-    assert_closes(&rt, &week_of(&rt, 0, &[]), MONDAY, false, None);
-    let days = [
-        (0, 0, 1440),
-        (1, 0, 1440),
-        (2, 0, 1440),
-        (3, 0, 1440),
-        (4, 0, 1440),
-        (5, 0, 1440),
-        (6, 0, 1440),
-    ];
-    assert_closes(&rt, &week_of(&rt, 0, &days), MONDAY, true, None);
-}
-
-#[test]
-fn the_hours_of_a_sunday(rt: HostRuntime) {
-    // 1000000000 is a Sunday, 01:46:40.
-    let week = week_of(&rt, 0, &[(6, 480, 1080)]);
-    assert_closes(&rt, &week, 1_000_000_000, false, Some(1_000_058_400));
-    assert_closes(&rt, &week, 1_000_026_000, true, Some(1_000_058_400));
-    assert_closes(&rt, &week, 1_000_058_400, false, Some(1_000_663_200));
-}
-
-#[test]
-fn a_week_tells_its_parts(rt: HostRuntime) {
-    let empty = week_of(&rt, -840, &[]);
-    assert!(rt; !empty.has_windows());
-    assert_eq!(rt; empty.windows().len(), 0);
-    let week = week_of(&rt, 345, &[(6, 480, 1080), (0, 0, 1440)]);
-    let copy = week.copy();
-    let first = Window {
+fn a_week_tells_its_parts(rt: HostRuntime) -> Result<(), Fail> {
+    assert!(rt; !week_of("-840")?.has_windows());
+    let week = week_of("345 6/480-1080 0/0-1440")?.copy();
+    assert!(rt; week.has_windows());
+    assert_eq!(rt; week.offset(), 345);
+    let [first, second] = week.windows() else {
+        return Err("another count of windows")?;
+    };
+    let sunday = Window {
         weekday: 6,
         from: 480,
         to: 1080,
     };
-    let second = Window {
-        weekday: 0,
-        from: 0,
-        to: 1440,
-    };
-    for week in [&week, &copy] {
-        assert!(rt; week.has_windows());
-        assert_eq!(rt; week.offset(), 345);
-        assert_eq!(rt; week.windows(), [first, second].as_slice());
-    }
+    assert_eq!(rt; *first, sunday);
+    assert_eq!(rt; second.weekday, 0);
+    Ok(())
 }
 
 #[test]
@@ -154,6 +150,5 @@ fn a_week_has_room_for_28_windows(rt: HostRuntime) {
         assert!(rt; week.add(0, 2 * minute, 2 * minute + 1));
     }
     assert!(rt; !week.add(1, 0, 1440));
-    assert!(rt; !week.in_hours(MONDAY + DAY));
-    assert_eq!(rt; week.next_close(MONDAY + 54 * 60), Some(MONDAY + 55 * 60));
+    assert_eq!(rt; week.windows().len(), 28);
 }
