@@ -1,6 +1,7 @@
 // Codes and forms of Contact ID data (DC-05), by the profile's tables.
 use super::*;
 use alarm_signal::{Class, Kind};
+use std::test::Fail;
 
 const DIGITS: [u8; 16] = *b"0123456789ABCDEF";
 
@@ -19,13 +20,109 @@ fn read_code(qualifier: u8, code: &[u8]) -> Option<(Class, Kind)> {
     }
 }
 
-// How many of all codes are read so.
-fn count(qualifier: u8, class: Class, kind: Kind) -> u32 {
+// Whether the words name this class and kind.
+fn is_named(words: &str, class: Class, kind: Kind) -> bool {
+    let word = match kind {
+        Kind::New => "new",
+        Kind::Again => "again",
+        Kind::Restore => "restore",
+        Kind::Opening => "opening",
+        Kind::Closing => "closing",
+        Kind::LogOnly => "log",
+    };
+    words.split_once(' ') == Some((class.name(), word))
+}
+
+// Whether the code is read as the words say.
+fn is_read_as(qualifier: u8, code: &[u8], words: &str) -> bool {
+    match read_code(qualifier, code) {
+        Some((class, kind)) => is_named(words, class, kind),
+        None => false,
+    }
+}
+
+fn qualifier_of(word: &str) -> Result<u8, Fail> {
+    match word.as_bytes() {
+        [qualifier] => Ok(*qualifier),
+        _ => Err("no qualifier")?,
+    }
+}
+
+// A qualifier, a class and a kind, how many of all codes have them, and codes of it.
+const CODES: &str = "\
+1;medical new;3;100 101 102
+3;medical restore;3;100 101 102
+6;medical again;3;100 101 102
+1;fire new;9;110 111 112 113 114 115 116 117 118
+3;fire restore;9;110 111 112 113 114 115 116 117 118
+6;fire again;9;110 111 112 113 114 115 116 117 118
+1;panic new;4;120 121 122 123
+3;panic restore;4;120 121 122 123
+6;panic again;4;120 121 122 123
+1;burglary new;10;130 131 132 133 134 135 136 138 139 140
+3;burglary restore;10;130 131 132 133 134 135 136 138 139 140
+6;burglary again;10;130 131 132 133 134 135 136 138 139 140
+1;tamper new;4;137 144 145 383
+3;tamper restore;4;137 144 145 383
+6;tamper again;4;137 144 145 383
+1;gas new;2;151 162
+3;gas restore;2;151 162
+6;gas again;2;151 162
+1;environment new;4;150 154 158 159
+3;environment restore;4;150 154 158 159
+6;environment again;4;150 154 158 159
+1;commfail new;2;350 354
+3;commfail restore;2;350 354
+6;commfail again;2;350 354
+1;trouble new;8;301 302 305 344 373 380 381 384
+3;trouble restore;8;301 302 305 344 373 380 381 384
+6;trouble again;8;301 302 305 344 373 380 381 384
+1;openclose opening;8;400 401 402 403 407 408 409 441
+3;openclose closing;8;400 401 402 403 407 408 409 441
+6;openclose log;8;400 401 402 403 407 408 409 441
+1;lateclose new;1;454
+3;lateclose restore;1;454
+6;lateclose again;1;454
+1;cancel log;1;406
+3;cancel log;1;406
+6;cancel log;1;406
+1;bypass log;1;570
+3;bypass log;1;570
+6;bypass log;1;570
+1;test log;3;601 602 607
+3;test log;3;601 602 607
+6;test log;3;601 602 607
+1;program log;2;627 628
+3;program log;2;627 628
+6;program log;2;627 628
+1;unlisted new;4034;000 099 103 119 124 141 999 1FF A00 b31 13a
+3;unlisted new;4034;000 099 103 119 124 141 999 1FF A00 b31 13a
+6;unlisted new;4034;000 099 103 119 124 141 999 1FF A00 b31 13a";
+
+#[test]
+fn reads_each_code_of_the_table(rt: HostRuntime) -> Result<(), Fail> {
+    for row in CODES.lines() {
+        let (qualifier, rest) = row.split_once(';').ok_or("no row")?;
+        let (words, rest) = rest.split_once(';').ok_or("no row")?;
+        let (_, codes) = rest.split_once(';').ok_or("no row")?;
+        let qualifier = qualifier_of(qualifier)?;
+        for code in codes.split(' ') {
+            assert!(rt;
+                is_read_as(qualifier, code.as_bytes(), words),
+                "{code} of {row}"
+            );
+        }
+    }
+    Ok(())
+}
+
+// How many of all codes are read as the words say.
+fn count(qualifier: u8, words: &str) -> u32 {
     let mut count: u32 = 0;
     for a in DIGITS {
         for b in DIGITS {
             for c in DIGITS {
-                if read_code(qualifier, &[a, b, c]) == Some((class, kind)) {
+                if is_read_as(qualifier, &[a, b, c], words) {
                     count = count.wrapping_add(1);
                 }
             }
@@ -34,123 +131,55 @@ fn count(qualifier: u8, class: Class, kind: Kind) -> u32 {
     count
 }
 
-const USUAL: [Kind; 3] = [Kind::New, Kind::Restore, Kind::Again];
-
-const ENTRY: [Kind; 3] = [Kind::Opening, Kind::Closing, Kind::LogOnly];
-
-const LOG: [Kind; 3] = [Kind::LogOnly, Kind::LogOnly, Kind::LogOnly];
-
-const NEW: [Kind; 3] = [Kind::New, Kind::New, Kind::New];
-
-// A class, the kinds of its signals under the three qualifiers, and codes of it.
-const CODES: [(Class, [Kind; 3], &str); 16] = [
-    (Class::Medical, USUAL, "100 101 102"),
-    (Class::Fire, USUAL, "110 111 112 113 114 115 116 117 118"),
-    (Class::Panic, USUAL, "120 121 122 123"),
-    (
-        Class::Burglary,
-        USUAL,
-        "130 131 132 133 134 135 136 138 139 140",
-    ),
-    (Class::Tamper, USUAL, "137 144 145 383"),
-    (Class::Gas, USUAL, "151 162"),
-    (Class::Environment, USUAL, "150 154 158 159"),
-    (Class::CommFail, USUAL, "350 354"),
-    (Class::Trouble, USUAL, "301 302 305 344 373 380 381 384"),
-    (Class::OpenClose, ENTRY, "400 401 402 403 407 408 409 441"),
-    (Class::LateClose, USUAL, "454"),
-    (Class::Cancel, LOG, "406"),
-    (Class::Bypass, LOG, "570"),
-    (Class::Test, LOG, "601 602 607"),
-    (Class::Program, LOG, "627 628"),
-    (
-        Class::Unlisted,
-        NEW,
-        "000 099 103 119 124 141 999 1FF A00 b31 13a",
-    ),
-];
-
 #[test]
-fn reads_each_code_of_the_table(rt: HostRuntime) {
-    for (class, [one, three, six], codes) in CODES {
-        for code in codes.split(' ') {
-            let code = code.as_bytes();
-            assert_eq!(rt; read_code(b'1', code), Some((class, one)), "at {code:?}");
-            assert_eq!(rt; read_code(b'3', code), Some((class, three)), "at {code:?}");
-            assert_eq!(rt; read_code(b'6', code), Some((class, six)), "at {code:?}");
-        }
+fn lists_so_many_of_all_codes(rt: HostRuntime) -> Result<(), Fail> {
+    for row in CODES.lines() {
+        let (qualifier, rest) = row.split_once(';').ok_or("no row")?;
+        let (words, rest) = rest.split_once(';').ok_or("no row")?;
+        let (want, _) = rest.split_once(';').ok_or("no row")?;
+        let count = count(qualifier_of(qualifier)?, words);
+        assert_eq!(rt; count, want.parse()?, "{row}");
+    }
+    Ok(())
+}
+
+// The class and kind of a content, or `-` where it has not the form, and the content.
+const FORMS: &str = "\
+unlisted new;1999 01 001
+openclose closing;3401 01 001
+openclose log;6401 01 001
+burglary again;6131 01 001
+burglary new;1131 fF aB9
+burglary new;1131 01 001][S123Main St.
+burglary new;1131 01 001]
+-;2131 01 001
+-;0131 01 001
+-;
+-;]1131 01 001
+-;1131 01 00
+-;1131 01 00]1
+-;1131 01 0011
+-;1131  01 001
+-;1131-01 001
+-;1131 01-001
+-;11G1 01 001
+-;1131 0g 001
+-;1131 01 00:
+-; 131 01 001";
+
+// Whether the content is read as the words say.
+fn is_content_of(content: &[u8], words: &str) -> bool {
+    match read(content) {
+        Some(signal) => is_named(words, signal.class, signal.kind),
+        None => words == "-",
     }
 }
 
-// A qualifier, a class and a kind, and how many of all codes it has.
-const COUNTS: [(u8, Class, Kind, u32); 22] = [
-    (b'1', Class::Medical, Kind::New, 3),
-    (b'1', Class::Fire, Kind::New, 9),
-    (b'1', Class::Panic, Kind::New, 4),
-    (b'1', Class::Burglary, Kind::New, 10),
-    (b'1', Class::Tamper, Kind::New, 4),
-    (b'1', Class::Gas, Kind::New, 2),
-    (b'1', Class::Environment, Kind::New, 4),
-    (b'1', Class::CommFail, Kind::New, 2),
-    (b'1', Class::Trouble, Kind::New, 8),
-    (b'1', Class::OpenClose, Kind::Opening, 8),
-    (b'3', Class::OpenClose, Kind::Closing, 8),
-    (b'6', Class::OpenClose, Kind::LogOnly, 8),
-    (b'1', Class::LateClose, Kind::New, 1),
-    (b'1', Class::Cancel, Kind::LogOnly, 1),
-    (b'1', Class::Bypass, Kind::LogOnly, 1),
-    (b'1', Class::Test, Kind::LogOnly, 3),
-    (b'1', Class::Program, Kind::LogOnly, 2),
-    (b'1', Class::Unlisted, Kind::New, 4034),
-    (b'3', Class::Unlisted, Kind::New, 4034),
-    (b'6', Class::Unlisted, Kind::New, 4034),
-    (b'3', Class::Burglary, Kind::Restore, 10),
-    (b'6', Class::Burglary, Kind::Again, 10),
-];
-
 #[test]
-fn lists_so_many_of_all_codes(rt: HostRuntime) {
-    for (qualifier, class, kind, want) in COUNTS {
-        assert_eq!(rt; count(qualifier, class, kind), want, "of {class:?}");
+fn reads_the_form_alone(rt: HostRuntime) -> Result<(), Fail> {
+    for row in FORMS.lines() {
+        let (words, content) = row.split_once(';').ok_or("no row")?;
+        assert!(rt; is_content_of(content.as_bytes(), words), "{row}");
     }
-}
-
-// Contents, and the class and kind of each that has the form.
-const FORMS: [(&str, Option<(Class, Kind)>); 21] = [
-    ("1999 01 001", Some((Class::Unlisted, Kind::New))),
-    ("3401 01 001", Some((Class::OpenClose, Kind::Closing))),
-    ("6401 01 001", Some((Class::OpenClose, Kind::LogOnly))),
-    ("6131 01 001", Some((Class::Burglary, Kind::Again))),
-    ("1131 fF aB9", Some((Class::Burglary, Kind::New))),
-    (
-        "1131 01 001][S123Main St.",
-        Some((Class::Burglary, Kind::New)),
-    ),
-    ("1131 01 001]", Some((Class::Burglary, Kind::New))),
-    ("2131 01 001", None),
-    ("0131 01 001", None),
-    ("", None),
-    ("]1131 01 001", None),
-    ("1131 01 00", None),
-    ("1131 01 00]1", None),
-    ("1131 01 0011", None),
-    ("1131  01 001", None),
-    ("1131-01 001", None),
-    ("1131 01-001", None),
-    ("11G1 01 001", None),
-    ("1131 0g 001", None),
-    ("1131 01 00:", None),
-    (" 131 01 001", None),
-];
-
-#[test]
-fn reads_the_form_alone(rt: HostRuntime) {
-    for (content, want) in FORMS {
-        let read = read(content.as_bytes());
-        assert_eq!(rt;
-            read.map(|signal| (signal.class, signal.kind)),
-            want,
-            "of {content}"
-        );
-    }
+    Ok(())
 }
