@@ -10,6 +10,7 @@ use crate::status::{Status, Which};
 use arc_data::{LineKind, SetupFault, Txt};
 use arc_io::{ListClock, ListNoise, MemPort, MemSink, MemSource};
 use std::alloc::Global;
+use std::process::Abort;
 use std::test::Fail;
 
 const SETUP: &[u8] = b"account 1234\noperator ann 1234\noperator bob 5678\n";
@@ -57,7 +58,8 @@ fn outside_of(
 
 // A run of this word over them.
 fn ran(
-    rt: &HostRuntime,
+    rt: &impl Abort,
+    alloc: Global,
     word: &[u8],
     setup: &[u8],
     input: &[u8],
@@ -66,7 +68,6 @@ fn ran(
 ) -> Result<Ended<MemSource, MemPort>, Fail>
     requires { All (λ r. r < 253_402_300_800) readings.now }
 {
-    let alloc = rt.alloc();
     let word = Txt::of(word).ok_or("a short word")?;
     let outside = outside_of(alloc, setup, input, readings, failing)?;
     Ok(run(rt, alloc, &[word], outside))
@@ -74,11 +75,12 @@ fn ran(
 
 // A run of `line` over one alarm.
 fn ran_alarm(
-    rt: &HostRuntime,
+    rt: &impl Abort,
+    alloc: Global,
     setup: &[u8],
     failing: &Failing,
 ) -> Result<Ended<MemSource, MemPort>, Fail> {
-    ran(rt, b"line", setup, ALARM, &[1_000_000_000], failing)
+    ran(rt, alloc, b"line", setup, ALARM, &[1_000_000_000], failing)
 }
 
 // How many entries the centre that a run handed back has recorded.
@@ -97,7 +99,7 @@ fn joined(alloc: Global, pieces: &[&[u8]]) -> Result<Vec<u8>, Fail> {
 
 #[test]
 fn one_alarm_is_acknowledged(rt: HostRuntime) -> Result<(), Fail> {
-    let ended = ran_alarm(&rt, SETUP, &NONE)?;
+    let ended = ran_alarm(&rt, rt.alloc(), SETUP, &NONE)?;
     assert_eq!(rt; ended.status, Status::Done);
     assert_eq!(rt; ended.outside.port.sink.bytes(), ACKNOWLEDGEMENT);
     assert_eq!(rt; recorded(&ended), Some(3));
@@ -106,13 +108,12 @@ fn one_alarm_is_acknowledged(rt: HostRuntime) -> Result<(), Fail> {
 
 // The same alarm three times, the last two at these moments after a beginning and an alarm at others: each is acknowledged, and
 // the last alone is recorded again.
-fn repeats(rt: &HostRuntime, readings: &[u64]) -> Result<(), Fail>
+fn repeats(rt: &impl Abort, alloc: Global, readings: &[u64]) -> Result<(), Fail>
     requires { All (λ r. r < 253_402_300_800) readings.now }
 {
-    let alloc = rt.alloc();
     let input = joined(alloc, &[ALARM, ALARM, ALARM])?;
     let output = joined(alloc, &[ACKNOWLEDGEMENT, ACKNOWLEDGEMENT, ACKNOWLEDGEMENT])?;
-    let ended = ran(rt, b"line", SETUP, &input, readings, &NONE)?;
+    let ended = ran(rt, alloc, b"line", SETUP, &input, readings, &NONE)?;
     assert_eq!(rt; ended.outside.port.sink.bytes(), output.as_slice());
     assert_eq!(rt; recorded(&ended), Some(4));
     Ok(())
@@ -123,11 +124,13 @@ fn a_repeat_is_not_recorded_again(rt: HostRuntime) -> Result<(), Fail> {
     // 300 seconds after the first, and 301.
     repeats(
         &rt,
+        rt.alloc(),
         &[1_000_000_000, 1_000_000_000, 1_000_000_300, 1_000_000_301],
     )?;
     // A reading that falls behind the last entry's moment counts as that moment: 300 seconds after it, and 301.
     repeats(
         &rt,
+        rt.alloc(),
         &[1_000_000_300, 1_000_000_000, 1_000_000_600, 1_000_000_601],
     )
 }
@@ -135,7 +138,15 @@ fn a_repeat_is_not_recorded_again(rt: HostRuntime) -> Result<(), Fail> {
 #[test]
 fn an_operator_at_a_desk(rt: HostRuntime) -> Result<(), Fail> {
     let typed = b"list\nhello\nlogin ann 9999\nlogin ann 1234\nlist\nquit\nlist\n";
-    let ended = ran(&rt, b"desk", SETUP, typed, &[1_000_000_000], &NONE)?;
+    let ended = ran(
+        &rt,
+        rt.alloc(),
+        b"desk",
+        SETUP,
+        typed,
+        &[1_000_000_000],
+        &NONE,
+    )?;
     assert_eq!(rt; ended.status, Status::Done);
     let answers = b"denied\nwhat\ndenied\nok ann\nlist 0\nbye\n".as_slice();
     assert_eq!(rt; ended.outside.port.sink.bytes(), answers);
@@ -146,7 +157,15 @@ fn an_operator_at_a_desk(rt: HostRuntime) -> Result<(), Fail> {
 #[test]
 fn a_desk_whose_input_ends(rt: HostRuntime) -> Result<(), Fail> {
     let typed = b"login bob 5678\nnext\nshow 1";
-    let ended = ran(&rt, b"desk", SETUP, typed, &[1_000_000_000], &NONE)?;
+    let ended = ran(
+        &rt,
+        rt.alloc(),
+        b"desk",
+        SETUP,
+        typed,
+        &[1_000_000_000],
+        &NONE,
+    )?;
     assert_eq!(rt; ended.status, Status::Done);
     let answers = b"ok bob\nnone waiting\nnot open 1\n".as_slice();
     assert_eq!(rt; ended.outside.port.sink.bytes(), answers);
@@ -160,7 +179,7 @@ fn reads_that_fail(rt: HostRuntime) -> Result<(), Fail> {
         reads: &[],
         writes: &[],
     };
-    let ended = ran_alarm(&rt, SETUP, &failing)?;
+    let ended = ran_alarm(&rt, rt.alloc(), SETUP, &failing)?;
     let (before, now) = (0, 1);
     let input = Which::Setup;
     assert_eq!(rt; ended.status, Status::ReadFault { input, before, now });
@@ -170,7 +189,7 @@ fn reads_that_fail(rt: HostRuntime) -> Result<(), Fail> {
         reads: &[2],
         writes: &[],
     };
-    let ended = ran_alarm(&rt, SETUP, &failing)?;
+    let ended = ran_alarm(&rt, rt.alloc(), SETUP, &failing)?;
     let input = Which::Input;
     assert_eq!(rt; ended.status, Status::ReadFault { input, before, now });
     assert_eq!(rt; ended.outside.port.sink.bytes(), ACKNOWLEDGEMENT);
@@ -185,7 +204,7 @@ fn a_write_that_fails(rt: HostRuntime) -> Result<(), Fail> {
         reads: &[],
         writes: &[1],
     };
-    let ended = ran_alarm(&rt, SETUP, &failing)?;
+    let ended = ran_alarm(&rt, rt.alloc(), SETUP, &failing)?;
     assert_eq!(rt; ended.status, Status::WriteFault { before: 0, now: 1 });
     assert_eq!(rt; ended.outside.port.sink.bytes(), b"".as_slice());
     assert_eq!(rt; recorded(&ended), Some(3));
@@ -194,26 +213,14 @@ fn a_write_that_fails(rt: HostRuntime) -> Result<(), Fail> {
 
 #[test]
 fn a_setup_that_is_none(rt: HostRuntime) -> Result<(), Fail> {
-    let ended = ran_alarm(&rt, b"account 1234\naccount 1234\n", &NONE)?;
+    let ended = ran_alarm(&rt, rt.alloc(), b"account 1234\naccount 1234\n", &NONE)?;
     let fault = SetupFault::TwoSame { line: 2, first: 1 };
     assert_eq!(rt; ended.status, Status::SetupBad(fault));
     assert_eq!(rt; recorded(&ended), None);
-    let ended = ran_alarm(&rt, b"# one panel\n\naccount 1234 \n", &NONE)?;
+    let ended = ran_alarm(&rt, rt.alloc(), b"# one panel\n\naccount 1234 \n", &NONE)?;
     let kind = LineKind::Form;
     let fault = SetupFault::BadLine { line: 3, kind };
     assert_eq!(rt; ended.status, Status::SetupBad(fault));
-    Ok(())
-}
-
-#[test]
-fn a_setup_has_at_most_4_194_304_bytes(rt: HostRuntime) -> Result<(), Fail> {
-    let mut setup = SETUP.to_vec(rt.alloc())?;
-    setup.resize(4_194_304, b'\n')?;
-    let ended = ran_alarm(&rt, &setup, &NONE)?;
-    assert_eq!(rt; ended.status, Status::Done);
-    setup.push(b'\n')?;
-    let ended = ran_alarm(&rt, &setup, &NONE)?;
-    assert_eq!(rt; ended.status, Status::SetupBad(SetupFault::TooLarge));
     Ok(())
 }
 
@@ -285,8 +292,7 @@ fn statuses_have_their_numbers_and_texts(rt: HostRuntime) -> Result<(), Fail> {
 }
 
 // A run of these words over one alarm: its status, and what was written.
-fn refused(rt: &HostRuntime, words: &[Txt]) -> Result<(), Fail> {
-    let alloc = rt.alloc();
+fn refused(rt: &impl Abort, alloc: Global, words: &[Txt]) -> Result<(), Fail> {
     let outside = outside_of(alloc, SETUP, ALARM, &[], &NONE)?;
     let ended = run(rt, alloc, words, outside);
     assert_eq!(rt; ended.status, Status::Usage);
@@ -298,7 +304,7 @@ fn refused(rt: &HostRuntime, words: &[Txt]) -> Result<(), Fail> {
 fn other_words_are_refused(rt: HostRuntime) -> Result<(), Fail> {
     let line = Txt::of(b"line").ok_or("a short word")?;
     let report = Txt::of(b"report").ok_or("a short word")?;
-    refused(&rt, &[])?;
-    refused(&rt, &[line, line])?;
-    refused(&rt, &[report])
+    refused(&rt, rt.alloc(), &[])?;
+    refused(&rt, rt.alloc(), &[line, line])?;
+    refused(&rt, rt.alloc(), &[report])
 }

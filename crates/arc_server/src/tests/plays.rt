@@ -1,11 +1,11 @@
 // Whole plays of a line, two desks and a clock over one hall. A setup and rows, a line each, which are played one after the other.
 use super::station::Station;
+use std::alloc::Global;
 use std::process::Abort;
 use std::test::Fail;
 
 // Plays rows over a run that begins at the moment of the first.
-fn play(rt: &HostRuntime, setup: &str, rows: &str) -> Result<(), Fail> {
-    let alloc = rt.alloc();
+fn play(rt: &impl Abort, alloc: Global, setup: &str, rows: &str) -> Result<(), Fail> {
     let first = rows.lines().next().ok_or("no row")?;
     let (_, rest) = first.split_once(' ').ok_or("no row")?;
     let (begins, _) = rest.split_once(' ').ok_or("no moment")?;
@@ -35,7 +35,12 @@ D 1 list > list 0
 
 #[test]
 fn an_alarm_is_worked_and_closed(rt: HostRuntime) -> Result<(), Fail> {
-    play(&rt, TWO_OPERATORS, AN_ALARM_IS_WORKED_AND_CLOSED)
+    play(
+        &rt,
+        rt.alloc(),
+        TWO_OPERATORS,
+        AN_ALARM_IS_WORKED_AND_CLOSED,
+    )
 }
 
 const A_MESSAGE_COUNTS_AGAIN_AFTER_300_SECONDS: &str = "\
@@ -51,7 +56,12 @@ D 1 show 1 > incident 1 burglary 1234 code 131 opened 1000000000 signals 2 resto
 
 #[test]
 fn a_message_counts_again_after_300_seconds(rt: HostRuntime) -> Result<(), Fail> {
-    play(&rt, TWO_OPERATORS, A_MESSAGE_COUNTS_AGAIN_AFTER_300_SECONDS)
+    play(
+        &rt,
+        rt.alloc(),
+        TWO_OPERATORS,
+        A_MESSAGE_COUNTS_AGAIN_AFTER_300_SECONDS,
+    )
 }
 
 const A_MESSAGE_COUNTS_AGAIN_BEHIND_32_OTHERS: &str = "\
@@ -68,7 +78,12 @@ D 1 show 1 > incident 1 burglary 1234 code 131 opened 1000000000 signals 34 rest
 
 #[test]
 fn a_message_counts_again_behind_32_others(rt: HostRuntime) -> Result<(), Fail> {
-    play(&rt, TWO_OPERATORS, A_MESSAGE_COUNTS_AGAIN_BEHIND_32_OTHERS)
+    play(
+        &rt,
+        rt.alloc(),
+        TWO_OPERATORS,
+        A_MESSAGE_COUNTS_AGAIN_BEHIND_32_OTHERS,
+    )
 }
 
 const SETUP_OF_CODES_THAT_ARE_LISTED_AND_NOT: &str = "\
@@ -88,6 +103,7 @@ D 1 list > list 2 1/fire/12345A/- 2/unlisted/12345A/-
 fn codes_that_are_listed_and_not(rt: HostRuntime) -> Result<(), Fail> {
     play(
         &rt,
+        rt.alloc(),
         SETUP_OF_CODES_THAT_ARE_LISTED_AND_NOT,
         CODES_THAT_ARE_LISTED_AND_NOT,
     )
@@ -110,7 +126,12 @@ D 1 list > list 1 1/commfail/1234/-
 
 #[test]
 fn a_panel_falls_silent(rt: HostRuntime) -> Result<(), Fail> {
-    play(&rt, SETUP_OF_A_PANEL_FALLS_SILENT, A_PANEL_FALLS_SILENT)
+    play(
+        &rt,
+        rt.alloc(),
+        SETUP_OF_A_PANEL_FALLS_SILENT,
+        A_PANEL_FALLS_SILENT,
+    )
 }
 
 const SETUP_OF_TWO_INTERVALS_AND_A_HEARTBEAT_BETWEEN: &str = "\
@@ -135,6 +156,7 @@ D 1 show 1 > incident 1 commfail 1000 code - opened 1000000061 signals 2 restore
 fn two_intervals_and_a_heartbeat_between(rt: HostRuntime) -> Result<(), Fail> {
     play(
         &rt,
+        rt.alloc(),
         SETUP_OF_TWO_INTERVALS_AND_A_HEARTBEAT_BETWEEN,
         TWO_INTERVALS_AND_A_HEARTBEAT_BETWEEN,
     )
@@ -169,6 +191,7 @@ D 1 close 1 real > not open 1
 fn two_operators_and_a_plan(rt: HostRuntime) -> Result<(), Fail> {
     play(
         &rt,
+        rt.alloc(),
         SETUP_OF_TWO_OPERATORS_AND_A_PLAN,
         TWO_OPERATORS_AND_A_PLAN,
     )
@@ -196,7 +219,7 @@ D 1 close 1 real > missing police
 
 #[test]
 fn a_plan_outside_open_hours(rt: HostRuntime) -> Result<(), Fail> {
-    play(&rt, A_SHOP, A_PLAN_OUTSIDE_OPEN_HOURS)
+    play(&rt, rt.alloc(), A_SHOP, A_PLAN_OUTSIDE_OPEN_HOURS)
 }
 
 const A_WHOLE_SHIFT: &str = "\
@@ -219,7 +242,7 @@ D 1 list > list 0
 // The shift that the manual of the desk shows.
 #[test]
 fn a_whole_shift(rt: HostRuntime) -> Result<(), Fail> {
-    play(&rt, A_SHOP, A_WHOLE_SHIFT)
+    play(&rt, rt.alloc(), A_SHOP, A_WHOLE_SHIFT)
 }
 
 const A_PLAN_IN_OPEN_HOURS: &str = "\
@@ -233,7 +256,7 @@ D 1 close 1 real > closed 1
 
 #[test]
 fn a_plan_in_open_hours(rt: HostRuntime) -> Result<(), Fail> {
-    play(&rt, A_SHOP, A_PLAN_IN_OPEN_HOURS)
+    play(&rt, rt.alloc(), A_SHOP, A_PLAN_IN_OPEN_HOURS)
 }
 
 const AN_OPENING_OUTSIDE_HOURS: &str = "\
@@ -245,7 +268,7 @@ D 1 list > list 1 1/irregular/1234/-
 
 #[test]
 fn an_opening_outside_hours(rt: HostRuntime) -> Result<(), Fail> {
-    play(&rt, A_SHOP, AN_OPENING_OUTSIDE_HOURS)
+    play(&rt, rt.alloc(), A_SHOP, AN_OPENING_OUTSIDE_HOURS)
 }
 
 const A_CLOSING_THAT_IS_LATE: &str = "\
@@ -261,7 +284,7 @@ D 1 list > list 1 1/lateclose/1234/-
 
 #[test]
 fn a_closing_that_is_late(rt: HostRuntime) -> Result<(), Fail> {
-    play(&rt, A_SHOP, A_CLOSING_THAT_IS_LATE)
+    play(&rt, rt.alloc(), A_SHOP, A_CLOSING_THAT_IS_LATE)
 }
 
 const NOTHING_AND_THEN_ONE_INCIDENT: &str = "\
@@ -277,7 +300,12 @@ D 1 show 1 > incident 1 burglary 1234 code 131 opened 1000000000 signals 1 resto
 
 #[test]
 fn nothing_and_then_one_incident(rt: HostRuntime) -> Result<(), Fail> {
-    play(&rt, TWO_OPERATORS, NOTHING_AND_THEN_ONE_INCIDENT)
+    play(
+        &rt,
+        rt.alloc(),
+        TWO_OPERATORS,
+        NOTHING_AND_THEN_ONE_INCIDENT,
+    )
 }
 
 const SETUP_OF_A_LIST_HAS_16_ROWS: &str = "\
@@ -326,5 +354,10 @@ D 1 list > list 17 1/burglary/1001/- 2/burglary/1002/- 3/burglary/1003/- 4/burgl
 
 #[test]
 fn a_list_has_16_rows(rt: HostRuntime) -> Result<(), Fail> {
-    play(&rt, SETUP_OF_A_LIST_HAS_16_ROWS, A_LIST_HAS_16_ROWS)
+    play(
+        &rt,
+        rt.alloc(),
+        SETUP_OF_A_LIST_HAS_16_ROWS,
+        A_LIST_HAS_16_ROWS,
+    )
 }
