@@ -6,12 +6,14 @@ use Rattle.centre_rules.specs.Summary.{nothing}
 use Rattle.centre_rules.specs.History.{Entry}
 use Rattle.desk_session.specs.Desks.{ReadsDesk, ServesDesk}
 use Rattle.desk_session.specs.declared.desk_end.DeskEnd.{DeskEnd}
-use Rattle.desk_session.specs.declared.desk_end.DeskEnd.TheVariants.{Quit as DeskQuit, InputEnded as DeskEnded, ReadFault as DeskUnread}
-use Rattle.desk_session.specs.declared.desk_end.DeskEnd.TheVariants.{WriteFault as DeskUnwritten, Spent as DeskSpent, Stopped as DeskStopped}
+use Rattle.desk_session.specs.declared.desk_end.DeskEnd.TheVariants.{Quit as DeskQuit, InputEnded as DeskEnded}
+use Rattle.desk_session.specs.declared.desk_end.DeskEnd.TheVariants.{ReadFault as DeskUnread, WriteFault as DeskUnwritten}
+use Rattle.desk_session.specs.declared.desk_end.DeskEnd.TheVariants.{Spent as DeskSpent, Stopped as DeskStopped}
 use Rattle.line_session.specs.Lines.{ReadsLine, ServesLine}
 use Rattle.line_session.specs.declared.line_end.LineEnd.{LineEnd}
 use Rattle.line_session.specs.declared.line_end.LineEnd.TheVariants.{InputEnded as LineEnded, ReadFault as LineUnread}
-use Rattle.line_session.specs.declared.line_end.LineEnd.TheVariants.{WriteFault as LineUnwritten, Spent as LineSpent, Stopped as LineStopped}
+use Rattle.line_session.specs.declared.line_end.LineEnd.TheVariants.{WriteFault as LineUnwritten}
+use Rattle.line_session.specs.declared.line_end.LineEnd.TheVariants.{Spent as LineSpent, Stopped as LineStopped}
 use Rattle.arc_server.specs.declared.form.Form.{Form}
 use Rattle.arc_server.specs.declared.form.Form.TheVariants.{Line, Desk}
 use Rattle.arc_server.specs.declared.session.SessionEnd.{SessionEnd}
