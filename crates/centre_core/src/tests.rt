@@ -41,7 +41,8 @@ fn ready(
     clock: u64,
 ) -> Result<Ready, Fail>
     requires { IsWellFormed event }
-    ensures { IfOk result (λ r. r.of ≡ centre.new) }
+    ensures of { IfOk result (λ r. r.of ≡ centre.new) }
+    ensures few { IfOk result (λ r. centre.new.entries < 2 ^ 48) }
 {
     assert!(rt; centre.entries() < 1 << 48);
     let clock = BEGIN.saturating_add(clock);
@@ -74,15 +75,32 @@ fn begun(alloc: Global) -> Result<Centre, Fail> {
 fn play(rt: &impl Abort, alloc: Global, rows: &str) -> Result<Centre, Fail> {
     let mut centre = begun(alloc)?;
     for row in rows.lines() {
-        if let Some((clock, rest)) = row.split_once(';') {
-            let (event, want) = rest.split_once(';').ok_or("no row")?;
-            let event = event_of(alloc, event)?;
-            let reply = tell(rt, alloc, &mut centre, event, clock.parse()?)?;
-            let told = answer_of(alloc, &reply)?;
-            assert_eq!(rt; told.as_str(), want, "{row}");
-        }
+        play_row(rt, alloc, &mut centre, row)?;
     }
     Ok(centre)
+}
+
+// Tells the centre the event of a row, where it has one, and compares the answer.
+fn play_row(rt: &impl Abort, alloc: Global, centre: &mut Centre, row: &str) -> Result<(), Fail> {
+    let Some((clock, rest)) = row.split_once(';') else {
+        return Ok(());
+    };
+    let (event, want) = rest.split_once(';').ok_or("no row")?;
+    let event = event_of(alloc, event)?;
+    let reply = tell(rt, alloc, centre, event, clock.parse()?)?;
+    compare(rt, alloc, &reply, want, row)
+}
+
+fn compare(
+    rt: &impl Abort,
+    alloc: Global,
+    reply: &Reply,
+    want: &str,
+    row: &str,
+) -> Result<(), Fail> {
+    let told = answer_of(alloc, reply)?;
+    assert_eq!(rt; told.as_str(), want, "{row}");
+    Ok(())
 }
 
 // Works out the answer to a Start, and gives it up. Gives whether there was memory.
@@ -102,18 +120,33 @@ fn given_up(alloc: Global, centre: &mut Centre) -> bool
     }
 }
 
+// Makes the entry, after another answer was worked out and given up. Gives besides whether there was memory for that one.
+fn applied_later(alloc: Global, centre: &mut Centre, ready: Ready) -> (bool, Done)
+    requires of { ready.of ≡ centre.old }
+    requires few { centre.old.entries < 2 ^ 48 }
+{
+    let meanwhile = given_up(alloc, centre);
+    (meanwhile, centre.apply(ready))
+}
+
+fn see_ready(rt: &impl Abort, ready: &Ready) {
+    assert!(rt; ready.at() == BEGIN && !ready.quiet());
+    assert!(rt; matches!(ready.event(), Event::Message(_)));
+}
+
+fn apply_later(rt: &impl Abort, alloc: Global, centre: &mut Centre) -> Result<(), Fail> {
+    let event = event_of(alloc, "cid 1 1234 1131 01 001")?;
+    let ready = ready(rt, alloc, centre, event, 0)?;
+    see_ready(rt, &ready);
+    let (meanwhile, done) = applied_later(alloc, centre, ready);
+    assert!(rt; meanwhile && done.caller == 0 && matches!(done.reply, Reply::Taken));
+    Ok(())
+}
+
 #[test]
 fn an_answer_that_is_given_up(rt: HostRuntime) -> Result<(), Fail> {
     let mut centre = begun(rt.alloc())?;
-    assert!(rt; centre.entries() < 1 << 48);
-    let event = event_of(rt.alloc(), "cid 1 1234 1131 01 001")?;
-    let ready = centre.prepare(rt.alloc(), event, BEGIN)?;
-    let (at, quiet) = (ready.at(), ready.quiet());
-    let sent = matches!(ready.event(), Event::Message(_));
-    let meanwhile = given_up(rt.alloc(), &mut centre);
-    let done = centre.apply(ready);
-    assert_eq!(rt; (at, quiet, sent, meanwhile), (BEGIN, false, true, true));
-    assert_eq!(rt; (done.caller, done.reply), (0, Reply::Taken));
+    apply_later(&rt, rt.alloc(), &mut centre)?;
     assert_eq!(rt; (centre.entries(), centre.recorded()), (3, 3));
     assert_eq!(rt; centre.table().count(), 1);
     Ok(())
