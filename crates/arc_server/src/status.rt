@@ -13,7 +13,7 @@ use itoa::Buffer;
 pub enum Which {
     /// The setup text.
     Setup,
-    /// The bytes of the line.
+    /// The bytes of the line or of the desk.
     Input,
 }
 

@@ -4,6 +4,7 @@ ghost use Rattle.arc_io.specs.Memory.{port_seen, source_seen};
 
 mod plays;
 mod station;
+mod watching;
 
 use crate::run::{Ended, Outside, run};
 use crate::status::{Status, Which};

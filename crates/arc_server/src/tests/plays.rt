@@ -5,7 +5,7 @@ use std::process::Abort;
 use std::test::Fail;
 
 // Plays rows over a run that begins at the moment of the first.
-fn play(rt: &impl Abort, alloc: Global, setup: &str, rows: &str) -> Result<(), Fail> {
+pub(crate) fn play(rt: &impl Abort, alloc: Global, setup: &str, rows: &str) -> Result<(), Fail> {
     let first = rows.lines().next().ok_or("no row")?;
     let (_, rest) = first.split_once(' ').ok_or("no row")?;
     let (begins, _) = rest.split_once(' ').ok_or("no moment")?;
