@@ -87,7 +87,7 @@ impl Watch {
         Ok(())
     }
 
-    /// Gives a place that has room this deadline, or none, in the stead of its own. Takes no memory.
+    /// Gives a place that has room this deadline, or none, in place of its own. Takes no memory.
     pub fn set(&mut self, place: usize, deadline: Option<u64>)
         requires { place < length self.old }
         ensures { self.new ≡ slice_set self.old place deadline }
