@@ -29,6 +29,6 @@ fn a_piece_is_read_to_the_front(rt: HostRuntime) -> Result<(), Fail> {
     };
     let mut buffer = [0; PIECE];
     assert_eq!(rt; read_piece(&mut port, &mut buffer, 3), Ok(3));
-    assert_eq!(rt; buffer[..4], *b"hel\0");
+    assert_eq!(rt; &buffer[..4], b"hel\0".as_slice());
     Ok(())
 }
