@@ -6,7 +6,7 @@ use Rattle.centre_rules.specs.History.{Entry}
 use Rattle.centre_rules.specs.State.{State, StandsFor}
 use Rattle.centre_core.specs.Halls.{HallSeen}
 use Rattle.centre_core.specs.declared.hall.Stop.{Stop}
-use Rattle.centre_core.specs.declared.hall.Stop.TheVariants.{Memory, Worn}
+use Rattle.centre_core.specs.declared.hall.Stop.TheVariants.{Memory, Down, Full, Worn}
 
 -- a setup is in force: there is a text, and it is one
 abbrev pub IsSetting : Option (List ℕ) → Type 0
@@ -22,9 +22,12 @@ pub record IsSetFor (b : Summary) (s : State) (h : List Entry) : Type 0 where
   pub stands : StandsFor b s h
   pub setting : IsSetting s.sum.text
 
--- what is told of a stop: of want of memory nothing, and otherwise how many entries there are, too many for another
+-- what is told of a stop: of want of memory nothing, and otherwise how many entries there are, too many for another; a hall in
+-- memory has no disk that fails and no journal that is full
 abbrev pub IsShown : State → Stop → Type 0
 IsShown s Memory = Unit {0}
+IsShown s (Down at_open now) = ⊥
+IsShown s (Full used need records) = ⊥
 IsShown s (Worn count) = (count ≡ s.entries) × (2 ^ 48 ≤ count)
 
 -- what it tells: its caller has the number 0, and made all of each history

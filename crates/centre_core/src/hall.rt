@@ -20,6 +20,10 @@ use std::marker::Model;
 pub enum Stop {
     /// Want of memory.
     Memory,
+    /// The disk failed: the count of its faults when the store was opened, and now. The event may stand on it or not.
+    Down { at_open: u64, now: u64 },
+    /// The journal has no room for the event: the bytes that it has, those that the event's record needs, and its records.
+    Full { used: u64, need: u64, records: u64 },
     /// The hall has so many entries, 281,474,976,710,656 or more, that it takes no further one.
     Worn { count: u64 },
 }
