@@ -1,6 +1,6 @@
 // What has been worked out for an event, before anything changes.
 ghost use Rattle.std.specs.Prelude.{◌≡◌, not};
-ghost use Rattle.centre_rules.specs.History.{is_recorded};
+ghost use Rattle.centre_rules.specs.History.{is_recorded, IsMoment};
 
 use crate::centre::Centre;
 use accounts::Setup;
@@ -42,7 +42,8 @@ impl Ready {
 
     /// The moment of the entry, in seconds since 1970.
     pub fn at(&self) -> u64
-        ensures { result ≡ self.now.at }
+        ensures at { result ≡ self.now.at }
+        ensures moment { IsMoment result }
     {
         self.at
     }
