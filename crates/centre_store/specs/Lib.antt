@@ -1,0 +1,14 @@
+pub use Rattle.arc_data.specs.WellFormed
+pub use Rattle.arc_io.specs.Causes
+pub use Rattle.arc_io.specs.Crashes
+pub use Rattle.centre_rules.specs.Answers
+pub use Rattle.centre_rules.specs.State
+pub use Rattle.centre_core.specs.Halls
+pub use Rattle.disk_journal.specs.Journal
+pub use Rattle.event_codec.specs.Spelling
+pub mod Bodies
+pub mod Pasts
+pub mod Stores
+pub mod Openings
+pub mod Begins
+pub mod StoreHalls

@@ -1,0 +1,37 @@
+-- The history for which a list of bodies stands, and where a list stands for none.
+use Rattle.std.specs.Prelude.{◌≡◌, ◌≤◌, ◌^◌, ℕ, List, [], ◌∷◌, ◌++◌, true, length}
+use Rattle.centre_rules.specs.Summary.{nothing}
+use Rattle.centre_rules.specs.History.{Entry, is_recorded}
+use Rattle.centre_rules.specs.Answers.{IsLegal}
+use Rattle.disk_journal.specs.Records.{front as bytes_before}
+use Rattle.event_codec.specs.Spelling.{HasSpelling}
+use Rattle.centre_store.specs.Bodies.{bodies_of}
+
+-- an entry that a journal has: made under the number 0, recorded, and with a spelling
+pub record IsKept (e : Entry) : Type 0 where
+  pub caller : e.caller ≡ 0
+  pub recorded : is_recorded e.reply ≡ true
+  pub spelled : HasSpelling e.event e.at
+
+abbrev pub AreKept : List Entry → Type 0
+AreKept [] = Unit {0}
+AreKept (e ∷ h) = IsKept e × AreKept h
+
+-- The bodies are those of this history: a legal one from the beginning on, of at most 2^48 entries, that has no quiet one. So each
+-- body is a spelling, each reply is the answer after the entries before it, and no moment is less than the one before.
+pub record IsPast (bodies : List (List ℕ)) (h : List Entry) : Type 0 where
+  pub legal : IsLegal nothing h
+  pub kept : AreKept h
+  pub few : length h ≤ 2 ^ 48
+  pub is : bodies ≡ bodies_of h
+
+-- The first bodies have a past, and no entry goes on from it with the next body. Its gate stands at this place.
+pub record IsBadAt (bodies : List (List ℕ)) (place : ℕ) : Type 0 where
+  pub front : List (List ℕ)
+  pub body : List ℕ
+  pub behind : List (List ℕ)
+  pub past : List Entry
+  pub split : bodies ≡ front ++ body ∷ behind
+  pub before : IsPast front past
+  pub at : place ≡ length (bytes_before front)
+  pub broken : (e : Entry) → IsPast (front ++ body ∷ []) (e ∷ past) → ⊥

@@ -1,0 +1,88 @@
+-- What a store stands for, what a call of it does, and what it shows after a stop.
+use Rattle.std.specs.Prelude.{◌≡◌, ◌≤◌, ◌<◌, ◌⊎◌, ◌^◌, ℕ, List, ◌∷◌, true, Option, IfSome}
+use Rattle.arc_data.specs.declared.event.Event.{Event}
+use Rattle.arc_io.specs.Areas.{Areas}
+use Rattle.arc_io.specs.Causes.{Rose}
+use Rattle.centre_rules.specs.Summary.{Summary}
+use Rattle.centre_rules.specs.History.{Entry, moment_after, is_recorded}
+use Rattle.centre_rules.specs.Answers.{answer}
+use Rattle.centre_rules.specs.State.{State, StandsFor}
+use Rattle.centre_core.specs.declared.hall.Stop.{Stop}
+use Rattle.centre_core.specs.declared.hall.Stop.TheVariants.{Memory, Down, Full, Worn}
+use Rattle.disk_journal.specs.Faults.{IsOver}
+use Rattle.disk_journal.specs.Journal.{Holds, StandsForEither}
+use Rattle.disk_journal.specs.declared.journal.Journal.{Journal}
+use Rattle.event_codec.specs.Spelling.{HasSpelling, spelling}
+use Rattle.centre_store.specs.Bodies.{bodies_of, need_of}
+
+-- the centre's state, the journal over its disk, and the count of the disk's faults when the store was opened
+pub record Stored (D : Type 0) : Type 0 where
+  pub state : State
+  pub journal : Journal D
+  pub at_open : ℕ
+
+-- the disk has failed since the store was opened
+abbrev pub HasFailed : {D : Type 0} → (D → ℕ) → Stored D → Type 0
+HasFailed faults s = Rose s.at_open (faults s.journal.disk)
+
+-- what a read gives and all that a crash may leave in area A stands for these bodies, or for them with this one more
+pub record Leaves {D : Type 0} (told : D → Option Areas) (may_leave : D → Areas → Type 0) (disk : D)
+    (bodies : List (List ℕ)) (body : List ℕ) : Type 0 where
+  pub file : IfSome (told disk) (λ s. StandsForEither bodies body s.a)
+  pub images : (c : Areas) → may_leave disk c → StandsForEither bodies body c.a
+
+-- the disk failed when the record of some event was written: area A has it or not
+pub record IsTorn {D : Type 0} (told : D → Option Areas) (may_leave : D → Areas → Type 0) (disk : D) (h : List Entry) : Type 0 where
+  pub event : Event
+  pub at : ℕ
+  pub spelled : HasSpelling event at
+  pub leaves : Leaves told may_leave disk (bodies_of h) (spelling event at)
+
+-- The store stands for the history: its centre does, and its journal holds the bodies of the recorded entries. After a fault of the disk
+-- area A may have the record of one event more, the one that met the fault.
+pub record StoreStands {D : Type 0} (told : D → Option Areas) (may_leave : D → Areas → Type 0) (faults : D → ℕ)
+    (b : Summary) (s : Stored D) (h : List Entry) : Type 0 where
+  pub centre : StandsFor b s.state h
+  pub journal : Holds told may_leave s.journal (bodies_of h) ⊎ (HasFailed faults s × IsTorn told may_leave s.journal.disk h)
+
+-- from h on, the store stands for the history with this entry, whose moment and reply are those of one thread
+pub record Takes {D : Type 0} (told : D → Option Areas) (may_leave : D → Areas → Type 0) (faults : D → ℕ)
+    (b : Summary) (s : Stored D) (h : List Entry) (clock : ℕ) (e : Entry) : Type 0 where
+  pub stands : StoreStands told may_leave faults b s (e ∷ h)
+  pub at : e.at ≡ moment_after b h clock
+  pub reply : e.reply ≡ answer b h e.event e.at
+
+-- the event would be recorded
+abbrev pub IsToRecord : Summary → List Entry → Event → ℕ → Type 0
+IsToRecord b h event clock = is_recorded (answer b h event (moment_after b h clock)) ≡ true
+
+-- the record of the event would pass a limit of the journal
+abbrev pub IsOverWith : {D : Type 0} → Stored D → Event → Type 0
+IsOverWith s event = IsOver s.journal.used (need_of event) s.journal.records s.journal.limits.bytes s.journal.limits.records
+
+-- the journal has no room for the record of the event, which would be recorded; the disk has not failed
+pub record IsShownFull {D : Type 0} (told : D → Option Areas) (may_leave : D → Areas → Type 0) (faults : D → ℕ)
+    (s : Stored D) (used need records : ℕ) (event : Event) (clock : ℕ) : Type 0 where
+  pub used_is : used ≡ s.journal.used
+  pub need_is : need ≡ need_of event
+  pub records_is : records ≡ s.journal.records
+  pub over : IsOverWith s event
+  pub up : HasFailed faults s → ⊥
+  pub to_record : (b : Summary) (h : List Entry) → StoreStands told may_leave faults b s h → IsToRecord b h event clock
+
+-- what a store shows after a stop
+abbrev pub Shows : {D : Type 0} → (D → Option Areas) → (D → Areas → Type 0) → (D → ℕ) → Stored D → Stop → Event → ℕ → Type 0
+Shows told may_leave faults s Memory event clock = Unit {0}
+Shows told may_leave faults s (Down at_open now) event clock =
+    (at_open ≡ s.at_open) × (now ≡ faults s.journal.disk) × Rose at_open now
+Shows told may_leave faults s (Full used need records) event clock = IsShownFull told may_leave faults s used need records event clock
+Shows told may_leave faults s (Worn count) event clock = (count ≡ s.state.entries) × (2 ^ 48 ≤ count)
+
+-- the stop is Down
+abbrev pub IsDown : Stop → Type 0
+IsDown (Down at_open now) = Unit {0}
+IsDown stop = ⊥
+
+-- the same but for the journal's room
+abbrev pub IsSameJournal : {D : Type 0} → Journal D → Journal D → Type 0
+IsSameJournal old new = new ≡ record old { room = new.room }

@@ -1,0 +1,14 @@
+//! The store: a centre whose recorded events stand in a journal. What a call has answered outlives every crash.
+#![tactic(auto)]
+
+mod hall;
+mod laws;
+mod open;
+mod store;
+mod submit;
+
+pub use laws::law_one_opening;
+pub use store::Store;
+
+#[cfg(test)]
+mod tests;

@@ -1,0 +1,99 @@
+// How a store is opened: the recorded events are read and taken in again, one after another.
+ghost use Rattle.std.specs.Prelude.{◌≡◌, ◌≤◌, ◌<◌, ◌×◌, ◌^◌, ◌++◌, [], ◌∷◌, ℕ, List, length, IfOk, IfErr, IfSome, OnOk};
+ghost use Rattle.arc_io.specs.Areas.{Areas};
+ghost use Rattle.arc_io.specs.Crashes.{Becomes, IsQuiet, LeavesOnly};
+ghost use Rattle.centre_rules.specs.Summary.{nothing};
+ghost use Rattle.centre_rules.specs.History.{Entry};
+ghost use Rattle.centre_rules.specs.State.{StandsFor};
+ghost use Rattle.disk_journal.specs.Faults.{IsOfContent, HasCounts};
+ghost use Rattle.disk_journal.specs.OtherArea.{SparesB};
+ghost use Rattle.disk_journal.specs.Reading.{GoesOn};
+ghost use Rattle.centre_store.specs.Pasts.{IsPast, IsBadAt};
+ghost use Rattle.centre_store.specs.Openings.{IsOpened, IsRefused, disk_of};
+
+use crate::store::Store;
+use arc_data::Memory;
+use arc_io::Disk;
+use centre_core::Centre;
+use disk_journal::{Bodies, Journal, Limits, OpenFault, OpenRefused};
+use event_codec::decode;
+use std::alloc::Global;
+
+impl<D: Disk> Store<D> {
+    /// Opens the journal of area A (at most `limits.bytes` bytes, below 2^32, and `limits.records` records), and takes its events in again.
+    /// An area of at most 17 bytes is a new one. Damaged comes, besides the journal's own cases, where a body is no spelling of an event,
+    /// or its event would be quiet after those before it, or its moment is less than the one before; its place is that of the first such
+    /// body's gate. The other faults are the journal's.
+    pub fn open(alloc: Global, disk: D, limits: Limits) -> Result<Store<D>, OpenRefused<D>>
+        requires few { limits.bytes < 2 ^ 32 }
+
+        ensures opened { IfOk result (λ s. IsOpened D.told D.may_leave D.fault_count disk s) }
+        ensures at_open { IfOk result (λ s. s.at_open ≡ D.fault_count s.journal.disk) }
+        ensures limits { IfOk result (λ s. s.journal.limits ≡ limits) }
+
+        ensures shown { IfErr result (λ r. IfSome (D.told disk) (λ a. IsRefused r.fault a.a)) }
+        ensures counts { IfErr result (λ r. HasCounts r.fault (D.fault_count disk) (D.fault_count r.disk)) }
+
+        // A crash at any moment of the call leaves what stands for each list that an image at its start stood for, and so do reads.
+        ensures any_moment { LeavesOnly D.moment D.left_since disk (disk_of result)
+            (λ c. (d : Areas) × D.may_leave disk d × GoesOn d.a c.a) }
+        ensures told { Becomes (D.told disk) (D.told (disk_of result)) (λ s t. GoesOn s.a t.a) }
+        ensures spared { SparesB D.told D.may_leave D.moment D.left_since disk (disk_of result) }
+
+        // Where the area's bytes are refused, nothing was written.
+        ensures unwritten { IfErr result (λ r. IsOfContent r.fault → IsQuiet D.told D.may_leave D.moment D.left_since disk r.disk) }
+        ensures later { D.fault_count disk ≤ D.fault_count (disk_of result) }
+    {
+        let (journal, bodies) = Journal::open(alloc, disk, limits)?;
+        match replay(alloc, &bodies) {
+            Ok(centre) => {
+                let at_open = journal.disk().faults();
+                Ok(Store {
+                    centre,
+                    journal,
+                    at_open,
+                    body: Vec::new(alloc),
+                })
+            }
+            Err(fault) => Err(OpenRefused {
+                fault,
+                disk: journal.close(),
+            }),
+        }
+    }
+}
+
+// The centre of the events of these bodies.
+fn replay(alloc: Global, bodies: &Bodies) -> Result<Centre, OpenFault>
+    ensures past { IfOk result (λ s. (h : List Entry) × IsPast bodies.now h × StandsFor nothing s h) }
+{
+    let mut centre = Centre::empty(alloc);
+    let mut at = 16;
+    for i in 0..bodies.count() {
+        let body = bodies.at(i);
+        match take_in(&mut centre, alloc, body) {
+            Ok(true) => at += 5 + body.len() as u64,
+            Ok(false) => return Err(OpenFault::Damaged { at }),
+            Err(Memory) => return Err(OpenFault::Memory),
+        }
+    }
+    Ok(centre)
+}
+
+// Takes the event of a body in. False where no entry goes on with it: it is no spelling, or its moment is less than the last, or its
+// event is quiet.
+fn take_in(centre: &mut Centre, alloc: Global, body: &[u8]) -> Result<bool, Memory> {
+    if centre.entries() >= 1 << 48 {
+        return Ok(false);
+    }
+    let Some((event, at)) = decode(alloc, body)? else {
+        return Ok(false);
+    };
+    let ready = centre.prepare(alloc, event, at)?;
+    if ready.quiet() || ready.at() != at {
+        ready.discard();
+        return Ok(false);
+    }
+    let _ = centre.apply(ready);
+    Ok(true)
+}

@@ -1,0 +1,45 @@
+// The store, over a disk.
+ghost use Rattle.std.specs.Prelude.{◌≡◌};
+
+use arc_io::Disk;
+use centre_core::Centre;
+use disk_journal::Journal;
+use std::marker::Model;
+
+/// A centre, and the journal that has its recorded events. Contracts see the centre's state, the journal, and the count of the disk's
+/// faults at opening, and say for which histories the store stands.
+#[derive(Drop)]
+pub struct Store<D: Disk> {
+    pub(crate) centre: Centre,
+    pub(crate) journal: Journal<D>,
+    pub(crate) at_open: u64,
+    // The bytes of the body that was written last: their room is used again.
+    pub(crate) body: Vec<u8>,
+}
+
+impl<D: Disk> Model for Store<D> {
+    ghost use Rattle.std.specs.Prelude.{◌≤◌};
+    ghost use Rattle.centre_store.specs.Stores.{Stored};
+
+    ghost Value = { Stored D };
+
+    ghost view = { λ s. record { state = s.centre; journal = s.journal; at_open = s.at_open } };
+
+    ghost invariant = { λ s. s.at_open ≤ D.fault_count s.journal.disk };
+}
+
+impl<D: Disk> Store<D> {
+    /// The centre of all that was recorded.
+    pub fn centre(&self) -> &Centre
+        ensures { result.now ≡ self.now.state }
+    {
+        &self.centre
+    }
+
+    /// Gives the disk back.
+    pub fn close(self) -> D
+        ensures { result ≡ self.journal.disk }
+    {
+        self.journal.close()
+    }
+}

@@ -1,0 +1,192 @@
+// How an event is submitted: it is prepared, its record is written where it is to be recorded, and then it is applied.
+ghost use Rattle.std.specs.Prelude.{◌≡◌, ◌≤◌, ◌<◌, ◌×◌, ◌⊎◌, ◌↔◌, ◌+◌, ◌^◌, ℕ, List, false, Some, IfOk, IfErr, OnOk, OnErr};
+ghost use Rattle.arc_data.specs.WellFormed.{IsWellFormed};
+ghost use Rattle.arc_io.specs.Crashes.{LeavesOnly};
+ghost use Rattle.centre_rules.specs.Summary.{Summary};
+ghost use Rattle.centre_rules.specs.History.{Entry, moment_after, is_recorded, IsMoment};
+ghost use Rattle.centre_core.specs.Runs.{IsSubmitted};
+ghost use Rattle.centre_core.specs.Setting.{IsSetting};
+ghost use Rattle.disk_journal.specs.Journal.{StandsForEither};
+ghost use Rattle.disk_journal.specs.OtherArea.{SparesB};
+ghost use Rattle.event_codec.specs.Spelling.{spelling};
+ghost use Rattle.centre_store.specs.Bodies.{bodies_of};
+ghost use Rattle.centre_store.specs.Stores.{HasFailed, Leaves, StoreStands, Takes, IsToRecord, IsOverWith, Shows, IsDown, IsSameJournal};
+ghost use Rattle.centre_store.specs.Begins.{begun_after, adopted_after, IsOfBegin, StandsWithin};
+
+use crate::store::Store;
+use arc_data::{Blob, Event, Memory};
+use arc_io::Disk;
+use centre_core::{Done, Ready, Setup, Stop};
+use disk_journal::AppendFault;
+use event_codec::encode;
+use std::alloc::Global;
+
+// How many entries a store takes at most.
+const MOST_ENTRIES: u64 = 1 << 48;
+
+impl<D: Disk> Store<D> {
+    /// Begins a run at a reading of the clock (seconds since 1970): an Adopt of the setup's text, where another text is in force or none, and
+    /// then a Start. The stops are those of `submit`. Where the Start stops, the Adopt that was recorded stands.
+    pub fn begin(&mut self, alloc: Global, setup: Setup, clock: u64) -> Result<(), Stop>
+        requires clock { IsMoment clock }
+
+        ensures begun { OnOk result ((b : Summary) (h : List Entry) → StoreStands D.told D.may_leave D.fault_count b self.old h
+            → StoreStands D.told D.may_leave D.fault_count b self.new (begun_after b h setup clock)) }
+        ensures text { OnOk result (self.new.state.sum.text ≡ Some setup) }
+        ensures stop { OnErr result ((b : Summary) (h : List Entry) → StoreStands D.told D.may_leave D.fault_count b self.old h
+            → StoreStands D.told D.may_leave D.fault_count b self.new h
+            ⊎ StoreStands D.told D.may_leave D.fault_count b self.new (adopted_after b h setup clock)) }
+        ensures cause { IfErr result (λ s. (event : Event) × IsOfBegin setup event × Shows D.told D.may_leave D.fault_count self.new s event clock) }
+
+        // Down comes exactly where the disk has failed since the opening, and is then the answer until the store is opened again.
+        ensures down { HasFailed D.fault_count self.new
+            ↔ (result ≡ Err (Stop.Down self.new.at_open (D.fault_count self.new.journal.disk))) }
+        ensures already { HasFailed D.fault_count self.old → self.new ≡ self.old }
+
+        // A crash at any moment of the call leaves the records from before it, with those of its entries up to some one.
+        ensures any_moment { (b : Summary) (h : List Entry) → StoreStands D.told D.may_leave D.fault_count b self.old h
+            → (HasFailed D.fault_count self.old → ⊥)
+            → LeavesOnly D.moment D.left_since self.old.journal.disk self.new.journal.disk (λ c. StandsWithin b h setup clock c.a) }
+        ensures spared { SparesB D.told D.may_leave D.moment D.left_since self.old.journal.disk self.new.journal.disk }
+        ensures at_open { self.new.at_open ≡ self.old.at_open }
+        ensures limits { self.new.journal.limits ≡ self.old.journal.limits }
+        ensures later { D.fault_count self.old.journal.disk ≤ D.fault_count self.new.journal.disk }
+    {
+        let is_in_force = match self.centre.setup() {
+            Some(other) => other.text() == setup.text(),
+            None => false,
+        };
+        if !is_in_force {
+            let Ok(text) = Blob::of(alloc, setup.text()) else {
+                return Err(Stop::Memory);
+            };
+            let _ = self.enter(alloc, Event::Adopt { text }, clock)?;
+        }
+        let _ = self.enter(alloc, Event::Start, clock)?;
+        Ok(())
+    }
+
+    /// Submits an event of a caller at a reading of the clock (seconds since 1970). The order of its stops: Down where the disk has failed
+    /// since the opening; Worn from 281,474,976,710,656 entries on; Memory; Full where the event is to be recorded and its record would
+    /// pass a limit of the journal; Down where the disk fails now. After Memory, Full and Worn all is as before. After Down the event
+    /// may stand in the journal or not, until the store is closed and opened again.
+    pub fn submit(&mut self, alloc: Global, caller: u64, event: Event, clock: u64) -> Result<Done, Stop>
+        requires ready { IsSetting self.old.state.sum.text }
+        requires submitted { IsSubmitted event }
+        requires formed { IsWellFormed event }
+        requires clock { IsMoment clock }
+
+        ensures done { IfOk result (λ d. (b : Summary) (h : List Entry) → StoreStands D.told D.may_leave D.fault_count b self.old h
+            → Takes D.told D.may_leave D.fault_count b self.new h clock (record { caller = caller; event = event; at = d.at; reply = d.reply })) }
+        ensures by { IfOk result (λ d. d.caller ≡ caller) }
+        ensures few { OnOk result (self.old.state.entries < 2 ^ 48) }
+        ensures taken { OnOk result (self.new.state.entries ≡ self.old.state.entries + 1) }
+        ensures stop { OnErr result ((b : Summary) (h : List Entry) → StoreStands D.told D.may_leave D.fault_count b self.old h
+            → StoreStands D.told D.may_leave D.fault_count b self.new h) }
+        ensures cause { IfErr result (λ s. Shows D.told D.may_leave D.fault_count self.new s event clock) }
+
+        ensures entries { OnErr result (self.new.state.entries ≡ self.old.state.entries) }
+        ensures sum { OnErr result (self.new.state.sum ≡ self.old.state.sum) }
+        ensures unwritten { IfErr result (λ s. (IsDown s → ⊥) → IsSameJournal self.old.journal self.new.journal) }
+        ensures quiet { IfOk result (λ d. is_recorded d.reply ≡ false → IsSameJournal self.old.journal self.new.journal) }
+
+        // When each stop comes, want of memory aside.
+        ensures down { HasFailed D.fault_count self.new
+            ↔ (result ≡ Err (Stop.Down self.new.at_open (D.fault_count self.new.journal.disk))) }
+        ensures already { HasFailed D.fault_count self.old → self.new ≡ self.old }
+        ensures worn { (HasFailed D.fault_count self.old → ⊥) → 2 ^ 48 ≤ self.old.state.entries → result ≡ Err (Stop.Worn self.old.state.entries) }
+        ensures full { (HasFailed D.fault_count self.old → ⊥) → self.old.state.entries < 2 ^ 48 → (b : Summary) (h : List Entry)
+            → StoreStands D.told D.may_leave D.fault_count b self.old h → IsToRecord b h event clock → IsOverWith self.old event
+            → (result ≡ Err Stop.Memory) ⊎ (result ≡ Err (Stop.Full self.old.journal.used (need_of event) self.old.journal.records)) }
+
+        // A crash at any moment of the call leaves the records from before it, with this event's or without; and so it is after a fault.
+        ensures any_moment { (b : Summary) (h : List Entry) → StoreStands D.told D.may_leave D.fault_count b self.old h
+            → (HasFailed D.fault_count self.old → ⊥) → LeavesOnly D.moment D.left_since self.old.journal.disk self.new.journal.disk
+            (λ c. StandsForEither (bodies_of h) (spelling event (moment_after b h clock)) c.a) }
+        ensures met { (b : Summary) (h : List Entry) → StoreStands D.told D.may_leave D.fault_count b self.old h
+            → (HasFailed D.fault_count self.old → ⊥)
+            → Leaves D.told D.may_leave self.new.journal.disk (bodies_of h) (spelling event (moment_after b h clock)) }
+        ensures spared { SparesB D.told D.may_leave D.moment D.left_since self.old.journal.disk self.new.journal.disk }
+        ensures at_open { self.new.at_open ≡ self.old.at_open }
+        ensures limits { self.new.journal.limits ≡ self.old.journal.limits }
+        ensures text { self.new.state.sum.text ≡ self.old.state.sum.text }
+        ensures later { D.fault_count self.old.journal.disk ≤ D.fault_count self.new.journal.disk }
+    {
+        let done = self.enter(alloc, event, clock)?;
+        Ok(Done { caller, ..done })
+    }
+
+    // Makes an entry of the event, of caller 0.
+    fn enter(&mut self, alloc: Global, event: Event, clock: u64) -> Result<Done, Stop> {
+        if let Some(stop) = self.stopped() {
+            return Err(stop);
+        }
+        let Ok(ready) = self.centre.prepare(alloc, event, clock) else {
+            return Err(Stop::Memory);
+        };
+        if !ready.quiet() {
+            if let Err(stop) = self.write(&ready) {
+                ready.discard();
+                return Err(stop);
+            }
+        }
+        Ok(self.centre.apply(ready))
+    }
+
+    // Why no event is taken at all: the disk has failed, or there are too many entries.
+    fn stopped(&self) -> Option<Stop> {
+        let now = self.journal.disk().faults();
+        if has_risen(self.at_open, now) {
+            return Some(Stop::Down {
+                at_open: self.at_open,
+                now,
+            });
+        }
+        let count = self.centre.entries();
+        if count >= MOST_ENTRIES {
+            return Some(Stop::Worn { count });
+        }
+        None
+    }
+
+    // Writes the record of what is ready, and has it on the disk.
+    fn write(&mut self, ready: &Ready) -> Result<(), Stop> {
+        let Ok(()) = encode(ready.event(), ready.at(), &mut self.body) else {
+            return Err(Stop::Memory);
+        };
+        let Ok(()) = self.journal.reserve(5 + self.body.len() as u64) else {
+            return Err(Stop::Memory);
+        };
+        match self.journal.append(&self.body) {
+            Err(
+                AppendFault::Full {
+                    used,
+                    need,
+                    records,
+                },
+            ) => Err(Stop::Full {
+                used,
+                need,
+                records,
+            }),
+            Ok(()) | Err(AppendFault::DiskFault { .. }) => self.check_disk(),
+        }
+    }
+
+    // Whether the disk has not failed since the opening.
+    fn check_disk(&self) -> Result<(), Stop> {
+        let now = self.journal.disk().faults();
+        if has_risen(self.at_open, now) {
+            return Err(Stop::Down {
+                at_open: self.at_open,
+                now,
+            });
+        }
+        Ok(())
+    }
+}
+
+// The later count is above the earlier one, or stands at its last value.
+fn has_risen(before: u64, now: u64) -> bool {
+    now > before || now == u64::MAX
+}
