@@ -45,6 +45,13 @@ pub record StoreStands {D : Type 0} (told : D → Option Areas) (may_leave : D �
   pub centre : StandsFor b s.state h
   pub journal : Holds told may_leave s.journal (bodies_of h) ⊎ (HasFailed faults s × IsTorn told may_leave s.journal.disk h)
 
+-- every store stands for some history over some beginning, and the count of the disk's faults is at least that at opening
+pub record IsStored {D : Type 0} (told : D → Option Areas) (may_leave : D → Areas → Type 0) (faults : D → ℕ) (s : Stored D) : Type 0 where
+  pub base : Summary
+  pub history : List Entry
+  pub stands : StoreStands told may_leave faults base s history
+  pub later : s.at_open ≤ faults s.journal.disk
+
 -- from h on, the store stands for the history with this entry, whose moment and reply are those of one thread
 pub record Takes {D : Type 0} (told : D → Option Areas) (may_leave : D → Areas → Type 0) (faults : D → ℕ)
     (b : Summary) (s : Stored D) (h : List Entry) (clock : ℕ) (e : Entry) : Type 0 where

@@ -18,14 +18,13 @@ pub struct Store<D: Disk> {
 }
 
 impl<D: Disk> Model for Store<D> {
-    ghost use Rattle.std.specs.Prelude.{◌≤◌};
-    ghost use Rattle.centre_store.specs.Stores.{Stored};
+    ghost use Rattle.centre_store.specs.Stores.{Stored, IsStored};
 
     ghost Value = { Stored D };
 
     ghost view = { λ s. record { state = s.centre; journal = s.journal; at_open = s.at_open } };
 
-    ghost invariant = { λ s. s.at_open ≤ D.fault_count s.journal.disk };
+    ghost invariant = { λ s. IsStored D.told D.may_leave D.fault_count (record { state = s.centre; journal = s.journal; at_open = s.at_open }) };
 }
 
 impl<D: Disk> Store<D> {
