@@ -8,3 +8,10 @@ pub mod Origins
 pub mod Meeting
 pub mod Closing
 pub mod Summed
+pub mod Lists
+pub mod Upon
+pub mod Recent
+pub mod Shape
+pub mod Told
+pub mod Once
+pub mod Kept

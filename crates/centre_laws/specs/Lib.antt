@@ -6,3 +6,6 @@ pub mod Holders
 pub mod Closings
 pub mod Repeats
 pub mod Summaries
+pub mod Schedules
+pub mod Spacing
+pub mod Sendings
