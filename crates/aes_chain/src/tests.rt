@@ -1,8 +1,8 @@
-// Values from outside: FIPS 197, and chains that `openssl enc -aes-*-cbc -nopad` wrote with a vector of
-// zeros.
+// Values from outside: FIPS 197, and chains that `openssl enc -aes-*-cbc -nopad` wrote with a vector of zeros.
 
 use crate::*;
 use std::process::Abort;
+use std::test::Fail;
 
 // The byte i of a key or a text: (step * i + seed) modulo 251.
 fn fill(room: &mut [u8], step: usize, seed: usize) {
@@ -67,29 +67,79 @@ fn two_equal_blocks(rt: HostRuntime) {
     assert_eq!(rt; second, want[1].to_be_bytes());
 }
 
-// The chain of one row: the key's length, the seed of key and text, the blocks, what the cipher text
-// folds to, and its last block.
-fn check_chain(rt: &impl Abort, row: &(usize, usize, usize, u32, u128)) {
-    let (len, seed, blocks, folded, last) = *row;
+// A text and its cipher text: the key's length, the seed of key and text, how many blocks, what the cipher text folds to, and its
+// last block.
+#[derive(Drop)]
+struct Chain {
+    len: usize,
+    seed: usize,
+    blocks: usize,
+    folded: u32,
+    last: u128,
+}
+
+// Chains as rows, of which the last two columns are hexadecimal.
+const CHAINS: &str = "\
+16 1 1 be9329a6 d0cef6a0d4563e27cc822633b2b0c7b9
+16 10 2 067652e2 6f1ec4122a51aa7966be8f0aac5a20e6
+16 19 3 7e6082b8 6b7ab2f0470517a82de4c7b3910605ec
+16 28 10 f0857bdd 44e0679c93d542054d62450a44631af4
+16 37 64 9577e978 8738a6f77b2cd034fee784da080093a4
+16 46 100 dab527be bc514c18b28bc86955ef2c6ff372f2ff
+16 55 128 cf5b685b d704aa6e84474ab7465535995b5b5782
+16 64 255 604051c1 53c8815852a3ad2896fd137fe9abd873
+24 73 1 d15438d9 6f7950c0b8d710bdb85ef9540879a203
+24 82 2 9aff58ac ace4ac6322da8b819d7ae3085595c6b0
+24 91 3 c33540e9 29c984cb7b3658cb1317c4670a9ac84b
+24 100 10 a7a89762 8be512d128c5f731723fb0c7dcb7dd47
+24 109 64 23a2f05d f3df3cd89943a7ad79091e2b18c106ce
+24 118 100 8fcb1298 e444c58dc4a98f060e28592537bb7127
+24 127 128 af61dcde b6bf6a3997d59a67528527775e5051f1
+24 136 255 bf061f88 7bcf1d24bee5a968023f0f2e211cc4b8
+32 145 1 dbb5f7db fc1e2d70e5f7f4b0ac198f1b70819654
+32 154 2 b6ee1133 5c33de9a1333d587d66f31e88238acf3
+32 163 3 8a4c0389 368b5f126166d5a6642cf01f63330544
+32 172 10 41e93037 498194a927171594d3edd708c4e54a9c
+32 181 64 e7990130 15112f366c093c03b2ed1d8810bc6b02
+32 190 100 6fcbdfa2 67a557ca6b1993f4641b6e610a29d6f0
+32 199 128 80ba95c3 08096021022bb7af20943a8c40d5fbaa
+32 208 255 dc86a0c2 270b14df5fd32a3a0d1045c4e3e2e3d2";
+
+fn chain_of(row: &str) -> Result<Chain, Fail> {
+    let (len, rest) = row.split_once(' ').ok_or("no row")?;
+    let (seed, rest) = rest.split_once(' ').ok_or("no seed")?;
+    let (blocks, rest) = rest.split_once(' ').ok_or("no blocks")?;
+    let (folded, last) = rest.split_once(' ').ok_or("no last block")?;
+    Ok(Chain {
+        len: len.parse()?,
+        seed: seed.parse()?,
+        blocks: blocks.parse()?,
+        folded: u32::from_str_radix(folded, 16)?,
+        last: u128::from_str_radix(last, 16)?,
+    })
+}
+
+fn check_chain(rt: &impl Abort, chain: &Chain) {
+    let (len, blocks) = (chain.len, chain.blocks);
     assert!(rt; len <= 32 && blocks >= 1 && blocks <= 255);
     let mut bytes = [0; 32];
-    fill(&mut bytes, 29, seed);
+    fill(&mut bytes, 29, chain.seed);
     let key = Key::new(&bytes[..len]).expect(rt, "a key");
     let mut room = [0; 4080];
-    fill(&mut room, 31, seed);
+    fill(&mut room, 31, chain.seed);
     let plain = fold(&room[..16 * blocks]);
     let text = &mut room[..16 * blocks];
     chain_encrypt(&key, text);
     assert_eq!(rt;
         fold(text),
-        folded,
+        chain.folded,
         "the cipher text of {blocks} blocks, {len}"
     );
     let mut block = [0; 16];
     block.copy_from_slice(&text[16 * blocks - 16..]);
     assert_eq!(rt;
         u128::from_be_bytes(block),
-        last,
+        chain.last,
         "the last of {blocks} blocks, {len}"
     );
     chain_decrypt(&key, text);
@@ -100,146 +150,20 @@ fn check_chain(rt: &impl Abort, row: &(usize, usize, usize, u32, u128)) {
     );
 }
 
+fn check_row(rt: &impl Abort, row: &str) -> Result<(), Fail> {
+    let chain = chain_of(row)?;
+    check_chain(rt, &chain);
+    Ok(())
+}
+
 #[test]
-fn chains(rt: HostRuntime) {
-    for row in [
-        (16, 1, 1, 0xbe9329a6, 0xd0cef6a0_d4563e27_cc822633_b2b0c7b9),
-        (16, 10, 2, 0x067652e2, 0x6f1ec412_2a51aa79_66be8f0a_ac5a20e6),
-        (16, 19, 3, 0x7e6082b8, 0x6b7ab2f0_470517a8_2de4c7b3_910605ec),
-        (
-            16,
-            28,
-            10,
-            0xf0857bdd,
-            0x44e0679c_93d54205_4d62450a_44631af4,
-        ),
-        (
-            16,
-            37,
-            64,
-            0x9577e978,
-            0x8738a6f7_7b2cd034_fee784da_080093a4,
-        ),
-        (
-            16,
-            46,
-            100,
-            0xdab527be,
-            0xbc514c18_b28bc869_55ef2c6f_f372f2ff,
-        ),
-        (
-            16,
-            55,
-            128,
-            0xcf5b685b,
-            0xd704aa6e_84474ab7_46553599_5b5b5782,
-        ),
-        (
-            16,
-            64,
-            255,
-            0x604051c1,
-            0x53c88158_52a3ad28_96fd137f_e9abd873,
-        ),
-        (24, 73, 1, 0xd15438d9, 0x6f7950c0_b8d710bd_b85ef954_0879a203),
-        (24, 82, 2, 0x9aff58ac, 0xace4ac63_22da8b81_9d7ae308_5595c6b0),
-        (24, 91, 3, 0xc33540e9, 0x29c984cb_7b3658cb_1317c467_0a9ac84b),
-        (
-            24,
-            100,
-            10,
-            0xa7a89762,
-            0x8be512d1_28c5f731_723fb0c7_dcb7dd47,
-        ),
-        (
-            24,
-            109,
-            64,
-            0x23a2f05d,
-            0xf3df3cd8_9943a7ad_79091e2b_18c106ce,
-        ),
-        (
-            24,
-            118,
-            100,
-            0x8fcb1298,
-            0xe444c58d_c4a98f06_0e285925_37bb7127,
-        ),
-        (
-            24,
-            127,
-            128,
-            0xaf61dcde,
-            0xb6bf6a39_97d59a67_52852777_5e5051f1,
-        ),
-        (
-            24,
-            136,
-            255,
-            0xbf061f88,
-            0x7bcf1d24_bee5a968_023f0f2e_211cc4b8,
-        ),
-        (
-            32,
-            145,
-            1,
-            0xdbb5f7db,
-            0xfc1e2d70_e5f7f4b0_ac198f1b_70819654,
-        ),
-        (
-            32,
-            154,
-            2,
-            0xb6ee1133,
-            0x5c33de9a_1333d587_d66f31e8_8238acf3,
-        ),
-        (
-            32,
-            163,
-            3,
-            0x8a4c0389,
-            0x368b5f12_6166d5a6_642cf01f_63330544,
-        ),
-        (
-            32,
-            172,
-            10,
-            0x41e93037,
-            0x498194a9_27171594_d3edd708_c4e54a9c,
-        ),
-        (
-            32,
-            181,
-            64,
-            0xe7990130,
-            0x15112f36_6c093c03_b2ed1d88_10bc6b02,
-        ),
-        (
-            32,
-            190,
-            100,
-            0x6fcbdfa2,
-            0x67a557ca_6b1993f4_641b6e61_0a29d6f0,
-        ),
-        (
-            32,
-            199,
-            128,
-            0x80ba95c3,
-            0x08096021_022bb7af_20943a8c_40d5fbaa,
-        ),
-        (
-            32,
-            208,
-            255,
-            0xdc86a0c2,
-            0x270b14df_5fd32a3a_0d1045c4_e3e2e3d2,
-        ),
-    ] {
-        check_chain(&rt, &row);
+fn chains(rt: HostRuntime) -> Result<(), Fail> {
+    for row in CHAINS.lines() {
+        check_row(&rt, row)?;
     }
     law_chain_decrypted_encrypted();
     law_chain_encrypted_decrypted();
+    Ok(())
 }
 
 #[test]

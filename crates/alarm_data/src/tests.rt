@@ -1,3 +1,4 @@
+// The signals of a content under each token.
 use super::*;
 use arc_data::{Class, Kind};
 

@@ -1,3 +1,4 @@
+// Names and ranks of classes, the data of a content, and how many signals have room.
 use super::*;
 
 #[test]

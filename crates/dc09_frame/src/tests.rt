@@ -18,22 +18,22 @@ fn checks(rt: HostRuntime) {
 }
 
 // Pieces, and before a `;` what each is cut as.
-const PIECES: &str = r##"Whole;2EE70027"ADM-CID"0001L0#1234[#1234|1131 01 001]
-Whole;2ee70027"ADM-CID"0001L0#1234[#1234|1131 01 001]
-Whole;1BC10012"ACK"0001L0#1234[]
-Whole;1EF20013"NULL"0000L0#1234[]
-Whole;DE900012"ACK"0000L0#1234[]
+const PIECES: &str = r##"Whole;A2A80027"ADM-CID"0001L0#4567[#4567|1131 01 001]
+Whole;a2a80027"ADM-CID"0001L0#4567[#4567|1131 01 001]
+Whole;42840012"ACK"0001L0#4567[]
+Whole;47B70013"NULL"0000L0#4567[]
+Whole;87D50012"ACK"0000L0#4567[]
 Whole;dC4a001E"ACK"0007RaBcDeFL01234f#12ab[]
 Whole;DC4A001e"ACK"0007RaBcDeFL01234f#12ab[]
 Whole;19800001"
-BadCheck;2EE80027"ADM-CID"0001L0#1234[#1234|1131 01 001]
-BadCheck;2EG70027"ADM-CID"0001L0#1234[#1234|1131 01 001]
-BadCheck;+EE70027"ADM-CID"0001L0#1234[#1234|1131 01 001]
-BadCheck;1BC10012"ACK"0001L0#1235[]
-BadLength;2EE70028"ADM-CID"0001L0#1234[#1234|1131 01 001]
-BadLength;2EE70026"ADM-CID"0001L0#1234[#1234|1131 01 001]
-BadLength;2EE71027"ADM-CID"0001L0#1234[#1234|1131 01 001]
-BadLength;2EE70G27"ADM-CID"0001L0#1234[#1234|1131 01 001]
+BadCheck;A2A90027"ADM-CID"0001L0#4567[#4567|1131 01 001]
+BadCheck;A2G80027"ADM-CID"0001L0#4567[#4567|1131 01 001]
+BadCheck;+2A80027"ADM-CID"0001L0#4567[#4567|1131 01 001]
+BadCheck;42840012"ACK"0001L0#4568[]
+BadLength;A2A80028"ADM-CID"0001L0#4567[#4567|1131 01 001]
+BadLength;A2A80026"ADM-CID"0001L0#4567[#4567|1131 01 001]
+BadLength;A2A81027"ADM-CID"0001L0#4567[#4567|1131 01 001]
+BadLength;A2A80G27"ADM-CID"0001L0#4567[#4567|1131 01 001]
 BadLength;0000002x
 BadLength;00000000
 BadLength;BB3D0009123456789
@@ -87,9 +87,9 @@ fn cuts_the_longest(rt: HostRuntime) -> Result<(), Fail> {
 
 // Bodies that begin with a header, and before a `;` whether it is sealed, how many bytes it has, its token, sequence, `R` digits, `L`
 // digits and account.
-const HEADERS: &str = r##"false 21/ADM-CID/0001//0/1234;"ADM-CID"0001L0#1234[#1234|1131 01 001]
-true 26/SIA-DCS/9999/1/2/12345A;"*SIA-DCS"9999R1L2#12345A[69C4
-false 18/NULL/0000//0/1234;"NULL"0000L0#1234[]_01:46:40,09-09-2001
+const HEADERS: &str = r##"false 21/ADM-CID/0001//0/4567;"ADM-CID"0001L0#4567[#4567|1131 01 001]
+true 26/SIA-DCS/9999/1/2/45678A;"*SIA-DCS"9999R1L2#45678A[69C4
+false 18/NULL/0000//0/4567;"NULL"0000L0#4567[]_01:46:40,09-09-2001
 false 14/A/0000//0/123;"A"0000L0#123[
 false 29/ABCDEFGHIJ-01239/0000//0/123;"ABCDEFGHIJ-01239"0000L0#123[]
 false 16/Z/0000/a/0/123;"Z"0000RaL0#123[]
@@ -180,8 +180,8 @@ fn is_frame(out: &FrameBuf, piece: &str) -> bool {
 fn writes_frames(rt: HostRuntime) {
     let mut out = FrameBuf::new();
     assert!(rt; out.bytes().is_empty());
-    write_frame(b"\"ADM-CID\"0001L0#1234[#1234|1131 01 001]", &mut out);
-    assert!(rt; is_frame(&out, "2EE70027\"ADM-CID\"0001L0#1234[#1234|1131 01 001]"));
+    write_frame(b"\"ADM-CID\"0001L0#4567[#4567|1131 01 001]", &mut out);
+    assert!(rt; is_frame(&out, "A2A80027\"ADM-CID\"0001L0#4567[#4567|1131 01 001]"));
     write_frame(b"\"", &mut out);
     assert!(rt; is_frame(&out, "19800001\""));
     out.clear();
@@ -189,12 +189,12 @@ fn writes_frames(rt: HostRuntime) {
 }
 
 // Pieces of replies, and before a `;` the body whose header each echoes.
-const ECHOES: &str = r##""ADM-CID"0001L0#1234[;1BC10012"ACK"0001L0#1234[]
-"ADM-CID"0001L0#1234[;251F0012"DUH"0001L0#1234[]
+const ECHOES: &str = r##""ADM-CID"0001L0#4567[;42840012"ACK"0001L0#4567[]
+"ADM-CID"0001L0#4567[;7C5A0012"DUH"0001L0#4567[]
 "*ADM-CID"0001L0#9999[;B7290012"DUH"0001L0#9999[]
-"NULL"0000L0#1234[;DE900012"ACK"0000L0#1234[]
-"ADM-CID"0001R1L2#1234[;C7370014"ACK"0001R1L2#1234[]
-"SIA-DCS"0002L0#12345A[;78320014"ACK"0002L0#12345A[]
+"NULL"0000L0#4567[;87D50012"ACK"0000L0#4567[]
+"ADM-CID"0001R1L2#4567[;9E720014"ACK"0001R1L2#4567[]
+"SIA-DCS"0002L0#45678A[;7EC20014"ACK"0002L0#45678A[]
 "X"0007RaBcDeFL01234f#12ab[;DC4A001E"ACK"0007RaBcDeFL01234f#12ab[]
 "X"0007RaBcDeFL01234f#12ab[;5DAA001E"DUH"0007RaBcDeFL01234f#12ab[]
 "X"9999R123456L123456#0123456789abcdef[;A415002A"ACK"9999R123456L123456#0123456789abcdef[]"##;
@@ -258,26 +258,26 @@ fn feed_in_parts(rt: &impl Abort, stream: &[u8], size: usize, want: &[(Cut, &[u8
 
 #[test]
 fn cuts_streams(rt: HostRuntime) -> Result<(), Fail> {
-    let message: &[u8] = b"\"ADM-CID\"0001L0#1234[#1234|1131 01 001]";
-    let beat: &[u8] = b"\"NULL\"0000L0#1234[]";
+    let message: &[u8] = b"\"ADM-CID\"0001L0#4567[#4567|1131 01 001]";
+    let beat: &[u8] = b"\"NULL\"0000L0#4567[]";
     let longest = long_piece(rt.alloc(), b"74A50FFF", 4094)?;
     let mut stream = Vec::new(rt.alloc());
     // bytes outside, a piece that a line feed cuts off, and the message
-    stream.extend_from_slice(b"xyz\r\n1BC\n2EE70027\"ADM-CID\"0001L0#1234[#1234|1131 01 001]\r")?;
+    stream.extend_from_slice(b"xyz\r\n1BC\nA2A80027\"ADM-CID\"0001L0#4567[#4567|1131 01 001]\r")?;
     // a bad check, a bad length, an empty piece, and returns that end none
-    stream.extend_from_slice(b"\n2EE80027\"ADM-CID\"0001L0#1234[#1234|1131 01 001]\r")?;
-    stream.extend_from_slice(b"\n2EE70028\"ADM-CID\"0001L0#1234[#1234|1131 01 001]\r\n\r\r\r")?;
+    stream.extend_from_slice(b"\nA2A90027\"ADM-CID\"0001L0#4567[#4567|1131 01 001]\r")?;
+    stream.extend_from_slice(b"\nA2A80028\"ADM-CID\"0001L0#4567[#4567|1131 01 001]\r\n\r\r\r")?;
     // a piece that is too long, and one that would be but for the line feed in it
     stream.push(b'\n')?;
     stream.extend_from_slice(&long_piece(rt.alloc(), b"59B41000", 4095)?)?;
     stream.extend_from_slice(b"\r\n")?;
     stream.extend_from_slice(&long_piece(rt.alloc(), b"59B41000", 9000)?)?;
-    stream.extend_from_slice(b"\n\n1EF20013\"NULL\"0000L0#1234[]\r--")?;
+    stream.extend_from_slice(b"\n\n47B70013\"NULL\"0000L0#4567[]\r--")?;
     // the longest frame, a return in a frame, and a rest without one
     stream.push(b'\n')?;
     stream.extend_from_slice(&longest)?;
     stream.extend_from_slice(
-        b"\r\n1EF20013\"NULL\"\r0000L0#1234[]\r\n1EF20013\"NULL\"0000L0#1234[]",
+        b"\r\n47B70013\"NULL\"\r0000L0#4567[]\r\n47B70013\"NULL\"0000L0#4567[]",
     )?;
     let want: [(Cut, &[u8]); 8] = [
         (Cut::Whole, message),

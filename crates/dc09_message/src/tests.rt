@@ -106,7 +106,7 @@ silence;1000000000;"OTHER"0001L0#12G4[|1131 01 001]
 unknown token;1000000000;"OTHER"0001L0#1234[|1131 01 001]
 unknown token;1000000000;"ADM-CI"0001L0#9999[|1131 01 001]
 unknown token;1000000000;"*SIA-DCSS"0001L0#5678[
-unknown token;1000000000;"ACK"0001L0#1234[]
+unknown token;1000000000;"ACK"0001L7#1234[]
 # An unknown account, also before a lacking key and before blocks that cannot be read.
 unknown account;1000000000;"ADM-CID"0001L0#01234[|1131 01 001]
 unknown account;1000000000;"*NULL"0001L0#9999[
@@ -128,7 +128,7 @@ fn verdicts_by_header_and_account(rt: HostRuntime) -> Result<(), Fail> {
 
 // Blocks, tails and data.
 const BLOCKS: &str = r##"# The account in the first block: once, twice, or not at all.
-numbered;1000000000;"ADM-CID"0001L0#1234[#1234|1131 01 001]
+numbered;1000000000;"ADM-CID"0001L0#1234[#1234|1130 01 001]
 numbered;1000000000;"ADM-CID"0001L0#1234[|1131 01 001]
 numbered;1000000000;"ADM-CID"0001L0#1234[|#1234|1131 01 001]
 numbered;1000000000;"ADM-CID"0001L0#1234[#1234|#1234|1131 01 001]
@@ -234,7 +234,7 @@ fn verdicts_on_sealed_bodies(rt: HostRuntime) -> Result<(), Fail> {
 // Messages: the sequence and the token; the account and the line of the header; the account, the `R` field, the `L` field and the
 // content of the message; and behind a `;` the body.
 const MESSAGES: &str =
-    r##"1 AdmCid/1234/0/1234//0/1131 01 001;"ADM-CID"0001L0#1234[#1234|1131 01 001]
+    r##"1 AdmCid/1234/0/1234//0/1130 01 001;"ADM-CID"0001L0#1234[#1234|1130 01 001]
 9876 AdmCid/aBc/1/ABC/12aBcD/1/3401 0a 00F;"ADM-CID"9876R12aBcDL1#aBc[#AbC|#abc|3401 0a 00F]_01:46:40,09-09-2001
 9999 SiaDcs/0123456789ABCDEf/123456/0123456789ABCDEF//123456/NFA129][S123Main St., 55123;"SIA-DCS"9999L123456#0123456789ABCDEf[#0123456789abcdeF|NFA129][S123Main St., 55123]
 # |#5678|1131 01 001][V123456]_01:46:40,09-09-2001

@@ -8,7 +8,7 @@ pub enum LineEnd {
     InputEnded,
     /// A read failed.
     ReadFault,
-    /// A write failed within the last reply. Its entry stands.
+    /// A write failed within the last reply. Its entry stands, where it has one.
     WriteFault,
     /// 1,099,511,627,776 bytes (2^40) were taken, which is the limit of a session.
     Spent,

@@ -18,17 +18,17 @@ use std::test::Fail;
 // 2001-09-09, 01:46:40 GMT.
 const BEGIN: u64 = 1_000_000_000;
 
-const SETUP: &[u8] = b"account 1234\n";
+const SETUP: &[u8] = b"account 7777\n";
 
-const ALARM: &[u8] = b"\n2EE70027\"ADM-CID\"0001L0#1234[#1234|1131 01 001]\r";
+const ALARM: &[u8] = b"\nDEFF0027\"ADM-CID\"0001L0#7777[#7777|1131 01 001]\r";
 
-const ALARM_REPLY: &[u8] = b"\n1BC10012\"ACK\"0001L0#1234[]\r";
+const ALARM_REPLY: &[u8] = b"\n4DFC0012\"ACK\"0001L0#7777[]\r";
 
-const BEAT: &[u8] = b"\n1EF20013\"NULL\"0000L0#1234[]\r";
+const BEAT: &[u8] = b"\n48CF0013\"NULL\"0000L0#7777[]\r";
 
-const BEAT_REPLY: &[u8] = b"\nDE900012\"ACK\"0000L0#1234[]\r";
+const BEAT_REPLY: &[u8] = b"\n88AD0012\"ACK\"0000L0#7777[]\r";
 
-const DUH: &[u8] = b"\n251F0012\"DUH\"0001L0#1234[]\r";
+const DUH: &[u8] = b"\n73220012\"DUH\"0001L0#7777[]\r";
 
 // How a session ended, and how many entries its hall has recorded then: two of its beginning, and those of the session.
 type Came = (LineEnd, u64);

@@ -20,9 +20,9 @@ fn stream(alloc: Global) -> Result<Vec<u8>, Fail> {
             b"xyz\n1BC",
             ALARM,
             // Check and length.
-            b"\n2EE80027\"ADM-CID\"0001L0#1234[#1234|1131 01 001]\r",
-            b"\n2EE70028\"ADM-CID\"0001L0#1234[#1234|1131 01 001]\r",
-            b"\n2EE70027\"ADM-CID\"0001L0#1234",
+            b"\nDF000027\"ADM-CID\"0001L0#7777[#7777|1131 01 001]\r",
+            b"\nDEFF0028\"ADM-CID\"0001L0#7777[#7777|1131 01 001]\r",
+            b"\nDEFF0027\"ADM-CID\"0001L0#7777",
             BEAT,
             b"\n",
             BEAT,
@@ -30,12 +30,12 @@ fn stream(alloc: Global) -> Result<Vec<u8>, Fail> {
             b"\n",
             &long,
             b"\r",
-            b"\n8D080012\"ABC\"0001L0#1234[]\r",
+            b"\nDB350012\"ABC\"0001L0#7777[]\r",
             b"\n",
             &long,
             ALARM,
             // Without a carriage return.
-            b"\n1EF20013\"NULL\"0000L0#1234[]",
+            b"\n48CF0013\"NULL\"0000L0#7777[]",
         ],
     )
 }

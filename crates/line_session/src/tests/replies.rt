@@ -8,19 +8,19 @@ use std::test::Fail;
 // A row is an account, how many entries are recorded at the end, the frames that a panel sends, without their line feeds and
 // carriage returns, and those that it is due, with a `;` between these and a `~` between frames. A line without a `;` is a remark.
 const ROWS: &str =
-    r##"1234;3;2EE70027"ADM-CID"0001L0#1234[#1234|1131 01 001];1BC10012"ACK"0001L0#1234[]
+    r##"7777;3;DEFF0027"ADM-CID"0001L0#7777[#7777|1131 01 001];4DFC0012"ACK"0001L0#7777[]
 # a receiver, no account in the block, and a tail
-1234;3;90F10038"ADM-CID"0001R1L2#1234[|1131 01 001]_01:46:40,09-09-2001;C7370014"ACK"0001R1L2#1234[]
+7777;3;428D0038"ADM-CID"0001R1L2#7777[|1131 01 001]_01:46:40,09-09-2001;910A0014"ACK"0001R1L2#7777[]
 # heartbeats are recorded each time
-1234;4;1EF20013"NULL"0000L0#1234[]~1EF20013"NULL"0000L0#1234[];DE900012"ACK"0000L0#1234[]~DE900012"ACK"0000L0#1234[]
-1234;3;AA860027"NULL"0000L0#1234[]_01:46:40,09-09-2001;DE900012"ACK"0000L0#1234[]
+7777;4;48CF0013"NULL"0000L0#7777[]~48CF0013"NULL"0000L0#7777[];88AD0012"ACK"0000L0#7777[]~88AD0012"ACK"0000L0#7777[]
+7777;3;C6B70027"NULL"0000L0#7777[]_01:46:40,09-09-2001;88AD0012"ACK"0000L0#7777[]
 # another token, another account, and a sealed message of an account without a key
-1234;2;8D080012"ABC"0001L0#1234[];251F0012"DUH"0001L0#1234[]
-1234;2;B2BB0027"ADM-CID"0001L0#9999[#9999|1131 01 001];B7290012"DUH"0001L0#9999[]
-1234;2;C7F30036"*ADM-CID"0001L0#1234[69C4E0D86A7B0430D8CDB78070B4C55A;251F0012"DUH"0001L0#1234[]
+7777;2;DB350012"ABC"0001L0#7777[];73220012"DUH"0001L0#7777[]
+7777;2;B2BB0027"ADM-CID"0001L0#9999[#9999|1131 01 001];B7290012"DUH"0001L0#9999[]
+7777;2;BACB0036"*ADM-CID"0001L0#7777[69C4E0D86A7B0430D8CDB78070B4C55A;73220012"DUH"0001L0#7777[]
 # SIA data, with a second block and with an event that no table lists
-12345A;3;1FDE003B"SIA-DCS"0001L0#12345A[#12345A|NFA129][S123Main St., 55123];7C360014"ACK"0001L0#12345A[]
-12345A;3;C1120028"SIA-DCS"0002L0#12345A[#12345A|Nri1/ZQ7];78320014"ACK"0002L0#12345A[]"##;
+77777A;3;98DB003B"SIA-DCS"0001L0#77777A[#77777A|NFA129][S123Main St., 55123];6AA70014"ACK"0001L0#77777A[]
+77777A;3;52960028"SIA-DCS"0002L0#77777A[#77777A|Nri1/ZQ7];6EA30014"ACK"0002L0#77777A[]"##;
 
 // Compares what is written and recorded after a row's frames with what it wants.
 fn compare(rt: &impl Abort, alloc: Global, row: &str) -> Result<(), Fail> {
@@ -61,25 +61,25 @@ fn bodies_have_at_most_4095_bytes(rt: HostRuntime) -> Result<(), Fail> {
     // recorded then. The length of 4,096 bytes has no digits, and `0000` are its last four.
     let cases: [(&[u8], usize, &[u8], u64); 4] = [
         (
-            b"\nE68D0FFF\"SIA-DCS\"0001L0#1234[#1234|NBA01*",
+            b"\nFEAF0FFF\"SIA-DCS\"0001L0#7777[#7777|NBA01*",
             4061,
             ALARM_REPLY,
             3,
         ),
         (
-            b"\n0CFD0000\"SIA-DCS\"0001L0#1234[#1234|NBA01*",
+            b"\n15650000\"SIA-DCS\"0001L0#7777[#7777|NBA01*",
             4062,
             b"",
             2,
         ),
         (
-            b"\n6AB40FFF\"ADM-CID\"0001L0#1234[#1234|1131 01 001][",
+            b"\n72960FFF\"ADM-CID\"0001L0#7777[#7777|1131 01 001][",
             4054,
             ALARM_REPLY,
             3,
         ),
         (
-            b"\n1EB10000\"ADM-CID\"0001L0#1234[#1234|1131 01 001][",
+            b"\n07290000\"ADM-CID\"0001L0#7777[#7777|1131 01 001][",
             4055,
             b"",
             2,
