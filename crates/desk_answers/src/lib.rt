@@ -4,10 +4,10 @@
 mod listing;
 mod orders;
 
-pub use arc_data::{Acted, Incident, Memory, Reply, Txt};
+pub use arc_data::{Acted, Incident, Memory, Reply, Txt, View};
 pub use incidents::Table;
 pub use listing::list;
-pub use orders::{act, claim, close, next, release, show};
+pub use orders::{act, claim, close, next, release, show, view};
 
 #[cfg(test)]
 mod tests;

@@ -109,8 +109,8 @@ pub fn show(table: &Table, number: u64) -> Reply
     }
 }
 
-// The incident as it is shown.
-fn view(i: &Incident) -> View
+/// The incident as it is shown.
+pub fn view(i: &Incident) -> View
     ensures { result ≡ view_of i.now }
 {
     View {
