@@ -73,8 +73,9 @@ impl<D: Disk> Journal<D> {
 
         ensures spared { SparesB D.told D.may_leave D.moment D.left_since disk (disk_after result) }
 
-        // Where the area's bytes are refused, nothing was written.
+        // Where the area's bytes are refused, or some body stands there, nothing was written.
         ensures unwritten { IfErr result (λ r. IsOfContent r.fault → IsQuiet D.told D.may_leave D.moment D.left_since disk r.disk) }
+        ensures untouched { IfOk result (λ r. (r.1 ≡ [] → ⊥) → IsQuiet D.told D.may_leave D.moment D.left_since disk r.0.disk) }
         ensures later { D.fault_count disk ≤ D.fault_count (disk_after result) }
     {
         let mut disk = disk;

@@ -297,6 +297,7 @@ pub fn load<D: Disk>(alloc: Global, disk: &mut D) -> Result<Loaded, OpenFault>
     ensures stands { IfOk result (λ l. IfSome (D.told disk.old) (λ s. Stands s.a l.bodies)) }
     ensures shown { IfErr result (λ f. IfSome (D.told disk.old) (λ s. IsShown f s.a)) }
     ensures unwritten { IfErr result (λ f. IsOfContent f → IsQuiet D.told D.may_leave D.moment D.left_since disk.old disk.new) }
+    ensures untouched { IfOk result (λ l. (l.bodies ≡ [] → ⊥) → IsQuiet D.told D.may_leave D.moment D.left_since disk.old disk.new) }
     ensures told { Becomes (D.told disk.old) (D.told disk.new) (λ s t. GoesOn s.a t.a) }
     ensures any_moment { LeavesOnly D.moment D.left_since disk.old disk.new
         (λ c. (d : Areas) × D.may_leave disk.old d × GoesOn d.a c.a) }
