@@ -1,5 +1,5 @@
 // The last 32 messages of an account.
-ghost use Rattle.std.specs.Prelude.{◌≡◌, ◌∷◌, [], take, reverse, IfOk};
+ghost use Rattle.std.specs.Prelude.{◌≡◌, ◌∷◌, [], List, length, take, reverse, IfOk};
 ghost use Rattle.std.specs.List.{find};
 ghost use Rattle.std.specs.Option.{option_map};
 ghost use Rattle.centre_rules.specs.Answers.{repeats, same_message};
@@ -14,6 +14,9 @@ use std::marker::Model;
 #[derive(Drop)]
 pub struct Window {
     ring: HeapCircularBuffer<Seen>,
+    // The sequences of the messages in the ring, the newest first, and zeros where there are fewer: few bytes to read before
+    // the messages are.
+    sequences: [u16; 32],
 }
 
 impl Model for Window {
@@ -25,7 +28,7 @@ impl Model for Window {
 
     ghost view = { λ w. reverse w.ring.items };
 
-    ghost invariant = { λ w. IsWindow w.ring.items w.ring.capacity };
+    ghost invariant = { λ w. IsWindow w.ring.items w.ring.capacity w.sequences };
 }
 
 impl Window {
@@ -36,13 +39,17 @@ impl Window {
         let Ok(ring) = HeapCircularBuffer::with_capacity(alloc, 32) else {
             return Err(Memory);
         };
-        Ok(Window { ring })
+        Ok(Window {
+            ring,
+            sequences: [0; 32],
+        })
     }
 
     /// Puts a message in, the newest one. Of 33 the oldest goes. It takes no memory.
     pub fn push(&mut self, seen: Seen)
         ensures { self.new ≡ take 32 (seen ∷ self.old) }
     {
+        self.sequences = led_by(seen.message.seq, &self.sequences);
         self.ring.push_back(seen);
     }
 
@@ -50,8 +57,20 @@ impl Window {
     pub fn holds(&self, message: &Message, at: u64) -> Option<u64>
         ensures { result ≡ option_map (λ p. p.at) (find (repeats message.now at) (take 32 self.now)) }
     {
+        if !self.sequences.contains(&message.seq) {
+            return None;
+        }
         newest(&self.ring, message, at)
     }
+}
+
+// The newest sequence, and behind it the first 31 of those before.
+fn led_by(newest: u16, before: &[u16; 32]) -> [u16; 32]
+    ensures { result ≡ newest ∷ take 31 before.now }
+{
+    let mut sequences = [newest; 32];
+    sequences[1..].copy_from_slice(&before[..31]);
+    sequences
 }
 
 // The moment of the newest of the ring that makes the message a repeat. The ring has the oldest first.
