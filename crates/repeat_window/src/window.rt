@@ -1,5 +1,5 @@
 // The last 32 messages of an account.
-ghost use Rattle.std.specs.Prelude.{◌≡◌, ◌∷◌, [], List, length, take, reverse, IfOk};
+ghost use Rattle.std.specs.Prelude.{◌≡◌, ◌∷◌, [], take, reverse, IfOk};
 ghost use Rattle.std.specs.List.{find};
 ghost use Rattle.std.specs.Option.{option_map};
 ghost use Rattle.centre_rules.specs.Answers.{repeats, same_message};
