@@ -1,0 +1,5 @@
+pub mod Bodies
+pub mod Written
+pub mod Entered
+pub mod Begun
+pub mod Halled

@@ -1,9 +1,12 @@
 -- A store as the hall of one caller.
-use Rattle.std.specs.Prelude.{ℕ, List, Option}
+use Rattle.std.specs.Prelude.{◌≡◌, ℕ, List, Option, Some}
 use Rattle.arc_io.specs.Areas.{Areas}
+use Rattle.alarm_rules.specs.Setups.{meaning}
 use Rattle.centre_rules.specs.Summary.{Summary}
-use Rattle.centre_rules.specs.History.{Entry}
+use Rattle.centre_rules.specs.Marks.{force}
+use Rattle.centre_rules.specs.History.{Entry, marks}
 use Rattle.centre_core.specs.Halls.{HallSeen}
+use Rattle.centre_core.specs.InForce.{in_force}
 use Rattle.centre_core.specs.Setting.{IsSetting, text_of}
 use Rattle.centre_store.specs.Stores.{Stored, StoreStands, Shows}
 
@@ -23,3 +26,8 @@ store_seen told may_leave faults s = record {
   own = λ h. h;
   shows = λ stop event clock. Shows told may_leave faults s stop event clock;
 }
+
+-- the law of a hall: after each history for which it stands the setup of its text is in force
+pub store_in_force : {D : Type 0} (told : D → Option Areas) (may_leave : D → Areas → Type 0) (faults : D → ℕ)
+    (s : Stored D) (b : Summary) (h : List Entry) → IsStoreFor told may_leave faults b s h → force b (marks b h) ≡ Some (meaning (text_of s.state))
+store_in_force told may_leave faults s b h w = in_force s.state b h (record { stands = w.stands.centre; setting = w.setting })

@@ -1,23 +1,28 @@
 // How an event is submitted: it is prepared, its record is written where it is to be recorded, and then it is applied.
-ghost use Rattle.std.specs.Prelude.{◌≡◌, ◌≤◌, ◌<◌, ◌×◌, ◌⊎◌, ◌↔◌, ◌+◌, ◌^◌, ℕ, List, false, Some, IfOk, IfErr, OnOk, OnErr};
+ghost use Rattle.std.specs.Prelude.{◌≡◌, ◌≤◌, ◌<◌, ◌⊎◌, ◌↔◌, ◌+◌, ◌^◌, ◌++◌, ◌∷◌, [], ℕ, List, false};
+ghost use Rattle.std.specs.Prelude.{Some, IfOk, IfErr, OnOk, OnErr, IsTrue};
 ghost use Rattle.arc_data.specs.WellFormed.{IsWellFormed};
+ghost use Rattle.arc_io.specs.Causes.{Rose};
 ghost use Rattle.arc_io.specs.Crashes.{LeavesOnly};
 ghost use Rattle.centre_rules.specs.Summary.{Summary};
 ghost use Rattle.centre_rules.specs.History.{Entry, moment_after, is_recorded, IsMoment};
+ghost use Rattle.centre_rules.specs.Answers.{answer_over};
+ghost use Rattle.centre_rules.specs.State.{Grows};
 ghost use Rattle.centre_core.specs.Runs.{IsSubmitted};
 ghost use Rattle.centre_core.specs.Setting.{IsSetting};
-ghost use Rattle.disk_journal.specs.Journal.{StandsForEither};
+ghost use Rattle.disk_journal.specs.Journal.{Holds, StandsForEither};
 ghost use Rattle.disk_journal.specs.OtherArea.{SparesB};
-ghost use Rattle.event_codec.specs.Spelling.{spelling};
-ghost use Rattle.centre_store.specs.Bodies.{bodies_of};
+ghost use Rattle.event_codec.specs.Spelling.{IsKept, HasSpelling, spelling};
+ghost use Rattle.centre_store.specs.Bodies.{bodies_of, need_of};
 ghost use Rattle.centre_store.specs.Stores.{HasFailed, Leaves, StoreStands, Takes, IsToRecord, IsOverWith, Shows, IsDown, IsSameJournal};
-ghost use Rattle.centre_store.specs.Begins.{begun_after, adopted_after, IsOfBegin, StandsWithin};
+ghost use Rattle.centre_store.specs.Writes.{IsOverAt, IsUnwritten};
+ghost use Rattle.centre_store.specs.Begins.{begun_after, adopted_after, is_in_force, IsOfBegin, StandsWithin};
 
 use crate::store::Store;
-use arc_data::{Blob, Event, Memory};
+use arc_data::{Blob, Event};
 use arc_io::Disk;
 use centre_core::{Done, Ready, Setup, Stop};
-use disk_journal::AppendFault;
+use disk_journal::{AppendFault, Journal};
 use event_codec::encode;
 use std::alloc::Global;
 
@@ -52,16 +57,7 @@ impl<D: Disk> Store<D> {
         ensures limits { self.new.journal.limits ≡ self.old.journal.limits }
         ensures later { D.fault_count self.old.journal.disk ≤ D.fault_count self.new.journal.disk }
     {
-        let is_in_force = match self.centre.setup() {
-            Some(other) => other.text() == setup.text(),
-            None => false,
-        };
-        if !is_in_force {
-            let Ok(text) = Blob::of(alloc, setup.text()) else {
-                return Err(Stop::Memory);
-            };
-            let _ = self.enter(alloc, Event::Adopt { text }, clock)?;
-        }
+        self.adopt(alloc, &setup, clock)?;
         let _ = self.enter(alloc, Event::Start, clock)?;
         Ok(())
     }
@@ -70,7 +66,13 @@ impl<D: Disk> Store<D> {
     /// since the opening; Worn from 281,474,976,710,656 entries on; Memory; Full where the event is to be recorded and its record would
     /// pass a limit of the journal; Down where the disk fails now. After Memory, Full and Worn all is as before. After Down the event
     /// may stand in the journal or not, until the store is closed and opened again.
-    pub fn submit(&mut self, alloc: Global, caller: u64, event: Event, clock: u64) -> Result<Done, Stop>
+    pub fn submit(
+        &mut self,
+        alloc: Global,
+        caller: u64,
+        event: Event,
+        clock: u64,
+    ) -> Result<Done, Stop>
         requires ready { IsSetting self.old.state.sum.text }
         requires submitted { IsSubmitted event }
         requires formed { IsWellFormed event }
@@ -116,77 +118,200 @@ impl<D: Disk> Store<D> {
         Ok(Done { caller, ..done })
     }
 
-    // Makes an entry of the event, of caller 0.
-    fn enter(&mut self, alloc: Global, event: Event, clock: u64) -> Result<Done, Stop> {
-        if let Some(stop) = self.stopped() {
-            return Err(stop);
+    // Makes an Adopt of the setup's text, where another text is in force or none.
+    fn adopt(&mut self, alloc: Global, setup: &Setup, clock: u64) -> Result<(), Stop>
+        requires clock { IsMoment clock }
+
+        ensures adopted { OnOk result ((b : Summary) (h : List Entry) → StoreStands D.told D.may_leave D.fault_count b self.old h
+            → StoreStands D.told D.may_leave D.fault_count b self.new (adopted_after b h setup.now clock)) }
+        ensures text { OnOk result (self.new.state.sum.text ≡ Some setup.now) }
+        ensures stop { OnErr result ((b : Summary) (h : List Entry) → StoreStands D.told D.may_leave D.fault_count b self.old h
+            → StoreStands D.told D.may_leave D.fault_count b self.new h) }
+        ensures cause { IfErr result (λ s. (event : Event) × IsOfBegin setup.now event × Shows D.told D.may_leave D.fault_count self.new s event clock) }
+        ensures down { HasFailed D.fault_count self.new
+            ↔ (result ≡ Err (Stop.Down self.new.at_open (D.fault_count self.new.journal.disk))) }
+        ensures already { HasFailed D.fault_count self.old → self.new ≡ self.old }
+        ensures any_moment { (b : Summary) (h : List Entry) → StoreStands D.told D.may_leave D.fault_count b self.old h
+            → (HasFailed D.fault_count self.old → ⊥)
+            → LeavesOnly D.moment D.left_since self.old.journal.disk self.new.journal.disk (λ c. StandsWithin b h setup.now clock c.a) }
+        ensures spared { SparesB D.told D.may_leave D.moment D.left_since self.old.journal.disk self.new.journal.disk }
+        ensures at_open { self.new.at_open ≡ self.old.at_open }
+        ensures limits { self.new.journal.limits ≡ self.old.journal.limits }
+        ensures later { D.fault_count self.old.journal.disk ≤ D.fault_count self.new.journal.disk }
+    {
+        self.check_disk()?;
+        if self.has_in_force(setup) {
+            return Ok(());
         }
+        self.check_count()?;
+        let Ok(text) = Blob::of(alloc, setup.text()) else {
+            return Err(Stop::Memory);
+        };
+        let _ = self.enter(alloc, Event::Adopt { text }, clock)?;
+        Ok(())
+    }
+
+    // Whether the setup's text is in force.
+    fn has_in_force(&self, setup: &Setup) -> bool
+        ensures { result ≡ is_in_force self.now.state.sum.text setup.now }
+    {
+        match self.centre.setup() {
+            Some(other) => other.text() == setup.text(),
+            None => false,
+        }
+    }
+
+    // Makes an entry of the event. It is of caller 0, and might as well be of another.
+    fn enter(&mut self, alloc: Global, event: Event, clock: u64) -> Result<Done, Stop>
+        requires formed { IsWellFormed event }
+        requires clock { IsMoment clock }
+
+        ensures done { IfOk result (λ d. (b : Summary) (h : List Entry) (caller : ℕ)
+            → StoreStands D.told D.may_leave D.fault_count b self.old h
+            → Takes D.told D.may_leave D.fault_count b self.new h clock (record { caller = caller; event = event; at = d.at; reply = d.reply })) }
+        ensures few { OnOk result (self.old.state.entries < 2 ^ 48) }
+        ensures answer { IfOk result (λ d. d.reply ≡ answer_over self.old.state.sum [] event d.at) }
+        ensures grows { IfOk result (λ d. Grows self.old.state self.new.state (record { caller = 0; event = event; at = d.at; reply = d.reply })) }
+        ensures stop { OnErr result ((b : Summary) (h : List Entry) → StoreStands D.told D.may_leave D.fault_count b self.old h
+            → StoreStands D.told D.may_leave D.fault_count b self.new h) }
+        ensures cause { IfErr result (λ s. Shows D.told D.may_leave D.fault_count self.new s event clock) }
+
+        ensures entries { OnErr result (self.new.state.entries ≡ self.old.state.entries) }
+        ensures sum { OnErr result (self.new.state.sum ≡ self.old.state.sum) }
+        ensures unwritten { IfErr result (λ s. (IsDown s → ⊥) → IsSameJournal self.old.journal self.new.journal) }
+        ensures quiet { IfOk result (λ d. is_recorded d.reply ≡ false → IsSameJournal self.old.journal self.new.journal) }
+
+        ensures down { HasFailed D.fault_count self.new
+            ↔ (result ≡ Err (Stop.Down self.new.at_open (D.fault_count self.new.journal.disk))) }
+        ensures already { HasFailed D.fault_count self.old → self.new ≡ self.old }
+        ensures worn { (HasFailed D.fault_count self.old → ⊥) → 2 ^ 48 ≤ self.old.state.entries → result ≡ Err (Stop.Worn self.old.state.entries) }
+        ensures full { (HasFailed D.fault_count self.old → ⊥) → self.old.state.entries < 2 ^ 48 → (b : Summary) (h : List Entry)
+            → StoreStands D.told D.may_leave D.fault_count b self.old h → IsToRecord b h event clock → IsOverWith self.old event
+            → (result ≡ Err Stop.Memory) ⊎ (result ≡ Err (Stop.Full self.old.journal.used (need_of event) self.old.journal.records)) }
+
+        ensures any_moment { (b : Summary) (h : List Entry) → StoreStands D.told D.may_leave D.fault_count b self.old h
+            → (HasFailed D.fault_count self.old → ⊥) → LeavesOnly D.moment D.left_since self.old.journal.disk self.new.journal.disk
+            (λ c. StandsForEither (bodies_of h) (spelling event (moment_after b h clock)) c.a) }
+        ensures met { (b : Summary) (h : List Entry) → StoreStands D.told D.may_leave D.fault_count b self.old h
+            → (HasFailed D.fault_count self.old → ⊥)
+            → Leaves D.told D.may_leave self.new.journal.disk (bodies_of h) (spelling event (moment_after b h clock)) }
+        ensures spared { SparesB D.told D.may_leave D.moment D.left_since self.old.journal.disk self.new.journal.disk }
+        ensures at_open { self.new.at_open ≡ self.old.at_open }
+        ensures limits { self.new.journal.limits ≡ self.old.journal.limits }
+        ensures later { D.fault_count self.old.journal.disk ≤ D.fault_count self.new.journal.disk }
+    {
+        self.check_disk()?;
+        self.check_count()?;
         let Ok(ready) = self.centre.prepare(alloc, event, clock) else {
             return Err(Stop::Memory);
         };
-        if !ready.quiet() {
-            if let Err(stop) = self.write(&ready) {
+        if ready.quiet() {
+            return Ok(self.centre.apply(ready));
+        }
+        match write(&mut self.journal, &mut self.body, self.at_open, &ready) {
+            Ok(()) => Ok(self.centre.apply(ready)),
+            Err(stop) => {
                 ready.discard();
-                return Err(stop);
+                Err(stop)
             }
         }
-        Ok(self.centre.apply(ready))
     }
 
-    // Why no event is taken at all: the disk has failed, or there are too many entries.
-    fn stopped(&self) -> Option<Stop> {
-        let now = self.journal.disk().faults();
-        if has_risen(self.at_open, now) {
-            return Some(Stop::Down {
-                at_open: self.at_open,
-                now,
-            });
-        }
+    // Down where the disk has failed since the opening.
+    fn check_disk(&self) -> Result<(), Stop>
+        ensures up { OnOk result (HasFailed D.fault_count self.now → ⊥) }
+        ensures down { IfErr result (λ s. s ≡ Stop.Down self.now.at_open (D.fault_count self.now.journal.disk)) }
+        ensures failed { OnErr result (HasFailed D.fault_count self.now) }
+    {
+        check_count_of_faults(self.at_open, self.journal.disk().faults())
+    }
+
+    // Worn where there are too many entries for another.
+    fn check_count(&self) -> Result<(), Stop>
+        ensures few { OnOk result (self.now.state.entries < 2 ^ 48) }
+        ensures worn { IfErr result (λ s. s ≡ Stop.Worn self.now.state.entries) }
+        ensures many { OnErr result (2 ^ 48 ≤ self.now.state.entries) }
+    {
         let count = self.centre.entries();
         if count >= MOST_ENTRIES {
-            return Some(Stop::Worn { count });
-        }
-        None
-    }
-
-    // Writes the record of what is ready, and has it on the disk.
-    fn write(&mut self, ready: &Ready) -> Result<(), Stop> {
-        let Ok(()) = encode(ready.event(), ready.at(), &mut self.body) else {
-            return Err(Stop::Memory);
-        };
-        let Ok(()) = self.journal.reserve(5 + self.body.len() as u64) else {
-            return Err(Stop::Memory);
-        };
-        match self.journal.append(&self.body) {
-            Err(
-                AppendFault::Full {
-                    used,
-                    need,
-                    records,
-                },
-            ) => Err(Stop::Full {
-                used,
-                need,
-                records,
-            }),
-            Ok(()) | Err(AppendFault::DiskFault { .. }) => self.check_disk(),
-        }
-    }
-
-    // Whether the disk has not failed since the opening.
-    fn check_disk(&self) -> Result<(), Stop> {
-        let now = self.journal.disk().faults();
-        if has_risen(self.at_open, now) {
-            return Err(Stop::Down {
-                at_open: self.at_open,
-                now,
-            });
+            return Err(Stop::Worn { count });
         }
         Ok(())
     }
 }
 
+// Writes the record of what is ready, and has it on the disk. Its body is made in the vector.
+fn write<D: Disk>(
+    journal: &mut Journal<D>,
+    body: &mut Vec<u8>,
+    at_open: u64,
+    ready: &Ready,
+) -> Result<(), Stop>
+    requires holds { (bodies : List (List ℕ)) × Holds D.told D.may_leave journal.old bodies }
+    requires formed { IsWellFormed ready.now.event }
+    requires kept { IsKept ready.now.event }
+    requires later { at_open ≤ D.fault_count journal.old.disk }
+    requires up { Rose at_open (D.fault_count journal.old.disk) → ⊥ }
+
+    ensures added { OnOk result ((bodies : List (List ℕ)) → Holds D.told D.may_leave journal.old bodies
+        → Holds D.told D.may_leave journal.new (bodies ++ spelling ready.now.event ready.now.at ∷ [])) }
+    ensures up { OnOk result (Rose at_open (D.fault_count journal.new.disk) → ⊥) }
+    ensures stop { IfErr result (IsUnwritten D.fault_count at_open journal.old journal.new (need_of ready.now.event)) }
+    ensures full { IsOverAt journal.old (need_of ready.now.event)
+        → (result ≡ Err Stop.Memory) ⊎ (result ≡ Err (Stop.Full journal.old.used (need_of ready.now.event) journal.old.records)) }
+
+    ensures any_moment { (bodies : List (List ℕ)) → Holds D.told D.may_leave journal.old bodies
+        → LeavesOnly D.moment D.left_since journal.old.disk journal.new.disk
+        (λ c. StandsForEither bodies (spelling ready.now.event ready.now.at) c.a) }
+    ensures met { (bodies : List (List ℕ)) → Holds D.told D.may_leave journal.old bodies
+        → Leaves D.told D.may_leave journal.new.disk bodies (spelling ready.now.event ready.now.at) }
+    ensures spared { SparesB D.told D.may_leave D.moment D.left_since journal.old.disk journal.new.disk }
+    ensures spelled { HasSpelling ready.now.event ready.now.at }
+    ensures limits { journal.new.limits ≡ journal.old.limits }
+    ensures later { D.fault_count journal.old.disk ≤ D.fault_count journal.new.disk }
+{
+    let at = ready.at();
+    let Ok(()) = encode(ready.event(), at, body) else {
+        return Err(Stop::Memory);
+    };
+    let Ok(()) = journal.reserve(5 + body.len() as u64) else {
+        return Err(Stop::Memory);
+    };
+    match journal.append(body) {
+        Ok(()) => check_count_of_faults(at_open, journal.disk().faults()),
+        Err(
+            AppendFault::Full {
+                used,
+                need,
+                records,
+            },
+        ) => Err(Stop::Full {
+            used,
+            need,
+            records,
+        }),
+        Err(AppendFault::DiskFault { .. }) => Err(Stop::Down {
+            at_open,
+            now: journal.disk().faults(),
+        }),
+    }
+}
+
+// Down where the count of the disk's faults has risen.
+fn check_count_of_faults(at_open: u64, now: u64) -> Result<(), Stop>
+    ensures up { OnOk result (Rose at_open now → ⊥) }
+    ensures down { IfErr result (λ s. s ≡ Stop.Down at_open now) }
+    ensures failed { OnErr result (Rose at_open now) }
+{
+    if has_risen(at_open, now) {
+        return Err(Stop::Down { at_open, now });
+    }
+    Ok(())
+}
+
 // The later count is above the earlier one, or stands at its last value.
-fn has_risen(before: u64, now: u64) -> bool {
+fn has_risen(before: u64, now: u64) -> bool
+    ensures { IsTrue result ↔ Rose before now }
+{
     now > before || now == u64::MAX
 }

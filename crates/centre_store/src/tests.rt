@@ -1,1 +1,3 @@
 // What no clause says of the store.
+
+mod submitting;

@@ -1,0 +1,153 @@
+-- How a run begins over a history.
+use Rattle.std.proofs.Common.{◌≡◌, ℕ, List, [], ◌∷◌, ◌++◌, Bool, true, false, Option, Some, None, inl, inr, refl, sym, ap, subst, ◌∙◌}
+use Rattle.std.specs.Prelude.{if◌then◌else◌, IsOk, is_ok}
+use Rattle.std.proofs.lemmas.Slice.Eq.{bytes_eq-Decides}
+use Rattle.std.proofs.lemmas.Bool.{false≢true}
+use Rattle.arc_data.specs.declared.event.Event.{Event}
+use Rattle.arc_data.specs.declared.event.Event.TheVariants.{Adopt, Start}
+use Rattle.arc_data.specs.declared.reply.Reply.{Reply}
+use Rattle.arc_data.specs.declared.reply.Reply.TheVariants.{Adopted, Started}
+use Rattle.alarm_rules.specs.Setups.{setup_of}
+use Rattle.arc_io.specs.Areas.{Areas}
+use Rattle.arc_io.specs.Crashes.{LeavesOnly}
+use Rattle.arc_io.proofs.Moments.{started, weaker}
+use Rattle.centre_rules.specs.Summary.{Summary}
+use Rattle.centre_rules.specs.Marks.{text}
+use Rattle.centre_rules.specs.History.{Entry, Extends, marks, moment_after, is_recorded}
+use Rattle.centre_rules.specs.Answers.{answer_over, if_known}
+use Rattle.centre_rules.specs.State.{State, StandsFor, Grows}
+use Rattle.centre_rules.proofs.Standing.{text_marked}
+use Rattle.disk_journal.specs.Records.{Stands}
+use Rattle.disk_journal.specs.Journal.{StandsForEither}
+use Rattle.event_codec.specs.Spelling.{spelling}
+use Rattle.centre_store.specs.Bodies.{bodies_of}
+use Rattle.centre_store.specs.Stores.{Stored, HasFailed, StoreStands, Takes}
+use Rattle.centre_store.specs.Begins.{is_in_force, adopted_after, begun_after, StandsWithin}
+use Rattle.centre_store.proofs.Bodies.{bodies_more}
+use Rattle.centre_store.proofs.Entered.{held}
+
+abbrev pub adopted_entry : Summary → List Entry → List ℕ → ℕ → Entry
+adopted_entry b h setup clock = record { caller = 0; event = Adopt setup; at = moment_after b h clock; reply = Adopted }
+
+abbrev pub started_entry : Summary → List Entry → ℕ → Entry
+started_entry b h clock = record { caller = 0; event = Start; at = moment_after b h clock; reply = Started }
+
+-- the text is in force, or another one, or none
+pub no_adopt : (b : Summary) (h : List Entry) (setup : List ℕ) (clock : ℕ) → is_in_force (text b (marks b h)) setup ≡ true → adopted_after b h setup clock ≡ h
+no_adopt b h setup clock is = ap (λ (v : Bool). if v then h else adopted_entry b h setup clock ∷ h) is
+
+pub one_adopt : (b : Summary) (h : List Entry) (setup : List ℕ) (clock : ℕ) → is_in_force (text b (marks b h)) setup ≡ false
+    → adopted_after b h setup clock ≡ adopted_entry b h setup clock ∷ h
+one_adopt b h setup clock is = ap (λ (v : Bool). if v then h else adopted_entry b h setup clock ∷ h) is
+
+either_extends : (h : List Entry) (e : Entry) (v : Bool) → Extends h (if v then h else e ∷ h)
+either_extends h e true = ([], refl)
+either_extends h e false = (e ∷ [], refl)
+
+adopted_extends : (b : Summary) (h : List Entry) (setup : List ℕ) (clock : ℕ) → Extends h (adopted_after b h setup clock)
+adopted_extends b h setup clock = either_extends h (adopted_entry b h setup clock) (is_in_force (text b (marks b h)) setup)
+
+begun_extends : (b : Summary) (h : List Entry) (setup : List ℕ) (clock : ℕ) → Extends h (begun_after b h setup clock)
+begun_extends b h setup clock =
+    let x = adopted_extends b h setup clock in
+    let e : Entry = started_entry b (adopted_after b h setup clock) clock in
+    (e ∷ x.0, ap (λ (l : List Entry). e ∷ l) x.1)
+
+-- What a crash leaves.
+
+pub within_before : (b : Summary) (h : List Entry) (setup : List ℕ) (clock : ℕ) (bytes : List ℕ) → Stands bytes (bodies_of h) → StandsWithin b h setup clock bytes
+within_before b h setup clock bytes stands = record { so_far = h; from_h = ([], refl); to_begun = begun_extends b h setup clock; stands = stands }
+
+within_adopted : (b : Summary) (h : List Entry) (setup : List ℕ) (clock : ℕ) (bytes : List ℕ) → Stands bytes (bodies_of (adopted_after b h setup clock))
+    → StandsWithin b h setup clock bytes
+within_adopted b h setup clock bytes stands = record {
+  so_far = adopted_after b h setup clock;
+  from_h = adopted_extends b h setup clock;
+  to_begun = (started_entry b (adopted_after b h setup clock) clock ∷ [], refl);
+  stands = stands;
+}
+
+pub within_adopt : (b : Summary) (h : List Entry) (setup : List ℕ) (clock : ℕ) (bytes : List ℕ) → is_in_force (text b (marks b h)) setup ≡ false
+    → StandsForEither (bodies_of h) (spelling (Adopt setup) (moment_after b h clock)) bytes → StandsWithin b h setup clock bytes
+within_adopt b h setup clock bytes is (inl old) = within_before b h setup clock bytes old
+within_adopt b h setup clock bytes is (inr new) =
+    within_adopted b h setup clock bytes
+    (subst (λ (bs : List (List ℕ)). Stands bytes bs) (sym (ap bodies_of (one_adopt b h setup clock is) ∙ bodies_more (adopted_entry b h setup clock) h refl)) new)
+
+pub within_start : (b : Summary) (h : List Entry) (setup : List ℕ) (clock : ℕ) (bytes : List ℕ)
+    → StandsForEither (bodies_of (adopted_after b h setup clock)) (spelling Start (moment_after b (adopted_after b h setup clock) clock)) bytes
+    → StandsWithin b h setup clock bytes
+within_start b h setup clock bytes (inl old) = within_adopted b h setup clock bytes old
+within_start b h setup clock bytes (inr new) = record {
+  so_far = begun_after b h setup clock;
+  from_h = begun_extends b h setup clock;
+  to_begun = ([], refl);
+  stands = subst (λ (bs : List (List ℕ)). Stands bytes bs)
+      (sym (bodies_more (started_entry b (adopted_after b h setup clock) clock) (adopted_after b h setup clock) refl)) new;
+}
+
+-- What the store stands for.
+
+module _ {D : Type 0} (told : D → Option Areas) (may_leave : D → Areas → Type 0) (faults : D → ℕ) where
+  pub adopted_stands : (b : Summary) (s : Stored D) (h : List Entry) (setup taken : List ℕ) (clock at : ℕ) (reply : Reply) → taken ≡ setup → IsOk (setup_of setup)
+      → is_in_force (text b (marks b h)) setup ≡ false
+      → Takes told may_leave faults b s h clock (record { caller = 0; event = Adopt taken; at = at; reply = reply })
+      → StoreStands told may_leave faults b s (adopted_after b h setup clock)
+  adopted_stands b s h setup taken clock at reply same valid is takes =
+      let answered : reply ≡ Adopted = takes.reply ∙ ap (λ (t : List ℕ). if_known (is_ok (setup_of t)) Adopted) same ∙ ap (λ v. if_known v Adopted) valid in
+      let e : record { caller = 0; event = Adopt taken; at = at; reply = reply } ≡ adopted_entry b h setup clock =
+      λ i. record { caller = 0; event = Adopt (same i); at = takes.at i; reply = answered i } in
+      subst (λ (x : List Entry). StoreStands told may_leave faults b s x) (ap (λ (x : Entry). x ∷ h) e ∙ sym (one_adopt b h setup clock is)) takes.stands
+
+  pub started_stands : (b : Summary) (s : Stored D) (h : List Entry) (clock at : ℕ) (reply : Reply)
+      → Takes told may_leave faults b s h clock (record { caller = 0; event = Start; at = at; reply = reply })
+      → StoreStands told may_leave faults b s (started_entry b h clock ∷ h)
+  started_stands b s h clock at reply takes =
+      let e : record { caller = 0; event = Start; at = at; reply = reply } ≡ started_entry b h clock =
+      λ i. record { caller = 0; event = Start; at = takes.at i; reply = takes.reply i } in
+      subst (λ (x : Entry). StoreStands told may_leave faults b s (x ∷ h)) e takes.stands
+
+module _ {D : Type 0} (told : D → Option Areas) (may_leave : D → Areas → Type 0) (faults : D → ℕ)
+    (moment : D → ℕ) (left_since : D → ℕ → Areas → Type 0) where
+  -- before any call of the disk
+  pub still_within : (b : Summary) (s : Stored D) (h : List Entry) (setup : List ℕ) (clock : ℕ) → ((d : D) (c : Areas) → left_since d (moment d) c → may_leave d c)
+      → (HasFailed faults s → ⊥) → StoreStands told may_leave faults b s h
+      → LeavesOnly moment left_since s.journal.disk s.journal.disk (λ c. StandsWithin b h setup clock c.a)
+  still_within b s h setup clock only_now up w =
+      started moment left_since s.journal.disk _
+      (λ c left. within_before b h setup clock c.a (inr ((held told may_leave faults b s h up w).kept.images c (only_now s.journal.disk c left))))
+
+  -- while the Adopt is made
+  pub adopt_within : (b : Summary) (s : Stored D) (new : D) (h : List Entry) (setup taken : List ℕ) (clock : ℕ) → taken ≡ setup
+      → is_in_force s.state.sum.text setup ≡ false → StoreStands told may_leave faults b s h
+      → LeavesOnly moment left_since s.journal.disk new (λ c. StandsForEither (bodies_of h) (spelling (Adopt taken) (moment_after b h clock)) c.a)
+      → LeavesOnly moment left_since s.journal.disk new (λ c. StandsWithin b h setup clock c.a)
+  adopt_within b s new h setup taken clock same is w run =
+      let other : is_in_force (text b (marks b h)) setup ≡ false = ap (λ t. is_in_force t setup) (sym w.centre.same.text) ∙ is in
+      weaker moment left_since s.journal.disk new (λ c. StandsWithin b h setup clock c.a) _ run
+      (λ c either. within_adopt b h setup clock c.a other
+      (subst (λ (t : List ℕ). StandsForEither (bodies_of h) (spelling (Adopt t) (moment_after b h clock)) c.a) same either))
+
+-- in force or not, after the history as in the state
+pub known_force : (b : Summary) (s : State) (h : List Entry) (setup : List ℕ) (v : Bool) → StandsFor b s h → is_in_force s.sum.text setup ≡ v
+    → is_in_force (text b (marks b h)) setup ≡ v
+known_force b s h setup v w is = ap (λ t. is_in_force t setup) (sym w.same.text) ∙ is
+
+-- The text in force.
+
+adopted_text : (s : Summary) (setup : List ℕ) (at : ℕ) (reply : Reply) → reply ≡ Adopted
+    → text s (marks s (record { caller = 0; event = Adopt setup; at = at; reply = reply } ∷ [])) ≡ Some setup
+adopted_text s setup at reply is = ap (λ (r : Reply). text s (marks s (record { caller = 0; event = Adopt setup; at = at; reply = r } ∷ []))) is
+
+pub text_after_adopt : (s t : State) (setup taken : List ℕ) (at : ℕ) (reply : Reply) → taken ≡ setup → IsOk (setup_of setup)
+    → reply ≡ answer_over s.sum [] (Adopt taken) at → Grows s t (record { caller = 0; event = Adopt taken; at = at; reply = reply }) → t.sum.text ≡ Some setup
+text_after_adopt s t setup taken at reply same valid is grows =
+    let answered : reply ≡ Adopted = is ∙ ap (λ (x : List ℕ). if_known (is_ok (setup_of x)) Adopted) same ∙ ap (λ v. if_known v Adopted) valid in
+    grows.same.text ∙ adopted_text s.sum taken at reply answered ∙ ap Some same
+
+pub text_after_start : (s t : State) (at : ℕ) (reply : Reply) → Grows s t (record { caller = 0; event = Start; at = at; reply = reply }) → t.sum.text ≡ s.sum.text
+text_after_start s t at reply grows = grows.same.text ∙ text_marked s.sum (record { caller = 0; event = Start; at = at; reply = reply }) [] refl
+
+pub text_in_force : (other : Option (List ℕ)) (setup : List ℕ) → is_in_force other setup ≡ true → other ≡ Some setup
+text_in_force None setup is = absurd (false≢true is)
+text_in_force (Some other) setup is = ap Some ((bytes_eq-Decides other setup).0 is)

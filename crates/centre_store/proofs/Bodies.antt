@@ -1,0 +1,103 @@
+-- The bodies of a history with one entry more, and how long a body is.
+use Rattle.std.proofs.Common.{◌≡◌, ◌≤◌, ◌+◌, ℕ, List, [], ◌∷◌, ◌++◌, Bool, true, false, length, Option, Some, None, refl, sym, ap, ◌∙◌, arith, length-append}
+use Rattle.std.specs.Prelude.{map, reverse, ◌&&◌, nat_le, if◌then◌else◌}
+use Rattle.std.specs.Int.{to_be_bytes, w16, w32, w64}
+use Rattle.std.proofs.lemmas.Bool.{leb-true, false≢true}
+use Rattle.std.proofs.lemmas.List.{reverse-append}
+use Rattle.arc_data.specs.Digits.{is_between, is_run, is_name}
+use Rattle.arc_data.specs.WellFormed.{IsWellFormed, IsMessage, is_receiver}
+use Rattle.arc_data.specs.declared.event.Event.{Event}
+use Rattle.arc_data.specs.declared.event.Event.TheVariants.{Adopt, Start, Message as Sent, Beat, Tick}
+use Rattle.arc_data.specs.declared.event.Event.TheVariants.{Claim, Next, Act, Release, Close, Show, List as Rows}
+use Rattle.arc_data.specs.declared.event.Message.{Message}
+use Rattle.arc_data.specs.declared.incident.Incident.{Incident}
+use Rattle.centre_rules.specs.Summary.{Summary}
+use Rattle.centre_rules.specs.Cases.{incidents}
+use Rattle.centre_rules.specs.Desks.{show_of, numbered}
+use Rattle.centre_rules.specs.History.{Entry, recorded, is_recorded, marks}
+use Rattle.centre_rules.specs.Answers.{answer}
+use Rattle.disk_journal.specs.Records.{MayHave}
+use Rattle.event_codec.specs.Spelling.{spelling, fields, short_text, receiver_text, message_fields, order_fields, token_byte, step_byte, outcome_byte, code_byte, IsKept}
+use Rattle.centre_store.specs.Bodies.{body_of, bodies_of, need_of}
+
+-- a recorded entry brings one body more
+pub bodies_more : (e : Entry) (h : List Entry) → is_recorded e.reply ≡ true → bodies_of (e ∷ h) ≡ bodies_of h ++ body_of e ∷ []
+unfolding bodies_of
+bodies_more e h is =
+    ap (λ (b : Bool). reverse (map body_of (if b then e ∷ recorded h else recorded h))) is
+    ∙ reverse-append (body_of e ∷ []) (map body_of (recorded h))
+
+-- a quiet one none
+pub bodies_same : (e : Entry) (h : List Entry) → is_recorded e.reply ≡ false → bodies_of (e ∷ h) ≡ bodies_of h
+unfolding bodies_of
+bodies_same e h is = ap (λ (b : Bool). reverse (map body_of (if b then e ∷ recorded h else recorded h))) is
+
+-- Lengths.
+
+-- a body has as many bytes at each moment
+pub need_at : (event : Event) (at : ℕ) → need_of event ≡ 5 + length (spelling event at)
+need_at event at = refl
+
+first_true : (a b : Bool) → (a && b) ≡ true → a ≡ true
+first_true true b e = refl
+first_true false b e = e
+
+second_true : (a b : Bool) → (a && b) ≡ true → b ≡ true
+second_true true b e = e
+second_true false b e = absurd cc
+
+-- what passes has no more bytes than the higher limit
+run_short : (test : ℕ → Bool) (low high : ℕ) (text : List ℕ) → is_run test low high text ≡ true → length text ≤ high
+run_short test low high text is = leb-true _ _ (second_true (nat_le low (length text)) _ (first_true (is_between low high (length text)) _ is))
+
+receiver_short : (r : Option (List ℕ)) → is_receiver r ≡ true → length (receiver_text r) ≤ 7
+receiver_short None is = omega arith
+receiver_short (Some digits) is = omega (arith, run_short _ 1 6 digits is)
+
+message_short : (m : Message) → IsMessage m → length (message_fields m) ≤ 4200
+message_short m is =
+    let tail : List ℕ = to_be_bytes w16 m.seq ++ (token_byte m.token ∷ (to_be_bytes w16 (length m.content) ++ m.content)) in
+    omega (
+      arith,
+      run_short _ 3 16 m.account is.account,
+      receiver_short m.receiver is.receiver,
+      run_short _ 1 6 m.line is.line,
+      is.size,
+      length-append (short_text m.account) (receiver_text m.receiver ++ (short_text m.line ++ tail)),
+      length-append (receiver_text m.receiver) (short_text m.line ++ tail),
+      length-append (short_text m.line) tail,
+    )
+
+order_short : (operator : List ℕ) (number : ℕ) → is_name operator ≡ true → length (order_fields operator number) ≤ 25
+order_short operator number is = omega (arith, run_short _ 1 16 operator is, length-append (short_text operator) (to_be_bytes w64 number))
+
+fields_short : (event : Event) → IsWellFormed event → length (fields event) ≤ 4_194_308
+fields_short (Adopt text) is = omega (arith, is.size)
+fields_short Start is = omega arith
+fields_short (Sent m) is = omega (arith, message_short m is)
+fields_short (Beat account) is = omega (arith, run_short _ 3 16 account is)
+fields_short Tick is = omega arith
+fields_short (Claim operator number) is = omega (arith, order_short operator number is.operator_name)
+fields_short (Next operator) is = omega (arith, run_short _ 1 16 operator is)
+fields_short (Act operator number step outcome) is =
+    omega (arith, order_short operator number is.order.operator_name, length-append (order_fields operator number) (step_byte step ∷ outcome_byte outcome ∷ []))
+fields_short (Release operator number) is = omega (arith, order_short operator number is.operator_name)
+fields_short (Close operator number code) is =
+    omega (arith, order_short operator number is.operator_name, length-append (order_fields operator number) (code_byte code ∷ []))
+fields_short (Show number) is = omega arith
+fields_short Rows is = omega arith
+
+-- the spelling of a well-formed event is a body that a journal takes
+pub body_size : (event : Event) (at : ℕ) → IsWellFormed event → MayHave (length (spelling event at))
+body_size event at is = let short : length (fields event) ≤ 4_194_308 = fields_short event is in (omega arith, omega arith)
+
+-- Questions are not recorded.
+
+shown_quiet : (number : ℕ) (i : Option Incident) → is_recorded (show_of number i) ≡ true → ⊥
+shown_quiet number None is = false≢true is
+shown_quiet number (Some i) is = false≢true is
+
+pub kept_event : (b : Summary) (h : List Entry) (event : Event) (at : ℕ) → is_recorded (answer b h event at) ≡ true → IsKept event
+kept_event b h (Show number) at is = shown_quiet number (numbered number (incidents b (marks b h))) is
+kept_event b h Rows at is = false≢true is
+kept_event b h event at is = tt

@@ -1,0 +1,86 @@
+-- What a journal holds after a call, and what a disk leaves.
+use Rattle.std.proofs.Common.{◌≡◌, ◌≤◌, ◌<◌, ◌^◌, ℕ, List, Option, Some, None, inl, inr, refl, sym, ap, subst, ◌∙◌, arith}
+use Rattle.std.specs.Prelude.{IfSome}
+use Rattle.arc_data.specs.declared.event.Event.{Event}
+use Rattle.arc_io.specs.Areas.{Areas}
+use Rattle.arc_io.specs.Crashes.{Becomes, Follows, LeavesOnly}
+use Rattle.arc_io.proofs.Moments.{started}
+use Rattle.disk_journal.specs.Records.{AtRest}
+use Rattle.disk_journal.specs.Journal.{Keeps, Holds, StandsForEither}
+use Rattle.disk_journal.specs.OtherArea.{SparesB}
+use Rattle.disk_journal.specs.declared.journal.Journal.{Journal}
+use Rattle.event_codec.specs.Spelling.{spelling}
+use Rattle.centre_store.specs.Stores.{Leaves, IsSameJournal}
+
+-- What is told.
+
+either_after : (told now : Option Areas) (bodies : List (List ℕ)) (body : List ℕ) → Becomes told now (λ s t. StandsForEither bodies body t.a)
+    → IfSome now (λ t. StandsForEither bodies body t.a)
+either_after None None bodies body is = tt
+either_after None (Some t) bodies body is = absurd is
+either_after (Some s) None bodies body is = absurd is
+either_after (Some s) (Some t) bodies body is = is
+
+either_at_rest : (told : Option Areas) (bodies : List (List ℕ)) (body : List ℕ) → IfSome told (λ s. AtRest s.a bodies)
+    → IfSome told (λ s. StandsForEither bodies body s.a)
+either_at_rest None bodies body is = tt
+either_at_rest (Some s) bodies body is = inl (inr is)
+
+same_b : (told : Option Areas) → Becomes told told (λ s t. t.b ≡ s.b)
+same_b None = tt
+same_b (Some s) = refl
+
+module _ {D : Type 0} (told : D → Option Areas) (may_leave : D → Areas → Type 0) where
+  -- a journal that is the same but for its room holds the same
+  pub holds_same : (old new : Journal D) (bodies : List (List ℕ)) → IsSameJournal old new → Holds told may_leave old bodies → Holds told may_leave new bodies
+  holds_same old new bodies same h = record {
+    used = ap (λ (j : Journal D). j.used) same ∙ h.used;
+    count = ap (λ (j : Journal D). j.records) same ∙ h.count;
+    few = subst (λ (j : Journal D). j.limits.bytes < 2 ^ 32) (sym same) h.few;
+    kept = subst (λ (j : Journal D). Keeps told may_leave j.disk bodies) (sym same) h.kept;
+  }
+
+  -- what it holds, a disk leaves, with one body more or without
+  pub leaves_held : (j : Journal D) (bodies : List (List ℕ)) (body : List ℕ) → Holds told may_leave j bodies → Leaves told may_leave j.disk bodies body
+  leaves_held j bodies body h = record {
+    file = either_at_rest (told j.disk) bodies body h.kept.file;
+    images = λ c now. inl (inr (h.kept.images c now));
+  }
+
+module _ {D : Type 0} (told : D → Option Areas) (may_leave : D → Areas → Type 0) (moment : D → ℕ) (left_since : D → ℕ → Areas → Type 0) where
+  -- after a call of which this is so at any moment
+  pub leaves_after : (old new : D) (bodies : List (List ℕ)) (body : List ℕ) → ((d : D) (t : ℕ) (c : Areas) → t ≤ moment d → may_leave d c → left_since d t c)
+      → Becomes (told old) (told new) (λ s t. StandsForEither bodies body t.a)
+      → LeavesOnly moment left_since old new (λ c. StandsForEither bodies body c.a)
+      → Leaves told may_leave new bodies body
+  leaves_after old new bodies body counts_now file any_moment = record {
+    file = either_after (told old) (told new) bodies body file;
+    images = λ c now. any_moment.each c (counts_now new (moment old) c any_moment.later now);
+  }
+
+  -- where no call was made
+  pub spares_still : (disk : D) → ((d : D) (c : Areas) → left_since d (moment d) c → may_leave d c) → SparesB told may_leave moment left_since disk disk
+  spares_still disk only_now = record {
+    same = same_b (told disk);
+    crash = λ c now. (c, now, refl);
+    any_moment = started moment left_since disk _ (λ c left. (c, only_now disk c left, refl));
+  }
+
+  pub only_held : (j : Journal D) (bodies : List (List ℕ)) (body : List ℕ) → ((d : D) (c : Areas) → left_since d (moment d) c → may_leave d c)
+      → Holds told may_leave j bodies → LeavesOnly moment left_since j.disk j.disk (λ c. StandsForEither bodies body c.a)
+  only_held j bodies body only_now h = started moment left_since j.disk _ (λ c left. inl (inr (h.kept.images c (only_now j.disk c left))))
+
+  -- over the journal with its room: what a record of the body leaves, for the body in other words
+  pub written_leaves : (j k : Journal D) (new : D) (bodies : List (List ℕ)) (body want : List ℕ) → IsSameJournal j k → body ≡ want
+      → ((d : D) (t : ℕ) (c : Areas) → t ≤ moment d → may_leave d c → left_since d t c)
+      → Holds told may_leave j bodies
+      → (Holds told may_leave k bodies → LeavesOnly moment left_since k.disk new (λ c. StandsForEither bodies body c.a))
+      → (Holds told may_leave k bodies → Becomes (told k.disk) (told new) (λ s t. StandsForEither bodies body t.a))
+      → Leaves told may_leave new bodies want
+  written_leaves j k new bodies body want same is counts_now h run file =
+      let held = holds_same told may_leave j k bodies same h in
+      subst (λ (b : List ℕ). Leaves told may_leave new bodies b) is (leaves_after k.disk new bodies body counts_now (file held) (run held))
+
+-- the body that was made
+pub body_is : (items piece : List ℕ) (e event : Event) (at moment : ℕ) → piece ≡ items → items ≡ spelling e at → e ≡ event → at ≡ moment → piece ≡ spelling event moment
+body_is items piece e event at moment one two three four = one ∙ two ∙ ap (λ (x : Event). spelling x at) three ∙ ap (spelling event) four

@@ -1,0 +1,8 @@
+use Rattle.centre_store.proofs.Written.{body_is, written_leaves}
+use Rattle.centre_store.proofs.submit.write.Goals as goal
+
+pub returns-in-Err-DiskFault-clause-met : goal.returns-in-Err-DiskFault-clause-met
+returns-in-Err-DiskFault-clause-met g c bodies h =
+    let is = body_is _ _ _ c.args.ready.now.event _ c.args.ready.now.at c.deref.ensures.value c.in-Ok.ensures.spelled c.event.ensures c.at-at.ensures.at in
+    written_leaves g.D.Disk.told g.D.Disk.may_leave g.D.Disk.moment g.D.Disk.left_since c.args.journal.now c.reserve.new.self _ bodies _ _ c.reserve.ensures.same is
+    g.met.D.Disk.counts_now h (c.append.ensures.any_moment bodies) (c.append.ensures.told bodies)
