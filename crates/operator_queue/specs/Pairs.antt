@@ -1,0 +1,44 @@
+-- Pairs of numbers in order, and how many comparisons a search among them takes.
+use Rattle.std.specs.Prelude.{◌≡◌, ◌≤◌, ◌<◌, ◌+◌, ◌*◌, ◌-◌, ◌^◌, ℕ, List, [], ◌∷◌, false, Option, None, Some, ⊤, length, take, drop}
+use Rattle.std.specs.List.{AllByRecursion, Contains}
+use Rattle.std.specs.Ordering.{nat_cmp, ordering_then, is_gt}
+use Rattle.std.specs.declared.cmp.Ordering.{Ordering}
+use Rattle.std.specs.declared.cmp.Ordering.TheVariants.{Less, Greater}
+
+-- by the first number, and where those are equal, by the second
+abbrev pub order_of : ℕ × ℕ → ℕ × ℕ → Ordering
+order_of a b = ordering_then (nat_cmp a.0 b.0) (nat_cmp a.1 b.1)
+
+-- the pair comes after none of these
+abbrev pub IsBeforeAll : ℕ × ℕ → List (ℕ × ℕ) → Type 0
+IsBeforeAll pair pairs = AllByRecursion (λ p. is_gt (order_of pair p) ≡ false) pairs
+
+-- each pair comes after none of those that stand behind it
+abbrev pub IsOrdered : List (ℕ × ℕ) → Type 0
+IsOrdered [] = ⊤
+IsOrdered (p ∷ ps) = IsBeforeAll p ps × IsOrdered ps
+
+-- one of the pairs that comes after none of them, or none where there are no pairs
+abbrev pub IsLeast : Option (ℕ × ℕ) → List (ℕ × ℕ) → Type 0
+IsLeast None pairs = pairs ≡ []
+IsLeast (Some p) pairs = Contains pairs p × IsBeforeAll p pairs
+
+-- all pairs before the place are less than this one, and all from it on are greater
+pub record IsApart (pair : ℕ × ℕ) (pairs : List (ℕ × ℕ)) (place : ℕ) : Type 0 where
+  pub within : place ≤ length pairs
+  pub below : AllByRecursion (λ p. order_of p pair ≡ Less) (take place pairs)
+  pub above : AllByRecursion (λ p. order_of p pair ≡ Greater) (drop place pairs)
+
+-- the count of steps rises by at most as much as the number of the pairs has binary digits
+pub record TakesFew (count before now : ℕ) : Type 0 where
+  pub kept : before ≤ now
+  pub few : 2 ^ (now - before) ≤ 2 * count + 1
+
+-- among fewer pairs than there are numbers of so many binary digits, at most so many comparisons
+abbrev pub StepsAreDigits : Type 0
+StepsAreDigits = (digits count before now : ℕ) → count < 2 ^ digits → TakesFew count before now → now ≤ before + digits
+
+-- what contracts see of a queue: its pairs, and for how many there is memory
+pub record QueueValue : Type 0 where
+  pub pairs : List (ℕ × ℕ)
+  pub room : ℕ

@@ -1,0 +1,102 @@
+// The pairs of a queue, in order.
+ghost use Rattle.std.specs.Prelude.{◌≡◌, ◌≤◌, ◌<◌, ◌+◌, ◌↔◌, [], ◌∷◌, length, slice_get, false, IsTrue, OnOk};
+ghost use Rattle.std.specs.List.{Contains, insert};
+ghost use Rattle.std.specs.List.Sorted.{IsPermutation};
+ghost use Rattle.operator_queue.specs.Pairs.{IsOrdered, IsLeast, TakesFew};
+
+use crate::search::search;
+use crate::steps::Steps;
+use arc_data::Memory;
+use std::alloc::Global;
+use std::marker::Model;
+use std::sync::ledger::Ledger;
+
+/// Pairs of a priority and a number, in order: 1 is the most urgent priority, and of equal ones the lowest number comes first.
+/// Contracts see the list of the pairs, and the room: for how many pairs there is memory, those that stand in it included.
+#[derive(Drop)]
+pub struct Queue {
+    pairs: Vec<(u8, u64)>,
+}
+
+impl Model for Queue {
+    ghost use Rattle.std.specs.Vec.{vec_capacity};
+    ghost use Rattle.operator_queue.specs.Pairs.{QueueValue, IsOrdered};
+
+    ghost Value = { QueueValue };
+
+    ghost view = { λ q. record { pairs = q.pairs.items; room = vec_capacity q.pairs } };
+
+    ghost invariant = { λ q. IsOrdered q.pairs.items };
+}
+
+impl Queue {
+    /// No pairs. Takes no memory.
+    pub fn new(alloc: Global) -> Queue
+        ensures { result.pairs ≡ [] }
+    {
+        Queue {
+            pairs: Vec::new(alloc),
+        }
+    }
+
+    /// Takes memory for so many pairs more. The error is want of memory.
+    pub fn reserve(&mut self, more: usize) -> Result<(), Memory>
+        ensures pairs { self.new.pairs ≡ self.old.pairs }
+        ensures kept { self.old.room ≤ self.new.room }
+        ensures enough { OnOk result (length self.new.pairs + more ≤ self.new.room) }
+    {
+        match self.pairs.reserve(more) {
+            Ok(()) => Ok(()),
+            Err(_) => Err(Memory),
+        }
+    }
+
+    /// The first pair, which no other comes before. It takes no comparison.
+    pub fn first(&self) -> Option<(u8, u64)>
+        ensures first { result ≡ slice_get self.now.pairs 0 }
+        ensures least { IsLeast result self.now.pairs }
+    {
+        self.pairs.first().copied()
+    }
+
+    /// Puts a pair in, also where an equal one stands already. Takes no memory.
+    pub fn insert<L: Ledger>(&mut self, priority: u8, number: u64, steps: &mut Steps<L>)
+        requires { length self.old.pairs < self.old.room }
+        ensures pairs { IsPermutation ((priority, number) ∷ self.old.pairs) self.new.pairs }
+        ensures ordered { IsOrdered self.new.pairs }
+        ensures room { self.new.room ≡ self.old.room }
+        ensures cost { TakesFew (length self.old.pairs) steps.old steps.new }
+    {
+        let place = place_for(&self.pairs, (priority, number), steps);
+        let _ = self.pairs.insert(place, (priority, number));
+    }
+
+    /// Takes a pair out, one of several where they are equal. False exactly where it is not there, and then all pairs stay.
+    pub fn remove<L: Ledger>(&mut self, priority: u8, number: u64, steps: &mut Steps<L>) -> bool
+        ensures found { IsTrue result ↔ Contains self.old.pairs (priority, number) }
+        ensures taken { IsTrue result → IsPermutation ((priority, number) ∷ self.new.pairs) self.old.pairs }
+        ensures stays { result ≡ false → self.new.pairs ≡ self.old.pairs }
+        ensures ordered { IsOrdered self.new.pairs }
+        ensures room { self.new.room ≡ self.old.room }
+        ensures cost { TakesFew (length self.old.pairs) steps.old steps.new }
+    {
+        let Ok(place) = search(&self.pairs, (priority, number), steps) else {
+            return false;
+        };
+        let _ = self.pairs.remove(place);
+        true
+    }
+}
+
+// A place before which no pair comes after this one, and from which on none comes before it.
+fn place_for<L: Ledger>(pairs: &[(u8, u64)], pair: (u8, u64), steps: &mut Steps<L>) -> usize
+    requires { IsOrdered pairs.now }
+    ensures within { result ≤ length pairs.now }
+    ensures fits { IsOrdered (insert pairs.now result pair) }
+    ensures cost { TakesFew (length pairs.now) steps.old steps.new }
+{
+    match search(pairs, pair, steps) {
+        Ok(place) => place,
+        Err(place) => place,
+    }
+}

@@ -1,0 +1,40 @@
+// The place of a pair among pairs in order, by halves.
+ghost use Rattle.std.specs.Prelude.{◌≡◌, ◌+◌, length, slice_get, Some, IfOk, IfErr};
+ghost use Rattle.operator_queue.specs.Pairs.{order_of, IsOrdered, IsApart, TakesFew};
+
+use crate::pairs::order;
+use crate::steps::Steps;
+use std::cmp::Ordering;
+use std::sync::ledger::Ledger;
+
+/// A place where the pair stands, or else the place before which all pairs are less and from which on all are greater.
+pub(crate) fn search<L: Ledger>(
+    pairs: &[(u8, u64)],
+    pair: (u8, u64),
+    steps: &mut Steps<L>,
+) -> Result<usize, usize>
+    requires { IsOrdered pairs.now }
+    ensures found { IfOk result (λ place. slice_get pairs.now place ≡ Some pair) }
+    ensures apart { IfErr result (IsApart pair pairs.now) }
+    ensures cost { TakesFew (length pairs.now) steps.old steps.new }
+{
+    let mut low = 0;
+    let mut high = pairs.len();
+    while low < high {
+        let place = low + (high - low) / 2;
+        match compare(pairs[place], pair, steps) {
+            Ordering::Less => low = place + 1,
+            Ordering::Equal => return Ok(place),
+            Ordering::Greater => high = place,
+        }
+    }
+    Err(low)
+}
+
+// How a pair of a priority and a number stands to another. It is one step.
+fn compare<L: Ledger>(a: (u8, u64), b: (u8, u64), steps: &mut Steps<L>) -> Ordering
+    ensures order { result ≡ order_of a b }
+    ensures step { steps.new ≡ steps.old + 1 }
+{
+    order((u64::from(a.0), a.1), (u64::from(b.0), b.1), steps)
+}
