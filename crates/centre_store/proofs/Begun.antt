@@ -1,8 +1,6 @@
 -- How a run begins over a history.
 use Rattle.std.proofs.Common.{◌≡◌, ℕ, List, [], ◌∷◌, ◌++◌, Bool, true, false, Option, Some, None, inl, inr, refl, sym, ap, subst, ◌∙◌}
-use Rattle.std.specs.Prelude.{if◌then◌else◌, IsOk, is_ok}
-use Rattle.std.proofs.lemmas.Slice.Eq.{bytes_eq-Decides}
-use Rattle.std.proofs.lemmas.Bool.{false≢true}
+use Rattle.std.specs.Prelude.{if◌then◌else◌, IsOk, is_ok, Result, Ok, Err, IfErr}
 use Rattle.arc_data.specs.declared.event.Event.{Event}
 use Rattle.arc_data.specs.declared.event.Event.TheVariants.{Adopt, Start}
 use Rattle.arc_data.specs.declared.reply.Reply.{Reply}
@@ -14,15 +12,15 @@ use Rattle.arc_io.proofs.Moments.{started, weaker}
 use Rattle.centre_rules.specs.Summary.{Summary}
 use Rattle.centre_rules.specs.Marks.{text}
 use Rattle.centre_rules.specs.History.{Entry, Extends, marks, moment_after, is_recorded}
-use Rattle.centre_rules.specs.Answers.{answer_over, if_known}
-use Rattle.centre_rules.specs.State.{State, StandsFor, Grows}
-use Rattle.centre_rules.proofs.Standing.{text_marked}
+use Rattle.centre_rules.specs.Answers.{if_known}
+use Rattle.centre_rules.specs.State.{State, StandsFor}
+use Rattle.centre_core.specs.declared.hall.Stop.{Stop}
 use Rattle.disk_journal.specs.Records.{Stands}
 use Rattle.disk_journal.specs.Journal.{StandsForEither}
 use Rattle.event_codec.specs.Spelling.{spelling}
 use Rattle.centre_store.specs.Bodies.{bodies_of}
-use Rattle.centre_store.specs.Stores.{Stored, HasFailed, StoreStands, Takes}
-use Rattle.centre_store.specs.Begins.{is_in_force, adopted_after, begun_after, StandsWithin}
+use Rattle.centre_store.specs.Stores.{Stored, HasFailed, StoreStands, Takes, Shows}
+use Rattle.centre_store.specs.Begins.{is_in_force, adopted_after, begun_after, IsOfBegin, StandsWithin}
 use Rattle.centre_store.proofs.Bodies.{bodies_more}
 use Rattle.centre_store.proofs.Entered.{held}
 
@@ -32,10 +30,7 @@ adopted_entry b h setup clock = record { caller = 0; event = Adopt setup; at = m
 abbrev pub started_entry : Summary → List Entry → ℕ → Entry
 started_entry b h clock = record { caller = 0; event = Start; at = moment_after b h clock; reply = Started }
 
--- the text is in force, or another one, or none
-pub no_adopt : (b : Summary) (h : List Entry) (setup : List ℕ) (clock : ℕ) → is_in_force (text b (marks b h)) setup ≡ true → adopted_after b h setup clock ≡ h
-no_adopt b h setup clock is = ap (λ (v : Bool). if v then h else adopted_entry b h setup clock ∷ h) is
-
+-- another text is in force, or none
 pub one_adopt : (b : Summary) (h : List Entry) (setup : List ℕ) (clock : ℕ) → is_in_force (text b (marks b h)) setup ≡ false
     → adopted_after b h setup clock ≡ adopted_entry b h setup clock ∷ h
 one_adopt b h setup clock is = ap (λ (v : Bool). if v then h else adopted_entry b h setup clock ∷ h) is
@@ -133,21 +128,10 @@ pub known_force : (b : Summary) (s : State) (h : List Entry) (setup : List ℕ) 
     → is_in_force (text b (marks b h)) setup ≡ v
 known_force b s h setup v w is = ap (λ t. is_in_force t setup) (sym w.same.text) ∙ is
 
--- The text in force.
+-- The cause of a stop.
 
-adopted_text : (s : Summary) (setup : List ℕ) (at : ℕ) (reply : Reply) → reply ≡ Adopted
-    → text s (marks s (record { caller = 0; event = Adopt setup; at = at; reply = reply } ∷ [])) ≡ Some setup
-adopted_text s setup at reply is = ap (λ (r : Reply). text s (marks s (record { caller = 0; event = Adopt setup; at = at; reply = r } ∷ []))) is
-
-pub text_after_adopt : (s t : State) (setup taken : List ℕ) (at : ℕ) (reply : Reply) → taken ≡ setup → IsOk (setup_of setup)
-    → reply ≡ answer_over s.sum [] (Adopt taken) at → Grows s t (record { caller = 0; event = Adopt taken; at = at; reply = reply }) → t.sum.text ≡ Some setup
-text_after_adopt s t setup taken at reply same valid is grows =
-    let answered : reply ≡ Adopted = is ∙ ap (λ (x : List ℕ). if_known (is_ok (setup_of x)) Adopted) same ∙ ap (λ v. if_known v Adopted) valid in
-    grows.same.text ∙ adopted_text s.sum taken at reply answered ∙ ap Some same
-
-pub text_after_start : (s t : State) (at : ℕ) (reply : Reply) → Grows s t (record { caller = 0; event = Start; at = at; reply = reply }) → t.sum.text ≡ s.sum.text
-text_after_start s t at reply grows = grows.same.text ∙ text_marked s.sum (record { caller = 0; event = Start; at = at; reply = reply }) [] refl
-
-pub text_in_force : (other : Option (List ℕ)) (setup : List ℕ) → is_in_force other setup ≡ true → other ≡ Some setup
-text_in_force None setup is = absurd (false≢true is)
-text_in_force (Some other) setup is = ap Some ((bytes_eq-Decides other setup).0 is)
+pub cause_of : {A D : Type 0} (told : D → Option Areas) (may_leave : D → Areas → Type 0) (faults : D → ℕ) (s : Stored D) (setup : List ℕ) (clock : ℕ)
+    (event : Event) (r : Result A Stop) → IsOfBegin setup event → IfErr r (λ stop. Shows told may_leave faults s stop event clock)
+    → IfErr r (λ stop. (x : Event) × IsOfBegin setup x × Shows told may_leave faults s stop x clock)
+cause_of told may_leave faults s setup clock event (Ok a) of shows = tt
+cause_of told may_leave faults s setup clock event (Err stop) of shows = (event, of, shows)

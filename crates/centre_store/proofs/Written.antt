@@ -4,7 +4,7 @@ use Rattle.std.specs.Prelude.{IfSome}
 use Rattle.arc_data.specs.declared.event.Event.{Event}
 use Rattle.arc_io.specs.Areas.{Areas}
 use Rattle.arc_io.specs.Crashes.{Becomes, Follows, LeavesOnly}
-use Rattle.arc_io.proofs.Moments.{started}
+use Rattle.arc_io.proofs.Moments.{joined}
 use Rattle.disk_journal.specs.Records.{AtRest}
 use Rattle.disk_journal.specs.Journal.{Keeps, Holds, StandsForEither}
 use Rattle.disk_journal.specs.OtherArea.{SparesB}
@@ -21,14 +21,13 @@ either_after None (Some t) bodies body is = absurd is
 either_after (Some s) None bodies body is = absurd is
 either_after (Some s) (Some t) bodies body is = is
 
-either_at_rest : (told : Option Areas) (bodies : List (List ℕ)) (body : List ℕ) → IfSome told (λ s. AtRest s.a bodies)
-    → IfSome told (λ s. StandsForEither bodies body s.a)
-either_at_rest None bodies body is = tt
-either_at_rest (Some s) bodies body is = inl (inr is)
-
-same_b : (told : Option Areas) → Becomes told told (λ s t. t.b ≡ s.b)
-same_b None = tt
-same_b (Some s) = refl
+same_b_then : (s t u : Option Areas) → Becomes s t (λ x y. y.b ≡ x.b) → Becomes t u (λ x y. y.b ≡ x.b) → Becomes s u (λ x y. y.b ≡ x.b)
+same_b_then None None None one two = tt
+same_b_then None None (Some u) one two = absurd two
+same_b_then None (Some t) u one two = absurd one
+same_b_then (Some s) None u one two = absurd one
+same_b_then (Some s) (Some t) None one two = absurd two
+same_b_then (Some s) (Some t) (Some u) one two = two ∙ one
 
 module _ {D : Type 0} (told : D → Option Areas) (may_leave : D → Areas → Type 0) where
   -- a journal that is the same but for its room holds the same
@@ -38,13 +37,6 @@ module _ {D : Type 0} (told : D → Option Areas) (may_leave : D → Areas → T
     count = ap (λ (j : Journal D). j.records) same ∙ h.count;
     few = subst (λ (j : Journal D). j.limits.bytes < 2 ^ 32) (sym same) h.few;
     kept = subst (λ (j : Journal D). Keeps told may_leave j.disk bodies) (sym same) h.kept;
-  }
-
-  -- what it holds, a disk leaves, with one body more or without
-  pub leaves_held : (j : Journal D) (bodies : List (List ℕ)) (body : List ℕ) → Holds told may_leave j bodies → Leaves told may_leave j.disk bodies body
-  leaves_held j bodies body h = record {
-    file = either_at_rest (told j.disk) bodies body h.kept.file;
-    images = λ c now. inl (inr (h.kept.images c now));
   }
 
 module _ {D : Type 0} (told : D → Option Areas) (may_leave : D → Areas → Type 0) (moment : D → ℕ) (left_since : D → ℕ → Areas → Type 0) where
@@ -58,17 +50,20 @@ module _ {D : Type 0} (told : D → Option Areas) (may_leave : D → Areas → T
     images = λ c now. any_moment.each c (counts_now new (moment old) c any_moment.later now);
   }
 
-  -- where no call was made
-  pub spares_still : (disk : D) → ((d : D) (c : Areas) → left_since d (moment d) c → may_leave d c) → SparesB told may_leave moment left_since disk disk
-  spares_still disk only_now = record {
-    same = same_b (told disk);
-    crash = λ c now. (c, now, refl);
-    any_moment = started moment left_since disk _ (λ c left. (c, only_now disk c left, refl));
+  -- one run after another
+  pub spares_then : (old mid new : D) → SparesB told may_leave moment left_since old mid → SparesB told may_leave moment left_since mid new
+      → SparesB told may_leave moment left_since old new
+  spares_then old mid new one two = record {
+    same = same_b_then (told old) (told mid) (told new) one.same two.same;
+    crash = λ c now.
+        let m = two.crash c now in
+        let o = one.crash m.0 m.1 in
+        (o.0, o.1, m.2 ∙ o.2);
+    any_moment = joined moment left_since old mid new _ _ one.any_moment two.any_moment
+        (λ c q.
+        let o = one.crash q.0 q.1 in
+        (o.0, o.1, q.2 ∙ o.2));
   }
-
-  pub only_held : (j : Journal D) (bodies : List (List ℕ)) (body : List ℕ) → ((d : D) (c : Areas) → left_since d (moment d) c → may_leave d c)
-      → Holds told may_leave j bodies → LeavesOnly moment left_since j.disk j.disk (λ c. StandsForEither bodies body c.a)
-  only_held j bodies body only_now h = started moment left_since j.disk _ (λ c left. inl (inr (h.kept.images c (only_now j.disk c left))))
 
   -- over the journal with its room: what a record of the body leaves, for the body in other words
   pub written_leaves : (j k : Journal D) (new : D) (bodies : List (List ℕ)) (body want : List ℕ) → IsSameJournal j k → body ≡ want

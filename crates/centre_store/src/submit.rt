@@ -144,7 +144,8 @@ impl<D: Disk> Store<D> {
             return Ok(());
         }
         self.check_count()?;
-        let Ok(text) = Blob::of(alloc, setup.text()) else {
+        let bytes = setup.text();
+        let Ok(text) = Blob::of(alloc, bytes) else {
             return Err(Stop::Memory);
         };
         let _ = self.enter(alloc, Event::Adopt { text }, clock)?;
