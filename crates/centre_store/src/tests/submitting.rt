@@ -1,5 +1,6 @@
 // Submitting: the bytes of the journal, its limits, a second run, stops and faults.
-ghost use Rattle.std.specs.Prelude.{◌≤◌, IfOk};
+ghost use Rattle.std.specs.Prelude.{◌≡◌, ◌≤◌, true, length, IfOk};
+ghost use Rattle.arc_data.specs.Digits.{is_run, is_hex, is_capital_hex, AreBytes};
 ghost use Rattle.arc_data.specs.WellFormed.{IsWellFormed};
 ghost use Rattle.centre_core.specs.Runs.{IsSubmitted};
 ghost use Rattle.centre_core.specs.Setting.{IsSetting};
@@ -51,14 +52,34 @@ fn message(alloc: Global, seq: u16) -> Result<Event, Fail>
     ensures formed { IfOk result IsWellFormed }
     ensures submitted { IfOk result IsSubmitted }
 {
+    let content = content(alloc)?;
     Ok(Event::Message(Message {
-        account: Txt::of(b"1234").unwrap(),
+        account: account(),
         receiver: None,
-        line: Txt::of(b"0").unwrap(),
+        line: line(),
         seq,
         token: Token::AdmCid,
-        content: Blob::of(alloc, b"1131 01 001")?,
+        content,
     }))
+}
+
+fn account() -> Txt
+    ensures { is_run is_capital_hex 3 16 result ≡ true }
+{
+    Txt::of(b"1234").unwrap()
+}
+
+fn line() -> Txt
+    ensures { is_run is_hex 1 6 result ≡ true }
+{
+    Txt::of(b"0").unwrap()
+}
+
+fn content(alloc: Global) -> Result<Blob, Fail>
+    ensures size { IfOk result (λ content. length content ≤ 4095) }
+    ensures bytes { IfOk result AreBytes }
+{
+    Ok(Blob::of(alloc, b"1131 01 001")?)
 }
 
 fn opened(alloc: Global, disk: MemDisk) -> Result<Store<MemDisk>, Fail> {
