@@ -3,3 +3,8 @@ pub mod Written
 pub mod Entered
 pub mod Begun
 pub mod Halled
+pub mod PastSteps
+pub mod PastOnce
+pub mod OpeningOnce
+pub mod OpeningSteps
+pub mod OpeningLoop

@@ -6,7 +6,7 @@ use Rattle.centre_rules.specs.History.{Entry}
 use Rattle.disk_journal.specs.Faults.{IsShown, IsOfContent}
 use Rattle.disk_journal.specs.Records.{Stands, IsDamaged}
 use Rattle.disk_journal.specs.declared.fault.OpenFault.{OpenFault}
-use Rattle.disk_journal.specs.declared.fault.OpenFault.TheVariants.{DiskFault, NotJournal, WrongVersion, Damaged, Memory}
+use Rattle.disk_journal.specs.declared.fault.OpenFault.TheVariants.{Damaged, Memory}
 use Rattle.disk_journal.specs.declared.journal.OpenRefused.{OpenRefused}
 use Rattle.centre_store.specs.Pasts.{IsPast, IsBadAt}
 use Rattle.centre_store.specs.Stores.{Stored, StoreStands}
@@ -19,6 +19,12 @@ pub record IsOpened {D : Type 0} (told : D → Option Areas) (may_leave : D → 
   pub is_past : IsPast bodies past
   pub stands : StoreStands told may_leave faults nothing s past
   pub area : IfSome (told disk) (λ a. Stands a.a bodies)
+
+-- what a refusal says of the bodies that were read
+abbrev pub IsOfBodies : OpenFault → List (List ℕ) → Type 0
+IsOfBodies (Damaged place) bodies = IsBadAt bodies place
+IsOfBodies Memory bodies = Unit {0}
+IsOfBodies fault bodies = ⊥
 
 -- what a refusal says of the area's bytes: that they stand for no bodies, or for bodies that have no past
 abbrev pub IsRefused : OpenFault → List ℕ → Type 0

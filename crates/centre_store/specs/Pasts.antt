@@ -3,6 +3,7 @@ use Rattle.std.specs.Prelude.{◌≡◌, ◌≤◌, ◌^◌, ℕ, List, [], ◌�
 use Rattle.centre_rules.specs.Summary.{nothing}
 use Rattle.centre_rules.specs.History.{Entry, is_recorded}
 use Rattle.centre_rules.specs.Answers.{IsLegal}
+use Rattle.centre_rules.specs.State.{State, StandsFor}
 use Rattle.disk_journal.specs.Records.{front as bytes_before}
 use Rattle.event_codec.specs.Spelling.{HasSpelling}
 use Rattle.centre_store.specs.Bodies.{bodies_of}
@@ -25,6 +26,10 @@ pub record IsPast (bodies : List (List ℕ)) (h : List Entry) : Type 0 where
   pub few : length h ≤ 2 ^ 48
   pub is : bodies ≡ bodies_of h
 
+-- no entry goes on from this past with this body
+abbrev pub HasNoNext : List (List ℕ) → List Entry → List ℕ → Type 0
+HasNoNext front past body = (e : Entry) → IsPast (front ++ body ∷ []) (e ∷ past) → ⊥
+
 -- The first bodies have a past, and no entry goes on from it with the next body. Its gate stands at this place.
 pub record IsBadAt (bodies : List (List ℕ)) (place : ℕ) : Type 0 where
   pub front : List (List ℕ)
@@ -34,4 +39,10 @@ pub record IsBadAt (bodies : List (List ℕ)) (place : ℕ) : Type 0 where
   pub split : bodies ≡ front ++ body ∷ behind
   pub before : IsPast front past
   pub at : place ≡ length (bytes_before front)
-  pub broken : (e : Entry) → IsPast (front ++ body ∷ []) (e ∷ past) → ⊥
+  pub broken : HasNoNext front past body
+
+-- the centre is that of these bodies
+pub record IsReplayed (bodies : List (List ℕ)) (s : State) : Type 0 where
+  pub past : List Entry
+  pub is_past : IsPast bodies past
+  pub stands : StandsFor nothing s past

@@ -1,5 +1,5 @@
 // How a store is opened: the recorded events are read and taken in again, one after another.
-ghost use Rattle.std.specs.Prelude.{◌≡◌, ◌≤◌, ◌<◌, ◌×◌, ◌^◌, ◌++◌, [], ◌∷◌, ℕ, List, length, IfOk, IfErr, IfSome, OnOk};
+ghost use Rattle.std.specs.Prelude.{◌≡◌, ◌≤◌, ◌<◌, ◌^◌, ◌++◌, [], ◌∷◌, ℕ, List, true, false, IfOk, IfErr, IfSome};
 ghost use Rattle.arc_io.specs.Areas.{Areas};
 ghost use Rattle.arc_io.specs.Crashes.{Becomes, IsQuiet, LeavesOnly};
 ghost use Rattle.centre_rules.specs.Summary.{nothing};
@@ -8,8 +8,9 @@ ghost use Rattle.centre_rules.specs.State.{StandsFor};
 ghost use Rattle.disk_journal.specs.Faults.{IsOfContent, HasCounts};
 ghost use Rattle.disk_journal.specs.OtherArea.{SparesB};
 ghost use Rattle.disk_journal.specs.Reading.{GoesOn};
-ghost use Rattle.centre_store.specs.Pasts.{IsPast, IsBadAt};
-ghost use Rattle.centre_store.specs.Openings.{IsOpened, IsRefused, disk_of};
+ghost use Rattle.disk_journal.specs.Records.{size};
+ghost use Rattle.centre_store.specs.Pasts.{IsPast, HasNoNext, IsReplayed};
+ghost use Rattle.centre_store.specs.Openings.{IsOpened, IsRefused, IsOfBodies, disk_of};
 
 use crate::store::Store;
 use arc_data::Memory;
@@ -65,7 +66,9 @@ impl<D: Disk> Store<D> {
 
 // The centre of the events of these bodies.
 fn replay(alloc: Global, bodies: &Bodies) -> Result<Centre, OpenFault>
-    ensures past { IfOk result (λ s. (h : List Entry) × IsPast bodies.now h × StandsFor nothing s h) }
+    requires fits { size bodies.now < 2 ^ 64 }
+    ensures replayed { IfOk result (λ s. IsReplayed bodies.now s) }
+    ensures broken { IfErr result (λ f. IsOfBodies f bodies.now) }
 {
     let mut centre = Centre::empty(alloc);
     let mut at = 16;
@@ -82,7 +85,12 @@ fn replay(alloc: Global, bodies: &Bodies) -> Result<Centre, OpenFault>
 
 // Takes the event of a body in. False where no entry goes on with it: it is no spelling, or its moment is less than the last, or its
 // event is quiet.
-fn take_in(centre: &mut Centre, alloc: Global, body: &[u8]) -> Result<bool, Memory> {
+fn take_in(centre: &mut Centre, alloc: Global, body: &[u8]) -> Result<bool, Memory>
+    ensures taken { IfOk result (λ taken. taken ≡ true → (front : List (List ℕ)) → IsReplayed front centre.old
+        → IsReplayed (front ++ body.now ∷ []) centre.new) }
+    ensures broken { IfOk result (λ taken. taken ≡ false → (front : List (List ℕ)) (past : List Entry) → IsPast front past
+        → StandsFor nothing centre.old past → HasNoNext front past body.now) }
+{
     if centre.entries() >= 1 << 48 {
         return Ok(false);
     }

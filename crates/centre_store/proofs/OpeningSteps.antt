@@ -1,0 +1,75 @@
+-- What one more body does to a centre that stands for the past of those before it.
+use Rattle.std.proofs.Common.{◌≡◌, ◌≤◌, ◌<◌, ◌^◌, ℕ, List, [], ◌∷◌, ◌++◌, length, Bool, true, false, Option, Some, None, refl, sym, ap, ◌∙◌, arith}
+use Rattle.std.specs.Prelude.{not, IfSome, IsSome}
+use Rattle.arc_data.specs.declared.event.Event.{Event}
+use Rattle.arc_data.specs.declared.reply.Reply.{Reply}
+use Rattle.centre_rules.specs.Summary.{nothing}
+use Rattle.centre_rules.specs.History.{Entry, is_recorded, last, moment_after}
+use Rattle.centre_rules.specs.Answers.{answer}
+use Rattle.centre_rules.specs.State.{State, StandsFor}
+use Rattle.event_codec.specs.Spelling.{spelling, HasSpelling}
+use Rattle.centre_store.specs.Bodies.{body_of}
+use Rattle.centre_store.specs.Pasts.{IsPast, IsReplayed}
+use Rattle.centre_store.proofs.PastSteps.{past_more, past_less}
+use Rattle.centre_store.proofs.PastOnce.{same_ends}
+
+pub never_none : {A : Type 0} (o : Option A) → o ≡ None → IsSome o → ⊥
+never_none None is some = absurd (cc)
+never_none (Some x) is some = absurd (cc)
+
+-- what was found, said of what it is made of
+pub found_is : (o : Option (Event × ℕ)) (event e : Event) (at a : ℕ) → o ≡ Some (event, at) → IfSome o (λ x. (x.0 ≡ e) × (x.1 ≡ a)) → (event ≡ e) × (at ≡ a)
+found_is o event e at a is found = rw is at found
+
+pub found_spelled : (o : Option (Event × ℕ)) (event : Event) (at : ℕ) (bytes : List ℕ) → o ≡ Some (event, at)
+    → IfSome o (λ x. HasSpelling x.0 x.1 × (bytes ≡ spelling x.0 x.1)) → HasSpelling event at × (bytes ≡ spelling event at)
+found_spelled o event at bytes is found = rw is at found
+
+pub retold : (event other : Event) (at then : ℕ) (bytes : List ℕ) → other ≡ event → then ≡ at → HasSpelling event at × (bytes ≡ spelling event at)
+    → HasSpelling other then × (bytes ≡ spelling other then)
+retold event other at then bytes same same_at spelled = rw (same, same_at) spelled
+
+-- the last body is that of the newest entry
+pub last_body : (front : List (List ℕ)) (body : List ℕ) (e : Entry) (past : List Entry) → IsPast (front ++ body ∷ []) (e ∷ past) → body ≡ body_of e
+last_body front body e past p =
+    let a = past_less (front ++ body ∷ []) e past p in
+    (same_ends front a.front body (body_of e) a.split).bodies
+
+-- where an entry goes on, its event at its moment is answered at just this moment, and recorded
+pub record GoesOn (at made : ℕ) (reply : Reply) : Type 0 where
+  pub moment : made ≡ at
+  pub recorded : is_recorded reply ≡ true
+
+pub goes_on : (front : List (List ℕ)) (body : List ℕ) (past : List Entry) (e : Entry) (event : Event) (at made : ℕ) (reply : Reply)
+    → IsPast (front ++ body ∷ []) (e ∷ past) → (event ≡ e.event) × (at ≡ e.at) → made ≡ moment_after nothing past at → reply ≡ answer nothing past event made → GoesOn at made reply
+goes_on front body past e event at made reply p same is_made is_reply =
+    let late : last nothing past ≤ e.at = p.legal.0.late in
+    let moment : made ≡ at = is_made ∙ (omega (arith, late, same.1)) in
+    let there : made ≡ e.at = moment ∙ same.1 in
+    let replied : reply ≡ e.reply = is_reply ∙ (λ i. answer nothing past (same.0 i) (there i)) ∙ sym p.legal.0.reply in
+    record { moment = moment; recorded = ap is_recorded replied ∙ p.kept.0.recorded }
+
+not_quiet : (b quiet : Bool) → quiet ≡ not b → quiet ≡ false → b ≡ true
+not_quiet true quiet is e = refl
+not_quiet false quiet is e = absurd (cc)
+
+never_quiet : (b quiet : Bool) → quiet ≡ not b → quiet ≡ true → b ≡ true → ⊥
+never_quiet true quiet is e recorded = absurd (cc)
+never_quiet false quiet is e recorded = absurd (cc)
+
+pub is_quiet : (reply : Reply) (quiet : Bool) → quiet ≡ not (is_recorded reply) → quiet ≡ true → is_recorded reply ≡ true → ⊥
+is_quiet reply quiet = never_quiet (is_recorded reply) quiet
+
+pub is_heard : (reply : Reply) (quiet : Bool) → quiet ≡ not (is_recorded reply) → quiet ≡ false → is_recorded reply ≡ true
+is_heard reply quiet = not_quiet (is_recorded reply) quiet
+
+pub replayed_more : (front : List (List ℕ)) (body : List ℕ) (e : Entry) (old new : State) (r : IsReplayed front old) → old.entries < 2 ^ 48 → e.caller ≡ 0
+    → is_recorded e.reply ≡ true → HasSpelling e.event e.at → body ≡ body_of e → StandsFor nothing new (e ∷ r.past) → IsReplayed (front ++ body ∷ []) new
+replayed_more front body e old new r few caller recorded spelled is stands =
+    let count : old.entries ≡ length r.past = r.stands.entries ∙ omega arith in
+    let short : length r.past < 2 ^ 48 = omega arith in
+    record {
+      past = e ∷ r.past;
+      is_past = past_more front r.past e body r.is_past stands.legal.0 (record { caller = caller; recorded = recorded; spelled = spelled }) short is;
+      stands = stands;
+    }
