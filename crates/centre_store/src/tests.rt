@@ -1,3 +1,4 @@
 // What no clause says of the store.
 
+mod opening;
 mod submitting;
