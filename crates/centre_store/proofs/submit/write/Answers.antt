@@ -1,5 +1,13 @@
+use Rattle.std.proofs.Common.{List, ℕ, length, subst, sym}
+use Rattle.disk_journal.specs.Records.{MayHave}
+use Rattle.centre_store.proofs.Bodies.{body_size}
 use Rattle.centre_store.proofs.Written.{body_is, written_leaves}
 use Rattle.centre_store.proofs.submit.write.Goals as goal
+
+pub append-requires-clause-size : goal.append-requires-clause-size
+append-requires-clause-size g c =
+    let is = body_is _ _ _ c.args.ready.now.event _ c.args.ready.now.at c.deref.ensures.value c.in-Ok.ensures.spelled c.event.ensures c.at-at.ensures.at in
+    subst (λ (l : List ℕ). MayHave (length l)) (sym is) (body_size c.args.ready.now.event c.args.ready.now.at c.requires.formed)
 
 pub returns-in-Err-DiskFault-clause-met : goal.returns-in-Err-DiskFault-clause-met
 returns-in-Err-DiskFault-clause-met g c bodies h =

@@ -1,7 +1,11 @@
-use Rattle.std.proofs.Common.{◌≡◌, ◌∷◌, refl, subst, arith}
+use Rattle.std.proofs.Common.{◌≡◌, ◌∷◌, true, refl, sym, subst, arith}
+use Rattle.arc_data.specs.declared.reply.Reply.{Reply}
+use Rattle.centre_rules.specs.History.{is_recorded}
 use Rattle.centre_rules.specs.State.{entry_of}
 use Rattle.centre_core.proofs.Applied.{is_quiet, not_quiet}
+use Rattle.event_codec.specs.Spelling.{IsKept}
 use Rattle.centre_store.specs.Stores.{Stored, HasFailed}
+use Rattle.centre_store.proofs.Bodies.{kept_event}
 use Rattle.centre_store.proofs.Entered.{takes_quiet, takes_written, written_moment}
 use Rattle.centre_store.proofs.store.Store.enter.Goals as goal
 
@@ -66,3 +70,11 @@ returns-in-Err-clause-any_moment g c b h w up =
     written_moment g.D.Disk.told g.D.Disk.may_leave g.D.Disk.fault_count b c.args.self.now c.self.inside.centre c.prepare.new.self c.self.inside.journal c.self.inside.at_open h
     c.self.view_is up w (c.in-Ok.ensures.stays b h) g.D.Disk.moment g.D.Disk.left_since c.write.new.journal.disk c.args.clock c.args.event c.in-Ok.ready c.in-Ok.ensures.event
     (c.in-Ok.ensures.at b h) (c.write.ensures.any_moment _)
+
+pub write-requires-clause-kept : goal.write-requires-clause-kept
+write-requires-clause-kept g c =
+    let b = c.self.invariant.base in
+    let h = c.self.invariant.history in
+    let stands = c.in-Ok.ensures.stays b h c.self.invariant.stands.centre in
+    let recorded = subst (λ (r : Reply). is_recorded r ≡ true) (c.in-Ok.ensures.reply b h stands) (not_quiet _ _ c.quiet.ensures c.if-quiet.false) in
+    subst IsKept (sym c.in-Ok.ensures.event) (kept_event b h c.args.event c.in-Ok.ready.at recorded)
