@@ -1,0 +1,69 @@
+// Writing the report.
+ghost use Rattle.std.specs.Prelude.{◌≡◌, ◌++◌, codes, decimal, List};
+ghost use Rattle.std.specs.List.{flat_map};
+ghost use Rattle.arc_io.specs.Told.{Puts};
+ghost use Rattle.arc_report.specs.Reports.{incident_line, table_of, report_of};
+ghost use Rattle.desk_wire.specs.Replies.{ended};
+
+use arc_data::{Incident, Reply};
+use arc_io::{Failed, Sink, put};
+use centre_core::Centre;
+use desk_answers::view;
+use desk_wire::print;
+use itoa::Buffer;
+
+/// Writes how many entries are recorded and how many incidents are open, a line each, and then the line of each open incident in order
+/// of number, as a desk is shown it. It takes no memory, and writes a line at a time. Failed comes only where the sink failed, and then
+/// the report was not written whole.
+pub fn report<K: Sink>(centre: &Centre, out: &mut K) -> Result<(), Failed>
+    ensures { Puts (K.seen out.old) (K.seen out.new) result (report_of centre.now.sum) }
+{
+    match put_count(out, b"recorded ", centre.recorded()) {
+        Ok(()) => put_table(out, centre.table().items()),
+        Err(fault) => Err(fault),
+    }
+}
+
+// Writes how many incidents are open, and the line of each.
+fn put_table<K: Sink>(out: &mut K, items: &[Incident]) -> Result<(), Failed>
+    ensures { Puts (K.seen out.old) (K.seen out.new) result (table_of items.now) }
+{
+    match put_count(out, b"open ", items.len() as u64) {
+        Ok(()) => put_incidents(out, items),
+        Err(fault) => Err(fault),
+    }
+}
+
+// Writes a word, a number and the end of the line.
+fn put_count<K: Sink>(out: &mut K, word: &[u8], count: u64) -> Result<(), Failed>
+    ensures { Puts (K.seen out.old) (K.seen out.new) result (word.now ++ ended (decimal count)) }
+{
+    match put(out, word) {
+        Ok(()) => put_number(out, count),
+        Err(fault) => Err(fault),
+    }
+}
+
+// Writes a number and the end of the line.
+fn put_number<K: Sink>(out: &mut K, number: u64) -> Result<(), Failed>
+    ensures { Puts (K.seen out.old) (K.seen out.new) result (ended (decimal number)) }
+{
+    let mut buffer = Buffer::new();
+    match put(out, buffer.format(number).as_bytes()) {
+        Ok(()) => put(out, b"\n"),
+        Err(fault) => Err(fault),
+    }
+}
+
+// Writes the line of each incident.
+fn put_incidents<K: Sink>(out: &mut K, items: &[Incident]) -> Result<(), Failed>
+    ensures { Puts (K.seen out.old) (K.seen out.new) result (flat_map incident_line items.now) }
+{
+    for i in items {
+        match print(&Reply::Shown(view(i)), out) {
+            Ok(()) => {}
+            Err(fault) => return Err(fault),
+        }
+    }
+    Ok(())
+}
