@@ -1,5 +1,5 @@
 -- How a run begins over a history.
-use Rattle.std.proofs.Common.{◌≡◌, ℕ, List, [], ◌∷◌, ◌++◌, Bool, true, false, Option, Some, None, inl, inr, refl, sym, ap, subst, ◌∙◌}
+use Rattle.std.proofs.Common.{◌≡◌, ℕ, List, [], ◌∷◌, Bool, true, false, Option, inl, inr, refl, sym, ap, subst, ◌∙◌}
 use Rattle.std.specs.Prelude.{if◌then◌else◌, IsOk, is_ok, Result, Ok, Err, IfErr}
 use Rattle.arc_data.specs.declared.event.Event.{Event}
 use Rattle.arc_data.specs.declared.event.Event.TheVariants.{Adopt, Start}
@@ -11,7 +11,7 @@ use Rattle.arc_io.specs.Crashes.{LeavesOnly}
 use Rattle.arc_io.proofs.Moments.{started, weaker}
 use Rattle.centre_rules.specs.Summary.{Summary}
 use Rattle.centre_rules.specs.Marks.{text}
-use Rattle.centre_rules.specs.History.{Entry, Extends, marks, moment_after, is_recorded}
+use Rattle.centre_rules.specs.History.{Entry, Extends, marks, moment_after}
 use Rattle.centre_rules.specs.Answers.{if_known}
 use Rattle.centre_rules.specs.State.{State, StandsFor}
 use Rattle.centre_core.specs.declared.hall.Stop.{Stop}

@@ -1,7 +1,7 @@
 -- The bodies of a history with one entry more, and how long a body is.
-use Rattle.std.proofs.Common.{◌≡◌, ◌≤◌, ◌+◌, ℕ, List, [], ◌∷◌, ◌++◌, Bool, true, false, length, Option, Some, None, refl, sym, ap, ◌∙◌, arith, length-append}
+use Rattle.std.proofs.Common.{◌≡◌, ◌≤◌, ◌+◌, ℕ, List, [], ◌∷◌, ◌++◌, Bool, true, false, length, Option, Some, None, refl, ap, ◌∙◌, arith, length-append}
 use Rattle.std.specs.Prelude.{map, reverse, ◌&&◌, nat_le, if◌then◌else◌}
-use Rattle.std.specs.Int.{to_be_bytes, w16, w32, w64}
+use Rattle.std.specs.Int.{to_be_bytes, w16, w64}
 use Rattle.std.proofs.lemmas.Bool.{leb-true, false≢true}
 use Rattle.std.proofs.lemmas.List.{reverse-append}
 use Rattle.arc_data.specs.Digits.{is_between, is_run, is_name}
@@ -18,7 +18,7 @@ use Rattle.centre_rules.specs.History.{Entry, recorded, is_recorded, marks}
 use Rattle.centre_rules.specs.Answers.{answer}
 use Rattle.disk_journal.specs.Records.{MayHave}
 use Rattle.event_codec.specs.Spelling.{spelling, fields, short_text, receiver_text, message_fields, order_fields, token_byte, step_byte, outcome_byte, code_byte, IsKept}
-use Rattle.centre_store.specs.Bodies.{body_of, bodies_of, need_of}
+use Rattle.centre_store.specs.Bodies.{body_of, bodies_of}
 
 -- a recorded entry brings one body more
 pub bodies_more : (e : Entry) (h : List Entry) → is_recorded e.reply ≡ true → bodies_of (e ∷ h) ≡ bodies_of h ++ body_of e ∷ []
@@ -33,10 +33,6 @@ unfolding bodies_of
 bodies_same e h is = ap (λ (b : Bool). reverse (map body_of (if b then e ∷ recorded h else recorded h))) is
 
 -- Lengths.
-
--- a body has as many bytes at each moment
-pub need_at : (event : Event) (at : ℕ) → need_of event ≡ 5 + length (spelling event at)
-need_at event at = refl
 
 first_true : (a b : Bool) → (a && b) ≡ true → a ≡ true
 first_true true b e = refl

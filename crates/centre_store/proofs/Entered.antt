@@ -1,25 +1,18 @@
 -- What a store stands for after a call that made an entry, or none.
-use Rattle.std.specs.Prelude.{◌↔◌, Result, Ok, Err}
-use Rattle.std.proofs.Common.{◌≡◌, ◌≤◌, ◌<◌, ◌+◌, ◌^◌, ℕ, List, [], ◌∷◌, ◌++◌, Bool, true, false, length, inl, inr, Option, refl, sym, ap, subst, ◌∙◌, arith}
-use Rattle.std.proofs.lemmas.Bool.{false≢true}
+use Rattle.std.proofs.Common.{◌≡◌, ℕ, List, [], ◌∷◌, ◌++◌, true, false, inl, inr, Option, sym, ap, subst, ◌∙◌}
 use Rattle.arc_data.specs.declared.event.Event.{Event}
 use Rattle.arc_data.specs.declared.reply.Reply.{Reply}
 use Rattle.arc_io.specs.Areas.{Areas}
 use Rattle.arc_io.specs.Crashes.{LeavesOnly}
 use Rattle.centre_rules.specs.Summary.{Summary}
-use Rattle.centre_rules.specs.History.{Entry, recorded, last, moment_after, is_recorded, marks}
-use Rattle.centre_rules.specs.Answers.{answer}
-use Rattle.centre_rules.specs.State.{State, Same, StandsFor, Plan, Grows, entry_of}
-use Rattle.centre_core.specs.declared.hall.Stop.{Stop}
-use Rattle.centre_core.specs.declared.hall.Stop.TheVariants.{Memory, Down, Full, Worn}
+use Rattle.centre_rules.specs.History.{Entry, moment_after, is_recorded}
+use Rattle.centre_rules.specs.State.{State, StandsFor, Plan, entry_of}
 use Rattle.disk_journal.specs.Journal.{Holds, StandsForEither}
 use Rattle.disk_journal.specs.declared.journal.Journal.{Journal}
-use Rattle.event_codec.specs.Spelling.{HasSpelling, spelling}
-use Rattle.centre_store.specs.Bodies.{bodies_of, need_of}
-use Rattle.centre_store.specs.Stores.{Stored, HasFailed, Leaves, IsTorn, StoreStands, Takes, IsStored, IsToRecord, IsOverWith, IsShownFull, Shows, IsDown, IsSameJournal}
-use Rattle.centre_store.specs.Writes.{IsOverAt, IsUnwritten}
+use Rattle.event_codec.specs.Spelling.{spelling}
+use Rattle.centre_store.specs.Bodies.{bodies_of}
+use Rattle.centre_store.specs.Stores.{Stored, HasFailed, StoreStands, Takes}
 use Rattle.centre_store.proofs.Bodies.{bodies_more, bodies_same}
-use Rattle.centre_store.proofs.Written.{holds_same}
 
 -- the parts of a store in one
 abbrev pub stored : {D : Type 0} → State → Journal D → ℕ → Stored D

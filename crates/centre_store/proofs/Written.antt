@@ -1,11 +1,10 @@
 -- What a journal holds after a call, and what a disk leaves.
-use Rattle.std.proofs.Common.{◌≡◌, ◌≤◌, ◌<◌, ◌^◌, ℕ, List, Option, Some, None, inl, inr, refl, sym, ap, subst, ◌∙◌, arith}
+use Rattle.std.proofs.Common.{◌≡◌, ◌≤◌, ◌<◌, ◌^◌, ℕ, List, Option, Some, None, sym, ap, subst, ◌∙◌}
 use Rattle.std.specs.Prelude.{IfSome}
 use Rattle.arc_data.specs.declared.event.Event.{Event}
 use Rattle.arc_io.specs.Areas.{Areas}
-use Rattle.arc_io.specs.Crashes.{Becomes, Follows, LeavesOnly}
+use Rattle.arc_io.specs.Crashes.{Becomes, LeavesOnly}
 use Rattle.arc_io.proofs.Moments.{joined}
-use Rattle.disk_journal.specs.Records.{AtRest}
 use Rattle.disk_journal.specs.Journal.{Keeps, Holds, StandsForEither}
 use Rattle.disk_journal.specs.OtherArea.{SparesB}
 use Rattle.disk_journal.specs.declared.journal.Journal.{Journal}

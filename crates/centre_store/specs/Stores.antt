@@ -1,5 +1,5 @@
 -- What a store stands for, what a call of it does, and what it shows after a stop.
-use Rattle.std.specs.Prelude.{◌≡◌, ◌≤◌, ◌<◌, ◌⊎◌, ◌^◌, ℕ, List, ◌∷◌, true, Option, IfSome}
+use Rattle.std.specs.Prelude.{◌≡◌, ◌≤◌, ◌⊎◌, ◌^◌, ℕ, List, ◌∷◌, true, Option, IfSome}
 use Rattle.arc_data.specs.declared.event.Event.{Event}
 use Rattle.arc_io.specs.Areas.{Areas}
 use Rattle.arc_io.specs.Causes.{Rose}
