@@ -29,5 +29,6 @@ store_seen told may_leave faults s = record {
 
 -- the law of a hall: after each history for which it stands the setup of its text is in force
 pub store_in_force : {D : Type 0} (told : D → Option Areas) (may_leave : D → Areas → Type 0) (faults : D → ℕ)
-    (s : Stored D) (b : Summary) (h : List Entry) → IsStoreFor told may_leave faults b s h → force b (marks b h) ≡ Some (meaning (text_of s.state))
+    (s : Stored D) (b : Summary) (h : List Entry) → IsStoreFor told may_leave faults b s h
+    → force b (marks b h) ≡ Some (meaning (text_of s.state))
 store_in_force told may_leave faults s b h w = in_force s.state b h (record { stands = w.stands.centre; setting = w.setting })
