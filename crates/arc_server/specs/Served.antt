@@ -1,4 +1,4 @@
--- What one session over a hall in memory did, by its form and its end.
+-- What one session over a hall did, by its form and its end.
 use Rattle.std.specs.Prelude.{ℕ, List}
 use Rattle.arc_io.specs.Seen.{PortSeen}
 use Rattle.centre_core.specs.Halls.{HallSeen}
@@ -40,3 +40,19 @@ Did Desk ReadFault h hall hall' p p' = DeskDid DeskUnread h hall hall' p p'
 Did Desk WriteFault h hall hall' p p' = DeskDid DeskUnwritten h hall hall' p p'
 Did Desk Spent h hall hall' p p' = DeskDid DeskSpent h hall hall' p p'
 Did Desk (Stopped stop) h hall hall' p p' = DeskDid (DeskStopped stop) h hall hall' p p'
+
+-- the history that the session ended with
+abbrev pub history_of : (form : Form) (end : SessionEnd) {h : List Entry} {hall hall' : HallSeen} {p p' : PortSeen}
+    → Did form end h hall hall' p p' → List Entry
+history_of Line Quit did = absurd did
+history_of Line InputEnded did = did.2.session.history
+history_of Line ReadFault did = did.2.session.history
+history_of Line WriteFault did = did.2.session.history
+history_of Line Spent did = did.2.session.history
+history_of Line (Stopped stop) did = did.2.session.history
+history_of Desk Quit did = did.2.desk.session.history
+history_of Desk InputEnded did = did.2.desk.session.history
+history_of Desk ReadFault did = did.2.desk.session.history
+history_of Desk WriteFault did = did.2.desk.session.history
+history_of Desk Spent did = did.2.desk.session.history
+history_of Desk (Stopped stop) did = did.2.desk.session.history

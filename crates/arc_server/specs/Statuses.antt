@@ -3,8 +3,11 @@ use Rattle.std.specs.Prelude.{ℕ, ◌++◌, List, [], codes, decimal}
 use Rattle.arc_data.specs.declared.setup_fault.LineKind.TheVariants.{Form, NoAccount}
 use Rattle.arc_data.specs.declared.setup_fault.SetupFault.{SetupFault}
 use Rattle.arc_data.specs.declared.setup_fault.SetupFault.TheVariants.{TooLarge, BadLine, TwoSame, TooMany, Memory as NoMemory}
+use Rattle.disk_journal.specs.declared.fault.OpenFault.{OpenFault}
+use Rattle.disk_journal.specs.declared.fault.OpenFault.TheVariants as Open
 use Rattle.arc_server.specs.declared.status.Status.{Status}
-use Rattle.arc_server.specs.declared.status.Status.TheVariants.{Done, Usage, SetupBad, ReadFault, WriteFault, Memory, Spent, Worn}
+use Rattle.arc_server.specs.declared.status.Status.TheVariants.{Done, Usage, SetupBad, ReadFault, WriteFault, DiskFault, Journal, Full}
+use Rattle.arc_server.specs.declared.status.Status.TheVariants.{Memory, Spent, Worn}
 use Rattle.arc_server.specs.declared.status.Which.{Which}
 use Rattle.arc_server.specs.declared.status.Which.TheVariants.{Setup, Input}
 
@@ -15,6 +18,9 @@ number_of Usage = 1
 number_of (SetupBad fault) = 2
 number_of (ReadFault which before now) = 3
 number_of (WriteFault before now) = 4
+number_of (DiskFault before now) = 5
+number_of (Journal fault) = 6
+number_of (Full used need records) = 7
 number_of Memory = 10
 number_of Spent = 11
 number_of (Worn count) = 12
@@ -46,6 +52,25 @@ abbrev pub read_text : Which → List ℕ
 read_text Setup = codes "read fault on setup\n"
 read_text Input = codes "read fault on input\n"
 
+-- a number and what is counted
+abbrev pub counted : ℕ → List ℕ → List ℕ
+counted number what = decimal number ++ what
+
+-- where in the area something stands
+abbrev pub at_place : List ℕ → ℕ → List ℕ
+at_place text place = text ++ counted place (codes "\n")
+
+abbrev pub journal_text : OpenFault → List ℕ
+journal_text (Open.NotJournal byte) = at_place (codes "journal: not a journal at byte ") byte
+journal_text (Open.WrongVersion found) = codes "journal: wrong version\n"
+journal_text (Open.Damaged place) = at_place (codes "journal: damaged at ") place
+journal_text (Open.DiskFault before now) = codes "disk fault\n"
+journal_text Open.Memory = codes "out of memory\n"
+
+abbrev pub full_text : ℕ → ℕ → ℕ → List ℕ
+full_text used need records =
+    codes "journal full: " ++ counted used (codes " used, ") ++ counted need (codes " needed, ") ++ counted records (codes " records\n")
+
 -- the line that it writes on standard error, or nothing
 unfoldable pub text_of_status : Status → List ℕ
 text_of_status Done = []
@@ -53,6 +78,9 @@ text_of_status Usage = codes "usage: line | desk | script | report | drill N | s
 text_of_status (SetupBad fault) = setup_text fault
 text_of_status (ReadFault which before now) = read_text which
 text_of_status (WriteFault before now) = codes "write fault\n"
+text_of_status (DiskFault before now) = codes "disk fault\n"
+text_of_status (Journal fault) = journal_text fault
+text_of_status (Full used need records) = full_text used need records
 text_of_status Memory = codes "out of memory\n"
 text_of_status Spent = codes "input too long\n"
 text_of_status (Worn count) = codes "count spent\n"

@@ -1,9 +1,9 @@
 //! The alarm receiving centre. `arc line` and `arc desk` read the setup from `setup.txt` in the working folder and serve one line,
-//! or one operator's desk, on their standard input and output.
+//! or one operator's desk, on their standard input and output. What they record stands in `journal.a`, beside `journal.b`.
 #![tactic(auto)]
 
 use arc_data::Txt;
-use arc_io::{FileSource, RealClock, RealNoise, StdPort};
+use arc_io::{FileDisk, FileSource, RealClock, RealNoise, StdPort};
 use run::{Outside, run};
 use status::Status;
 use std::env::Env;
@@ -12,6 +12,7 @@ use std::process::ExitCode;
 use std::{env, fs, io};
 
 mod form;
+mod opened;
 mod run;
 mod session;
 mod status;
@@ -51,7 +52,7 @@ fn main(rt: HostRuntime) -> ExitCode {
     ExitCode::from(status.number())
 }
 
-// Runs over the real setup file and the real standard streams.
+// Runs over the real setup file, the real standard streams, and the journal in the working folder.
 fn run_over_machine(rt: &HostRuntime, words: &[Txt]) -> Status {
     let port = StdPort::new(
         rt.reader(),
@@ -60,5 +61,8 @@ fn run_over_machine(rt: &HostRuntime, words: &[Txt]) -> Status {
         RealNoise::new(rt),
     );
     let setup = FileSource::new(rt, "setup.txt");
-    run(rt, rt.alloc(), words, Outside { setup, port }).status
+    let Ok(disk) = FileDisk::new(rt, rt.alloc(), ".") else {
+        return Status::Memory;
+    };
+    run(rt, rt.alloc(), words, Outside { setup, port, disk }).status
 }

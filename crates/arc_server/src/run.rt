@@ -1,95 +1,100 @@
 // The top call.
-ghost use Rattle.std.specs.Prelude.{◌≡◌, ◌≢◌, ◌↔◌, List, ℕ, Some, None, false, IsOk, IfOk, IfErr};
+ghost use Rattle.std.specs.Prelude.{◌≡◌, ◌≢◌, ◌≤◌, ◌<◌, ◌↔◌, ◌×◌, ◌^◌, List, ℕ, Some, None, false, IsTrue, IsOk, IfOk, IfErr};
 ghost use Rattle.alarm_rules.specs.Setups.{setup_of};
+ghost use Rattle.arc_io.specs.Causes.{Rose};
+ghost use Rattle.centre_core.specs.Setting.{IsSetting, text_of};
+ghost use Rattle.centre_rules.specs.History.{Entry};
 ghost use Rattle.centre_rules.specs.Summary.{nothing};
-ghost use Rattle.centre_core.specs.Runs.{begun};
-ghost use Rattle.centre_core.specs.Setting.{IsSetFor, text_of};
+ghost use Rattle.centre_store.specs.Begins.{begun_after};
+ghost use Rattle.centre_store.specs.StoreHalls.{IsStoreFor};
+ghost use Rattle.centre_store.specs.Stores.{StoreStands};
 ghost use Rattle.arc_server.specs.Forms.{form_of as form_by};
-ghost use Rattle.arc_server.specs.WholeRuns.{IsRun, IsServed, IsSetupEnd, ReadsText};
+ghost use Rattle.arc_server.specs.Areas.{BeginsWith};
+ghost use Rattle.arc_server.specs.WholeRuns.{IsRun, IsOver, IsServed, IsSetupEnd, IsUnbegun, ReadsText};
 
 use crate::form::{Form, form_of};
-use crate::session::{SessionEnd, serve};
+use crate::opened::serve_over;
+use crate::session::SessionEnd;
 use crate::status::{Status, Which};
 use arc_data::{SetupFault, Txt};
-use arc_io::{Port, ReadEnd, Source, read_all};
-use centre_core::{Centre, RamHall, Setup, Stop};
+use arc_io::{Disk, Port, ReadEnd, Source, read_all};
+use centre_core::{Setup, Stop};
+use centre_store::Store;
+use disk_journal::{OpenFault, OpenRefused, SHIPPED};
 use std::alloc::Global;
 
 // How many bytes of a setup text are read at most: one more than a setup may have.
 const SETUP_READ: usize = 4_194_305;
 
-/// What a run is handed: the source of the setup text, and the port of the line or the desk.
+/// What a run is handed: the source of the setup text, the port of the line or the desk, and the disk of the journal.
 #[derive(Drop)]
-pub struct Outside<S, P> {
+pub struct Outside<S, P, D> {
     pub setup: S,
     pub port: P,
+    pub disk: D,
 }
 
-/// What a run hands back: its status, all that it was handed, and the centre, where one was made.
+/// What a run hands back: its status, and all that it was handed.
 #[derive(Drop)]
-pub struct Ended<S, P> {
+pub struct Ended<S, P, D> {
     pub status: Status,
-    pub outside: Outside<S, P>,
-    pub centre: Option<Centre>,
+    pub outside: Outside<S, P, D>,
 }
 
-/// Does what the words say. Two forms of them are built, `line` and `desk`: the setup is read, and one session is served on the
-/// port, of a line or of a desk, over a centre of its own.
-pub fn run<R, S: Source, P: Port>(
+/// Does what the words say. Two forms of them are built, `line` and `desk`: the setup is read, the journal is opened with the limits
+/// that are shipped, a run begins at one reading of the clock, and one session is served on the port, of a line or of a desk. What it
+/// records stands in the journal before it is answered.
+pub fn run<R, S: Source, P: Port, D: Disk>(
     _rt: &R,
     alloc: Global,
     words: &[Txt],
-    outside: Outside<S, P>,
-) -> Ended<S, P>
+    outside: Outside<S, P, D>,
+) -> Ended<S, P, D>
     requires setup { (S.seen outside.setup).ended ≡ false }
     requires port { (P.seen outside.port).ended ≡ false }
     ensures usage { (result.status ≡ Status.Usage) ↔ (form_by words.now ≡ None) }
-    ensures untouched { result.status ≡ Status.Usage → (result.outside ≡ outside) × (result.centre ≡ None) }
+    ensures untouched { result.status ≡ Status.Usage → result.outside ≡ outside }
     ensures ran { (form : Form) → form_by words.now ≡ Some form →
-        IsRun form result.status (S.seen outside.setup) (S.seen result.outside.setup) (P.seen outside.port) (P.seen result.outside.port)
-        result.centre }
+        IsRun D.told D.may_leave D.moment D.left_since D.fault_count form result.status
+        (S.seen outside.setup) (S.seen result.outside.setup) (P.seen outside.port) (P.seen result.outside.port)
+        outside.disk result.outside.disk }
 {
     let Some(form) = form_of(words) else {
         return Ended {
             status: Status::Usage,
             outside,
-            centre: None,
         };
     };
     let Outside {
         mut setup,
         mut port,
+        disk,
     } = outside;
-    let (status, centre) = run_form(form, alloc, &mut setup, &mut port);
+    let (status, disk) = run_form(form, alloc, &mut setup, &mut port, disk);
     Ended {
         status,
-        outside: Outside { setup, port },
-        centre,
+        outside: Outside { setup, port, disk },
     }
 }
 
-// Reads the setup, begins a run, and serves the session.
-fn run_form<S: Source, P: Port>(
+// Reads the setup, and goes on from there.
+fn run_form<S: Source, P: Port, D: Disk>(
     form: Form,
     alloc: Global,
     source: &mut S,
     port: &mut P,
-) -> (Status, Option<Centre>)
+    disk: D,
+) -> (Status, D)
     requires setup { (S.seen source.old).ended ≡ false }
     requires port { (P.seen port.old).ended ≡ false }
     ensures usage { result.0 ≢ Status.Usage }
-    ensures ran { IsRun form result.0 (S.seen source.old) (S.seen source.new) (P.seen port.old) (P.seen port.new) result.1 }
+    ensures ran { IsRun D.told D.may_leave D.moment D.left_since D.fault_count form result.0
+        (S.seen source.old) (S.seen source.new) (P.seen port.old) (P.seen port.new) disk result.1 }
 {
-    let setup = match read_setup(alloc, source) {
-        Ok(setup) => setup,
-        Err(status) => return (status, None),
-    };
-    let clock = port.now();
-    let Ok(mut hall) = RamHall::new(alloc, setup, clock) else {
-        return (Status::Memory, None);
-    };
-    let status = status_of(form, alloc, &mut hall, port);
-    (status, Some(hall.into_centre()))
+    match read_setup(alloc, source) {
+        Ok(setup) => run_over(form, alloc, setup, port, disk),
+        Err(status) => (status, disk),
+    }
 }
 
 // Reads the setup text, and what it means. An error is the status that it makes.
@@ -114,16 +119,89 @@ fn read_setup<S: Source>(alloc: Global, source: &mut S) -> Result<Setup, Status>
     }
 }
 
-// Serves the session. The status is the end that this makes.
-fn status_of<P: Port>(form: Form, alloc: Global, hall: &mut RamHall, port: &mut P) -> Status
-    requires { (P.seen port.old).ended ≡ false }
-    ensures begun { result ≢ Status.Usage }
-    ensures served { (text : List ℕ) (clock : ℕ) → IsSetFor nothing hall.old (begun text clock) → text_of hall.old ≡ text →
-        IsServed form result text clock (P.seen port.old) (P.seen port.new) hall.new }
+// Opens the journal, and goes on from there.
+fn run_over<P: Port, D: Disk>(
+    form: Form,
+    alloc: Global,
+    setup: Setup,
+    port: &mut P,
+    disk: D,
+) -> (Status, D)
+    requires setting { IsOk (setup_of setup) }
+    requires port { (P.seen port.old).ended ≡ false }
+    ensures usage { result.0 ≢ Status.Usage }
+    ensures ran { IsOver D.told D.may_leave D.moment D.left_since D.fault_count form result.0 setup
+        (P.seen port.old) (P.seen port.new) disk result.1 }
 {
+    let before = disk.faults();
+    match Store::open(alloc, disk, SHIPPED) {
+        Ok(store) => run_store(form, alloc, before, setup, port, store),
+        Err(OpenRefused { fault, disk }) => (unopened(fault), disk),
+    }
+}
+
+// The status that a refused opening makes.
+fn unopened(fault: OpenFault) -> Status {
+    match fault {
+        OpenFault::DiskFault { before, now } => Status::DiskFault { before, now },
+        OpenFault::Memory => Status::Memory,
+        _ => Status::Journal(fault),
+    }
+}
+
+// Begins a run over the store, and serves its session.
+fn run_store<P: Port, D: Disk>(
+    form: Form,
+    alloc: Global,
+    before: u64,
+    setup: Setup,
+    port: &mut P,
+    store: Store<D>,
+) -> (Status, D) {
+    let mut store = store;
+    let clock = port.now();
+    match store.begin(alloc, setup, clock) {
+        Ok(()) => serve_store(form, alloc, before, port, store),
+        Err(stop) => {
+            let disk = store.close();
+            (stopped(stop, before, disk.faults()), disk)
+        }
+    }
+}
+
+// The status that a stop makes, by the counts of the disk's faults at the run's entry and now.
+fn stopped(stop: Stop, before: u64, now: u64) -> Status {
+    match stop {
+        Stop::Memory => Status::Memory,
+        Stop::Down { .. } => Status::DiskFault { before, now },
+        Stop::Full {
+            used,
+            need,
+            records,
+        } => Status::Full {
+            used,
+            need,
+            records,
+        },
+        Stop::Worn { count } => Status::Worn { count },
+    }
+}
+
+// Serves the session of a run that has begun, and lets the store go. Where the disk has failed, that is the status.
+fn serve_store<P: Port, D: Disk>(
+    form: Form,
+    alloc: Global,
+    before: u64,
+    port: &mut P,
+    store: Store<D>,
+) -> (Status, D) {
     let reads = port.read_faults();
     let writes = port.write_faults();
-    match serve(form, alloc, hall, port) {
+    let (end, store) = serve_over(form, alloc, store, port);
+    let disk = store.close();
+    let now = disk.faults();
+    let status = match end {
+        _ if has_risen(before, now) => Status::DiskFault { before, now },
         SessionEnd::Quit | SessionEnd::InputEnded => Status::Done,
         SessionEnd::ReadFault => Status::ReadFault {
             input: Which::Input,
@@ -135,7 +213,14 @@ fn status_of<P: Port>(form: Form, alloc: Global, hall: &mut RamHall, port: &mut 
             now: port.write_faults(),
         },
         SessionEnd::Spent => Status::Spent,
-        SessionEnd::Stopped(Stop::Memory) => Status::Memory,
-        SessionEnd::Stopped(Stop::Worn { count }) => Status::Worn { count },
-    }
+        SessionEnd::Stopped(stop) => stopped(stop, before, now),
+    };
+    (status, disk)
+}
+
+// The later count is above the earlier one, or stands at its last value.
+fn has_risen(before: u64, now: u64) -> bool
+    ensures { IsTrue result ↔ Rose before now }
+{
+    now > before || now == u64::MAX
 }

@@ -1,15 +1,13 @@
-// One session over a hall in memory, of either form.
+// One session over a hall, of either form.
 ghost use Rattle.std.specs.Prelude.{◌≡◌, false, List, ℕ};
 ghost use Rattle.arc_io.specs.Causes.{Rose};
-ghost use Rattle.centre_core.specs.Runs.{begun};
-ghost use Rattle.centre_core.specs.Setting.{IsSetFor, ram_seen};
 ghost use Rattle.centre_rules.specs.Summary.{nothing};
 ghost use Rattle.centre_rules.specs.History.{Entry};
 ghost use Rattle.arc_server.specs.Served.{Did};
 
 use crate::form::Form;
 use arc_io::Port;
-use centre_core::{RamHall, Stop};
+use centre_core::{Hall, Stop};
 use desk_session::{DeskEnd, serve_desk};
 use line_session::{LineEnd, serve_line};
 use std::alloc::Global;
@@ -32,15 +30,16 @@ pub enum SessionEnd {
 }
 
 /// Serves one session of this form over the port.
-pub(crate) fn serve<P: Port>(
+pub(crate) fn serve<H: Hall, P: Port>(
     form: Form,
     alloc: Global,
-    hall: &mut RamHall,
+    hall: &mut H,
     port: &mut P,
 ) -> SessionEnd
-    requires { (P.seen port.old).ended ≡ false }
-    ensures did { (h : List Entry) → IsSetFor nothing hall.old h →
-        Did form result h (ram_seen hall.old) (ram_seen hall.new) (P.seen port.old) (P.seen port.new) }
+    requires ready { (H.seen hall.old).ready }
+    requires port { (P.seen port.old).ended ≡ false }
+    ensures did { (h : List Entry) → (H.seen hall.old).stands nothing h →
+        Did form result h (H.seen hall.old) (H.seen hall.new) (P.seen port.old) (P.seen port.new) }
     ensures read { result ≡ SessionEnd.ReadFault → Rose (P.seen port.old).read_faults (P.seen port.new).read_faults }
     ensures write { result ≡ SessionEnd.WriteFault → Rose (P.seen port.old).write_faults (P.seen port.new).write_faults }
 {
@@ -51,10 +50,11 @@ pub(crate) fn serve<P: Port>(
 }
 
 // Serves one line.
-fn serve_one_line<P: Port>(alloc: Global, hall: &mut RamHall, port: &mut P) -> SessionEnd
-    requires { (P.seen port.old).ended ≡ false }
-    ensures did { (h : List Entry) → IsSetFor nothing hall.old h →
-        Did Form.Line result h (ram_seen hall.old) (ram_seen hall.new) (P.seen port.old) (P.seen port.new) }
+fn serve_one_line<H: Hall, P: Port>(alloc: Global, hall: &mut H, port: &mut P) -> SessionEnd
+    requires ready { (H.seen hall.old).ready }
+    requires port { (P.seen port.old).ended ≡ false }
+    ensures did { (h : List Entry) → (H.seen hall.old).stands nothing h →
+        Did Form.Line result h (H.seen hall.old) (H.seen hall.new) (P.seen port.old) (P.seen port.new) }
     ensures read { result ≡ SessionEnd.ReadFault → Rose (P.seen port.old).read_faults (P.seen port.new).read_faults }
     ensures write { result ≡ SessionEnd.WriteFault → Rose (P.seen port.old).write_faults (P.seen port.new).write_faults }
 {
@@ -68,10 +68,11 @@ fn serve_one_line<P: Port>(alloc: Global, hall: &mut RamHall, port: &mut P) -> S
 }
 
 // Serves one desk.
-fn serve_one_desk<P: Port>(alloc: Global, hall: &mut RamHall, port: &mut P) -> SessionEnd
-    requires { (P.seen port.old).ended ≡ false }
-    ensures did { (h : List Entry) → IsSetFor nothing hall.old h →
-        Did Form.Desk result h (ram_seen hall.old) (ram_seen hall.new) (P.seen port.old) (P.seen port.new) }
+fn serve_one_desk<H: Hall, P: Port>(alloc: Global, hall: &mut H, port: &mut P) -> SessionEnd
+    requires ready { (H.seen hall.old).ready }
+    requires port { (P.seen port.old).ended ≡ false }
+    ensures did { (h : List Entry) → (H.seen hall.old).stands nothing h →
+        Did Form.Desk result h (H.seen hall.old) (H.seen hall.new) (P.seen port.old) (P.seen port.new) }
     ensures read { result ≡ SessionEnd.ReadFault → Rose (P.seen port.old).read_faults (P.seen port.new).read_faults }
     ensures write { result ≡ SessionEnd.WriteFault → Rose (P.seen port.old).write_faults (P.seen port.new).write_faults }
 {

@@ -2,10 +2,11 @@
 ghost use Rattle.std.specs.Prelude.{◌≡◌, OnOk, decimal};
 ghost use Rattle.std.specs.Io.KnownBytes.{append_known};
 ghost use Rattle.arc_io.specs.Causes.{HasCause};
-ghost use Rattle.arc_server.specs.Statuses.{number_of, text_of_status, setup_text, bad_line_text, no_account_text, two_same_text, too_many_text, at_line};
+ghost use Rattle.arc_server.specs.Statuses.{number_of, text_of_status, setup_text, bad_line_text, no_account_text, two_same_text, too_many_text, at_line, at_place, counted, journal_text, full_text};
 
 use arc_data::{LineKind, SetupFault};
 use arc_io::{Failed, Sink, put};
+use disk_journal::OpenFault;
 use itoa::Buffer;
 
 /// The input of a run that could not be read.
@@ -30,6 +31,12 @@ pub enum Status {
     ReadFault { input: Which, before: u64, now: u64 },
     /// A write failed.
     WriteFault { before: u64, now: u64 },
+    /// A call of the disk failed. What was acknowledged stands; an event that met the fault may stand, too.
+    DiskFault { before: u64, now: u64 },
+    /// The journal's area has other bytes than those of a journal. The fault is neither one of the disk nor want of memory.
+    Journal(OpenFault),
+    /// The journal has no room for a record: the bytes that it has, those that the record needs, and its records.
+    Full { used: u64, need: u64, records: u64 },
     /// Want of memory.
     Memory,
     /// 1,099,511,627,776 bytes (2^40) of the input were read.
@@ -49,6 +56,9 @@ impl Status {
             Status::SetupBad(_) => 2,
             Status::ReadFault { .. } => 3,
             Status::WriteFault { .. } => 4,
+            Status::DiskFault { .. } => 5,
+            Status::Journal(_) => 6,
+            Status::Full { .. } => 7,
             Status::Memory => 10,
             Status::Spent => 11,
             Status::Worn { .. } => 12,
@@ -77,6 +87,13 @@ impl Status {
                 ..
             } => put(out, b"read fault on input\n"),
             Status::WriteFault { .. } => put(out, b"write fault\n"),
+            Status::DiskFault { .. } => put(out, b"disk fault\n"),
+            Status::Journal(fault) => put_journal(out, *fault),
+            Status::Full {
+                used,
+                need,
+                records,
+            } => put_full(out, *used, *need, *records),
             Status::Memory => put(out, b"out of memory\n"),
             Status::Spent => put(out, b"input too long\n"),
             Status::Worn { .. } => put(out, b"count spent\n"),
@@ -157,6 +174,52 @@ fn put_line<K: Sink>(out: &mut K, line: u64) -> Result<(), Failed>
 {
     put(out, b"setup: line ")?;
     put_number(out, line)
+}
+
+// The line that tells what is wrong with the journal's area.
+fn put_journal<K: Sink>(out: &mut K, fault: OpenFault) -> Result<(), Failed>
+    ensures all { OnOk result ((K.seen out.new).written ≡ append_known (K.seen out.old).written (journal_text fault)) }
+    ensures cause { HasCause (K.seen out.old).write_faults (K.seen out.new).write_faults result }
+{
+    match fault {
+        OpenFault::NotJournal { byte } => put_place(out, b"journal: not a journal at byte ", byte),
+        OpenFault::WrongVersion { .. } => put(out, b"journal: wrong version\n"),
+        OpenFault::Damaged { at } => put_place(out, b"journal: damaged at ", at),
+        OpenFault::DiskFault { .. } => put(out, b"disk fault\n"),
+        OpenFault::Memory => put(out, b"out of memory\n"),
+    }
+}
+
+// A line that ends with the number of a place.
+#[tactic(auto, using(arc_io::proofs::KnownMore::known_both))]
+fn put_place<K: Sink>(out: &mut K, text: &[u8], place: u64) -> Result<(), Failed>
+    ensures all { OnOk result ((K.seen out.new).written ≡ append_known (K.seen out.old).written (at_place text.now place)) }
+    ensures cause { HasCause (K.seen out.old).write_faults (K.seen out.new).write_faults result }
+{
+    put(out, text)?;
+    put_counted(out, place, b"\n")
+}
+
+// The line that tells of a journal without room.
+#[tactic(auto, using(arc_io::proofs::KnownMore::known_both))]
+fn put_full<K: Sink>(out: &mut K, used: u64, need: u64, records: u64) -> Result<(), Failed>
+    ensures all { OnOk result ((K.seen out.new).written ≡ append_known (K.seen out.old).written (full_text used need records)) }
+    ensures cause { HasCause (K.seen out.old).write_faults (K.seen out.new).write_faults result }
+{
+    put(out, b"journal full: ")?;
+    put_counted(out, used, b" used, ")?;
+    put_counted(out, need, b" needed, ")?;
+    put_counted(out, records, b" records\n")
+}
+
+// A number and what is counted.
+#[tactic(auto, using(arc_io::proofs::KnownMore::known_both))]
+fn put_counted<K: Sink>(out: &mut K, number: u64, what: &[u8]) -> Result<(), Failed>
+    ensures all { OnOk result ((K.seen out.new).written ≡ append_known (K.seen out.old).written (counted number what.now)) }
+    ensures cause { HasCause (K.seen out.old).write_faults (K.seen out.new).write_faults result }
+{
+    put_number(out, number)?;
+    put(out, what)
 }
 
 // A number in decimal.

@@ -2,14 +2,17 @@
 ghost use Rattle.std.specs.Prelude.{◌≡◌, ◌<◌, All, false, IfOk};
 ghost use Rattle.arc_io.specs.Memory.{port_seen, source_seen};
 
+mod lasting;
 mod plays;
 mod station;
+mod statuses;
 mod watching;
 
 use crate::run::{Ended, Outside, run};
 use crate::status::{Status, Which};
 use arc_data::{LineKind, SetupFault, Txt};
-use arc_io::{ListClock, ListNoise, MemPort, MemSink, MemSource};
+use arc_io::{Area, ListClock, ListNoise, MemDisk, MemPort, MemSink, MemSource};
+use disk_journal::{Journal, SHIPPED};
 use std::alloc::Global;
 use std::process::Abort;
 use std::test::Fail;
@@ -34,14 +37,17 @@ const NONE: Failing<'static> = Failing {
     writes: &[],
 };
 
-// This setup, this input and these readings.
+type Ran = Ended<MemSource, MemPort, MemDisk>;
+
+// This setup, this input, these readings and this disk.
 fn outside_of(
     alloc: Global,
     setup: &[u8],
     input: &[u8],
     readings: &[u64],
     failing: &Failing,
-) -> Result<Outside<MemSource, MemPort>, Fail>
+    disk: MemDisk,
+) -> Result<Outside<MemSource, MemPort, MemDisk>, Fail>
     requires { All (λ r. r < 253_402_300_800) readings.now }
     ensures setup { IfOk result (λ outside. (source_seen outside.setup).ended ≡ false) }
     ensures port { IfOk result (λ outside. (port_seen outside.port).ended ≡ false) }
@@ -54,7 +60,13 @@ fn outside_of(
             clock: ListClock::new(readings.to_vec(alloc)?),
             noise: ListNoise::new(Vec::new(alloc)),
         },
+        disk,
     })
+}
+
+// A disk without faults, with two empty areas.
+fn new_disk(alloc: Global) -> MemDisk {
+    MemDisk::new(alloc, Vec::new(alloc))
 }
 
 // A run of this word over them.
@@ -66,27 +78,31 @@ fn ran(
     input: &[u8],
     readings: &[u64],
     failing: &Failing,
-) -> Result<Ended<MemSource, MemPort>, Fail>
+) -> Result<Ran, Fail>
     requires { All (λ r. r < 253_402_300_800) readings.now }
 {
     let word = Txt::of(word).ok_or("a short word")?;
-    let outside = outside_of(alloc, setup, input, readings, failing)?;
+    let outside = outside_of(alloc, setup, input, readings, failing, new_disk(alloc))?;
     Ok(run(rt, alloc, &[word], outside))
 }
 
 // A run of `line` over one alarm.
-fn ran_alarm(
-    rt: &impl Abort,
-    alloc: Global,
-    setup: &[u8],
-    failing: &Failing,
-) -> Result<Ended<MemSource, MemPort>, Fail> {
+fn ran_alarm(rt: &impl Abort, alloc: Global, setup: &[u8], failing: &Failing) -> Result<Ran, Fail> {
     ran(rt, alloc, b"line", setup, ALARM, &[1_000_000_000], failing)
 }
 
-// How many entries the centre that a run handed back has recorded.
-fn recorded(ended: &Ended<MemSource, MemPort>) -> Option<u64> {
-    ended.centre.as_ref().map(|centre| centre.recorded())
+// Of each record that a disk's journal has, the first byte of its body, which tells its event: 1 an Adopt, 2 a Start, 3 a Message.
+fn recorded(alloc: Global, disk: &MemDisk) -> Result<Vec<u8>, Fail> {
+    let area = disk.bytes(Area::A).to_vec(alloc)?;
+    let copy = MemDisk::of(alloc, area, Vec::new(alloc), Vec::new(alloc))?;
+    let Ok((_, bodies)) = Journal::open(alloc, copy, SHIPPED) else {
+        return Err("no journal")?;
+    };
+    let mut tags = Vec::new(alloc);
+    for i in 0..bodies.count() {
+        tags.extend_from_slice(bodies.at(i).get(..1).unwrap_or(b""))?;
+    }
+    Ok(tags)
 }
 
 // These pieces, one after the other.
@@ -98,13 +114,63 @@ fn joined(alloc: Global, pieces: &[&[u8]]) -> Result<Vec<u8>, Fail> {
     Ok(all)
 }
 
+// An Adopt, a Start and the alarm, as a journal has them.
+const AREA: &[u8] = b"ARC JOURNAL 0001\
+    \x01\0\0\0\x1a\x01\0\0\0\0\x3b\x9a\xca\0\0\0\0\x0daccount 1234\n\
+    \x01\0\0\0\x09\x02\0\0\0\0\x3b\x9a\xca\0\
+    \x01\0\0\0\x21\x03\0\0\0\0\x3b\x9a\xca\0\x041234\0\x010\0\x01\x02\0\x0b1131 01 001\0";
+
 #[test]
-fn one_alarm_is_acknowledged(rt: HostRuntime) -> Result<(), Fail> {
-    let ended = ran_alarm(&rt, rt.alloc(), SETUP, &NONE)?;
+fn one_alarm_is_acknowledged_and_recorded(rt: HostRuntime) -> Result<(), Fail> {
+    let ended = ran_alarm(&rt, rt.alloc(), b"account 1234\n", &NONE)?;
     assert_eq!(rt; ended.status, Status::Done);
     assert_eq!(rt; ended.outside.port.sink.bytes(), ACKNOWLEDGEMENT);
-    assert_eq!(rt; recorded(&ended), Some(3));
+    assert_eq!(rt; ended.outside.disk.bytes(Area::A), AREA);
+    assert_eq!(rt; ended.outside.disk.bytes(Area::B), b"".as_slice());
     Ok(())
+}
+
+// A line with this input, which is answered and recorded so.
+fn line_answers(
+    rt: &impl Abort,
+    alloc: Global,
+    input: &[&[u8]],
+    readings: &[u64],
+    output: &[&[u8]],
+    tags: &[u8],
+) -> Result<(), Fail>
+    requires { All (λ r. r < 253_402_300_800) readings.now }
+{
+    let input = joined(alloc, input)?;
+    let output = joined(alloc, output)?;
+    let ended = ran(rt, alloc, b"line", SETUP, &input, readings, &NONE)?;
+    assert_eq!(rt; ended.status, Status::Done);
+    assert_eq!(rt; ended.outside.port.sink.bytes(), output.as_slice());
+    assert_eq!(rt; recorded(alloc, &ended.outside.disk)?.as_slice(), tags);
+    Ok(())
+}
+
+#[test]
+fn an_empty_input_is_done(rt: HostRuntime) -> Result<(), Fail> {
+    line_answers(&rt, rt.alloc(), &[], &[1_000_000_000], &[], b"\x01\x02")
+}
+
+// The alarm with another check, with another length, and as it is.
+#[test]
+fn damaged_frames_are_not_answered(rt: HostRuntime) -> Result<(), Fail> {
+    let input = [
+        b"\n2EE80027\"ADM-CID\"0001L0#1234[#1234|1131 01 001]\r".as_slice(),
+        b"\n2EE70028\"ADM-CID\"0001L0#1234[#1234|1131 01 001]\r",
+        ALARM,
+    ];
+    line_answers(
+        &rt,
+        rt.alloc(),
+        &input,
+        &[1_000_000_000],
+        &[ACKNOWLEDGEMENT],
+        b"\x01\x02\x03",
+    )
 }
 
 // The same alarm three times, the last two at these moments after a beginning and an alarm at others: each is acknowledged, and
@@ -112,12 +178,14 @@ fn one_alarm_is_acknowledged(rt: HostRuntime) -> Result<(), Fail> {
 fn repeats(rt: &impl Abort, alloc: Global, readings: &[u64]) -> Result<(), Fail>
     requires { All (λ r. r < 253_402_300_800) readings.now }
 {
-    let input = joined(alloc, &[ALARM, ALARM, ALARM])?;
-    let output = joined(alloc, &[ACKNOWLEDGEMENT, ACKNOWLEDGEMENT, ACKNOWLEDGEMENT])?;
-    let ended = ran(rt, alloc, b"line", SETUP, &input, readings, &NONE)?;
-    assert_eq!(rt; ended.outside.port.sink.bytes(), output.as_slice());
-    assert_eq!(rt; recorded(&ended), Some(4));
-    Ok(())
+    line_answers(
+        rt,
+        alloc,
+        &[ALARM, ALARM, ALARM],
+        readings,
+        &[ACKNOWLEDGEMENT, ACKNOWLEDGEMENT, ACKNOWLEDGEMENT],
+        b"\x01\x02\x03\x03",
+    )
 }
 
 #[test]
@@ -151,7 +219,10 @@ fn an_operator_at_a_desk(rt: HostRuntime) -> Result<(), Fail> {
     assert_eq!(rt; ended.status, Status::Done);
     let answers = b"denied\nwhat\ndenied\nok ann\nlist 0\nbye\n".as_slice();
     assert_eq!(rt; ended.outside.port.sink.bytes(), answers);
-    assert_eq!(rt; recorded(&ended), Some(2));
+    assert_eq!(rt;
+        recorded(rt.alloc(), &ended.outside.disk)?.as_slice(),
+        b"\x01\x02".as_slice()
+    );
     Ok(())
 }
 
@@ -184,7 +255,7 @@ fn reads_that_fail(rt: HostRuntime) -> Result<(), Fail> {
     let (before, now) = (0, 1);
     let input = Which::Setup;
     assert_eq!(rt; ended.status, Status::ReadFault { input, before, now });
-    assert_eq!(rt; recorded(&ended), None);
+    assert_eq!(rt; ended.outside.disk.calls(), 0);
     let failing = Failing {
         setup: &[],
         reads: &[2],
@@ -197,27 +268,12 @@ fn reads_that_fail(rt: HostRuntime) -> Result<(), Fail> {
     Ok(())
 }
 
-// The message whose reply was not written stands.
-#[test]
-fn a_write_that_fails(rt: HostRuntime) -> Result<(), Fail> {
-    let failing = Failing {
-        setup: &[],
-        reads: &[],
-        writes: &[1],
-    };
-    let ended = ran_alarm(&rt, rt.alloc(), SETUP, &failing)?;
-    assert_eq!(rt; ended.status, Status::WriteFault { before: 0, now: 1 });
-    assert_eq!(rt; ended.outside.port.sink.bytes(), b"".as_slice());
-    assert_eq!(rt; recorded(&ended), Some(3));
-    Ok(())
-}
-
 #[test]
 fn a_setup_that_is_none(rt: HostRuntime) -> Result<(), Fail> {
     let ended = ran_alarm(&rt, rt.alloc(), b"account 1234\naccount 1234\n", &NONE)?;
     let fault = SetupFault::TwoSame { line: 2, first: 1 };
     assert_eq!(rt; ended.status, Status::SetupBad(fault));
-    assert_eq!(rt; recorded(&ended), None);
+    assert_eq!(rt; ended.outside.disk.calls(), 0);
     let ended = ran_alarm(&rt, rt.alloc(), b"# one panel\n\naccount 1234 \n", &NONE)?;
     let kind = LineKind::Form;
     let fault = SetupFault::BadLine { line: 3, kind };
@@ -225,87 +281,21 @@ fn a_setup_that_is_none(rt: HostRuntime) -> Result<(), Fail> {
     Ok(())
 }
 
-// A status of each kind, by a name.
-fn status_named(name: &str) -> Option<Status> {
-    let (before, now) = (0, 1);
-    let (line, first) = (12, 3);
-    match name {
-        "done" => Some(Status::Done),
-        "usage" => Some(Status::Usage),
-        "large" => Some(Status::SetupBad(SetupFault::TooLarge)),
-        "form" => Some(bad_line(LineKind::Form)),
-        "account" => Some(bad_line(LineKind::NoAccount)),
-        "same" => Some(Status::SetupBad(SetupFault::TwoSame { line, first })),
-        "many" => Some(Status::SetupBad(SetupFault::TooMany { line, limit: 2000 })),
-        "setup" => Some(Status::ReadFault {
-            input: Which::Setup,
-            before,
-            now,
-        }),
-        "input" => Some(Status::ReadFault {
-            input: Which::Input,
-            before,
-            now,
-        }),
-        "write" => Some(Status::WriteFault { before, now }),
-        "memory" => Some(Status::Memory),
-        "spent" => Some(Status::Spent),
-        "worn" => Some(Status::Worn { count: 1 << 48 }),
-        _ => None,
-    }
-}
-
-fn bad_line(kind: LineKind) -> Status {
-    Status::SetupBad(SetupFault::BadLine { line: 7, kind })
-}
-
-// The name, the number and the text of each status.
-const STATUSES: &str = "\
-done/0/
-usage/1/usage: line | desk | script | report | drill N | serve LINES DESKS SESSIONS
-large/2/setup: too large
-form/2/setup: line 7: not a setup line
-account/2/setup: line 7: no such account
-same/2/setup: line 12: same as line 3
-many/2/setup: line 12: more than 2000
-setup/3/read fault on setup
-input/3/read fault on input
-write/4/write fault
-memory/10/out of memory
-spent/11/input too long
-worn/12/count spent
-";
-
-#[test]
-fn statuses_have_their_numbers_and_texts(rt: HostRuntime) -> Result<(), Fail> {
-    let alloc = rt.alloc();
-    for row in STATUSES.lines() {
-        let (name, rest) = row.split_once('/').ok_or("no name")?;
-        let (number, text) = rest.split_once('/').ok_or("no number")?;
-        let status = status_named(name).ok_or("no status")?;
-        let mut out = MemSink::new(alloc, Vec::new(alloc));
-        assert!(rt; status.text(&mut out).is_ok());
-        let told = out.bytes().strip_suffix(b"\n").unwrap_or(b"");
-        assert_eq!(rt; told, text.as_bytes(), "{name}");
-        assert_eq!(rt; status.number(), number.parse::<u8>()?, "{name}");
-    }
-    Ok(())
-}
-
-// A run of these words over one alarm: its status, and what was written.
+// A run of these words over one alarm: nothing is touched.
 fn refused(rt: &impl Abort, alloc: Global, words: &[Txt]) -> Result<(), Fail> {
-    let outside = outside_of(alloc, SETUP, ALARM, &[], &NONE)?;
+    let outside = outside_of(alloc, SETUP, ALARM, &[], &NONE, new_disk(alloc))?;
     let ended = run(rt, alloc, words, outside);
     assert_eq!(rt; ended.status, Status::Usage);
-    assert_eq!(rt; recorded(&ended), None);
+    assert_eq!(rt; ended.outside.disk.calls(), 0);
     Ok(())
 }
 
 #[test]
 fn other_words_are_refused(rt: HostRuntime) -> Result<(), Fail> {
     let line = Txt::of(b"line").ok_or("a short word")?;
-    let report = Txt::of(b"report").ok_or("a short word")?;
+    let drill = Txt::of(b"drill").ok_or("a short word")?;
+    let zero = Txt::of(b"0").ok_or("a short word")?;
     refused(&rt, rt.alloc(), &[])?;
     refused(&rt, rt.alloc(), &[line, line])?;
-    refused(&rt, rt.alloc(), &[report])
+    refused(&rt, rt.alloc(), &[drill, zero])
 }

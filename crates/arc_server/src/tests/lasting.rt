@@ -1,0 +1,159 @@
+// Runs over one disk, one after another.
+ghost use Rattle.std.specs.Prelude.{◌<◌};
+
+use super::{ACKNOWLEDGEMENT, ALARM, AREA, Failing, NONE, Ran, SETUP, outside_of, recorded};
+use crate::run::run;
+use crate::status::Status;
+use arc_data::Txt;
+use arc_io::{Area, MemDisk};
+use disk_journal::OpenFault;
+use std::alloc::Global;
+use std::process::Abort;
+use std::test::Fail;
+
+// A run of `line` over one alarm, with this setup, at this reading and over this disk.
+fn ran_over(
+    rt: &impl Abort,
+    alloc: Global,
+    setup: &[u8],
+    reading: u64,
+    failing: &Failing,
+    disk: MemDisk,
+) -> Result<Ran, Fail>
+    requires { reading < 253_402_300_800 }
+{
+    let word = Txt::of(b"line").ok_or("a short word")?;
+    let outside = outside_of(alloc, setup, ALARM, &[reading], failing, disk)?;
+    Ok(run(rt, alloc, &[word], outside))
+}
+
+// A disk with these bytes in area A, of which these calls fail.
+fn disk_of(alloc: Global, bytes: &[u8], failing: &[u64]) -> Result<MemDisk, Fail> {
+    let area = bytes.to_vec(alloc)?;
+    Ok(MemDisk::of(alloc, area, Vec::new(alloc), failing.to_vec(alloc)?)?)
+}
+
+// The first run meets a failed write: the message stands, and the panel sends it again. The second run acknowledges it, adopts no
+// more, and records no second message.
+#[test]
+fn an_alarm_that_was_not_acknowledged(rt: HostRuntime) -> Result<(), Fail> {
+    let alloc = rt.alloc();
+    let failing = Failing {
+        setup: &[],
+        reads: &[],
+        writes: &[1],
+    };
+    let disk = disk_of(alloc, b"", &[])?;
+    let first = ran_over(&rt, alloc, SETUP, 1_000_000_000, &failing, disk)?;
+    assert_eq!(rt; first.status, Status::WriteFault { before: 0, now: 1 });
+    assert_eq!(rt; first.outside.port.sink.bytes(), b"".as_slice());
+    let disk = first.outside.disk;
+    assert_eq!(rt;
+        recorded(alloc, &disk)?.as_slice(),
+        b"\x01\x02\x03".as_slice()
+    );
+    let second = ran_over(&rt, alloc, SETUP, 1_000_000_010, &NONE, disk)?;
+    assert_eq!(rt; second.status, Status::Done);
+    assert_eq!(rt; second.outside.port.sink.bytes(), ACKNOWLEDGEMENT);
+    let tags = recorded(alloc, &second.outside.disk)?;
+    assert_eq!(rt; tags.as_slice(), b"\x01\x02\x03\x02".as_slice());
+    Ok(())
+}
+
+// Its journal has the same alarm, and another text.
+#[test]
+fn a_changed_setup_is_adopted(rt: HostRuntime) -> Result<(), Fail> {
+    let alloc = rt.alloc();
+    let disk = disk_of(alloc, AREA, &[])?;
+    let ended = ran_over(&rt, alloc, SETUP, 1_000_000_010, &NONE, disk)?;
+    assert_eq!(rt; ended.status, Status::Done);
+    let tags = recorded(alloc, &ended.outside.disk)?;
+    assert_eq!(rt; tags.as_slice(), b"\x01\x02\x03\x01\x02".as_slice());
+    Ok(())
+}
+
+// A run over these bytes is refused so, and changes nothing.
+fn refused(rt: &impl Abort, alloc: Global, bytes: &[u8], fault: OpenFault) -> Result<(), Fail> {
+    let disk = disk_of(alloc, bytes, &[])?;
+    let ended = ran_over(rt, alloc, SETUP, 1_000_000_000, &NONE, disk)?;
+    assert_eq!(rt; ended.status, Status::Journal(fault));
+    assert_eq!(rt; ended.outside.disk.bytes(Area::A), bytes);
+    assert_eq!(rt; ended.outside.port.sink.bytes(), b"".as_slice());
+    Ok(())
+}
+
+// The area with another byte at a place.
+fn spoilt(alloc: Global, place: usize, byte: u8) -> Result<Vec<u8>, Fail> {
+    let mut bytes = AREA.to_vec(alloc)?;
+    if let Some(there) = bytes.get_mut(place) {
+        *there = byte;
+    }
+    Ok(bytes)
+}
+
+#[test]
+fn other_bytes_are_refused(rt: HostRuntime) -> Result<(), Fail> {
+    let alloc = rt.alloc();
+    refused(
+        &rt,
+        alloc,
+        b"XXXXXXXXXXXXXXXXXX",
+        OpenFault::NotJournal { byte: 0 },
+    )?;
+    let version = OpenFault::WrongVersion { found: *b"0009" };
+    refused(&rt, alloc, &spoilt(alloc, 15, b'9')?, version)?;
+    refused(
+        &rt,
+        alloc,
+        &spoilt(alloc, 17, 0xff)?,
+        OpenFault::Damaged { at: 16 },
+    )?;
+    // A length that is right, and a body of an event that no entry goes on with.
+    refused(
+        &rt,
+        alloc,
+        &spoilt(alloc, 21, 9)?,
+        OpenFault::Damaged { at: 16 },
+    )
+}
+
+#[test]
+fn a_short_area_is_begun_anew(rt: HostRuntime) -> Result<(), Fail> {
+    let alloc = rt.alloc();
+    let disk = disk_of(alloc, b"ARC JOURNA", &[])?;
+    let ended = ran_over(&rt, alloc, SETUP, 1_000_000_000, &NONE, disk)?;
+    assert_eq!(rt; ended.status, Status::Done);
+    let tags = recorded(alloc, &ended.outside.disk)?;
+    assert_eq!(rt; tags.as_slice(), b"\x01\x02\x03".as_slice());
+    Ok(())
+}
+
+// A run whose disk fails at this call. Where it came to one, the second run acknowledges the alarm, and the journal has it once.
+fn failed_at(rt: &impl Abort, alloc: Global, call: u64) -> Result<bool, Fail> {
+    let disk = disk_of(alloc, b"", &[call])?;
+    let first = ran_over(rt, alloc, SETUP, 1_000_000_000, &NONE, disk)?;
+    if first.status == Status::Done {
+        return Ok(false);
+    }
+    assert_eq!(rt; first.status, Status::DiskFault { before: 0, now: 1 });
+    assert_eq!(rt; first.outside.port.sink.bytes(), b"".as_slice());
+    let second = ran_over(rt, alloc, SETUP, 1_000_000_010, &NONE, first.outside.disk)?;
+    assert_eq!(rt; second.status, Status::Done);
+    assert_eq!(rt; second.outside.port.sink.bytes(), ACKNOWLEDGEMENT);
+    let tags = recorded(alloc, &second.outside.disk)?;
+    assert_eq!(rt; tags.iter().filter(|tag| **tag == 3).count(), 1);
+    Ok(true)
+}
+
+// Four calls open a new area, and each of the three records takes four.
+#[test]
+fn a_disk_that_fails_at_each_of_its_calls(rt: HostRuntime) -> Result<(), Fail> {
+    let mut failed = 0;
+    for call in 1..40u64 {
+        if failed_at(&rt, rt.alloc(), call)? {
+            failed = call;
+        }
+    }
+    assert_eq!(rt; failed, 16);
+    Ok(())
+}
