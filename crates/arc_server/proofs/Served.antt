@@ -1,46 +1,132 @@
 -- What a served session shows.
-use Rattle.std.proofs.Common.{◌≡◌, ◌≤◌, ◌^◌, ℕ, List, inl, inr, sym, subst}
+use Rattle.std.proofs.Common.{◌≡◌, ◌≤◌, ◌^◌, ◌⊎◌, ℕ, List, Option, inl, inr, sym, subst, refl, arith}
 use Rattle.arc_data.specs.declared.event.Event.{Event}
+use Rattle.arc_io.specs.Areas.{Areas}
 use Rattle.arc_io.specs.Causes.{Rose}
 use Rattle.arc_io.specs.Seen.{PortSeen}
 use Rattle.centre_core.specs.Halls.{HallSeen}
-use Rattle.centre_core.specs.Runs.{begun}
-use Rattle.centre_core.specs.Setting.{IsSetFor, ram_seen, text_of}
-use Rattle.centre_core.specs.declared.hall.Stop.TheVariants.{Worn}
+use Rattle.centre_core.specs.Setting.{text_of}
+use Rattle.centre_core.specs.declared.hall.Stop.{Stop}
+use Rattle.centre_core.specs.declared.hall.Stop.TheVariants.{Memory, Down, Full, Worn}
 use Rattle.centre_rules.specs.Summary.{nothing}
 use Rattle.centre_rules.specs.History.{Entry}
-use Rattle.centre_rules.specs.State.{State}
+use Rattle.centre_store.specs.Begins.{begun_after}
+use Rattle.centre_store.specs.StoreHalls.{IsStoreFor, store_seen}
+use Rattle.centre_store.specs.Stores.{Stored, HasFailed}
+use Rattle.disk_journal.specs.declared.TheConstants.{SHIPPED}
 use Rattle.line_session.specs.Sessions.{HasStopped}
-use Rattle.arc_server.specs.Served.{Did}
-use Rattle.arc_server.specs.WholeRuns.{ServesRun, HasRisen}
+use Rattle.session_rules.specs.Sessions.{IsShownFor}
+use Rattle.arc_server.specs.Areas.{EndsWith, HasRecorded}
+use Rattle.arc_server.specs.Made.{made_of_end}
+use Rattle.arc_server.specs.Served.{Did, history_of}
+use Rattle.arc_server.specs.WholeRuns.{ServesRun, HasRisen, IsServed}
 use Rattle.arc_server.specs.declared.form.Form.{Form}
 use Rattle.arc_server.specs.declared.form.Form.TheVariants.{Line, Desk}
 use Rattle.arc_server.specs.declared.session.SessionEnd.{SessionEnd}
-use Rattle.arc_server.specs.declared.session.SessionEnd.TheVariants.{Stopped}
+use Rattle.arc_server.specs.declared.session.SessionEnd.TheVariants.{Quit, InputEnded, ReadFault, WriteFault, Spent, Stopped}
+use Rattle.arc_server.specs.declared.status.Status.{Status}
+use Rattle.arc_server.specs.declared.status.Status.TheVariants.{Done, DiskFault, ReadFault as StatusReadFault, WriteFault as StatusWriteFault}
+use Rattle.arc_server.specs.declared.status.Status.TheVariants.{Full as StatusFull, Memory as StatusMemory, Spent as StatusSpent, Worn as StatusWorn}
+use Rattle.arc_server.specs.declared.status.Which.TheVariants.{Input}
+use Rattle.arc_server.proofs.Kept.{kept, kept_up}
 
-worn_by : (hall : HallSeen) (state : State) (count : ℕ) (body : List ℕ) (reading : ℕ) → HasStopped hall (ram_seen state) (Worn count) body reading → (count ≡ state.entries) × (2 ^ 48 ≤ count)
-worn_by hall state count body reading (inl (is, wanted)) = absurd (cc)
-worn_by hall state count body reading (inr shown) = shown.2
+-- the hall stands for the history that the session ended with
+pub holds_of : (form : Form) (end : SessionEnd) {h : List Entry} {hall hall' : HallSeen} {p p' : PortSeen}
+    (did : Did form end h hall hall' p p') → hall'.stands nothing (history_of form end did)
+holds_of Line Quit did = absurd did
+holds_of Line InputEnded did = did.2.session.holds
+holds_of Line ReadFault did = did.2.session.holds
+holds_of Line WriteFault did = did.2.session.holds
+holds_of Line Spent did = did.2.session.holds
+holds_of Line (Stopped stop) did = did.2.session.holds
+holds_of Desk Quit did = did.2.desk.session.holds
+holds_of Desk InputEnded did = did.2.desk.session.holds
+holds_of Desk ReadFault did = did.2.desk.session.holds
+holds_of Desk WriteFault did = did.2.desk.session.holds
+holds_of Desk Spent did = did.2.desk.session.holds
+holds_of Desk (Stopped stop) did = did.2.desk.session.holds
 
--- a hall in memory that was worn has so many entries
-pub worn_shows : (form : Form) {text : List ℕ} {clock : ℕ} {p p' : PortSeen} (state : State) (count : ℕ) → ServesRun form (Stopped (Worn count)) text clock p p' state → (count ≡ state.entries) × (2 ^ 48 ≤ count)
-worn_shows Line {text} {clock} {p} {p'} state count r =
-    let stop = r.did.2.session.ended in
-    worn_by (ram_seen r.first) state count stop.piece stop.reading stop.cause
-worn_shows Desk {text} {clock} {p} {p'} state count r =
-    let stop = r.did.2.desk.session.ended in
-    stop.cause.2
+shown_by : (hall hall' : HallSeen) (stop : Stop) (body : List ℕ) (reading : ℕ) → HasStopped hall hall' stop body reading → IsShownFor hall' stop
+shown_by hall hall' stop body reading (inl wanted) = inl wanted.0
+shown_by hall hall' stop body reading (inr shown) = inr (shown.0, reading, shown.2)
+
+-- a hall that stopped a session showed the stop
+pub shown_of : (form : Form) (stop : Stop) {h : List Entry} {hall hall' : HallSeen} {p p' : PortSeen}
+    → Did form (Stopped stop) h hall hall' p p' → IsShownFor hall' stop
+shown_of Line stop {h} {hall} {hall'} {p} {p'} did =
+    let ended = did.2.session.ended in shown_by hall hall' stop ended.piece ended.reading ended.cause
+shown_of Desk stop {h} {hall} {hall'} {p} {p'} did =
+    let ended = did.2.desk.session.ended in inr (ended.cause.0, ended.reading, ended.cause.2)
 
 pub risen : (first second entry end : ℕ) → first ≡ entry → second ≡ end → Rose entry end → HasRisen first second entry end
 risen first second entry end before now rose = record { before = before; now = now; rose = subst (λ n. Rose n second) (sym before) (subst (λ n. Rose entry n) (sym now) rose) }
 
--- a session that was served from the beginning of a run on
-pub served : (form : Form) (end : SessionEnd) {end' : SessionEnd} {text : List ℕ} {clock : ℕ} {p p' : PortSeen} {first state : State} → end' ≡ end → text_of first ≡ text
-    → ((h : List Entry) → IsSetFor nothing first h → Did form end' h (ram_seen first) (ram_seen state) p p')
-    → IsSetFor nothing first (begun text clock) → ServesRun form end text clock p p' state
-served form end {end'} {text} {clock} {p} {p'} {first} {state} ended is did begins = record {
-  first = first;
-  begins = begins;
-  under = is;
-  did = subst (λ e. Did form e (begun text clock) (ram_seen first) (ram_seen state) p p') ended (did (begun text clock) begins);
+-- What is known of a session that was served over a store from the beginning of a run on.
+pub record Session {D : Type 0} (told : D → Option Areas) (may_leave : D → Areas → Type 0) (faults : D → ℕ)
+    (form : Form) (end : SessionEnd) (past : List Entry) (text : List ℕ) (clock : ℕ) (p p' : PortSeen) (first last : Stored D) : Type 0 where
+  pub begins : IsStoreFor told may_leave faults nothing first (begun_after nothing past text clock)
+  pub under : text_of first.state ≡ text
+  pub did : Did form end (begun_after nothing past text clock) (store_seen told may_leave faults first) (store_seen told may_leave faults last) p p'
+  pub limits : last.journal.limits ≡ SHIPPED
+
+served : {D : Type 0} {told : D → Option Areas} {may_leave : D → Areas → Type 0} {faults : D → ℕ}
+    (form : Form) (end : SessionEnd) (status : Status) {past : List Entry} {text : List ℕ} {clock : ℕ} {p p' : PortSeen} {first last : Stored D}
+    → (s : Session told may_leave faults form end past text clock p p' first last)
+    → EndsWith told may_leave status last.journal.disk (history_of form end s.did)
+    → ServesRun told may_leave faults form end status past text clock p p' last.journal.disk last
+served form end status {first = first} s ends = record {
+  first = first; begins = s.begins; under = s.under; did = s.did; limits = s.limits; handed = refl; ends = ends
 }
+
+-- the later of two counts at entry rose no sooner than the earlier
+pub rose_from : (entry at_open now : ℕ) → entry ≤ at_open → Rose at_open now → Rose entry now
+rose_from entry at_open now since rose = omega arith
+
+-- where the disk has failed
+pub served_down : {D : Type 0} {told : D → Option Areas} {may_leave : D → Areas → Type 0} {faults : D → ℕ}
+    (form : Form) (end : SessionEnd) {past : List Entry} {text : List ℕ} {clock : ℕ} {p p' : PortSeen} {first last : Stored D} (before : ℕ)
+    → (s : Session told may_leave faults form end past text clock p p' first last) → Rose before (faults last.journal.disk)
+    → IsServed told may_leave faults form (DiskFault before (faults last.journal.disk)) past text clock p p' before last.journal.disk
+served_down {D} {told} {may_leave} {faults} form end {last = last} before s rose =
+    let now = faults last.journal.disk in
+    let stands = (holds_of form end s.did).stands in
+    (record { before = refl; now = refl; rose = rose }, (end, last, served form end (DiskFault before now) s (kept last before now stands)))
+
+-- a stop other than want of memory was shown
+shown_but_memory : {hall' : HallSeen} {stop : Stop} → IsShownFor hall' stop → (stop ≡ Memory → ⊥)
+    → (event : Event) × (reading : ℕ) × hall'.shows stop event reading
+shown_but_memory (inl wanted) other = absurd (other wanted)
+shown_but_memory (inr shown) other = shown
+
+-- where the disk has not failed
+pub served_up : {D : Type 0} {told : D → Option Areas} {may_leave : D → Areas → Type 0} {faults : D → ℕ}
+    (form : Form) (end : SessionEnd) {past : List Entry} {text : List ℕ} {clock : ℕ} {p p' : PortSeen} {first last : Stored D} (before : ℕ)
+    → (s : Session told may_leave faults form end past text clock p p' first last)
+    → (HasFailed faults last → ⊥)
+    → (end ≡ ReadFault → Rose p.read_faults p'.read_faults) → (end ≡ WriteFault → Rose p.write_faults p'.write_faults)
+    → IsServed told may_leave faults form (made_of_end end before (faults last.journal.disk) p p') past text clock p p' before last.journal.disk
+served_up {D} {told} {may_leave} {faults} form Quit {last = last} before s up read write =
+    (Quit, tt, (last, served form Quit Done s (kept_up last (holds_of form Quit s.did).stands up)))
+served_up {D} {told} {may_leave} {faults} form InputEnded {last = last} before s up read write =
+    (InputEnded, tt, (last, served form InputEnded Done s (kept_up last (holds_of form InputEnded s.did).stands up)))
+served_up {D} {told} {may_leave} {faults} form ReadFault {p = p} {p' = p'} {last = last} before s up read write =
+    (record { before = refl; now = refl; rose = read refl },
+    (last, served form ReadFault (StatusReadFault Input p.read_faults p'.read_faults) s (kept_up last (holds_of form ReadFault s.did).stands up)))
+served_up {D} {told} {may_leave} {faults} form WriteFault {p = p} {p' = p'} {last = last} before s up read write =
+    (record { before = refl; now = refl; rose = write refl },
+    (last, served form WriteFault (StatusWriteFault p.write_faults p'.write_faults) s (kept_up last (holds_of form WriteFault s.did).stands up)))
+served_up {D} {told} {may_leave} {faults} form Spent {last = last} before s up read write =
+    (last, served form Spent StatusSpent s (kept_up last (holds_of form Spent s.did).stands up))
+served_up {D} {told} {may_leave} {faults} form (Stopped Memory) {last = last} before s up read write =
+    (last, served form (Stopped Memory) StatusMemory s (kept_up last (holds_of form (Stopped Memory) s.did).stands up))
+served_up {D} {told} {may_leave} {faults} form (Stopped (Down at_open is)) {last = last} before s up read write =
+    let shown = shown_but_memory (shown_of form (Down at_open is) s.did) (λ none. cc) in
+    absurd (up (subst (λ n. Rose n (faults last.journal.disk)) shown.2.0 (subst (λ n. Rose at_open n) shown.2.1 shown.2.2)))
+served_up {D} {told} {may_leave} {faults} form (Stopped (Full used need records)) {last = last} before s up read write =
+    let end : SessionEnd = Stopped (Full used need records) in
+    let shown = shown_but_memory (shown_of form (Full used need records) s.did) (λ none. cc) in
+    (last, shown.0, shown.1, shown.2, served form end (StatusFull used need records) s (kept_up last (holds_of form end s.did).stands up))
+served_up {D} {told} {may_leave} {faults} form (Stopped (Worn count)) {last = last} before s up read write =
+    let end : SessionEnd = Stopped (Worn count) in
+    let shown = shown_but_memory (shown_of form (Worn count) s.did) (λ none. cc) in
+    (last, shown.2.0, shown.2.1, served form end (StatusWorn count) s (kept_up last (holds_of form end s.did).stands up))

@@ -9,4 +9,5 @@ pub mod Forms
 pub mod Served
 pub mod Statuses
 pub mod Areas
+pub mod Made
 pub mod WholeRuns

@@ -174,15 +174,21 @@ IsServed told may_leave faults form (SetupBad fault) past text clock p p' entry 
 IsServed told may_leave faults form (ReadFault Setup before now) past text clock p p' entry disk' = ⊥
 IsServed told may_leave faults form (Journal fault) past text clock p p' entry disk' = ⊥
 
--- What a run did whose setup was read: the journal was not opened, and the port not touched; or it stood for a past, one reading of the
--- clock was taken, and the run did not begin, or it began and a session was served.
+-- What a run did over a past: at one reading of the clock it did not begin, or it began and a session was served.
+abbrev pub GoesOnFrom : {D : Type 0} → (D → Option Areas) → (D → Areas → Type 0) → (D → ℕ)
+    → Form → Status → List Entry → List ℕ → PortSeen → PortSeen → ℕ → D → Type 0
+GoesOnFrom told may_leave faults form status past text p p' entry disk' =
+    (clock : ℕ) × ((IsUnbegun told may_leave faults status past text clock entry disk' × (p' ≡ after_reading clock p))
+    ⊎ IsServed told may_leave faults form status past text clock (after_reading clock p) p' entry disk')
+
+-- What a run did whose setup was read: the journal was not opened, and the port not touched; or the area stood for a past, and the run
+-- went on from there.
 abbrev pub IsOver : {D : Type 0} → (D → Option Areas) → (D → Areas → Type 0) → (D → ℕ) → (D → ℕ → Areas → Type 0) → (D → ℕ)
     → Form → Status → List ℕ → PortSeen → PortSeen → D → D → Type 0
 IsOver told may_leave moment left_since faults form status text p p' disk disk' =
     (IsUnopened told may_leave moment left_since faults status disk disk' × (p' ≡ p))
-    ⊎ ((past : List Entry) × (clock : ℕ) × BeginsWith told disk past
-    × ((IsUnbegun told may_leave faults status past text clock (faults disk) disk' × (p' ≡ after_reading clock p))
-    ⊎ IsServed told may_leave faults form status past text clock (after_reading clock p) p' (faults disk) disk'))
+    ⊎ ((past : List Entry) × BeginsWith told disk past
+    × GoesOnFrom told may_leave faults form status past text p p' (faults disk) disk')
 
 -- What a run did: the setup was not read or is none, and port and disk were not touched; or the run went on from its text.
 abbrev pub IsRun : {D : Type 0} → (D → Option Areas) → (D → Areas → Type 0) → (D → ℕ) → (D → ℕ → Areas → Type 0) → (D → ℕ)

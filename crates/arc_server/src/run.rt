@@ -1,7 +1,8 @@
 // The top call.
-ghost use Rattle.std.specs.Prelude.{◌≡◌, ◌≢◌, ◌≤◌, ◌<◌, ◌↔◌, ◌×◌, ◌^◌, List, ℕ, Some, None, false, IsTrue, IsOk, IfOk, IfErr};
+ghost use Rattle.std.specs.Prelude.{◌≡◌, ◌≢◌, ◌≤◌, ◌↔◌, List, ℕ, Some, None, false, IsTrue, IsOk, IfOk, IfErr};
 ghost use Rattle.alarm_rules.specs.Setups.{setup_of};
 ghost use Rattle.arc_io.specs.Causes.{Rose};
+ghost use Rattle.arc_io.specs.Seen.{PortSeen};
 ghost use Rattle.centre_core.specs.Setting.{IsSetting, text_of};
 ghost use Rattle.centre_rules.specs.History.{Entry};
 ghost use Rattle.centre_rules.specs.Summary.{nothing};
@@ -9,8 +10,8 @@ ghost use Rattle.centre_store.specs.Begins.{begun_after};
 ghost use Rattle.centre_store.specs.StoreHalls.{IsStoreFor};
 ghost use Rattle.centre_store.specs.Stores.{StoreStands};
 ghost use Rattle.arc_server.specs.Forms.{form_of as form_by};
-ghost use Rattle.arc_server.specs.Areas.{BeginsWith};
-ghost use Rattle.arc_server.specs.WholeRuns.{IsRun, IsOver, IsServed, IsSetupEnd, IsUnbegun, ReadsText};
+ghost use Rattle.arc_server.specs.Made.{made_of_fault, made_of_stop, made_of_end};
+ghost use Rattle.arc_server.specs.WholeRuns.{IsRun, IsOver, GoesOnFrom, IsServed, IsSetupEnd, ReadsText};
 
 use crate::form::{Form, form_of};
 use crate::opened::serve_over;
@@ -141,7 +142,9 @@ fn run_over<P: Port, D: Disk>(
 }
 
 // The status that a refused opening makes.
-fn unopened(fault: OpenFault) -> Status {
+fn unopened(fault: OpenFault) -> Status
+    ensures { result ≡ made_of_fault fault }
+{
     match fault {
         OpenFault::DiskFault { before, now } => Status::DiskFault { before, now },
         OpenFault::Memory => Status::Memory,
@@ -149,7 +152,7 @@ fn unopened(fault: OpenFault) -> Status {
     }
 }
 
-// Begins a run over the store, and serves its session.
+// Begins a run over the store, at one reading of the clock, and serves its session.
 fn run_store<P: Port, D: Disk>(
     form: Form,
     alloc: Global,
@@ -157,7 +160,15 @@ fn run_store<P: Port, D: Disk>(
     setup: Setup,
     port: &mut P,
     store: Store<D>,
-) -> (Status, D) {
+) -> (Status, D)
+    requires setting { IsOk (setup_of setup) }
+    requires port { (P.seen port.old).ended ≡ false }
+    requires before { before ≤ store.at_open }
+    requires limits { store.journal.limits ≡ SHIPPED }
+    ensures usage { result.0 ≢ Status.Usage }
+    ensures ran { (past : List Entry) → StoreStands D.told D.may_leave D.fault_count nothing store past →
+        GoesOnFrom D.told D.may_leave D.fault_count form result.0 past setup (P.seen port.old) (P.seen port.new) before result.1 }
+{
     let mut store = store;
     let clock = port.now();
     match store.begin(alloc, setup, clock) {
@@ -170,7 +181,9 @@ fn run_store<P: Port, D: Disk>(
 }
 
 // The status that a stop makes, by the counts of the disk's faults at the run's entry and now.
-fn stopped(stop: Stop, before: u64, now: u64) -> Status {
+fn stopped(stop: Stop, before: u64, now: u64) -> Status
+    ensures { result ≡ made_of_stop stop before now }
+{
     match stop {
         Stop::Memory => Status::Memory,
         Stop::Down { .. } => Status::DiskFault { before, now },
@@ -194,14 +207,39 @@ fn serve_store<P: Port, D: Disk>(
     before: u64,
     port: &mut P,
     store: Store<D>,
-) -> (Status, D) {
+) -> (Status, D)
+    requires ready { IsSetting store.state.sum.text }
+    requires port { (P.seen port.old).ended ≡ false }
+    requires before { before ≤ store.at_open }
+    requires limits { store.journal.limits ≡ SHIPPED }
+    ensures usage { result.0 ≢ Status.Usage }
+    ensures served { (past : List Entry) (text : List ℕ) (clock : ℕ)
+        → IsStoreFor D.told D.may_leave D.fault_count nothing store (begun_after nothing past text clock) → text_of store.state ≡ text
+        → IsServed D.told D.may_leave D.fault_count form result.0 past text clock (P.seen port.old) (P.seen port.new) before result.1 }
+{
     let reads = port.read_faults();
     let writes = port.write_faults();
     let (end, store) = serve_over(form, alloc, store, port);
     let disk = store.close();
     let now = disk.faults();
-    let status = match end {
-        _ if has_risen(before, now) => Status::DiskFault { before, now },
+    if has_risen(before, now) {
+        return (Status::DiskFault { before, now }, disk);
+    }
+    (ended(end, before, now, reads, writes, port), disk)
+}
+
+// The status that a session's end makes.
+fn ended<P: Port>(
+    end: SessionEnd,
+    before: u64,
+    now: u64,
+    reads: u64,
+    writes: u64,
+    port: &P,
+) -> Status
+    ensures { (p : PortSeen) → reads ≡ p.read_faults → writes ≡ p.write_faults → result ≡ made_of_end end before now p (P.seen port.now) }
+{
+    match end {
         SessionEnd::Quit | SessionEnd::InputEnded => Status::Done,
         SessionEnd::ReadFault => Status::ReadFault {
             input: Which::Input,
@@ -214,8 +252,7 @@ fn serve_store<P: Port, D: Disk>(
         },
         SessionEnd::Spent => Status::Spent,
         SessionEnd::Stopped(stop) => stopped(stop, before, now),
-    };
-    (status, disk)
+    }
 }
 
 // The later count is above the earlier one, or stands at its last value.
