@@ -1,5 +1,5 @@
 -- What a served session shows.
-use Rattle.std.proofs.Common.{◌≡◌, ◌≤◌, ◌^◌, ◌⊎◌, ℕ, List, Option, inl, inr, sym, subst, refl, arith}
+use Rattle.std.proofs.Common.{◌≡◌, ◌≤◌, ◌⊎◌, ℕ, List, Option, Bool, true, false, inl, inr, sym, subst, refl, ap, ◌∙◌, arith}
 use Rattle.arc_data.specs.declared.event.Event.{Event}
 use Rattle.arc_io.specs.Areas.{Areas}
 use Rattle.arc_io.specs.Causes.{Rose}
@@ -12,11 +12,10 @@ use Rattle.centre_rules.specs.Summary.{nothing}
 use Rattle.centre_rules.specs.History.{Entry}
 use Rattle.centre_store.specs.Begins.{begun_after}
 use Rattle.centre_store.specs.StoreHalls.{IsStoreFor, store_seen}
-use Rattle.centre_store.specs.Stores.{Stored, HasFailed}
-use Rattle.disk_journal.specs.declared.TheConstants.{SHIPPED}
+use Rattle.centre_store.specs.Stores.{Stored, StoreStands, HasFailed, Shows}
 use Rattle.line_session.specs.Sessions.{HasStopped}
 use Rattle.session_rules.specs.Sessions.{IsShownFor}
-use Rattle.arc_server.specs.Areas.{EndsWith, HasRecorded}
+use Rattle.arc_server.specs.Areas.{EndsWith, HasRecorded, shipped}
 use Rattle.arc_server.specs.Made.{made_of_end}
 use Rattle.arc_server.specs.Served.{Did, history_of}
 use Rattle.arc_server.specs.WholeRuns.{ServesRun, HasRisen, IsServed}
@@ -31,102 +30,150 @@ use Rattle.arc_server.specs.declared.status.Which.TheVariants.{Input}
 use Rattle.arc_server.proofs.Kept.{kept, kept_up}
 
 -- the hall stands for the history that the session ended with
-pub holds_of : (form : Form) (end : SessionEnd) {h : List Entry} {hall hall' : HallSeen} {p p' : PortSeen}
-    (did : Did form end h hall hall' p p') → hall'.stands nothing (history_of form end did)
-holds_of Line Quit did = absurd did
-holds_of Line InputEnded did = did.2.session.holds
-holds_of Line ReadFault did = did.2.session.holds
-holds_of Line WriteFault did = did.2.session.holds
-holds_of Line Spent did = did.2.session.holds
-holds_of Line (Stopped stop) did = did.2.session.holds
-holds_of Desk Quit did = did.2.desk.session.holds
-holds_of Desk InputEnded did = did.2.desk.session.holds
-holds_of Desk ReadFault did = did.2.desk.session.holds
-holds_of Desk WriteFault did = did.2.desk.session.holds
-holds_of Desk Spent did = did.2.desk.session.holds
-holds_of Desk (Stopped stop) did = did.2.desk.session.holds
+pub holds_of : (form : Form) (end : SessionEnd) (h : List Entry) (hall hall' : HallSeen) (p p' : PortSeen)
+    (did : Did form end h hall hall' p p') → hall'.stands nothing (history_of form end h hall hall' p p' did)
+holds_of Line Quit h hall hall' p p' did = absurd did
+holds_of Line InputEnded h hall hall' p p' did = did.2.session.holds
+holds_of Line ReadFault h hall hall' p p' did = did.2.session.holds
+holds_of Line WriteFault h hall hall' p p' did = did.2.session.holds
+holds_of Line Spent h hall hall' p p' did = did.2.session.holds
+holds_of Line (Stopped stop) h hall hall' p p' did = did.2.session.holds
+holds_of Desk Quit h hall hall' p p' did = did.2.desk.session.holds
+holds_of Desk InputEnded h hall hall' p p' did = did.2.desk.session.holds
+holds_of Desk ReadFault h hall hall' p p' did = did.2.desk.session.holds
+holds_of Desk WriteFault h hall hall' p p' did = did.2.desk.session.holds
+holds_of Desk Spent h hall hall' p p' did = did.2.desk.session.holds
+holds_of Desk (Stopped stop) h hall hall' p p' did = did.2.desk.session.holds
 
 shown_by : (hall hall' : HallSeen) (stop : Stop) (body : List ℕ) (reading : ℕ) → HasStopped hall hall' stop body reading → IsShownFor hall' stop
 shown_by hall hall' stop body reading (inl wanted) = inl wanted.0
 shown_by hall hall' stop body reading (inr shown) = inr (shown.0, reading, shown.2)
 
 -- a hall that stopped a session showed the stop
-pub shown_of : (form : Form) (stop : Stop) {h : List Entry} {hall hall' : HallSeen} {p p' : PortSeen}
+pub shown_of : (form : Form) (stop : Stop) (h : List Entry) (hall hall' : HallSeen) (p p' : PortSeen)
     → Did form (Stopped stop) h hall hall' p p' → IsShownFor hall' stop
-shown_of Line stop {h} {hall} {hall'} {p} {p'} did =
+shown_of Line stop h hall hall' p p' did =
     let ended = did.2.session.ended in shown_by hall hall' stop ended.piece ended.reading ended.cause
-shown_of Desk stop {h} {hall} {hall'} {p} {p'} did =
+shown_of Desk stop h hall hall' p p' did =
     let ended = did.2.desk.session.ended in inr (ended.cause.0, ended.reading, ended.cause.2)
 
 pub risen : (first second entry end : ℕ) → first ≡ entry → second ≡ end → Rose entry end → HasRisen first second entry end
 risen first second entry end before now rose = record { before = before; now = now; rose = subst (λ n. Rose n second) (sym before) (subst (λ n. Rose entry n) (sym now) rose) }
 
--- What is known of a session that was served over a store from the beginning of a run on.
+-- What is known of a session that was served over a store from the beginning of a run on, and of the disk that was handed back.
 pub record Session {D : Type 0} (told : D → Option Areas) (may_leave : D → Areas → Type 0) (faults : D → ℕ)
-    (form : Form) (end : SessionEnd) (past : List Entry) (text : List ℕ) (clock : ℕ) (p p' : PortSeen) (first last : Stored D) : Type 0 where
+    (form : Form) (end : SessionEnd) (past : List Entry) (text : List ℕ) (clock : ℕ) (p p' : PortSeen) (disk' : D) (first last : Stored D) : Type 0 where
   pub begins : IsStoreFor told may_leave faults nothing first (begun_after nothing past text clock)
   pub under : text_of first.state ≡ text
   pub did : Did form end (begun_after nothing past text clock) (store_seen told may_leave faults first) (store_seen told may_leave faults last) p p'
-  pub limits : last.journal.limits ≡ SHIPPED
+  pub limits : last.journal.limits ≡ shipped
+  pub handed : disk' ≡ last.journal.disk
+
+-- the history that it ended with, and that the store stands for it
+abbrev pub ends_with : {D : Type 0} {told : D → Option Areas} {may_leave : D → Areas → Type 0} {faults : D → ℕ}
+    (form : Form) (end : SessionEnd) {past : List Entry} {text : List ℕ} {clock : ℕ} {p p' : PortSeen} {disk' : D} {first last : Stored D}
+    → Session told may_leave faults form end past text clock p p' disk' first last → List Entry
+ends_with {D} {told} {may_leave} {faults} form end {past} {text} {clock} {p} {p'} {disk'} {first} {last} s =
+    history_of form end (begun_after nothing past text clock) (store_seen told may_leave faults first) (store_seen told may_leave faults last) p p' s.did
+
+stands_for : {D : Type 0} {told : D → Option Areas} {may_leave : D → Areas → Type 0} {faults : D → ℕ}
+    (form : Form) (end : SessionEnd) {past : List Entry} {text : List ℕ} {clock : ℕ} {p p' : PortSeen} {disk' : D} {first last : Stored D}
+    → (s : Session told may_leave faults form end past text clock p p' disk' first last)
+    → StoreStands told may_leave faults nothing last (ends_with form end s)
+stands_for {D} {told} {may_leave} {faults} form end {past} {text} {clock} {p} {p'} {disk'} {first} {last} s =
+    (holds_of form end (begun_after nothing past text clock) (store_seen told may_leave faults first) (store_seen told may_leave faults last) p p' s.did).stands
 
 served : {D : Type 0} {told : D → Option Areas} {may_leave : D → Areas → Type 0} {faults : D → ℕ}
-    (form : Form) (end : SessionEnd) (status : Status) {past : List Entry} {text : List ℕ} {clock : ℕ} {p p' : PortSeen} {first last : Stored D}
-    → (s : Session told may_leave faults form end past text clock p p' first last)
-    → EndsWith told may_leave status last.journal.disk (history_of form end s.did)
-    → ServesRun told may_leave faults form end status past text clock p p' last.journal.disk last
-served form end status {first = first} s ends = record {
-  first = first; begins = s.begins; under = s.under; did = s.did; limits = s.limits; handed = refl; ends = ends
+    (form : Form) (end : SessionEnd) (status : Status) {past : List Entry} {text : List ℕ} {clock : ℕ} {p p' : PortSeen} {disk' : D} {first last : Stored D}
+    → (s : Session told may_leave faults form end past text clock p p' disk' first last)
+    → EndsWith told may_leave status last.journal.disk (ends_with form end s)
+    → ServesRun told may_leave faults form end status past text clock p p' disk' last
+served {D} {told} {may_leave} form end status {first = first} s ends = record {
+  first = first;
+  begins = s.begins;
+  under = s.under;
+  did = s.did;
+  limits = s.limits;
+  handed = s.handed;
+  ends = subst (λ (d : D). EndsWith told may_leave status d (ends_with form end s)) (sym s.handed) ends;
 }
+
+-- where the disk has not failed, it has recorded that history
+recorded_up : {D : Type 0} {told : D → Option Areas} {may_leave : D → Areas → Type 0} {faults : D → ℕ}
+    (form : Form) (end : SessionEnd) {past : List Entry} {text : List ℕ} {clock : ℕ} {p p' : PortSeen} {disk' : D} {first last : Stored D}
+    → (s : Session told may_leave faults form end past text clock p p' disk' first last) → (HasFailed faults last → ⊥)
+    → HasRecorded told may_leave last.journal.disk (ends_with form end s)
+recorded_up form end {last = last} s up = kept_up last (stands_for form end s) up
 
 -- the later of two counts at entry rose no sooner than the earlier
 pub rose_from : (entry at_open now : ℕ) → entry ≤ at_open → Rose at_open now → Rose entry now
 rose_from entry at_open now since rose = omega arith
 
+-- a store whose disk has no more faults at the end than at the entry of the run
+pub up_to_end : {D : Type 0} (faults : D → ℕ) (before first now : ℕ) (last : Stored D) (disk' : D) (risen : Bool)
+    → last.at_open ≡ first → before ≤ first → disk' ≡ last.journal.disk → now ≡ faults disk'
+    → (Rose before now → risen ≡ true) → risen ≡ false → HasFailed faults last → ⊥
+up_to_end faults before first now last disk' risen opened since handed is rises not failed =
+    let rose : Rose last.at_open now = subst (λ n. Rose last.at_open n) (sym (is ∙ ap faults handed)) failed in
+    let low : before ≤ last.at_open = subst (λ n. before ≤ n) (sym opened) since in
+    let both : false ≡ true = sym not ∙ rises (rose_from before last.at_open now low rose) in
+    cc
+
 -- where the disk has failed
 pub served_down : {D : Type 0} {told : D → Option Areas} {may_leave : D → Areas → Type 0} {faults : D → ℕ}
-    (form : Form) (end : SessionEnd) {past : List Entry} {text : List ℕ} {clock : ℕ} {p p' : PortSeen} {first last : Stored D} (before : ℕ)
-    → (s : Session told may_leave faults form end past text clock p p' first last) → Rose before (faults last.journal.disk)
-    → IsServed told may_leave faults form (DiskFault before (faults last.journal.disk)) past text clock p p' before last.journal.disk
-served_down {D} {told} {may_leave} {faults} form end {last = last} before s rose =
-    let now = faults last.journal.disk in
-    let stands = (holds_of form end s.did).stands in
-    (record { before = refl; now = refl; rose = rose }, (end, last, served form end (DiskFault before now) s (kept last before now stands)))
+    (form : Form) (end : SessionEnd) {past : List Entry} {text : List ℕ} {clock : ℕ} {p p' : PortSeen} {disk' : D} {first last : Stored D}
+    (before now : ℕ) → (s : Session told may_leave faults form end past text clock p p' disk' first last)
+    → now ≡ faults disk' → Rose before now
+    → IsServed told may_leave faults form (DiskFault before now) past text clock p p' before disk'
+served_down {D} {told} {may_leave} {faults} form end {last = last} before now s is rose =
+    (record { before = refl; now = is; rose = rose }, (end, last, served form end (DiskFault before now) s (kept last before now (stands_for form end s))))
 
--- a stop other than want of memory was shown
-shown_but_memory : {hall' : HallSeen} {stop : Stop} → IsShownFor hall' stop → (stop ≡ Memory → ⊥)
+shown_but_memory : (hall' : HallSeen) (stop : Stop) → IsShownFor hall' stop → (stop ≡ Memory → ⊥)
     → (event : Event) × (reading : ℕ) × hall'.shows stop event reading
-shown_but_memory (inl wanted) other = absurd (other wanted)
-shown_but_memory (inr shown) other = shown
+shown_but_memory hall' stop (inl wanted) other = absurd (other wanted)
+shown_but_memory hall' stop (inr shown) other = shown
+
+-- a stop other than want of memory was shown by the store
+shown_at : {D : Type 0} {told : D → Option Areas} {may_leave : D → Areas → Type 0} {faults : D → ℕ}
+    (form : Form) (stop : Stop) {past : List Entry} {text : List ℕ} {clock : ℕ} {p p' : PortSeen} {disk' : D} {first last : Stored D}
+    → Session told may_leave faults form (Stopped stop) past text clock p p' disk' first last → (stop ≡ Memory → ⊥)
+    → (event : Event) × (reading : ℕ) × Shows told may_leave faults last stop event reading
+shown_at {D} {told} {may_leave} {faults} form stop {past} {text} {clock} {p} {p'} {disk'} {first} {last} s other =
+    let hall : HallSeen = store_seen told may_leave faults first in
+    let hall' : HallSeen = store_seen told may_leave faults last in
+    shown_but_memory hall' stop (shown_of form stop (begun_after nothing past text clock) hall hall' p p' s.did) other
 
 -- where the disk has not failed
 pub served_up : {D : Type 0} {told : D → Option Areas} {may_leave : D → Areas → Type 0} {faults : D → ℕ}
-    (form : Form) (end : SessionEnd) {past : List Entry} {text : List ℕ} {clock : ℕ} {p p' : PortSeen} {first last : Stored D} (before : ℕ)
-    → (s : Session told may_leave faults form end past text clock p p' first last)
+    (form : Form) (end : SessionEnd) {past : List Entry} {text : List ℕ} {clock : ℕ} {p p' : PortSeen} {disk' : D} {first last : Stored D}
+    (before now : ℕ) → (s : Session told may_leave faults form end past text clock p p' disk' first last)
     → (HasFailed faults last → ⊥)
     → (end ≡ ReadFault → Rose p.read_faults p'.read_faults) → (end ≡ WriteFault → Rose p.write_faults p'.write_faults)
-    → IsServed told may_leave faults form (made_of_end end before (faults last.journal.disk) p p') past text clock p p' before last.journal.disk
-served_up {D} {told} {may_leave} {faults} form Quit {last = last} before s up read write =
-    (Quit, tt, (last, served form Quit Done s (kept_up last (holds_of form Quit s.did).stands up)))
-served_up {D} {told} {may_leave} {faults} form InputEnded {last = last} before s up read write =
-    (InputEnded, tt, (last, served form InputEnded Done s (kept_up last (holds_of form InputEnded s.did).stands up)))
-served_up {D} {told} {may_leave} {faults} form ReadFault {p = p} {p' = p'} {last = last} before s up read write =
-    (record { before = refl; now = refl; rose = read refl },
-    (last, served form ReadFault (StatusReadFault Input p.read_faults p'.read_faults) s (kept_up last (holds_of form ReadFault s.did).stands up)))
-served_up {D} {told} {may_leave} {faults} form WriteFault {p = p} {p' = p'} {last = last} before s up read write =
-    (record { before = refl; now = refl; rose = write refl },
-    (last, served form WriteFault (StatusWriteFault p.write_faults p'.write_faults) s (kept_up last (holds_of form WriteFault s.did).stands up)))
-served_up {D} {told} {may_leave} {faults} form Spent {last = last} before s up read write =
-    (last, served form Spent StatusSpent s (kept_up last (holds_of form Spent s.did).stands up))
-served_up {D} {told} {may_leave} {faults} form (Stopped Memory) {last = last} before s up read write =
-    (last, served form (Stopped Memory) StatusMemory s (kept_up last (holds_of form (Stopped Memory) s.did).stands up))
-served_up {D} {told} {may_leave} {faults} form (Stopped (Down at_open is)) {last = last} before s up read write =
-    let shown = shown_but_memory (shown_of form (Down at_open is) s.did) (λ none. cc) in
+    → IsServed told may_leave faults form (made_of_end end before now p p') past text clock p p' before disk'
+served_up {D} {told} {may_leave} {faults} form Quit {last = last} before now s up read write =
+    (Quit, tt, (last, served form Quit Done s (recorded_up form Quit s up)))
+served_up {D} {told} {may_leave} {faults} form InputEnded {last = last} before now s up read write =
+    (InputEnded, tt, (last, served form InputEnded Done s (recorded_up form InputEnded s up)))
+served_up {D} {told} {may_leave} {faults} form ReadFault {p = p} {p' = p'} {last = last} before now s up read write = (
+  record { before = refl; now = refl; rose = read refl },
+  (last, served form ReadFault (StatusReadFault Input p.read_faults p'.read_faults) s (recorded_up form ReadFault s up)),
+)
+served_up {D} {told} {may_leave} {faults} form WriteFault {p = p} {p' = p'} {last = last} before now s up read write = (
+  record { before = refl; now = refl; rose = write refl },
+  (last, served form WriteFault (StatusWriteFault p.write_faults p'.write_faults) s (recorded_up form WriteFault s up)),
+)
+served_up {D} {told} {may_leave} {faults} form Spent {last = last} before now s up read write =
+    (last, served form Spent StatusSpent s (recorded_up form Spent s up))
+served_up {D} {told} {may_leave} {faults} form (Stopped Memory) {last = last} before now s up read write =
+    (last, served form (Stopped Memory) StatusMemory s (recorded_up form (Stopped Memory) s up))
+served_up {D} {told} {may_leave} {faults} form (Stopped (Down at_open is)) {last = last} before now s up read write =
+    let shown = shown_at form (Down at_open is) s (λ none. cc) in
     absurd (up (subst (λ n. Rose n (faults last.journal.disk)) shown.2.0 (subst (λ n. Rose at_open n) shown.2.1 shown.2.2)))
-served_up {D} {told} {may_leave} {faults} form (Stopped (Full used need records)) {last = last} before s up read write =
+served_up {D} {told} {may_leave} {faults} form (Stopped (Full used need records)) {last = last} before now s up read write =
     let end : SessionEnd = Stopped (Full used need records) in
-    let shown = shown_but_memory (shown_of form (Full used need records) s.did) (λ none. cc) in
-    (last, shown.0, shown.1, shown.2, served form end (StatusFull used need records) s (kept_up last (holds_of form end s.did).stands up))
-served_up {D} {told} {may_leave} {faults} form (Stopped (Worn count)) {last = last} before s up read write =
+    let shown = shown_at form (Full used need records) s (λ none. cc) in
+    (last, shown.0, shown.1, shown.2, served form end (StatusFull used need records) s (recorded_up form end s up))
+served_up {D} {told} {may_leave} {faults} form (Stopped (Worn count)) {last = last} before now s up read write =
     let end : SessionEnd = Stopped (Worn count) in
-    let shown = shown_but_memory (shown_of form (Worn count) s.did) (λ none. cc) in
-    (last, shown.2.0, shown.2.1, served form end (StatusWorn count) s (kept_up last (holds_of form end s.did).stands up))
+    let shown = shown_at form (Worn count) s (λ none. cc) in
+    (last, shown.2.0, shown.2.1, served form end (StatusWorn count) s (recorded_up form end s up))

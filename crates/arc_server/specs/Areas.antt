@@ -3,12 +3,17 @@ use Rattle.std.specs.Prelude.{◌⊎◌, ℕ, List, Option, IfSome}
 use Rattle.arc_io.specs.Areas.{Areas}
 use Rattle.centre_rules.specs.History.{Entry}
 use Rattle.disk_journal.specs.Records.{Stands}
+use Rattle.disk_journal.specs.declared.journal.Limits.{Limits}
 use Rattle.centre_store.specs.Bodies.{bodies_of}
 use Rattle.centre_store.specs.Pasts.{IsPast}
 use Rattle.centre_store.specs.Stores.{IsTorn}
 use Rattle.arc_server.specs.declared.status.Status.{Status}
 use Rattle.arc_server.specs.declared.status.Status.TheVariants.{Done, Usage, SetupBad, ReadFault, WriteFault, DiskFault, Journal, Full}
 use Rattle.arc_server.specs.declared.status.Status.TheVariants.{Memory, Spent, Worn}
+
+-- how much a journal may hold as it is shipped
+abbrev pub shipped : Limits
+shipped = record { bytes = 268_435_456; records = 1_000_000 }
 
 -- what a read gives of the area stands for bodies that have this past
 pub record BeginsWith {D : Type 0} (told : D → Option Areas) (disk : D) (past : List Entry) : Type 0 where

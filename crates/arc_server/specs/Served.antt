@@ -42,17 +42,17 @@ Did Desk Spent h hall hall' p p' = DeskDid DeskSpent h hall hall' p p'
 Did Desk (Stopped stop) h hall hall' p p' = DeskDid (DeskStopped stop) h hall hall' p p'
 
 -- the history that the session ended with
-abbrev pub history_of : (form : Form) (end : SessionEnd) {h : List Entry} {hall hall' : HallSeen} {p p' : PortSeen}
+abbrev pub history_of : (form : Form) (end : SessionEnd) (h : List Entry) (hall hall' : HallSeen) (p p' : PortSeen)
     → Did form end h hall hall' p p' → List Entry
-history_of Line Quit did = absurd did
-history_of Line InputEnded did = did.2.session.history
-history_of Line ReadFault did = did.2.session.history
-history_of Line WriteFault did = did.2.session.history
-history_of Line Spent did = did.2.session.history
-history_of Line (Stopped stop) did = did.2.session.history
-history_of Desk Quit did = did.2.desk.session.history
-history_of Desk InputEnded did = did.2.desk.session.history
-history_of Desk ReadFault did = did.2.desk.session.history
-history_of Desk WriteFault did = did.2.desk.session.history
-history_of Desk Spent did = did.2.desk.session.history
-history_of Desk (Stopped stop) did = did.2.desk.session.history
+history_of Line Quit h hall hall' p p' did = absurd did
+history_of Line InputEnded h hall hall' p p' did = did.2.session.history
+history_of Line ReadFault h hall hall' p p' did = did.2.session.history
+history_of Line WriteFault h hall hall' p p' did = did.2.session.history
+history_of Line Spent h hall hall' p p' did = did.2.session.history
+history_of Line (Stopped stop) h hall hall' p p' did = did.2.session.history
+history_of Desk Quit h hall hall' p p' did = did.2.desk.session.history
+history_of Desk InputEnded h hall hall' p p' did = did.2.desk.session.history
+history_of Desk ReadFault h hall hall' p p' did = did.2.desk.session.history
+history_of Desk WriteFault h hall hall' p p' did = did.2.desk.session.history
+history_of Desk Spent h hall hall' p p' did = did.2.desk.session.history
+history_of Desk (Stopped stop) h hall hall' p p' did = did.2.desk.session.history

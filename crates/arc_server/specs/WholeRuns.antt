@@ -18,8 +18,7 @@ use Rattle.centre_store.specs.StoreHalls.{IsStoreFor, store_seen}
 use Rattle.centre_store.specs.Stores.{Stored, StoreStands, Shows}
 use Rattle.disk_journal.specs.Faults.{IsOfContent}
 use Rattle.disk_journal.specs.Reading.{GoesOn}
-use Rattle.disk_journal.specs.declared.TheConstants.{SHIPPED}
-use Rattle.arc_server.specs.Areas.{BeginsWith, EndsWith}
+use Rattle.arc_server.specs.Areas.{BeginsWith, EndsWith, shipped}
 use Rattle.arc_server.specs.Served.{Did, history_of}
 use Rattle.arc_server.specs.declared.form.Form.{Form}
 use Rattle.arc_server.specs.declared.session.SessionEnd.{SessionEnd}
@@ -92,7 +91,7 @@ pub record StopsBeginning {D : Type 0} (told : D → Option Areas) (may_leave : 
   pub history : List Entry
   pub is : (history ≡ past) ⊎ (history ≡ adopted_after nothing past text clock)
   pub stands : StoreStands told may_leave faults nothing last history
-  pub limits : last.journal.limits ≡ SHIPPED
+  pub limits : last.journal.limits ≡ shipped
   pub handed : disk' ≡ last.journal.disk
   pub ends : EndsWith told may_leave status disk' history
 
@@ -129,9 +128,10 @@ pub record ServesRun {D : Type 0} (told : D → Option Areas) (may_leave : D →
   pub under : text_of first.state ≡ text
   pub did : Did form end (begun_after nothing past text clock) (store_seen told may_leave faults first)
       (store_seen told may_leave faults last) p p'
-  pub limits : last.journal.limits ≡ SHIPPED
+  pub limits : last.journal.limits ≡ shipped
   pub handed : disk' ≡ last.journal.disk
-  pub ends : EndsWith told may_leave status disk' (history_of form end did)
+  pub ends : EndsWith told may_leave status disk' (history_of form end (begun_after nothing past text clock)
+      (store_seen told may_leave faults first) (store_seen told may_leave faults last) p p' did)
 
 -- the session went on to its own end
 abbrev pub IsWhole : SessionEnd → Type 0

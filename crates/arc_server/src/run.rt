@@ -9,6 +9,7 @@ ghost use Rattle.centre_rules.specs.Summary.{nothing};
 ghost use Rattle.centre_store.specs.Begins.{begun_after};
 ghost use Rattle.centre_store.specs.StoreHalls.{IsStoreFor};
 ghost use Rattle.centre_store.specs.Stores.{StoreStands};
+ghost use Rattle.arc_server.specs.Areas.{shipped};
 ghost use Rattle.arc_server.specs.Forms.{form_of as form_by};
 ghost use Rattle.arc_server.specs.Made.{made_of_fault, made_of_stop, made_of_end};
 ghost use Rattle.arc_server.specs.WholeRuns.{IsRun, IsOver, GoesOnFrom, IsServed, IsSetupEnd, ReadsText};
@@ -164,7 +165,7 @@ fn run_store<P: Port, D: Disk>(
     requires setting { IsOk (setup_of setup) }
     requires port { (P.seen port.old).ended ≡ false }
     requires before { before ≤ store.at_open }
-    requires limits { store.journal.limits ≡ SHIPPED }
+    requires limits { store.journal.limits ≡ shipped }
     ensures usage { result.0 ≢ Status.Usage }
     ensures ran { (past : List Entry) → StoreStands D.told D.may_leave D.fault_count nothing store past →
         GoesOnFrom D.told D.may_leave D.fault_count form result.0 past setup (P.seen port.old) (P.seen port.new) before result.1 }
@@ -211,7 +212,7 @@ fn serve_store<P: Port, D: Disk>(
     requires ready { IsSetting store.state.sum.text }
     requires port { (P.seen port.old).ended ≡ false }
     requires before { before ≤ store.at_open }
-    requires limits { store.journal.limits ≡ SHIPPED }
+    requires limits { store.journal.limits ≡ shipped }
     ensures usage { result.0 ≢ Status.Usage }
     ensures served { (past : List Entry) (text : List ℕ) (clock : ℕ)
         → IsStoreFor D.told D.may_leave D.fault_count nothing store (begun_after nothing past text clock) → text_of store.state ≡ text
@@ -225,11 +226,11 @@ fn serve_store<P: Port, D: Disk>(
     if has_risen(before, now) {
         return (Status::DiskFault { before, now }, disk);
     }
-    (ended(end, before, now, reads, writes, port), disk)
+    (status_of(end, before, now, reads, writes, port), disk)
 }
 
 // The status that a session's end makes.
-fn ended<P: Port>(
+fn status_of<P: Port>(
     end: SessionEnd,
     before: u64,
     now: u64,

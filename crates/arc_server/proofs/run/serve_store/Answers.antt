@@ -1,0 +1,49 @@
+use Rattle.std.proofs.Common.{◌≡◌, ℕ, List, true, false, sym, subst, ◌∙◌, ap}
+use Rattle.arc_io.specs.Causes.{Rose}
+use Rattle.centre_rules.specs.Summary.{nothing}
+use Rattle.centre_rules.specs.History.{Entry}
+use Rattle.centre_store.specs.Begins.{begun_after}
+use Rattle.centre_store.specs.Stores.{HasFailed}
+use Rattle.arc_server.specs.WholeRuns.{IsServed}
+use Rattle.arc_server.specs.declared.status.Status.{Status}
+use Rattle.arc_server.proofs.Made.{never_usage}
+use Rattle.arc_server.proofs.Served.{served_down, served_up, up_to_end}
+use Rattle.arc_server.proofs.run.serve_store.Goals as goal
+
+pub returns-then-has_risen-clause-served : goal.returns-then-has_risen-clause-served
+returns-then-has_risen-clause-served g c past text clock stands under =
+    served_down c.args.form c.serve_over-end.result.0 c.args.before c.faults-now.result
+    (record {
+      begins = stands;
+      under = under;
+      did = c.serve_over-end.ensures.did (begun_after nothing past text clock) stands;
+      limits = c.serve_over-end.ensures.limits ∙ c.requires.limits;
+      handed = c.close-disk.ensures;
+    })
+    c.faults-now.ensures (c.has_risen.ensures.0 c.if-has_risen.true)
+
+pub returns-clause-usage : goal.returns-clause-usage
+returns-clause-usage g c usage =
+    let made = c.status_of.ensures (g.P.Ends.seen c.args.port.now) c.read_faults-reads.ensures c.write_faults-writes.ensures in
+    never_usage c.serve_over-end.result.0 c.args.before c.faults-now.result (g.P.Ends.seen c.args.port.now)
+    (g.P.Ends.seen c.serve_over-end.new.port) (sym made ∙ usage)
+
+pub returns-clause-served : goal.returns-clause-served
+returns-clause-served g c past text clock stands under =
+    let p = g.P.Ends.seen c.args.port.now in
+    let p' = g.P.Ends.seen c.serve_over-end.new.port in
+    let last = c.serve_over-end.result.1 in
+    let made = c.status_of.ensures p c.read_faults-reads.ensures c.write_faults-writes.ensures in
+    let up : HasFailed g.D.Disk.fault_count last → ⊥ =
+    up_to_end g.D.Disk.fault_count c.args.before c.args.store.at_open c.faults-now.result last c.close-disk.result c.has_risen.result
+    c.serve_over-end.ensures.at_open c.requires.before c.close-disk.ensures c.faults-now.ensures c.has_risen.ensures.1 c.if-has_risen.false in
+    subst (λ (status : Status). IsServed g.D.Disk.told g.D.Disk.may_leave g.D.Disk.fault_count c.args.form status past text clock p p' c.args.before c.close-disk.result) (sym made)
+    (served_up c.args.form c.serve_over-end.result.0 c.args.before c.faults-now.result
+    (record {
+      begins = stands;
+      under = under;
+      did = c.serve_over-end.ensures.did (begun_after nothing past text clock) stands;
+      limits = c.serve_over-end.ensures.limits ∙ c.requires.limits;
+      handed = c.close-disk.ensures;
+    })
+    up c.serve_over-end.ensures.read c.serve_over-end.ensures.write)
