@@ -1,0 +1,89 @@
+-- What passes and the desk carry from one step of a call to the next.
+use Rattle.std.proofs.Common.{◌≡◌, ℕ, List, [], ◌∷◌, ◌++◌, refl, sym, ap, ◌∙◌, subst, arith, length-append, append_assoc}
+use Rattle.std.specs.Prelude.{Option, Some, unwrap_or}
+use Rattle.atomic_table.specs.Seated.{TableId}
+use Rattle.atomic_table.specs.Table.{Me}
+use Rattle.alarm_rules.specs.Setups.{meaning}
+use Rattle.arc_io.specs.Areas.{Areas}
+use Rattle.centre_core.specs.InForce.{in_force}
+use Rattle.centre_store.specs.Stores.{Stored}
+use Rattle.line_gate.specs.Entries.{Entry, Extends, made_by, longer}
+use Rattle.line_gate.specs.declared.view.View.{View}
+use Rattle.line_gate.specs.Views.{first_view, settled, pass_of}
+use Rattle.line_gate.specs.Terms.{Terms, IsOfGate}
+use Rattle.line_gate.specs.UnderLock.{IsKept}
+use Rattle.line_gate.specs.Blanks.{Names, IsBlank}
+use Rattle.line_gate.specs.Passes.{PassSeen, pass_seen, IsLater, IsSeated, IsPass, grown}
+use Rattle.line_gate.proofs.Histories.{extends_self, extends_further, extends_length, longer_right}
+
+-- a call in which nothing changed
+pub later_self : (p : PassSeen) → IsLater p p
+later_self p = record { number = refl; since = extends_self p.since; count = omega arith; told = omega arith }
+
+-- two calls one after another
+pub later_further : (p q r : PassSeen) → IsLater p q → IsLater q r → IsLater p r
+later_further p q r a b = record {
+  number = b.number ∙ a.number;
+  since = extends_further p.since q.since r.since a.since b.since;
+  count = let x = a.count in let y = b.count in omega arith;
+  told = let x = a.told in let y = b.told in omega arith;
+}
+
+-- a pass that appended an entry
+pub later_grown : (e : Entry) (p q : PassSeen) → q ≡ grown e p → IsLater p q
+later_grown e p q same = subst (IsLater p) (sym same) (record { number = refl; since = (e ∷ [], refl); count = omega arith; told = omega arith })
+
+-- the longer of two, where the second begins with the first
+pub longer_all : (a b : List Entry) → Extends a b → longer a b ≡ b
+longer_all a b t = longer_right a b (extends_length a b t)
+
+-- what callers see of a seated pass
+pub pass_from : (t : Terms) (number : ℕ) (table : TableId) (me : Me (Unit {0}) View) → IsSeated t number table me → IsPass t (pass_seen number me.0)
+pass_from t number table me i = record { of_gate = i.of_gate; own = i.own; below = i.below }
+
+-- what the book has seen is the end of a history of the gate
+pub kept_of_gate : {D : Type 0} (told : D → Option Areas) (may_leave : D → Areas → Type 0) (faults : D → ℕ)
+    (t : Terms) (since : List Entry) (most : ℕ) (s : Stored D) → IsKept told may_leave faults t since most s → IsOfGate t since
+kept_of_gate told may_leave faults t since most s k = record {
+  long = λ b base from. let w = (k.stands b base from).centre.entries in let n = k.entries in omega (arith, length-append since base);
+  over = λ b base from. let w = k.stands b base from in record {
+    legal = w.centre.legal;
+    in_force = in_force s.state b (since ++ base) (record { stands = w.centre; setting = k.setting }) ∙ ap (λ (text : _). Some (meaning (unwrap_or text []))) k.text;
+  };
+}
+
+-- a new pass is seated
+pub new_seated : (t : Terms) (number : ℕ) (table from : TableId) (me book : Me (Unit {0}) View) → me ≡ (settled (pass_of book.0), []) → table ≡ from → from ≡ t.table → book.0.count ≡ number
+    → made_by book.0.count book.0.seen ≡ [] → IsOfGate t book.0.seen → IsSeated t number table me
+new_seated t number table from me book e same is count none of_gate = record {
+  table_is = same ∙ is;
+  carries = ap (λ (m : Me (Unit {0}) View). m.1) e;
+  is_pass = ap (λ (m : Me (Unit {0}) View). m.0.book) e;
+  number_is = ap (λ (m : Me (Unit {0}) View). m.0.number) e ∙ ap Some count;
+  free = ap (λ (m : Me (Unit {0}) View). m.0.named) e;
+  below = let n = ap (λ (m : Me (Unit {0}) View). m.0.count) e in omega arith;
+  own = ap (λ (m : Me (Unit {0}) View). made_by number m.0.seen) e ∙ ap (λ (k : ℕ). made_by k book.0.seen) (sym count) ∙ none ∙ sym (ap (λ (m : Me (Unit {0}) View). m.0.made) e);
+  of_gate = subst (λ (m : Me (Unit {0}) View). IsOfGate t m.0.seen) (sym e) of_gate;
+}
+
+-- the first pass is seated: it has seen just the base
+pub first_seated : {D : Type 0} (told : D → Option Areas) (may_leave : D → Areas → Type 0) (faults : D → ℕ)
+    (t : Terms) (table from first_from : TableId) (book first : Me (Unit {0}) View) (s : Stored D) (text : List ℕ)
+    → Names told may_leave faults t (record { table = table; store = s; text = text })
+    → IsBlank table from first_from book first s text → IsSeated t 1 first_from first
+first_seated told may_leave faults t table from first_from book first s text n i =
+    let kept : IsKept told may_leave faults t [] 0 s = record {
+      stands = n.stood;
+      entries = let e = n.entries in omega arith;
+      most_told = omega arith;
+      at_open = n.at_open;
+      limits = n.limits;
+      text = sym i.text_is ∙ ap Some n.text;
+      setting = i.setting;
+    } in
+    new_seated t 1 first_from table first (first_view, []) i.first_is i.first_at n.table refl refl
+    (kept_of_gate told may_leave faults t [] 0 s kept)
+
+-- one list begins with another, and so with the base behind both
+pub extends_base : (a b base : List Entry) → Extends a b → Extends (a ++ base) (b ++ base)
+extends_base a b base t = (t.0, ap (λ (y : List Entry). y ++ base) t.1 ∙ append_assoc t.0 a base)

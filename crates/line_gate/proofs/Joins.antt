@@ -1,0 +1,91 @@
+-- The kinds of join keep the rule. Each leaves the second seat spent.
+use Rattle.std.proofs.Common.{◌≡◌, ◌≢◌, ℕ, Some, None, true, false, refl, sym, ◌∙◌, arith}
+use Rattle.std.proofs.lemmas.Bool.{true≢false, false≢true}
+use Rattle.atomic_table.specs.Table.{Joins}
+use Rattle.line_gate.specs.Entries.{Entry}
+use Rattle.line_gate.specs.declared.view.View.{View}
+use Rattle.line_gate.specs.Views.{nobody, learned, taking, shown}
+use Rattle.line_gate.specs.Rule.{Core, Fits, Keeps}
+use Rattle.line_gate.proofs.Histories.{extends_self, longer_within}
+use Rattle.line_gate.proofs.Places.{each_join, other_at}
+use Rattle.line_gate.proofs.Splits.{moved, one_book, spent_fits}
+
+-- A pass takes in a pass or a note that names nothing: it has then seen the longer of both histories, and keeps both as old ones.
+pub learns : (id : ℕ) (v : View) (other : ℕ) (w : View) → v.book ≡ false → v.named ≡ None → Joins Keeps id v other w (learned v w) nobody
+learns id v other w is_pass free s h at apart there =
+    let c = h.core in
+    let f = h.each id v at in
+    let g = h.each other w (other_at s.views id other (learned v w) w apart there) in record {
+      core = c;
+      words = h.words;
+      known = h.known;
+      free = h.free;
+      each = each_join (Fits c) (Fits c) s.views id other (learned v w) nobody apart h.each (λ j u _ _ t. t) (record {
+        seen = longer_within v.seen w.seen c.log f.seen g.seen;
+        had = f.seen;
+        got = g.seen;
+        told = let t = f.told in let r = g.told in omega arith;
+        got_told = f.got_told;
+        count = let t = f.count in let r = g.count in omega arith;
+        got_count = f.got_count;
+        number = λ n e. let i = f.number n e in record { below = let t = i.below in omega arith; owner = i.owner; made = i.made };
+        book = λ is. absurd (false≢true (sym is_pass ∙ is));
+        names = λ is some_named. absurd (some_named free);
+      }) (spent_fits c other);
+    }
+
+-- A pass that has seen as much takes in the note that names the entry, and is then the one that may append it.
+pub takes : (id : ℕ) (v : View) (other : ℕ) (w : View) (e : Entry) → v.book ≡ false → v.named ≡ None → w.book ≡ false → w.named ≡ Some e → v.seen ≡ w.seen → Joins Keeps id v other w (taking v w) nobody
+takes id v other w e is_pass free is_note names same s h at apart there =
+    let c = h.core in
+    let f = h.each id v at in
+    let g = h.each other w (other_at s.views id other (taking v w) w apart there) in
+    let namer = g.names is_note (λ none. absurd (cc)) in
+    let d : Core = record { log = c.log; known = c.known; next = c.next; told = c.told; count = c.count; keeper = c.keeper; namer = id; owner = c.owner } in
+    let others : (j : ℕ) (u : View) → j ≢ id → j ≢ other → Fits c j u → Fits d j u = λ j u _ not_other t. moved c d j u (extends_self c.log) (omega arith) (omega arith)
+    (λ n _ i. record { below = i.below; owner = i.owner; made = i.made })
+    (λ is i. record { keeper = i.keeper; seen = i.seen; named = i.named; told = i.told; count = i.count })
+    (λ is some_named i. absurd (not_other (i.namer ∙ sym namer.namer)))
+    t in record {
+      core = d;
+      words = h.words;
+      known = h.known;
+      free = h.free;
+      each = each_join (Fits c) (Fits d) s.views id other (taking v w) nobody apart h.each others (record {
+        seen = f.seen;
+        had = f.had;
+        got = f.got;
+        told = f.told;
+        got_told = f.got_told;
+        count = f.count;
+        got_count = f.got_count;
+        number = λ n e. let i = f.number n e in record { below = i.below; owner = i.owner; made = i.made };
+        book = λ is. absurd (false≢true (sym is_pass ∙ is));
+        names = λ is some_named. record { namer = refl; named = namer.named; seen = same ∙ namer.seen; all = namer.all };
+      }) (spent_fits d other);
+    }
+
+-- The book is shown a note, or a pass that names nothing: it keeps its own, and what the other knows as old.
+pub shows : (id : ℕ) (v : View) (other : ℕ) (w : View) → v.book ≡ true → Joins Keeps id v other w (shown v w) nobody
+shows id v other w is_book s h at apart there =
+    let c = h.core in
+    let f = h.each id v at in
+    let b = f.book is_book in
+    let g = h.each other w (other_at s.views id other (shown v w) w apart there) in record {
+      core = c;
+      words = h.words;
+      known = h.known;
+      free = h.free;
+      each = each_join (Fits c) (Fits c) s.views id other (shown v w) nobody apart h.each (λ j u _ _ t. t) (record {
+        seen = f.seen;
+        had = f.had;
+        got = g.seen;
+        told = f.told;
+        got_told = g.told;
+        count = f.count;
+        got_count = g.count;
+        number = λ n e. let i = f.number n e in record { below = i.below; owner = i.owner; made = i.made };
+        book = λ is. record { keeper = b.keeper; seen = b.seen; named = b.named; told = b.told; count = b.count };
+        names = λ is _. absurd (true≢false (sym is_book ∙ is));
+      }) (spent_fits c other);
+    }

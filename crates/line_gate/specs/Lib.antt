@@ -1,0 +1,12 @@
+pub use Rattle.arc_data.specs.WellFormed
+pub use Rattle.centre_core.specs.Halls
+pub use Rattle.centre_core.specs.Runs
+pub use Rattle.centre_store.specs.Stores
+pub mod Entries
+pub mod Views
+pub mod Rule
+pub mod Terms
+pub mod Passes
+pub mod UnderLock
+pub mod Blanks
+pub mod AtGates
