@@ -73,7 +73,12 @@ fn begun(alloc: Global) -> Result<Centre, Fail> {
 
 // Plays the rows over a run that begins, and gives the centre back.
 fn play(rt: &impl Abort, alloc: Global, rows: &str) -> Result<Centre, Fail> {
-    let mut centre = begun(alloc)?;
+    play_over(rt, alloc, begun(alloc)?, rows)
+}
+
+// Plays the rows over a centre, and gives it back.
+fn play_over(rt: &impl Abort, alloc: Global, centre: Centre, rows: &str) -> Result<Centre, Fail> {
+    let mut centre = centre;
     for row in rows.lines() {
         play_row(rt, alloc, &mut centre, row)?;
     }

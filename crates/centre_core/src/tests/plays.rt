@@ -188,6 +188,41 @@ fn a_silent_account(rt: HostRuntime) -> Result<(), Fail> {
     Ok(())
 }
 
+// Setups that come and go: with an interval of 60 seconds, without one, without the account.
+const SETUPS: &str = "0;tick;raised 0
+0;adopt account 1234 beat 60;adopted
+0;start;started
+60;tick;raised 0
+61;tick;raised 1
+# The interval goes.
+70;adopt account 1234;adopted
+200;tick;raised 0
+# It comes back, and the account has failed already: it was not heard since.
+210;adopt account 1234 beat 60;adopted
+211;tick;raised 0
+# A start after silence.
+220;start;started
+280;tick;raised 0
+281;tick;raised 1
+# The account goes, is not known, and comes back: it was not heard meanwhile.
+300;adopt account 5678;adopted
+310;beat 1234;unknown
+400;tick;raised 0
+410;adopt account 1234 beat 60;adopted
+420;tick;raised 0
+430;beat 1234;heard
+490;tick;raised 0
+491;tick;raised 1
+491;show 1;shown commfail - signals 3 restored no holder none next note";
+
+#[test]
+fn an_interval_that_goes_and_comes_back(rt: HostRuntime) -> Result<(), Fail> {
+    let centre = Centre::empty(rt.alloc());
+    let centre = play_over(&rt, rt.alloc(), centre, SETUPS)?;
+    assert_eq!(rt; centre.table().opened(), 1);
+    Ok(())
+}
+
 // Hours end on Sunday, 18:00:00, at 58400; a silent account comes before one that closes late.
 const LATE: &str = "26000;cid 1 1234 1401 01 001;taken
 26001;cid 2 1234 1401 01 001;taken

@@ -8,8 +8,8 @@ use super::*;
 use arc_data::{CloseCode, Outcome, Step, View};
 use std::str::from_utf8;
 
-/// The event that the words tell: `cid` or `sia` with a sequence, an account and data; `beat` with an account; `start`, `tick`,
-/// `list`; `next` with an operator; `claim`, `release`, `close` with an operator and a number; `act` besides with a step and an
+/// The event that the words tell: `adopt` with a setup text; `cid` or `sia` with a sequence, an account and data; `beat` with an
+/// account; `start`, `tick`, `list`; `next` with an operator; `claim`, `release`, `close` with an operator and a number; `act` besides with a step and an
 /// outcome; `show` with a number.
 pub(super) fn event_of(alloc: Global, words: &str) -> Result<Event, Fail>
     ensures { IfOk result IsWellFormed }
@@ -22,6 +22,7 @@ pub(super) fn event_of(alloc: Global, words: &str) -> Result<Event, Fail>
     }
     let (word, rest) = words.split_once(' ').ok_or("no event")?;
     match word {
+        "adopt" => adopt(alloc, rest),
         "cid" => message(alloc, Token::AdmCid, rest),
         "sia" => message(alloc, Token::SiaDcs, rest),
         "beat" => Ok(Event::Beat {
@@ -36,6 +37,24 @@ pub(super) fn event_of(alloc: Global, words: &str) -> Result<Event, Fail>
         "act" => act(rest),
         _ => order(word, rest),
     }
+}
+
+fn adopt(alloc: Global, text: &str) -> Result<Event, Fail>
+    ensures { IfOk result IsWellFormed }
+{
+    let text = setup_text(alloc, text)?;
+    Ok(Event::Adopt { text })
+}
+
+fn setup_text(alloc: Global, text: &str) -> Result<Blob, Fail>
+    ensures size { IfOk result (λ text. length text ≤ 4194304) }
+    ensures bytes { IfOk result AreBytes }
+{
+    let text = text.as_bytes();
+    if text.len() > 4_194_304 {
+        return Err("too long")?;
+    }
+    Ok(Blob::of(alloc, text)?)
 }
 
 fn message(alloc: Global, token: Token, rest: &str) -> Result<Event, Fail>
