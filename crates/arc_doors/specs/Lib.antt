@@ -1,0 +1,4 @@
+pub mod Doors
+pub mod Pulses
+pub mod Memory
+pub mod Within

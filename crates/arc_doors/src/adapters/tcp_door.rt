@@ -1,0 +1,147 @@
+// Doors to a port of the network.
+ghost use Rattle.std.specs.Prelude.{◌≡◌, All, None, IfOk, length, false};
+ghost use Rattle.arc_io.specs.Causes.{HasCause};
+
+use super::TcpPort;
+use crate::Door;
+use arc_data::Memory;
+use arc_io::{Ends, Failed};
+use std::alloc::Global;
+use std::io::ErrorKind;
+use std::net::{Net, OpenListener, SocketAddr, TcpListener};
+use std::random::RandomSource;
+use std::sync::{Arc, Mutex, OnceLock, Wait};
+use std::time::Duration;
+use std::{io, thread, time};
+
+#[cfg(test)]
+mod tests;
+
+// How often in a row a door fails to take a connection until it gives up, and for how many milliseconds it pauses between.
+const TRIES: u32 = 600;
+
+const PAUSE: u64 = 100;
+
+/// A door to a port of this machine, one of several over one listener. Each waits by itself for the next connection.
+///
+/// Taking a connection may fail for a cause that passes: the peer is gone, or too many files are open. That is counted, and tried
+/// again after a pause. The call fails where the port can't be listened to, and where no try of a minute took a connection.
+#[derive(Drop)]
+pub struct TcpDoor<R: Net + time::Clock + RandomSource> {
+    rt: R,
+    shared: Arc<Shared<R::Listener>, Global>,
+    faults: u64,
+}
+
+// What the doors share: the port, the listener, once one of them has bound it, and a lock round that.
+#[derive(Drop)]
+struct Shared<L> {
+    port: u16,
+    binding: Mutex<()>,
+    listener: OnceLock<L>,
+}
+
+impl<R: Net + time::Clock + RandomSource + Send + Copy> TcpDoor<R>
+where
+    R::Stream: Send,
+{
+    /// So many doors to this port at 127.0.0.1. The port is bound at the first call of one of them. The error is want of memory.
+    pub fn shared(rt: R, alloc: Global, port: u16, n: usize) -> Result<Vec<TcpDoor<R>>, Memory>
+        ensures count { IfOk result (λ doors. length doors.items ≡ n) }
+        ensures faults { IfOk result (λ doors. All (λ door. (⟦<TcpDoor<R> as Door>⟧.seen door).faults ≡ 0) doors.items) }
+    {
+        let nothing = Shared {
+            port,
+            binding: Mutex::new(()),
+            listener: OnceLock::new(),
+        };
+        let Ok(shared) = Arc::new(alloc, nothing) else {
+            return Err(Memory);
+        };
+        let Ok(mut doors) = Vec::with_capacity(alloc, n) else {
+            return Err(Memory);
+        };
+        for _ in 0..n {
+            let Ok(shared) = Arc::try_clone(&shared) else {
+                return Err(Memory);
+            };
+            doors.push_reserved(TcpDoor {
+                rt,
+                shared,
+                faults: 0,
+            });
+        }
+        Ok(doors)
+    }
+}
+
+impl<L: OpenListener> Shared<L> {
+    // What listens. The first door that comes here binds it.
+    fn listener<R: Net<Listener = L>, W: Wait>(&self, net: &R, rt: &W) -> io::Result<&L> {
+        let _binding = self.binding.lock(rt);
+        if self.listener.get().is_none() {
+            let address = SocketAddr::from(([127, 0, 0, 1], self.port));
+            let _ = self.listener.try_set(TcpListener::bind(net, address)?);
+        }
+        self.listener.get().ok_or(ErrorKind::NotConnected.into())
+    }
+}
+
+impl<R: Net + time::Clock + RandomSource + Send + Copy> Door for TcpDoor<R>
+where
+    R::Stream: Send,
+{
+    type Link = TcpPort<R::Stream, R>;
+
+    ghost seen = { λ door. record { links = None; faults = door.faults } };
+
+    ghost within = { λ _. tt };
+
+    fn next<W: Wait>(&mut self, rt: &W) -> Result<Option<TcpPort<R::Stream, R>>, Failed> {
+        let Ok(listener) = self.shared.listener(&self.rt, rt) else {
+            self.faults = self.faults.saturating_add(1);
+            return Err(Failed);
+        };
+        let link = take_link(self.rt, listener, &mut self.faults)?;
+        Ok(Some(link))
+    }
+
+    fn back(&mut self, _link: TcpPort<R::Stream, R>) {}
+
+    fn faults(&self) -> u64 {
+        self.faults
+    }
+}
+
+// Takes the next connection, and counts each time that fails.
+fn take_link<R: Net + time::Clock + RandomSource + Copy>(
+    rt: R,
+    listener: &R::Listener,
+    faults: &mut u64,
+) -> Result<TcpPort<R::Stream, R>, Failed>
+    ensures cause { HasCause faults.old faults.new result }
+    ensures not_ended { IfOk result (λ link. (⟦<TcpPort<R::Stream, R> as Ends>⟧.seen link).ended ≡ false) }
+{
+    let mut tries = 0;
+    loop {
+        if let Ok(link) = accept(rt, listener) {
+            return Ok(link);
+        }
+        *faults = faults.saturating_add(1);
+        tries += 1;
+        if tries == TRIES {
+            return Err(Failed);
+        }
+        thread::sleep(&rt, Duration::from_millis(PAUSE));
+    }
+}
+
+fn accept<R: Net + time::Clock + RandomSource + Copy>(
+    rt: R,
+    listener: &R::Listener,
+) -> io::Result<TcpPort<R::Stream, R>>
+    ensures { IfOk result (λ link. (⟦<TcpPort<R::Stream, R> as Ends>⟧.seen link).ended ≡ false) }
+{
+    let (stream, _) = listener.accept()?;
+    TcpPort::new(stream, rt)
+}
