@@ -68,7 +68,7 @@ impl<P: Port + Drop> MemDoor<P> {
 impl<P: Port + Send + Drop> Door for MemDoor<P> {
     ghost use Rattle.std.specs.Prelude.{Result, Option};
     ghost use Rattle.arc_doors.specs.Doors.{Gives, HasOneOut, IsBackWithin, after_back};
-    ghost use Rattle.arc_doors.specs.Memory.{door_seen, DoorCall};
+    ghost use Rattle.arc_doors.specs.Memory.{door_seen, door_failing, door_calls, DoorCall};
     ghost use Rattle.arc_doors.specs.Within.{back_within};
 
     type Link = P;
@@ -93,7 +93,11 @@ impl<P: Port + Send + Drop> Door for MemDoor<P> {
         Ok(link)
     }
 
-    fn back(&mut self, link: P) {
+    fn back(&mut self, link: P)
+        requires { HasOneOut (door_seen self.old).links }
+        ensures told { door_seen self.new ≡ record (door_seen self.old) { links = after_back (P.seen link) (door_seen self.old).links } }
+        ensures kept { (door_failing self.new ≡ door_failing self.old) × (door_calls self.new ≡ door_calls self.old) }
+    {
         self.back.push_reserved(link);
     }
 
