@@ -1,6 +1,6 @@
 -- What one more body does to a centre that stands for the past of those before it.
 use Rattle.std.proofs.Common.{◌≡◌, ◌≤◌, ◌<◌, ◌^◌, ℕ, List, [], ◌∷◌, ◌++◌, length, Bool, true, false, Option, Some, None, refl, sym, ap, ◌∙◌, arith}
-use Rattle.std.specs.Prelude.{not, IfSome, IsSome}
+use Rattle.std.specs.Prelude.{◌↔◌, IfSome, IsSome, IsTrue}
 use Rattle.arc_data.specs.declared.event.Event.{Event}
 use Rattle.arc_data.specs.declared.reply.Reply.{Reply}
 use Rattle.centre_rules.specs.Summary.{nothing}
@@ -49,19 +49,12 @@ goes_on front body past e event at made reply p same is_made is_reply =
     let replied : reply ≡ e.reply = is_reply ∙ (λ i. answer nothing past (same.0 i) (there i)) ∙ sym p.legal.0.reply in
     record { moment = moment; recorded = ap is_recorded replied ∙ p.kept.0.recorded }
 
-not_quiet : (b quiet : Bool) → quiet ≡ not b → quiet ≡ false → b ≡ true
-not_quiet true quiet is e = refl
-not_quiet false quiet is e = absurd (cc)
+-- what a test of two facts tells
+pub is_taken : (b : Bool) (P Q : Type 0) → (IsTrue b ↔ (P × Q)) → b ≡ true → P × Q
+is_taken b P Q tells is = tells.0 is
 
-never_quiet : (b quiet : Bool) → quiet ≡ not b → quiet ≡ true → b ≡ true → ⊥
-never_quiet true quiet is e recorded = absurd (cc)
-never_quiet false quiet is e recorded = absurd (cc)
-
-pub is_quiet : (reply : Reply) (quiet : Bool) → quiet ≡ not (is_recorded reply) → quiet ≡ true → is_recorded reply ≡ true → ⊥
-is_quiet reply quiet = never_quiet (is_recorded reply) quiet
-
-pub is_heard : (reply : Reply) (quiet : Bool) → quiet ≡ not (is_recorded reply) → quiet ≡ false → is_recorded reply ≡ true
-is_heard reply quiet = not_quiet (is_recorded reply) quiet
+pub is_refused : (b : Bool) (P Q : Type 0) → (IsTrue b ↔ (P × Q)) → b ≡ false → P × Q → ⊥
+is_refused b P Q tells is both = let yes : b ≡ true = tells.1 both in absurd (cc (sym is ∙ yes))
 
 pub replayed_more : (front : List (List ℕ)) (body : List ℕ) (e : Entry) (old new : State) (r : IsReplayed front old) → old.entries < 2 ^ 48 → e.caller ≡ 0
     → is_recorded e.reply ≡ true → HasSpelling e.event e.at → body ≡ body_of e → StandsFor nothing new (e ∷ r.past) → IsReplayed (front ++ body ∷ []) new

@@ -1,9 +1,9 @@
 // How a store is opened: the recorded events are read and taken in again, one after another.
-ghost use Rattle.std.specs.Prelude.{◌≡◌, ◌≤◌, ◌<◌, ◌^◌, ◌++◌, [], ◌∷◌, ℕ, List, true, false, IfOk, IfErr, IfSome};
+ghost use Rattle.std.specs.Prelude.{◌≡◌, ◌≤◌, ◌<◌, ◌↔◌, ◌^◌, ◌++◌, [], ◌∷◌, ℕ, List, true, false, IfOk, IfErr, IfSome, IsTrue};
 ghost use Rattle.arc_io.specs.Areas.{Areas};
 ghost use Rattle.arc_io.specs.Crashes.{Becomes, IsQuiet, LeavesOnly};
 ghost use Rattle.centre_rules.specs.Summary.{nothing};
-ghost use Rattle.centre_rules.specs.History.{Entry};
+ghost use Rattle.centre_rules.specs.History.{Entry, is_recorded};
 ghost use Rattle.centre_rules.specs.State.{StandsFor};
 ghost use Rattle.disk_journal.specs.Faults.{IsOfContent, HasCounts};
 ghost use Rattle.disk_journal.specs.OtherArea.{SparesB};
@@ -15,7 +15,7 @@ ghost use Rattle.centre_store.specs.Openings.{IsOpened, IsRefused, IsOfBodies, d
 use crate::store::Store;
 use arc_data::Memory;
 use arc_io::Disk;
-use centre_core::Centre;
+use centre_core::{Centre, Ready};
 use disk_journal::{Bodies, Journal, Limits, OpenFault, OpenRefused};
 use event_codec::decode;
 use std::alloc::Global;
@@ -72,7 +72,8 @@ fn replay(alloc: Global, bodies: &Bodies) -> Result<Centre, OpenFault>
 {
     let mut centre = Centre::empty(alloc);
     let mut at = 16;
-    for i in 0..bodies.count() {
+    let count = bodies.count();
+    for i in 0..count {
         let body = bodies.at(i);
         match take_in(&mut centre, alloc, body) {
             Ok(true) => at += 5 + body.len() as u64,
@@ -94,14 +95,22 @@ fn take_in(centre: &mut Centre, alloc: Global, body: &[u8]) -> Result<bool, Memo
     if centre.entries() >= 1 << 48 {
         return Ok(false);
     }
-    let Some((event, at)) = decode(alloc, body)? else {
-        return Ok(false);
+    let (event, at) = match decode(alloc, body)? {
+        Some(spelled) => spelled,
+        None => return Ok(false),
     };
     let ready = centre.prepare(alloc, event, at)?;
-    if ready.quiet() || ready.at() != at {
+    if !is_recorded_at(&ready, at) {
         ready.discard();
         return Ok(false);
     }
     let _ = centre.apply(ready);
     Ok(true)
+}
+
+// The entry will be recorded, and at just this moment.
+fn is_recorded_at(ready: &Ready, at: u64) -> bool
+    ensures { IsTrue result ↔ (is_recorded ready.now.reply ≡ true) × (ready.now.at ≡ at) }
+{
+    !ready.quiet() && ready.at() == at
 }

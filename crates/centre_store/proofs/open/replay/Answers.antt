@@ -8,13 +8,13 @@ loop-i-init c = record { replayed = record { past = []; is_past = no_past; stand
 
 pub overflow_add-at-in-Ok-true : goal.overflow_add-at-in-Ok-true
 overflow_add-at-in-Ok-true c =
-    let below : c.loop-i.i < length c.args.bodies.now = omega (arith, c.loop-i-test.true, c.count-i-end.ensures) in
+    let below : c.loop-i.i < length c.args.bodies.now = omega arith in
     omega (arith, gate_fits c.args.bodies.now c.loop-i.i c.loop-i.at c.at-body.result.now below c.at-body.ensures c.loop-i.invariant.gate, c.requires.fits)
 
 pub returns-in-Ok-false-clause-broken : goal.returns-in-Ok-false-clause-broken
 returns-in-Ok-false-clause-broken c =
     let at = c.loop-i.invariant in
-    let below : c.loop-i.i < length c.args.bodies.now = omega (arith, c.loop-i-test.true, c.count-i-end.ensures) in
+    let below : c.loop-i.i < length c.args.bodies.now = omega arith in
     let r = at.replayed in
     bad_at c.args.bodies.now c.loop-i.i c.loop-i.at c.at-body.result.now c.loop-i.centre below c.at-body.ensures at
     (c.in-Ok-false.ensures.broken c.in-Ok-false.field-0-test (take c.loop-i.i c.args.bodies.now) r.past r.is_past r.stands)
@@ -22,6 +22,6 @@ returns-in-Ok-false-clause-broken c =
 pub loop-i-preserved : goal.loop-i-preserved
 loop-i-preserved c =
     let at = c.loop-i.invariant in
-    let below : c.loop-i.i < length c.args.bodies.now = omega (arith, c.loop-i-test.true, c.count-i-end.ensures) in
+    let below : c.loop-i.i < length c.args.bodies.now = omega arith in
     at_next c.args.bodies.now c.loop-i.i c.loop-i.at c.at-body.result.now c.take_in.new.centre below c.at-body.ensures at.gate
     (c.in-Ok-true.ensures.taken c.in-Ok-true.field-0-test (take c.loop-i.i c.args.bodies.now) at.replayed)
