@@ -4,6 +4,7 @@ ghost use Rattle.arc_data.specs.Digits.{is_run, is_hex, is_capital_hex, is_name}
 ghost use Rattle.arc_data.specs.WellFormed.{IsWellFormed};
 ghost use Rattle.centre_rules.specs.History.{IsMoment};
 ghost use Rattle.centre_core.specs.Runs.{IsSubmitted};
+ghost use Rattle.event_codec.specs.Spelling.{IsKept};
 
 use super::*;
 use arc_data::{Blob, CloseCode, Memory, Message, Outcome, Step, Token};
@@ -73,7 +74,7 @@ fn line() -> Txt
 pub(super) fn burglary(alloc: Global, account: Txt, seq: u16) -> Result<Event, Memory>
     requires account { is_run is_capital_hex 3 16 account ≡ true }
     requires seq { seq ≤ 9999 }
-    ensures { IfOk result (λ e. IsWellFormed e × IsSubmitted e) }
+    ensures { IfOk result (λ e. IsWellFormed e × IsSubmitted e × IsKept e) }
 {
     Ok(Event::Message(Message {
         account,
@@ -94,7 +95,7 @@ pub(super) fn event(
     number: u64,
 ) -> Result<Event, Memory>
     requires { round ≤ 9999 }
-    ensures { IfOk result (λ e. IsWellFormed e × IsSubmitted e) }
+    ensures { IfOk result (λ e. IsWellFormed e × IsSubmitted e × IsKept e) }
 {
     let operator = operator(place);
     match step {
