@@ -1,5 +1,5 @@
 -- What the disk of a store has recorded.
-use Rattle.std.proofs.Common.{◌≡◌, ◌⊎◌, ℕ, List, Option, Some, None, IfSome, inl, inr}
+use Rattle.std.proofs.Common.{◌⊎◌, ℕ, List, Option, Some, None, IfSome, inl, inr}
 use Rattle.arc_io.specs.Areas.{Areas}
 use Rattle.centre_rules.specs.Summary.{Summary}
 use Rattle.centre_rules.specs.History.{Entry}

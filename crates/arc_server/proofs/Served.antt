@@ -1,5 +1,5 @@
 -- What a served session shows.
-use Rattle.std.proofs.Common.{◌≡◌, ◌≤◌, ◌⊎◌, ℕ, List, Option, Bool, true, false, inl, inr, sym, subst, refl, ap, ◌∙◌, arith}
+use Rattle.std.proofs.Common.{◌≡◌, ◌≤◌, ℕ, List, Option, Bool, true, false, inl, inr, sym, subst, refl, ap, ◌∙◌, arith}
 use Rattle.arc_data.specs.declared.event.Event.{Event}
 use Rattle.arc_io.specs.Areas.{Areas}
 use Rattle.arc_io.specs.Causes.{Rose}

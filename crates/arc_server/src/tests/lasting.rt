@@ -1,8 +1,8 @@
 // Runs over one disk, one after another.
 ghost use Rattle.std.specs.Prelude.{◌<◌};
 
-use super::{ACKNOWLEDGEMENT, ALARM, AREA, Failing, NONE, Ran, SETUP, outside_of, recorded};
-use crate::run::run;
+use super::{ACKNOWLEDGEMENT, ALARM, AREA, Failing, NONE, SETUP, outside_of, recorded};
+use crate::run::{Ended, Outside, run};
 use crate::status::Status;
 use arc_data::Txt;
 use arc_io::{Area, MemDisk};
@@ -11,7 +11,15 @@ use std::alloc::Global;
 use std::process::Abort;
 use std::test::Fail;
 
-// A run of `line` over one alarm, with this setup, at this reading and over this disk.
+// What a run of `line` over one alarm wrote, and its disk.
+#[derive(Drop)]
+struct Finished {
+    status: Status,
+    written: Vec<u8>,
+    disk: MemDisk,
+}
+
+// A run with this setup, at this reading and over this disk.
 fn ran_over(
     rt: &impl Abort,
     alloc: Global,
@@ -19,12 +27,19 @@ fn ran_over(
     reading: u64,
     failing: &Failing,
     disk: MemDisk,
-) -> Result<Ran, Fail>
+) -> Result<Finished, Fail>
     requires { reading < 253_402_300_800 }
 {
     let word = Txt::of(b"line").ok_or("a short word")?;
     let outside = outside_of(alloc, setup, ALARM, &[reading], failing, disk)?;
-    Ok(run(rt, alloc, &[word], outside))
+    let Ended { status, outside } = run(rt, alloc, &[word], outside);
+    let Outside { port, disk, .. } = outside;
+    let written = port.sink.bytes().to_vec(alloc)?;
+    Ok(Finished {
+        status,
+        written,
+        disk,
+    })
 }
 
 // A disk with these bytes in area A, of which these calls fail.
@@ -46,16 +61,16 @@ fn an_alarm_that_was_not_acknowledged(rt: HostRuntime) -> Result<(), Fail> {
     let disk = disk_of(alloc, b"", &[])?;
     let first = ran_over(&rt, alloc, SETUP, 1_000_000_000, &failing, disk)?;
     assert_eq!(rt; first.status, Status::WriteFault { before: 0, now: 1 });
-    assert_eq!(rt; first.outside.port.sink.bytes(), b"".as_slice());
-    let disk = first.outside.disk;
+    assert_eq!(rt; first.written.as_slice(), b"".as_slice());
+    let disk = first.disk;
     assert_eq!(rt;
         recorded(alloc, &disk)?.as_slice(),
         b"\x01\x02\x03".as_slice()
     );
     let second = ran_over(&rt, alloc, SETUP, 1_000_000_010, &NONE, disk)?;
     assert_eq!(rt; second.status, Status::Done);
-    assert_eq!(rt; second.outside.port.sink.bytes(), ACKNOWLEDGEMENT);
-    let tags = recorded(alloc, &second.outside.disk)?;
+    assert_eq!(rt; second.written.as_slice(), ACKNOWLEDGEMENT);
+    let tags = recorded(alloc, &second.disk)?;
     assert_eq!(rt; tags.as_slice(), b"\x01\x02\x03\x02".as_slice());
     Ok(())
 }
@@ -67,7 +82,7 @@ fn a_changed_setup_is_adopted(rt: HostRuntime) -> Result<(), Fail> {
     let disk = disk_of(alloc, AREA, &[])?;
     let ended = ran_over(&rt, alloc, SETUP, 1_000_000_010, &NONE, disk)?;
     assert_eq!(rt; ended.status, Status::Done);
-    let tags = recorded(alloc, &ended.outside.disk)?;
+    let tags = recorded(alloc, &ended.disk)?;
     assert_eq!(rt; tags.as_slice(), b"\x01\x02\x03\x01\x02".as_slice());
     Ok(())
 }
@@ -77,8 +92,8 @@ fn refused(rt: &impl Abort, alloc: Global, bytes: &[u8], fault: OpenFault) -> Re
     let disk = disk_of(alloc, bytes, &[])?;
     let ended = ran_over(rt, alloc, SETUP, 1_000_000_000, &NONE, disk)?;
     assert_eq!(rt; ended.status, Status::Journal(fault));
-    assert_eq!(rt; ended.outside.disk.bytes(Area::A), bytes);
-    assert_eq!(rt; ended.outside.port.sink.bytes(), b"".as_slice());
+    assert_eq!(rt; ended.disk.bytes(Area::A), bytes);
+    assert_eq!(rt; ended.written.as_slice(), b"".as_slice());
     Ok(())
 }
 
@@ -123,7 +138,7 @@ fn a_short_area_is_begun_anew(rt: HostRuntime) -> Result<(), Fail> {
     let disk = disk_of(alloc, b"ARC JOURNA", &[])?;
     let ended = ran_over(&rt, alloc, SETUP, 1_000_000_000, &NONE, disk)?;
     assert_eq!(rt; ended.status, Status::Done);
-    let tags = recorded(alloc, &ended.outside.disk)?;
+    let tags = recorded(alloc, &ended.disk)?;
     assert_eq!(rt; tags.as_slice(), b"\x01\x02\x03".as_slice());
     Ok(())
 }
@@ -136,11 +151,11 @@ fn failed_at(rt: &impl Abort, alloc: Global, call: u64) -> Result<bool, Fail> {
         return Ok(false);
     }
     assert_eq!(rt; first.status, Status::DiskFault { before: 0, now: 1 });
-    assert_eq!(rt; first.outside.port.sink.bytes(), b"".as_slice());
-    let second = ran_over(rt, alloc, SETUP, 1_000_000_010, &NONE, first.outside.disk)?;
+    assert_eq!(rt; first.written.as_slice(), b"".as_slice());
+    let second = ran_over(rt, alloc, SETUP, 1_000_000_010, &NONE, first.disk)?;
     assert_eq!(rt; second.status, Status::Done);
-    assert_eq!(rt; second.outside.port.sink.bytes(), ACKNOWLEDGEMENT);
-    let tags = recorded(alloc, &second.outside.disk)?;
+    assert_eq!(rt; second.written.as_slice(), ACKNOWLEDGEMENT);
+    let tags = recorded(alloc, &second.disk)?;
     assert_eq!(rt; tags.iter().filter(|tag| **tag == 3).count(), 1);
     Ok(true)
 }

@@ -1,4 +1,4 @@
-use Rattle.std.proofs.Common.{◌≡◌, ◌≤◌, ℕ, inl, sym, subst, ◌∙◌}
+use Rattle.std.proofs.Common.{◌≡◌, ◌≤◌, inl, sym, subst, ◌∙◌}
 use Rattle.arc_server.specs.WholeRuns.{GoesOnFrom}
 use Rattle.arc_server.specs.declared.status.Status.{Status}
 use Rattle.centre_core.specs.declared.hall.Stop.TheVariants.{Down}

@@ -1,7 +1,5 @@
-use Rattle.std.proofs.Common.{◌≡◌, ℕ, List, true, false, sym, subst, ◌∙◌, ap}
-use Rattle.arc_io.specs.Causes.{Rose}
+use Rattle.std.proofs.Common.{true, false, sym, subst, ◌∙◌}
 use Rattle.centre_rules.specs.Summary.{nothing}
-use Rattle.centre_rules.specs.History.{Entry}
 use Rattle.centre_store.specs.Begins.{begun_after}
 use Rattle.centre_store.specs.Stores.{HasFailed}
 use Rattle.arc_server.specs.WholeRuns.{IsServed}
