@@ -1,8 +1,6 @@
 use Rattle.std.proofs.Common.{sym, subst}
 use Rattle.line_gate.specs.Blanks.{Names}
-use Rattle.line_gate.specs.Passes.{IsSeated}
 use Rattle.line_gate.proofs.Carried.{first_seated, pass_from}
-use Rattle.line_gate.proofs.gate.Gate.new.Given.{Over}
 use Rattle.line_gate.proofs.gate.Gate.new.Goals as goal
 
 pub invariant_of-pass : goal.invariant_of-pass
