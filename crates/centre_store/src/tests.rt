@@ -1,4 +1,1 @@
-// What no clause says of the store.
-
-mod opening;
-mod submitting;
+// What no clause says of the store is tested by the runs of the top crate, over disks in memory.
