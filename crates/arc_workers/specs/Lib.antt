@@ -1,0 +1,6 @@
+pub use Rattle.arc_sessions.specs.Served
+pub use Rattle.line_gate.specs.AtGates
+pub mod Served
+pub mod Next
+pub mod Works
+pub mod Ticks
