@@ -31,12 +31,7 @@ pub enum SessionEnd {
 }
 
 /// Serves one session of this kind over the port, to its end.
-pub fn serve<H: Hall, P: Port>(
-    side: Side,
-    alloc: Global,
-    hall: &mut H,
-    port: &mut P,
-) -> SessionEnd
+pub fn serve<H: Hall, P: Port>(side: Side, alloc: Global, hall: &mut H, port: &mut P) -> SessionEnd
     requires ready { (H.seen hall.old).ready }
     requires not_ended { (P.seen port.old).ended ≡ false }
     ensures serves { (read : List ℕ) × Reads side result read (P.seen port.old) (P.seen port.new)

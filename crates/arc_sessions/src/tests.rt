@@ -6,6 +6,7 @@ use super::*;
 use arc_io::{ListClock, ListNoise, MemPort, MemSink, MemSource};
 use centre_core::{RamHall, Setup};
 use std::alloc::Global;
+use std::process::Abort;
 use std::test::Fail;
 
 // 2001-09-09, 01:46:40 GMT.
@@ -24,28 +25,42 @@ fn port_of(alloc: Global, input: &[u8]) -> Result<MemPort, Fail>
 }
 
 // What a session of this kind with this input answers, and how it ends.
-fn check_session<R: Abort>(rt: &R, alloc: Global, side: Side, input: &[u8], answer: &[u8], wanted: SessionEnd) -> Result<(), Fail> {
+fn check_session(
+    rt: &impl Abort,
+    alloc: Global,
+    side: Side,
+    input: &[u8],
+    answer: &[u8],
+    wanted: SessionEnd,
+) -> Result<(), Fail> {
     let setup = Setup::read(alloc, b"account 1234\noperator ann 1234\n")?;
     let mut hall = RamHall::new(alloc, setup, BEGIN)?;
     let mut port = port_of(alloc, input)?;
     let end = serve(side, alloc, &mut hall, &mut port);
-    assert_eq!(rt, end, wanted);
-    assert_eq!(rt, port.sink.bytes(), answer);
+    assert_eq!(rt; end, wanted);
+    assert_eq!(rt; port.sink.bytes(), answer);
     Ok(())
 }
 
 #[test]
-fn a_line_acknowledges_a_message<R: Abort>(rt: &R, alloc: Global) -> Result<(), Fail> {
+fn a_line_acknowledges_a_message(rt: HostRuntime) -> Result<(), Fail> {
     let alarm = b"\n2EE70027\"ADM-CID\"0001L0#1234[#1234|1131 01 001]\r";
     let reply = b"\n1BC10012\"ACK\"0001L0#1234[]\r";
-    check_session(rt, alloc, Side::Lines, alarm, reply, SessionEnd::InputEnded)
+    check_session(
+        &rt,
+        rt.alloc(),
+        Side::Lines,
+        alarm,
+        reply,
+        SessionEnd::InputEnded,
+    )
 }
 
 #[test]
-fn a_desk_is_left_by_quit<R: Abort>(rt: &R, alloc: Global) -> Result<(), Fail> {
+fn a_desk_is_left_by_quit(rt: HostRuntime) -> Result<(), Fail> {
     check_session(
-        rt,
-        alloc,
+        &rt,
+        rt.alloc(),
         Side::Desks,
         b"login ann 1234\nquit\nlist\n",
         b"ok ann\nbye\n",
