@@ -1,0 +1,6 @@
+pub mod LineTurns
+pub mod DeskTurns
+pub mod Sessions
+pub mod Links
+pub mod SoFar
+pub mod Moments

@@ -1,5 +1,5 @@
 -- How a worker ends, and what it then says.
-use Rattle.std.specs.Prelude.{◌≡◌, ◌≤◌, ◌++◌, ℕ, List, [], ◌∷◌, Bool, true, false, Option, None, Some, All, count_by, length}
+use Rattle.std.specs.Prelude.{◌≡◌, ◌<◌, ◌≤◌, ◌++◌, ℕ, List, [], ◌∷◌, Bool, true, false, Option, None, Some, All, count_by, length}
 use Rattle.arc_data.specs.declared.event.Event.{Event}
 use Rattle.arc_doors.specs.Doors.{DoorSeen, HasNoneLeft}
 use Rattle.arc_io.specs.Causes.{Rose}
@@ -73,10 +73,10 @@ pub record IsStoppedBy (stop : Stop) (served : List Served) : Type 0 where
 -- The cause of a worker's end: what its pass is then, what its door told at first and tells then, how many sessions were asked for,
 -- and its links.
 abbrev pub EndsWork : WorkerEnd → Terms → PassSeen → DoorSeen → DoorSeen → ℕ → List Served → Type 0
-EndsWork DoorEnded t q door door' sessions served = HasNoneLeft door'.links × WentOn served
+EndsWork DoorEnded t q door door' sessions served = HasNoneLeft door'.links × WentOn served × (length served < sessions)
 EndsWork Quota t q door door' sessions served = (length served ≡ sessions) × WentOn served
 EndsWork (DoorFault before now) t q door door' sessions served =
-    (before ≡ door.faults) × (now ≡ door'.faults) × Rose before now × WentOn served
+    (before ≡ door.faults) × (now ≡ door'.faults) × Rose before now × WentOn served × (length served < sessions)
 EndsWork (WorkerStopped stop) t q door door' sessions served = IsStoppedBy stop served × IsShown t q stop
 
 -- What a worker for sessions of this kind did, from the pass p and the door as they were handed in, to the pass q and the door as

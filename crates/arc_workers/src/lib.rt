@@ -2,6 +2,8 @@
 #![tactic(auto)]
 
 mod link;
+#[cfg(test)]
+mod tests;
 mod ticking;
 mod working;
 

@@ -89,25 +89,25 @@ pub fn worker<A: Door, D: Disk, R: Wait, N: GateName>(
         match ended {
             Err(Failed) => {
                 let now = door.faults();
-                return (pass, worked(WorkerEnd::DoorFault { before, now }, refused));
+                return (pass, outcome(WorkerEnd::DoorFault { before, now }, refused));
             }
-            Ok(None) => return (pass, worked(WorkerEnd::DoorEnded, refused)),
+            Ok(None) => return (pass, outcome(WorkerEnd::DoorEnded, refused)),
             Ok(Some(end)) => {
                 count += 1;
                 if is_refused(&end) {
                     refused += 1;
                 }
                 if let Some(stop) = stop_of(&end) {
-                    return (pass, worked(WorkerEnd::Stopped(stop), refused));
+                    return (pass, outcome(WorkerEnd::Stopped(stop), refused));
                 }
             }
         }
     }
-    (pass, worked(WorkerEnd::Quota, refused))
+    (pass, outcome(WorkerEnd::Quota, refused))
 }
 
 // What came of a worker.
-fn worked(end: WorkerEnd, refused: u64) -> Worked
+fn outcome(end: WorkerEnd, refused: u64) -> Worked
     ensures { result ≡ record { end = end; refused = refused } }
 {
     Worked { end, refused }

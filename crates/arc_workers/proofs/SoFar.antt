@@ -1,0 +1,152 @@
+-- What a worker has done between two links, and what it then says at its end.
+use Rattle.std.proofs.Common.{◌≡◌, ◌≤◌, ◌<◌, ◌+◌, ℕ, List, [], ◌∷◌, ◌++◌, Bool, true, false, Option, Some, None, refl, sym, subst, arith, length-append, ⊎_elim}
+use Rattle.std.proofs.lemmas.List.Elements.{All-nil, All-push}
+use Rattle.std.proofs.lemmas.List.Sums.{sum_by-append}
+use Rattle.std.specs.Prelude.{length, cond}
+use Rattle.arc_data.specs.declared.event.Event.{Event}
+use Rattle.arc_doors.specs.Doors.{DoorSeen}
+use Rattle.arc_io.specs.Causes.{Rose}
+use Rattle.arc_sessions.specs.Served.{ShowsEnd}
+use Rattle.arc_sessions.specs.declared.session.SessionEnd.{SessionEnd}
+use Rattle.arc_sessions.specs.declared.session.SessionEnd.TheVariants.{Quit, InputEnded, ReadFault, WriteFault, Spent, Stopped}
+use Rattle.arc_sessions.specs.declared.side.Side.{Side}
+use Rattle.centre_core.specs.declared.hall.Stop.{Stop}
+use Rattle.centre_core.specs.declared.hall.Stop.TheVariants.{Memory, Down, Full, Worn}
+use Rattle.line_gate.specs.AtGates.{gate_seen}
+use Rattle.line_gate.specs.Passes.{PassSeen, IsPass, PassShows}
+use Rattle.line_gate.specs.Terms.{Terms}
+use Rattle.session_rules.specs.Sessions.{IsShownFor}
+use Rattle.arc_workers.proofs.Links.{none_served, one_more, served_more, same_number}
+use Rattle.arc_workers.proofs.Sessions.{makes_in_order}
+use Rattle.arc_workers.specs.Next.{ServesOne, IsAsBefore}
+use Rattle.arc_workers.specs.Served.{Served, AreServed, HasServed}
+use Rattle.arc_workers.specs.Works.{WentOn, IsShown, EndsWork, Works, is_refused, stop_of, refused_in}
+use Rattle.arc_workers.specs.declared.working.WorkerEnd.{WorkerEnd}
+use Rattle.arc_workers.specs.declared.working.WorkerEnd.TheVariants.{Stopped as WorkerStopped}
+
+-- these links were served
+pub record HasDone (side : Side) (t : Terms) (p q : PassSeen) (door door' : DoorSeen) (count refused sessions : ℕ) (served : List Served) : Type 0 where
+  pub first : IsPass t p
+  pub each : AreServed side t p q served
+  pub links : HasServed served door.links door'.links
+  pub count_is : count ≡ length served
+  pub refused_is : refused ≡ refused_in served
+  pub few : refused ≤ count
+  pub most : count ≤ sessions
+  pub later : door.faults ≤ door'.faults
+
+-- and the worker went on after each of them
+pub record SoFar (side : Side) (t : Terms) (p q : PassSeen) (door door' : DoorSeen) (count refused sessions : ℕ) : Type 0 where
+  pub served : List Served
+  pub done : HasDone side t p q door door' count refused sessions served
+  pub on : WentOn served
+  pub pass : IsPass t q
+
+-- before the first link
+pub none_yet : (side : Side) (t : Terms) (p : PassSeen) (door : DoorSeen) (sessions : ℕ) → IsPass t p → SoFar side t p p door door 0 0 sessions
+none_yet side t p door sessions pass = record {
+  served = [];
+  done = record { first = pass; each = refl; links = none_served door.links; count_is = refl; refused_is = refl; few = omega arith; most = omega arith; later = omega arith };
+  on = All-nil (λ (s : Served). stop_of s.end ≡ None);
+  pass = pass;
+}
+
+-- one more of two at most
+cond_few : (b : Bool) → cond b 1 0 ≤ 1
+cond_few true = omega arith
+cond_few false = omega arith
+
+-- one more link, whatever its end
+pub done_more : (side : Side) (t : Terms) (p m q : PassSeen) (door first last : DoorSeen) (count refused refused' sessions : ℕ) (ss : List Served) (end : SessionEnd)
+    → HasDone side t p m door first count refused sessions ss → (one : ServesOne side t m q first last end)
+    → count < sessions → refused' ≡ refused + cond (is_refused end) 1 0
+    → HasDone side t p q door last (count + 1) refused' sessions (ss ++ one.link ∷ [])
+done_more side t p m q door first last count refused refused' sessions ss end w one room is =
+    let more : refused' ≡ refused + cond (is_refused one.link.end) 1 0 = subst (λ (e : SessionEnd). refused' ≡ refused + cond (is_refused e) 1 0) (sym one.ended) is in record {
+      first = w.first;
+      each = served_more side t p m q ss one.link w.each one.served;
+      links = one_more ss one.link door.links first.links one.out last.links w.links one.takes one.gets;
+      count_is = omega (arith, length-append ss (one.link ∷ []), w.count_is);
+      refused_is = omega (arith, more, w.refused_is, sum_by-append (λ (x : Served). cond (is_refused x.end) 1 0) ss (one.link ∷ []));
+      few = omega (arith, is, w.few, cond_few (is_refused end));
+      most = omega arith;
+      later = omega (arith, w.later, one.later);
+    }
+
+pub so_far_more : (side : Side) (t : Terms) (p m q : PassSeen) (door first last : DoorSeen) (count refused refused' sessions : ℕ) (end : SessionEnd)
+    → SoFar side t p m door first count refused sessions → ServesOne side t m q first last end
+    → count < sessions → refused' ≡ refused + cond (is_refused end) 1 0 → stop_of end ≡ None
+    → SoFar side t p q door last (count + 1) refused' sessions
+so_far_more side t p m q door first last count refused refused' sessions end w one room is on = record {
+  served = w.served ++ one.link ∷ [];
+  done = done_more side t p m q door first last count refused refused' sessions w.served end w.done one room is;
+  on = All-push (λ (x : Served). stop_of x.end ≡ None) w.served one.link w.on (subst (λ (e : SessionEnd). stop_of e ≡ None) (sym one.ended) on);
+  pass = one.served.pass;
+}
+
+-- a call of the door that gave no link
+pub done_still : (side : Side) (t : Terms) (p m q : PassSeen) (door first last : DoorSeen) (count refused sessions : ℕ) (ss : List Served)
+    → HasDone side t p m door first count refused sessions ss → IsAsBefore m q first last → HasDone side t p q door last count refused sessions ss
+done_still side t p m q door first last count refused sessions ss w same = record {
+  first = w.first;
+  each = subst (λ (k : PassSeen). AreServed side t p k ss) (sym same.pass) w.each;
+  links = subst (HasServed ss door.links) (sym same.links) w.links;
+  count_is = w.count_is;
+  refused_is = w.refused_is;
+  few = w.few;
+  most = w.most;
+  later = omega (arith, w.later, same.later);
+}
+
+-- the count rose since the worker began
+pub rose_since : (first before now : ℕ) → first ≤ before → Rose before now → Rose first now
+rose_since first before now le rose = omega (arith, le, rose)
+
+-- a worker that ends says this
+pub works : (side : Side) (t : Terms) (p q : PassSeen) (door door' : DoorSeen) (count refused sessions : ℕ) (end : WorkerEnd) (served : List Served)
+    → HasDone side t p q door door' count refused sessions served → EndsWork end t q door door' sessions served
+    → Works side t p q door door' sessions (record { end = end; refused = refused })
+works side t p q door door' count refused sessions end served w ended = record {
+  served = served;
+  each = w.each;
+  number = same_number side t p q served w.each;
+  links = w.links;
+  made = makes_in_order side t p q served w.first w.each;
+  most = omega (arith, w.most, w.count_is);
+  refused = w.refused_is;
+  ended = ended;
+}
+
+-- A stop that ends the worker is shown by its pass.
+
+shown_other : (t : Terms) (q : PassSeen) (found stop : Stop) → found ≡ stop → (found ≡ Memory → ⊥) → IsShownFor (gate_seen t q) found → IsShown t q stop
+shown_other t q found stop is other shown = ⊎_elim
+    (λ (e : found ≡ Memory). absurd (other e))
+    (λ (e : (event : Event) × (clock : ℕ) × PassShows t q found event clock). subst (IsShown t q) is e)
+    shown
+
+shown_by_stop : (t : Terms) (q : PassSeen) (found stop : Stop) → IsShownFor (gate_seen t q) found → stop_of (Stopped found) ≡ Some stop → IsShown t q stop
+shown_by_stop t q Memory stop shown is = absurd (cc)
+shown_by_stop t q (Down at_open now) stop shown is = shown_other t q (Down at_open now) stop (cc) (λ e. absurd (cc)) shown
+shown_by_stop t q (Full used need records) stop shown is = shown_other t q (Full used need records) stop (cc) (λ e. absurd (cc)) shown
+shown_by_stop t q (Worn count) stop shown is = shown_other t q (Worn count) stop (cc) (λ e. absurd (cc)) shown
+
+shown_by : (t : Terms) (q : PassSeen) (end : SessionEnd) (stop : Stop) → ShowsEnd end (gate_seen t q) → stop_of end ≡ Some stop → IsShown t q stop
+shown_by t q Quit stop shown is = absurd (cc)
+shown_by t q InputEnded stop shown is = absurd (cc)
+shown_by t q ReadFault stop shown is = absurd (cc)
+shown_by t q WriteFault stop shown is = absurd (cc)
+shown_by t q Spent stop shown is = absurd (cc)
+shown_by t q (Stopped found) stop shown is = shown_by_stop t q found stop shown is
+
+-- a worker whose last link was stopped
+pub works_stopped : (side : Side) (t : Terms) (p m q : PassSeen) (door first last : DoorSeen) (count refused refused' sessions : ℕ) (end : SessionEnd) (stop : Stop)
+    → SoFar side t p m door first count refused sessions → ServesOne side t m q first last end
+    → count < sessions → refused' ≡ refused + cond (is_refused end) 1 0 → stop_of end ≡ Some stop
+    → Works side t p q door last sessions (record { end = WorkerStopped stop; refused = refused' })
+works_stopped side t p m q door first last count refused refused' sessions end stop w one room is stops =
+    works side t p q door last (count + 1) refused' sessions (WorkerStopped stop) (w.served ++ one.link ∷ [])
+    (done_more side t p m q door first last count refused refused' sessions w.served end w.done one room is) (
+      record { front = w.served; last = one.link; parts = refl; others = w.on; end = subst (λ (e : SessionEnd). stop_of e ≡ Some stop) (sym one.ended) stops },
+      shown_by t q end stop one.shown stops,
+    )

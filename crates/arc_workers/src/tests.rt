@@ -1,0 +1,239 @@
+// What no clause says: that sessions and Ticks succeed, byte for byte.
+ghost use Rattle.std.specs.Prelude.{◌≡◌, false, IfOk};
+ghost use Rattle.arc_io.specs.Memory.{port_seen};
+ghost use Rattle.line_gate.specs.Blanks.{Names};
+
+use super::*;
+use arc_doors::{ListPulse, MemDoor};
+use arc_io::{Disk, ListClock, ListNoise, MemDisk, MemPort, MemSink, MemSource, Port};
+use centre_core::{Hall, Setup, Stop};
+use centre_store::Store;
+use disk_journal::Limits;
+use line_gate::{Blank, Gate, GateName};
+use std::alloc::Global;
+use std::marker::Brand;
+use std::process::Abort;
+use std::sync::Wait;
+use std::sync::atomic::AtomicBool;
+use std::test::Fail;
+
+// 2001-09-09, 01:46:40 GMT.
+const BEGIN: u64 = 1_000_000_000;
+
+// Its Adopt takes 49 bytes of a journal, and a Start takes 14.
+const SETUP: &[u8] = b"account 7777\noperator ann 1234\n";
+
+const BEAT: &[u8] = b"\n48CF0013\"NULL\"0000L0#7777[]\r";
+
+const ACKNOWLEDGEMENT: &[u8] = b"\n88AD0012\"ACK\"0000L0#7777[]\r";
+
+// A gate before a store in memory on which a run has begun. Its journal takes so many records.
+fn blank(alloc: Global, records: u64) -> Result<Blank<MemDisk>, Fail> {
+    let setup = Setup::read(alloc, SETUP)?;
+    let limits = Limits {
+        bytes: 1_000,
+        records,
+    };
+    let disk = MemDisk::new(alloc, Vec::new(alloc));
+    let Ok(mut store) = Store::open(alloc, disk, limits) else {
+        return Err("not opened")?;
+    };
+    store.begin(alloc, setup, BEGIN)?;
+    match Blank::new(alloc, store) {
+        Ok(blank) => Ok(blank),
+        Err(_) => Err("no memory")?,
+    }
+}
+
+// A port in memory with this input.
+fn port_of(alloc: Global, input: &[u8]) -> Result<MemPort, Fail>
+    ensures { IfOk result (λ port. (port_seen port).ended ≡ false) }
+{
+    Ok(MemPort {
+        source: MemSource::new(input.to_vec(alloc)?, Vec::new(alloc)),
+        sink: MemSink::new(alloc, Vec::new(alloc)),
+        clock: ListClock::new([BEGIN].to_vec(alloc)?),
+        noise: ListNoise::new(Vec::new(alloc)),
+    })
+}
+
+// A worker's three links, which have one input, the calls of its door that fail, how many links it is to serve, and how many records
+// the journal takes.
+#[derive(Clone, Copy)]
+struct Case<'a> {
+    side: Side,
+    input: &'a [u8],
+    failing: &'a [u64],
+    sessions: u32,
+    records: u64,
+}
+
+fn door_of(alloc: Global, case: &Case) -> Result<MemDoor<MemPort>, Fail> {
+    let (one, two, three) = (
+        port_of(alloc, case.input)?,
+        port_of(alloc, case.input)?,
+        port_of(alloc, case.input)?,
+    );
+    let ports = Vec::from_array(alloc, [one, two, three])?;
+    match MemDoor::new(alloc, ports, case.failing.to_vec(alloc)?) {
+        Ok(door) => Ok(door),
+        Err(_) => Err("no memory")?,
+    }
+}
+
+// A worker at a gate of its name. What came of it, and how many entries the store has then.
+fn work_at<P: Port + Send + Drop, R: Wait, D: Disk + Drop, N: GateName>(
+    rt: &R,
+    alloc: Global,
+    blank: Blank<D>,
+    door: &mut MemDoor<P>,
+    case: &Case,
+) -> (Worked, u64)
+    requires { Names D.told D.may_leave D.fault_count N.terms blank }
+{
+    let (gate, pass) = Gate::<D, N>::new(blank);
+    let (pass, worked) = match case.side {
+        Side::Lines => line_worker(rt, alloc, &gate, pass, door, case.sessions),
+        Side::Desks => desk_worker(rt, alloc, &gate, pass, door, case.sessions),
+    };
+    (worked, gate.close(pass).centre().entries())
+}
+
+fn work<P: Port + Send + Drop, R: Wait, D: Disk + Drop>(
+    rt: &R,
+    alloc: Global,
+    blank: Blank<D>,
+    door: &mut MemDoor<P>,
+    case: &Case,
+) -> (Worked, u64) {
+    work_at::<P, R, D, Brand>(rt, alloc, blank, door, case)
+}
+
+// How the worker ends, how many entries the store has then, and what was written to each of so many links that were got back.
+fn check<R: Abort + Wait>(
+    rt: &R,
+    alloc: Global,
+    case: &Case,
+    wanted: (WorkerEnd, u64, usize),
+    answer: &[u8],
+) -> Result<(), Fail> {
+    let (end, entries, count) = wanted;
+    let blank = blank(alloc, case.records)?;
+    let mut door = door_of(alloc, case)?;
+    let told = work(rt, alloc, blank, &mut door, case);
+    assert_eq!(rt; told, (Worked { end, refused: 0 }, entries));
+    let links = door.into_back();
+    assert_eq!(rt; links.len(), count);
+    for link in &links {
+        assert_eq!(rt; link.sink.bytes(), answer);
+    }
+    Ok(())
+}
+
+#[test]
+fn a_line_worker_serves_as_many_as_are_asked(rt: HostRuntime) -> Result<(), Fail> {
+    let case = Case {
+        side: Side::Lines,
+        input: BEAT,
+        failing: &[],
+        sessions: 2,
+        records: 9,
+    };
+    check(
+        &rt,
+        rt.alloc(),
+        &case,
+        (WorkerEnd::Quota, 4, 2),
+        ACKNOWLEDGEMENT,
+    )
+}
+
+#[test]
+fn a_desk_worker_serves_until_its_door_ends(rt: HostRuntime) -> Result<(), Fail> {
+    let case = Case {
+        side: Side::Desks,
+        input: b"login ann 1234\nnext\nquit\n",
+        failing: &[],
+        sessions: 4,
+        records: 9,
+    };
+    check(
+        &rt,
+        rt.alloc(),
+        &case,
+        (WorkerEnd::DoorEnded, 5, 3),
+        b"ok ann\nnone waiting\nbye\n",
+    )
+}
+
+#[test]
+fn a_door_that_fails_ends_its_worker(rt: HostRuntime) -> Result<(), Fail> {
+    let case = Case {
+        side: Side::Lines,
+        input: BEAT,
+        failing: &[3],
+        sessions: 9,
+        records: 9,
+    };
+    let end = WorkerEnd::DoorFault { before: 0, now: 1 };
+    check(&rt, rt.alloc(), &case, (end, 4, 2), ACKNOWLEDGEMENT)
+}
+
+// The journal has its first 17 bytes, an Adopt and a Start. A heartbeat would take 19 bytes.
+#[test]
+fn a_full_journal_stops_a_worker(rt: HostRuntime) -> Result<(), Fail> {
+    let case = Case {
+        side: Side::Lines,
+        input: BEAT,
+        failing: &[],
+        sessions: 9,
+        records: 2,
+    };
+    let full = Stop::Full {
+        used: 80,
+        need: 19,
+        records: 2,
+    };
+    check(
+        &rt,
+        rt.alloc(),
+        &case,
+        (WorkerEnd::Stopped(full), 2, 1),
+        b"",
+    )
+}
+
+// A ticker at a gate of its name. What came of it, and how many entries the store has then.
+fn tick_at<R: Wait, D: Disk + Drop, N: GateName>(
+    rt: &R,
+    alloc: Global,
+    blank: Blank<D>,
+    pulse: &mut ListPulse,
+) -> (Ticked, u64)
+    requires { Names D.told D.may_leave D.fault_count N.terms blank }
+{
+    let (gate, pass) = Gate::<D, N>::new(blank);
+    let stop = AtomicBool::new(false);
+    let (pass, ticked) = ticker(rt, alloc, &gate, pass, pulse, &stop);
+    (ticked, gate.close(pass).centre().entries())
+}
+
+fn tick<R: Wait, D: Disk + Drop>(
+    rt: &R,
+    alloc: Global,
+    blank: Blank<D>,
+    pulse: &mut ListPulse,
+) -> (Ticked, u64) {
+    tick_at::<R, D, Brand>(rt, alloc, blank, pulse)
+}
+
+#[test]
+fn a_ticker_ticks_until_its_pulse_ends(rt: HostRuntime) -> Result<(), Fail> {
+    let alloc = rt.alloc();
+    let blank = blank(alloc, 9)?;
+    let mut pulse = ListPulse::new([BEGIN + 1, BEGIN + 2].to_vec(alloc)?);
+    let (ticked, entries) = tick(&rt, alloc, blank, &mut pulse);
+    let Ticked { stop, refused } = ticked;
+    assert_eq!(rt; (stop, refused, entries), (None, 0, 4));
+    Ok(())
+}
