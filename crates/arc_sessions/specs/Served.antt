@@ -52,12 +52,12 @@ abbrev pub Serves : Side → SessionEnd → List ℕ → Summary → List Entry 
 Serves Lines end read b h hall hall' p p' = ServesOneLine (line_end end) read b h hall hall' p p'
 Serves Desks end read b h hall hall' p p' = ServesDesk (desk_end end) read b h hall hall' p p'
 
-pub line_history : (end : Option LineEnd) (read : List ℕ) (b : Summary) (h : List Entry) (hall hall' : HallSeen) (p p' : PortSeen)
+abbrev pub line_history : (end : Option LineEnd) (read : List ℕ) (b : Summary) (h : List Entry) (hall hall' : HallSeen) (p p' : PortSeen)
     → ServesOneLine end read b h hall hall' p p' → List Entry
 line_history None read b h hall hall' p p' serves = absurd serves
 line_history (Some end) read b h hall hall' p p' serves = serves.session.history
 
-pub line_entries : (end : Option LineEnd) (read : List ℕ) (b : Summary) (h : List Entry) (hall hall' : HallSeen) (p p' : PortSeen)
+abbrev pub line_entries : (end : Option LineEnd) (read : List ℕ) (b : Summary) (h : List Entry) (hall hall' : HallSeen) (p p' : PortSeen)
     → ServesOneLine end read b h hall hall' p p' → List Entry
 line_entries None read b h hall hall' p p' serves = absurd serves
 line_entries (Some end) read b h hall hall' p p' serves = entries_of line_turns serves.session.turns
