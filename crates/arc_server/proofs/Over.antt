@@ -11,7 +11,7 @@ use Rattle.centre_store.specs.Begins.{adopted_after, IsOfBegin}
 use Rattle.centre_store.specs.Stores.{Stored, StoreStands, HasFailed, Shows}
 use Rattle.arc_server.specs.Areas.{EndsWith, shipped}
 use Rattle.arc_server.specs.Made.{made_of_stop}
-use Rattle.arc_server.specs.WholeRuns.{IsUnbegun, StopsBeginning}
+use Rattle.arc_server.specs.SessionRuns.{IsUnbegun, StopsBeginning}
 use Rattle.arc_server.specs.declared.status.Status.{Status}
 use Rattle.arc_server.specs.declared.status.Status.TheVariants.{DiskFault, Full as StatusFull, Memory as StatusMemory, Worn as StatusWorn}
 use Rattle.arc_server.proofs.Kept.{kept, kept_up}

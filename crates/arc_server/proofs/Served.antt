@@ -13,16 +13,16 @@ use Rattle.centre_rules.specs.History.{Entry}
 use Rattle.centre_store.specs.Begins.{begun_after}
 use Rattle.centre_store.specs.StoreHalls.{IsStoreFor, store_seen}
 use Rattle.centre_store.specs.Stores.{Stored, StoreStands, HasFailed, Shows}
-use Rattle.line_session.specs.Sessions.{HasStopped}
 use Rattle.session_rules.specs.Sessions.{IsShownFor}
 use Rattle.arc_server.specs.Areas.{EndsWith, HasRecorded, shipped}
 use Rattle.arc_server.specs.Made.{made_of_end}
-use Rattle.arc_server.specs.Served.{Did, history_of}
-use Rattle.arc_server.specs.WholeRuns.{ServesRun, HasRisen, IsServed}
-use Rattle.arc_server.specs.declared.form.Form.{Form}
-use Rattle.arc_server.specs.declared.form.Form.TheVariants.{Line, Desk}
-use Rattle.arc_server.specs.declared.session.SessionEnd.{SessionEnd}
-use Rattle.arc_server.specs.declared.session.SessionEnd.TheVariants.{Quit, InputEnded, ReadFault, WriteFault, Spent, Stopped}
+use Rattle.arc_server.specs.Counts.{HasRisen}
+use Rattle.arc_server.specs.SessionRuns.{Did, history_by, ServesRun, IsServed}
+use Rattle.arc_sessions.specs.Served.{ShowsEnd}
+use Rattle.arc_sessions.proofs.After.{is_after}
+use Rattle.arc_sessions.specs.declared.side.Side.{Side}
+use Rattle.arc_sessions.specs.declared.session.SessionEnd.{SessionEnd}
+use Rattle.arc_sessions.specs.declared.session.SessionEnd.TheVariants.{Quit, InputEnded, ReadFault, WriteFault, Spent, Stopped}
 use Rattle.arc_server.specs.declared.status.Status.{Status}
 use Rattle.arc_server.specs.declared.status.Status.TheVariants.{Done, DiskFault, ReadFault as StatusReadFault, WriteFault as StatusWriteFault}
 use Rattle.arc_server.specs.declared.status.Status.TheVariants.{Full as StatusFull, Memory as StatusMemory, Spent as StatusSpent, Worn as StatusWorn}
@@ -30,80 +30,58 @@ use Rattle.arc_server.specs.declared.status.Which.TheVariants.{Input}
 use Rattle.arc_server.proofs.Kept.{kept, kept_up}
 
 -- the hall stands for the history that the session ended with
-pub holds_of : (form : Form) (end : SessionEnd) (h : List Entry) (hall hall' : HallSeen) (p p' : PortSeen)
-    (did : Did form end h hall hall' p p') → hall'.stands nothing (history_of form end h hall hall' p p' did)
-holds_of Line Quit h hall hall' p p' did = absurd did
-holds_of Line InputEnded h hall hall' p p' did = did.2.session.holds
-holds_of Line ReadFault h hall hall' p p' did = did.2.session.holds
-holds_of Line WriteFault h hall hall' p p' did = did.2.session.holds
-holds_of Line Spent h hall hall' p p' did = did.2.session.holds
-holds_of Line (Stopped stop) h hall hall' p p' did = did.2.session.holds
-holds_of Desk Quit h hall hall' p p' did = did.2.desk.session.holds
-holds_of Desk InputEnded h hall hall' p p' did = did.2.desk.session.holds
-holds_of Desk ReadFault h hall hall' p p' did = did.2.desk.session.holds
-holds_of Desk WriteFault h hall hall' p p' did = did.2.desk.session.holds
-holds_of Desk Spent h hall hall' p p' did = did.2.desk.session.holds
-holds_of Desk (Stopped stop) h hall hall' p p' did = did.2.desk.session.holds
-
-shown_by : (hall hall' : HallSeen) (stop : Stop) (body : List ℕ) (reading : ℕ) → HasStopped hall hall' stop body reading → IsShownFor hall' stop
-shown_by hall hall' stop body reading (inl wanted) = inl wanted.0
-shown_by hall hall' stop body reading (inr shown) = inr (shown.0, reading, shown.2)
-
--- a hall that stopped a session showed the stop
-pub shown_of : (form : Form) (stop : Stop) (h : List Entry) (hall hall' : HallSeen) (p p' : PortSeen)
-    → Did form (Stopped stop) h hall hall' p p' → IsShownFor hall' stop
-shown_of Line stop h hall hall' p p' did =
-    let ended = did.2.session.ended in shown_by hall hall' stop ended.piece ended.reading ended.cause
-shown_of Desk stop h hall hall' p p' did =
-    let ended = did.2.desk.session.ended in inr (ended.cause.0, ended.reading, ended.cause.2)
+pub holds_of : (side : Side) (end : SessionEnd) (h : List Entry) (hall hall' : HallSeen) (p p' : PortSeen)
+    (did : Did side end h hall hall' p p') → hall'.stands nothing (history_by side end h hall hall' p p' did)
+holds_of side end h hall hall' p p' did = (is_after side end did.0 nothing h hall hall' p p' did.2).holds
 
 pub risen : (first second entry end : ℕ) → first ≡ entry → second ≡ end → Rose entry end → HasRisen first second entry end
 risen first second entry end before now rose = record { before = before; now = now; rose = subst (λ n. Rose n second) (sym before) (subst (λ n. Rose entry n) (sym now) rose) }
 
 -- What is known of a session that was served over a store from the beginning of a run on, and of the disk that was handed back.
 pub record Session {D : Type 0} (told : D → Option Areas) (may_leave : D → Areas → Type 0) (faults : D → ℕ)
-    (form : Form) (end : SessionEnd) (past : List Entry) (text : List ℕ) (clock : ℕ) (p p' : PortSeen) (disk' : D) (first last : Stored D) : Type 0 where
+    (side : Side) (end : SessionEnd) (past : List Entry) (text : List ℕ) (clock : ℕ) (p p' : PortSeen) (disk' : D) (first last : Stored D) : Type 0 where
   pub begins : IsStoreFor told may_leave faults nothing first (begun_after nothing past text clock)
   pub under : text_of first.state ≡ text
-  pub did : Did form end (begun_after nothing past text clock) (store_seen told may_leave faults first) (store_seen told may_leave faults last) p p'
+  pub did : Did side end (begun_after nothing past text clock) (store_seen told may_leave faults first) (store_seen told may_leave faults last) p p'
+  pub shown : ShowsEnd end (store_seen told may_leave faults last)
   pub limits : last.journal.limits ≡ shipped
   pub handed : disk' ≡ last.journal.disk
 
 -- the history that it ended with, and that the store stands for it
 abbrev pub ends_with : {D : Type 0} {told : D → Option Areas} {may_leave : D → Areas → Type 0} {faults : D → ℕ}
-    (form : Form) (end : SessionEnd) {past : List Entry} {text : List ℕ} {clock : ℕ} {p p' : PortSeen} {disk' : D} {first last : Stored D}
-    → Session told may_leave faults form end past text clock p p' disk' first last → List Entry
-ends_with {D} {told} {may_leave} {faults} form end {past} {text} {clock} {p} {p'} {disk'} {first} {last} s =
-    history_of form end (begun_after nothing past text clock) (store_seen told may_leave faults first) (store_seen told may_leave faults last) p p' s.did
+    (side : Side) (end : SessionEnd) {past : List Entry} {text : List ℕ} {clock : ℕ} {p p' : PortSeen} {disk' : D} {first last : Stored D}
+    → Session told may_leave faults side end past text clock p p' disk' first last → List Entry
+ends_with {D} {told} {may_leave} {faults} side end {past} {text} {clock} {p} {p'} {disk'} {first} {last} s =
+    history_by side end (begun_after nothing past text clock) (store_seen told may_leave faults first) (store_seen told may_leave faults last) p p' s.did
 
 stands_for : {D : Type 0} {told : D → Option Areas} {may_leave : D → Areas → Type 0} {faults : D → ℕ}
-    (form : Form) (end : SessionEnd) {past : List Entry} {text : List ℕ} {clock : ℕ} {p p' : PortSeen} {disk' : D} {first last : Stored D}
-    → (s : Session told may_leave faults form end past text clock p p' disk' first last)
-    → StoreStands told may_leave faults nothing last (ends_with form end s)
-stands_for {D} {told} {may_leave} {faults} form end {past} {text} {clock} {p} {p'} {disk'} {first} {last} s =
-    (holds_of form end (begun_after nothing past text clock) (store_seen told may_leave faults first) (store_seen told may_leave faults last) p p' s.did).stands
+    (side : Side) (end : SessionEnd) {past : List Entry} {text : List ℕ} {clock : ℕ} {p p' : PortSeen} {disk' : D} {first last : Stored D}
+    → (s : Session told may_leave faults side end past text clock p p' disk' first last)
+    → StoreStands told may_leave faults nothing last (ends_with side end s)
+stands_for {D} {told} {may_leave} {faults} side end {past} {text} {clock} {p} {p'} {disk'} {first} {last} s =
+    (holds_of side end (begun_after nothing past text clock) (store_seen told may_leave faults first) (store_seen told may_leave faults last) p p' s.did).stands
 
 served : {D : Type 0} {told : D → Option Areas} {may_leave : D → Areas → Type 0} {faults : D → ℕ}
-    (form : Form) (end : SessionEnd) (status : Status) {past : List Entry} {text : List ℕ} {clock : ℕ} {p p' : PortSeen} {disk' : D} {first last : Stored D}
-    → (s : Session told may_leave faults form end past text clock p p' disk' first last)
-    → EndsWith told may_leave status last.journal.disk (ends_with form end s)
-    → ServesRun told may_leave faults form end status past text clock p p' disk' last
-served {D} {told} {may_leave} form end status {first = first} s ends = record {
+    (side : Side) (end : SessionEnd) (status : Status) {past : List Entry} {text : List ℕ} {clock : ℕ} {p p' : PortSeen} {disk' : D} {first last : Stored D}
+    → (s : Session told may_leave faults side end past text clock p p' disk' first last)
+    → EndsWith told may_leave status last.journal.disk (ends_with side end s)
+    → ServesRun told may_leave faults side end status past text clock p p' disk' last
+served {D} {told} {may_leave} side end status {first = first} s ends = record {
   first = first;
   begins = s.begins;
   under = s.under;
   did = s.did;
   limits = s.limits;
   handed = s.handed;
-  ends = subst (λ (d : D). EndsWith told may_leave status d (ends_with form end s)) (sym s.handed) ends;
+  ends = subst (λ (d : D). EndsWith told may_leave status d (ends_with side end s)) (sym s.handed) ends;
 }
 
 -- where the disk has not failed, it has recorded that history
 recorded_up : {D : Type 0} {told : D → Option Areas} {may_leave : D → Areas → Type 0} {faults : D → ℕ}
-    (form : Form) (end : SessionEnd) {past : List Entry} {text : List ℕ} {clock : ℕ} {p p' : PortSeen} {disk' : D} {first last : Stored D}
-    → (s : Session told may_leave faults form end past text clock p p' disk' first last) → (HasFailed faults last → ⊥)
-    → HasRecorded told may_leave last.journal.disk (ends_with form end s)
-recorded_up form end {last = last} s up = kept_up last (stands_for form end s) up
+    (side : Side) (end : SessionEnd) {past : List Entry} {text : List ℕ} {clock : ℕ} {p p' : PortSeen} {disk' : D} {first last : Stored D}
+    → (s : Session told may_leave faults side end past text clock p p' disk' first last) → (HasFailed faults last → ⊥)
+    → HasRecorded told may_leave last.journal.disk (ends_with side end s)
+recorded_up side end {last = last} s up = kept_up last (stands_for side end s) up
 
 -- the later of two counts at entry rose no sooner than the earlier
 pub rose_from : (entry at_open now : ℕ) → entry ≤ at_open → Rose at_open now → Rose entry now
@@ -121,12 +99,12 @@ up_to_end faults before first now last disk' risen opened since handed is rises 
 
 -- where the disk has failed
 pub served_down : {D : Type 0} {told : D → Option Areas} {may_leave : D → Areas → Type 0} {faults : D → ℕ}
-    (form : Form) (end : SessionEnd) {past : List Entry} {text : List ℕ} {clock : ℕ} {p p' : PortSeen} {disk' : D} {first last : Stored D}
-    (before now : ℕ) → (s : Session told may_leave faults form end past text clock p p' disk' first last)
+    (side : Side) (end : SessionEnd) {past : List Entry} {text : List ℕ} {clock : ℕ} {p p' : PortSeen} {disk' : D} {first last : Stored D}
+    (before now : ℕ) → (s : Session told may_leave faults side end past text clock p p' disk' first last)
     → now ≡ faults disk' → Rose before now
-    → IsServed told may_leave faults form (DiskFault before now) past text clock p p' before disk'
-served_down {D} {told} {may_leave} {faults} form end {last = last} before now s is rose =
-    (record { before = refl; now = is; rose = rose }, (end, last, served form end (DiskFault before now) s (kept last before now (stands_for form end s))))
+    → IsServed told may_leave faults side (DiskFault before now) past text clock p p' before disk'
+served_down {D} {told} {may_leave} {faults} side end {last = last} before now s is rose =
+    (record { before = refl; now = is; rose = rose }, (end, last, served side end (DiskFault before now) s (kept last before now (stands_for side end s))))
 
 shown_but_memory : (hall' : HallSeen) (stop : Stop) → IsShownFor hall' stop → (stop ≡ Memory → ⊥)
     → (event : Event) × (reading : ℕ) × hall'.shows stop event reading
@@ -135,45 +113,43 @@ shown_but_memory hall' stop (inr shown) other = shown
 
 -- a stop other than want of memory was shown by the store
 shown_at : {D : Type 0} {told : D → Option Areas} {may_leave : D → Areas → Type 0} {faults : D → ℕ}
-    (form : Form) (stop : Stop) {past : List Entry} {text : List ℕ} {clock : ℕ} {p p' : PortSeen} {disk' : D} {first last : Stored D}
-    → Session told may_leave faults form (Stopped stop) past text clock p p' disk' first last → (stop ≡ Memory → ⊥)
+    (side : Side) (stop : Stop) {past : List Entry} {text : List ℕ} {clock : ℕ} {p p' : PortSeen} {disk' : D} {first last : Stored D}
+    → Session told may_leave faults side (Stopped stop) past text clock p p' disk' first last → (stop ≡ Memory → ⊥)
     → (event : Event) × (reading : ℕ) × Shows told may_leave faults last stop event reading
-shown_at {D} {told} {may_leave} {faults} form stop {past} {text} {clock} {p} {p'} {disk'} {first} {last} s other =
-    let hall : HallSeen = store_seen told may_leave faults first in
-    let hall' : HallSeen = store_seen told may_leave faults last in
-    shown_but_memory hall' stop (shown_of form stop (begun_after nothing past text clock) hall hall' p p' s.did) other
+shown_at {D} {told} {may_leave} {faults} side stop {last = last} s other =
+    shown_but_memory (store_seen told may_leave faults last) stop s.shown other
 
 -- where the disk has not failed
 pub served_up : {D : Type 0} {told : D → Option Areas} {may_leave : D → Areas → Type 0} {faults : D → ℕ}
-    (form : Form) (end : SessionEnd) {past : List Entry} {text : List ℕ} {clock : ℕ} {p p' : PortSeen} {disk' : D} {first last : Stored D}
-    (before now : ℕ) → (s : Session told may_leave faults form end past text clock p p' disk' first last)
+    (side : Side) (end : SessionEnd) {past : List Entry} {text : List ℕ} {clock : ℕ} {p p' : PortSeen} {disk' : D} {first last : Stored D}
+    (before now : ℕ) → (s : Session told may_leave faults side end past text clock p p' disk' first last)
     → (HasFailed faults last → ⊥)
     → (end ≡ ReadFault → Rose p.read_faults p'.read_faults) → (end ≡ WriteFault → Rose p.write_faults p'.write_faults)
-    → IsServed told may_leave faults form (made_of_end end before now p p') past text clock p p' before disk'
-served_up {D} {told} {may_leave} {faults} form Quit {last = last} before now s up read write =
-    (Quit, tt, (last, served form Quit Done s (recorded_up form Quit s up)))
-served_up {D} {told} {may_leave} {faults} form InputEnded {last = last} before now s up read write =
-    (InputEnded, tt, (last, served form InputEnded Done s (recorded_up form InputEnded s up)))
-served_up {D} {told} {may_leave} {faults} form ReadFault {p = p} {p' = p'} {last = last} before now s up read write = (
+    → IsServed told may_leave faults side (made_of_end end before now p p') past text clock p p' before disk'
+served_up {D} {told} {may_leave} {faults} side Quit {last = last} before now s up read write =
+    (Quit, tt, (last, served side Quit Done s (recorded_up side Quit s up)))
+served_up {D} {told} {may_leave} {faults} side InputEnded {last = last} before now s up read write =
+    (InputEnded, tt, (last, served side InputEnded Done s (recorded_up side InputEnded s up)))
+served_up {D} {told} {may_leave} {faults} side ReadFault {p = p} {p' = p'} {last = last} before now s up read write = (
   record { before = refl; now = refl; rose = read refl },
-  (last, served form ReadFault (StatusReadFault Input p.read_faults p'.read_faults) s (recorded_up form ReadFault s up)),
+  (last, served side ReadFault (StatusReadFault Input p.read_faults p'.read_faults) s (recorded_up side ReadFault s up)),
 )
-served_up {D} {told} {may_leave} {faults} form WriteFault {p = p} {p' = p'} {last = last} before now s up read write = (
+served_up {D} {told} {may_leave} {faults} side WriteFault {p = p} {p' = p'} {last = last} before now s up read write = (
   record { before = refl; now = refl; rose = write refl },
-  (last, served form WriteFault (StatusWriteFault p.write_faults p'.write_faults) s (recorded_up form WriteFault s up)),
+  (last, served side WriteFault (StatusWriteFault p.write_faults p'.write_faults) s (recorded_up side WriteFault s up)),
 )
-served_up {D} {told} {may_leave} {faults} form Spent {last = last} before now s up read write =
-    (last, served form Spent StatusSpent s (recorded_up form Spent s up))
-served_up {D} {told} {may_leave} {faults} form (Stopped Memory) {last = last} before now s up read write =
-    (last, served form (Stopped Memory) StatusMemory s (recorded_up form (Stopped Memory) s up))
-served_up {D} {told} {may_leave} {faults} form (Stopped (Down at_open is)) {last = last} before now s up read write =
-    let shown = shown_at form (Down at_open is) s (λ none. cc) in
+served_up {D} {told} {may_leave} {faults} side Spent {last = last} before now s up read write =
+    (last, served side Spent StatusSpent s (recorded_up side Spent s up))
+served_up {D} {told} {may_leave} {faults} side (Stopped Memory) {last = last} before now s up read write =
+    (last, served side (Stopped Memory) StatusMemory s (recorded_up side (Stopped Memory) s up))
+served_up {D} {told} {may_leave} {faults} side (Stopped (Down at_open is)) {last = last} before now s up read write =
+    let shown = shown_at side (Down at_open is) s (λ none. cc) in
     absurd (up (subst (λ n. Rose n (faults last.journal.disk)) shown.2.0 (subst (λ n. Rose at_open n) shown.2.1 shown.2.2)))
-served_up {D} {told} {may_leave} {faults} form (Stopped (Full used need records)) {last = last} before now s up read write =
+served_up {D} {told} {may_leave} {faults} side (Stopped (Full used need records)) {last = last} before now s up read write =
     let end : SessionEnd = Stopped (Full used need records) in
-    let shown = shown_at form (Full used need records) s (λ none. cc) in
-    (last, shown.0, shown.1, shown.2, served form end (StatusFull used need records) s (recorded_up form end s up))
-served_up {D} {told} {may_leave} {faults} form (Stopped (Worn count)) {last = last} before now s up read write =
+    let shown = shown_at side (Full used need records) s (λ none. cc) in
+    (last, shown.0, shown.1, shown.2, served side end (StatusFull used need records) s (recorded_up side end s up))
+served_up {D} {told} {may_leave} {faults} side (Stopped (Worn count)) {last = last} before now s up read write =
     let end : SessionEnd = Stopped (Worn count) in
-    let shown = shown_at form (Worn count) s (λ none. cc) in
-    (last, shown.2.0, shown.2.1, served form end (StatusWorn count) s (recorded_up form end s up))
+    let shown = shown_at side (Worn count) s (λ none. cc) in
+    (last, shown.2.0, shown.2.1, served side end (StatusWorn count) s (recorded_up side end s up))

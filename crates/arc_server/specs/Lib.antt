@@ -3,11 +3,13 @@ pub use Rattle.arc_io.specs.Crashes
 pub use Rattle.centre_store.specs.Begins
 pub use Rattle.centre_store.specs.Openings
 pub use Rattle.centre_store.specs.StoreHalls
-pub use Rattle.line_session.specs.Lines
-pub use Rattle.desk_session.specs.Desks
+pub use Rattle.arc_sessions.specs.Served
 pub mod Forms
-pub mod Served
 pub mod Statuses
 pub mod Areas
 pub mod Made
+pub mod Counts
+pub mod SetupReads
+pub mod Unopened
+pub mod SessionRuns
 pub mod WholeRuns

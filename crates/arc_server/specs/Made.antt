@@ -5,9 +5,9 @@ use Rattle.centre_core.specs.declared.hall.Stop.{Stop}
 use Rattle.centre_core.specs.declared.hall.Stop.TheVariants.{Memory as MemoryWanted, Down, Full as HallFull, Worn as HallWorn}
 use Rattle.disk_journal.specs.declared.fault.OpenFault.{OpenFault}
 use Rattle.disk_journal.specs.declared.fault.OpenFault.TheVariants as Open
-use Rattle.arc_server.specs.declared.session.SessionEnd.{SessionEnd}
-use Rattle.arc_server.specs.declared.session.SessionEnd.TheVariants.{Quit, InputEnded, ReadFault as NotRead, WriteFault as NotWritten}
-use Rattle.arc_server.specs.declared.session.SessionEnd.TheVariants.{Spent as InputSpent, Stopped}
+use Rattle.arc_sessions.specs.declared.session.SessionEnd.{SessionEnd}
+use Rattle.arc_sessions.specs.declared.session.SessionEnd.TheVariants.{Quit, InputEnded, ReadFault as NotRead, WriteFault as NotWritten}
+use Rattle.arc_sessions.specs.declared.session.SessionEnd.TheVariants.{Spent as InputSpent, Stopped}
 use Rattle.arc_server.specs.declared.status.Status.{Status}
 use Rattle.arc_server.specs.declared.status.Status.TheVariants.{Done, ReadFault, WriteFault, DiskFault, Journal, Full, Memory, Spent, Worn}
 use Rattle.arc_server.specs.declared.status.Which.TheVariants.{Input}

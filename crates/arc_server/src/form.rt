@@ -3,14 +3,13 @@ ghost use Rattle.std.specs.Prelude.{◌≡◌};
 ghost use Rattle.arc_server.specs.Forms.{form_of, form_named};
 
 use arc_data::Txt;
+use arc_sessions::Side;
 
 /// What the words ask for.
 #[derive(Clone, Copy, Debug, PartialEq, Eq)]
 pub enum Form {
-    /// `line`: one line session on the port.
-    Line,
-    /// `desk`: one desk session on the port.
-    Desk,
+    /// `line` or `desk`: one session of a line, or of a desk, on the port.
+    Session(Side),
 }
 
 /// The form of the words. None where they are of none.
@@ -28,9 +27,9 @@ fn form_named(word: &Txt) -> Option<Form>
     ensures { result ≡ form_named word.now }
 {
     if word.bytes() == b"line".as_slice() {
-        Some(Form::Line)
+        Some(Form::Session(Side::Lines))
     } else if word.bytes() == b"desk".as_slice() {
-        Some(Form::Desk)
+        Some(Form::Session(Side::Desks))
     } else {
         None
     }

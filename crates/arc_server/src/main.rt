@@ -12,9 +12,11 @@ use std::process::ExitCode;
 use std::{env, fs, io};
 
 mod form;
+mod made;
 mod opened;
 mod run;
 mod session;
+mod setup;
 mod status;
 #[cfg(test)]
 mod tests;

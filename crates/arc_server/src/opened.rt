@@ -5,12 +5,12 @@ ghost use Rattle.centre_core.specs.Setting.{IsSetting};
 ghost use Rattle.centre_rules.specs.Summary.{nothing};
 ghost use Rattle.centre_rules.specs.History.{Entry};
 ghost use Rattle.centre_store.specs.StoreHalls.{IsStoreFor, store_seen};
-ghost use Rattle.arc_server.specs.Served.{Did};
+ghost use Rattle.arc_sessions.specs.Served.{ShowsEnd};
+ghost use Rattle.arc_server.specs.SessionRuns.{Did};
 
-use crate::form::Form;
-use crate::session::{SessionEnd, serve};
 use arc_data::Event;
 use arc_io::{Disk, Port};
+use arc_sessions::{SessionEnd, Side, serve};
 use centre_core::{Done, Hall, Setup, Stop};
 use centre_store::Store;
 use std::alloc::Global;
@@ -60,9 +60,9 @@ impl<D: Disk, K: Lasting> Hall for Opened<D, K> {
     }
 }
 
-/// Serves one session of this form over the port and the store.
+/// Serves one session of this kind over the port and the store.
 pub(crate) fn serve_over<D: Disk, P: Port>(
-    form: Form,
+    side: Side,
     alloc: Global,
     store: Store<D>,
     port: &mut P,
@@ -70,19 +70,20 @@ pub(crate) fn serve_over<D: Disk, P: Port>(
     requires ready { IsSetting store.state.sum.text }
     requires port { (P.seen port.old).ended ≡ false }
     ensures did { (h : List Entry) → IsStoreFor D.told D.may_leave D.fault_count nothing store h →
-        Did form result.0 h (store_seen D.told D.may_leave D.fault_count store) (store_seen D.told D.may_leave D.fault_count result.1)
+        Did side result.0 h (store_seen D.told D.may_leave D.fault_count store) (store_seen D.told D.may_leave D.fault_count result.1)
         (P.seen port.old) (P.seen port.new) }
+    ensures stop { ShowsEnd result.0 (store_seen D.told D.may_leave D.fault_count result.1) }
     ensures at_open { result.1.at_open ≡ store.at_open }
     ensures limits { result.1.journal.limits ≡ store.journal.limits }
     ensures read { result.0 ≡ SessionEnd.ReadFault → Rose (P.seen port.old).read_faults (P.seen port.new).read_faults }
     ensures write { result.0 ≡ SessionEnd.WriteFault → Rose (P.seen port.old).write_faults (P.seen port.new).write_faults }
 {
-    serve_opened::<D, P, Brand>(form, alloc, store, port)
+    serve_opened::<D, P, Brand>(side, alloc, store, port)
 }
 
 // The same, of a store with what its type knows.
 fn serve_opened<D: Disk, P: Port, K: Lasting>(
-    form: Form,
+    side: Side,
     alloc: Global,
     store: Store<D>,
     port: &mut P,
@@ -92,8 +93,9 @@ fn serve_opened<D: Disk, P: Port, K: Lasting>(
     requires at_open { store.at_open ≡ K.at_open }
     requires limits { store.journal.limits ≡ K.limits }
     ensures did { (h : List Entry) → IsStoreFor D.told D.may_leave D.fault_count nothing store h →
-        Did form result.0 h (store_seen D.told D.may_leave D.fault_count store) (store_seen D.told D.may_leave D.fault_count result.1)
+        Did side result.0 h (store_seen D.told D.may_leave D.fault_count store) (store_seen D.told D.may_leave D.fault_count result.1)
         (P.seen port.old) (P.seen port.new) }
+    ensures stop { ShowsEnd result.0 (store_seen D.told D.may_leave D.fault_count result.1) }
     ensures at_open { result.1.at_open ≡ K.at_open }
     ensures limits { result.1.journal.limits ≡ K.limits }
     ensures read { result.0 ≡ SessionEnd.ReadFault → Rose (P.seen port.old).read_faults (P.seen port.new).read_faults }
@@ -103,6 +105,6 @@ fn serve_opened<D: Disk, P: Port, K: Lasting>(
         store,
         lasting: PhantomData,
     };
-    let end = serve(form, alloc, &mut hall, port);
+    let end = serve(side, alloc, &mut hall, port);
     (end, hall.store)
 }

@@ -1,87 +1,119 @@
-// One session over a hall, of either form.
-ghost use Rattle.std.specs.Prelude.{◌≡◌, false, List, ℕ};
-ghost use Rattle.arc_io.specs.Causes.{Rose};
-ghost use Rattle.centre_rules.specs.Summary.{nothing};
+// A run that serves one session, of a line or of a desk.
+ghost use Rattle.std.specs.Prelude.{◌≡◌, ◌≢◌, ◌≤◌, List, ℕ, false, IsOk};
+ghost use Rattle.alarm_rules.specs.Setups.{setup_of};
+ghost use Rattle.centre_core.specs.Setting.{IsSetting, text_of};
 ghost use Rattle.centre_rules.specs.History.{Entry};
-ghost use Rattle.arc_server.specs.Served.{Did};
+ghost use Rattle.centre_rules.specs.Summary.{nothing};
+ghost use Rattle.centre_store.specs.Begins.{begun_after};
+ghost use Rattle.centre_store.specs.StoreHalls.{IsStoreFor};
+ghost use Rattle.centre_store.specs.Stores.{StoreStands};
+ghost use Rattle.arc_server.specs.Areas.{shipped};
+ghost use Rattle.arc_server.specs.SessionRuns.{IsSessionRun, IsOver, GoesOnFrom, IsServed};
 
-use crate::form::Form;
-use arc_io::Port;
-use centre_core::{Hall, Stop};
-use desk_session::{DeskEnd, serve_desk};
-use line_session::{LineEnd, serve_line};
+use crate::made::{has_risen, status_of, stopped, unopened};
+use crate::opened::serve_over;
+use crate::setup::read_setup;
+use crate::status::Status;
+use arc_io::{Disk, Port, Source};
+use arc_sessions::Side;
+use centre_core::Setup;
+use centre_store::Store;
+use disk_journal::{OpenRefused, SHIPPED};
 use std::alloc::Global;
 
-/// How a session ended, of a line or of a desk.
-#[derive(Clone, Copy, Debug, PartialEq, Eq)]
-pub enum SessionEnd {
-    /// The operator ended it by `quit`. A line has no such end.
-    Quit,
-    /// The input was read to its end, and each part of it has its answer.
-    InputEnded,
-    /// A read failed.
-    ReadFault,
-    /// A write failed within the last answer.
-    WriteFault,
-    /// 1,099,511,627,776 bytes (2^40) were read.
-    Spent,
-    /// The hall did not take an event, or memory was wanted for a message.
-    Stopped(Stop),
-}
-
-/// Serves one session of this form over the port.
-pub(crate) fn serve<H: Hall, P: Port>(
-    form: Form,
+/// Reads the setup, opens the journal with the limits that are shipped, begins a run, and serves one session of this kind.
+pub(crate) fn run_session<S: Source, P: Port, D: Disk>(
+    side: Side,
     alloc: Global,
-    hall: &mut H,
+    source: &mut S,
     port: &mut P,
-) -> SessionEnd
-    requires ready { (H.seen hall.old).ready }
+    disk: D,
+) -> (Status, D)
+    requires setup { (S.seen source.old).ended ≡ false }
     requires port { (P.seen port.old).ended ≡ false }
-    ensures did { (h : List Entry) → (H.seen hall.old).stands nothing h →
-        Did form result h (H.seen hall.old) (H.seen hall.new) (P.seen port.old) (P.seen port.new) }
-    ensures read { result ≡ SessionEnd.ReadFault → Rose (P.seen port.old).read_faults (P.seen port.new).read_faults }
-    ensures write { result ≡ SessionEnd.WriteFault → Rose (P.seen port.old).write_faults (P.seen port.new).write_faults }
+    ensures usage { result.0 ≢ Status.Usage }
+    ensures ran { IsSessionRun D.told D.may_leave D.moment D.left_since D.fault_count side result.0
+        (S.seen source.old) (S.seen source.new) (P.seen port.old) (P.seen port.new) disk result.1 }
 {
-    match form {
-        Form::Line => serve_one_line(alloc, hall, port),
-        Form::Desk => serve_one_desk(alloc, hall, port),
+    match read_setup(alloc, source) {
+        Ok(setup) => run_over(side, alloc, setup, port, disk),
+        Err(status) => (status, disk),
     }
 }
 
-// Serves one line.
-fn serve_one_line<H: Hall, P: Port>(alloc: Global, hall: &mut H, port: &mut P) -> SessionEnd
-    requires ready { (H.seen hall.old).ready }
+// Opens the journal, and goes on from there.
+fn run_over<P: Port, D: Disk>(
+    side: Side,
+    alloc: Global,
+    setup: Setup,
+    port: &mut P,
+    disk: D,
+) -> (Status, D)
+    requires setting { IsOk (setup_of setup) }
     requires port { (P.seen port.old).ended ≡ false }
-    ensures did { (h : List Entry) → (H.seen hall.old).stands nothing h →
-        Did Form.Line result h (H.seen hall.old) (H.seen hall.new) (P.seen port.old) (P.seen port.new) }
-    ensures read { result ≡ SessionEnd.ReadFault → Rose (P.seen port.old).read_faults (P.seen port.new).read_faults }
-    ensures write { result ≡ SessionEnd.WriteFault → Rose (P.seen port.old).write_faults (P.seen port.new).write_faults }
+    ensures usage { result.0 ≢ Status.Usage }
+    ensures ran { IsOver D.told D.may_leave D.moment D.left_since D.fault_count side result.0 setup
+        (P.seen port.old) (P.seen port.new) disk result.1 }
 {
-    match serve_line(alloc, hall, port) {
-        LineEnd::InputEnded => SessionEnd::InputEnded,
-        LineEnd::ReadFault => SessionEnd::ReadFault,
-        LineEnd::WriteFault => SessionEnd::WriteFault,
-        LineEnd::Spent => SessionEnd::Spent,
-        LineEnd::Stopped(stop) => SessionEnd::Stopped(stop),
+    let before = disk.faults();
+    match Store::open(alloc, disk, SHIPPED) {
+        Ok(store) => run_store(side, alloc, before, setup, port, store),
+        Err(OpenRefused { fault, disk }) => (unopened(fault), disk),
     }
 }
 
-// Serves one desk.
-fn serve_one_desk<H: Hall, P: Port>(alloc: Global, hall: &mut H, port: &mut P) -> SessionEnd
-    requires ready { (H.seen hall.old).ready }
+// Begins a run over the store, at one reading of the clock, and serves its session.
+fn run_store<P: Port, D: Disk>(
+    side: Side,
+    alloc: Global,
+    before: u64,
+    setup: Setup,
+    port: &mut P,
+    store: Store<D>,
+) -> (Status, D)
+    requires setting { IsOk (setup_of setup) }
     requires port { (P.seen port.old).ended ≡ false }
-    ensures did { (h : List Entry) → (H.seen hall.old).stands nothing h →
-        Did Form.Desk result h (H.seen hall.old) (H.seen hall.new) (P.seen port.old) (P.seen port.new) }
-    ensures read { result ≡ SessionEnd.ReadFault → Rose (P.seen port.old).read_faults (P.seen port.new).read_faults }
-    ensures write { result ≡ SessionEnd.WriteFault → Rose (P.seen port.old).write_faults (P.seen port.new).write_faults }
+    requires before { before ≤ store.at_open }
+    requires limits { store.journal.limits ≡ shipped }
+    ensures usage { result.0 ≢ Status.Usage }
+    ensures ran { (past : List Entry) → StoreStands D.told D.may_leave D.fault_count nothing store past →
+        GoesOnFrom D.told D.may_leave D.fault_count side result.0 past setup (P.seen port.old) (P.seen port.new) before result.1 }
 {
-    match serve_desk(alloc, hall, port) {
-        DeskEnd::Quit => SessionEnd::Quit,
-        DeskEnd::InputEnded => SessionEnd::InputEnded,
-        DeskEnd::ReadFault => SessionEnd::ReadFault,
-        DeskEnd::WriteFault => SessionEnd::WriteFault,
-        DeskEnd::Spent => SessionEnd::Spent,
-        DeskEnd::Stopped(stop) => SessionEnd::Stopped(stop),
+    let mut store = store;
+    let clock = port.now();
+    match store.begin(alloc, setup, clock) {
+        Ok(()) => serve_store(side, alloc, before, port, store),
+        Err(stop) => {
+            let disk = store.close();
+            (stopped(stop, before, disk.faults()), disk)
+        }
     }
+}
+
+// Serves the session of a run that has begun, and lets the store go. Where the disk has failed, that is the status.
+fn serve_store<P: Port, D: Disk>(
+    side: Side,
+    alloc: Global,
+    before: u64,
+    port: &mut P,
+    store: Store<D>,
+) -> (Status, D)
+    requires ready { IsSetting store.state.sum.text }
+    requires port { (P.seen port.old).ended ≡ false }
+    requires before { before ≤ store.at_open }
+    requires limits { store.journal.limits ≡ shipped }
+    ensures usage { result.0 ≢ Status.Usage }
+    ensures served { (past : List Entry) (text : List ℕ) (clock : ℕ)
+        → IsStoreFor D.told D.may_leave D.fault_count nothing store (begun_after nothing past text clock) → text_of store.state ≡ text
+        → IsServed D.told D.may_leave D.fault_count side result.0 past text clock (P.seen port.old) (P.seen port.new) before result.1 }
+{
+    let reads = port.read_faults();
+    let writes = port.write_faults();
+    let (end, store) = serve_over(side, alloc, store, port);
+    let disk = store.close();
+    let now = disk.faults();
+    if has_risen(before, now) {
+        return (Status::DiskFault { before, now }, disk);
+    }
+    (status_of(end, before, now, reads, writes, port), disk)
 }

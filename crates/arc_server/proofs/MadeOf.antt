@@ -4,8 +4,8 @@ use Rattle.arc_io.specs.Seen.{PortSeen}
 use Rattle.centre_core.specs.declared.hall.Stop.{Stop}
 use Rattle.centre_core.specs.declared.hall.Stop.TheVariants.{Memory, Down, Full, Worn}
 use Rattle.arc_server.specs.Made.{made_of_end, made_of_stop}
-use Rattle.arc_server.specs.declared.session.SessionEnd.{SessionEnd}
-use Rattle.arc_server.specs.declared.session.SessionEnd.TheVariants.{Quit, InputEnded, ReadFault, WriteFault, Spent, Stopped}
+use Rattle.arc_sessions.specs.declared.session.SessionEnd.{SessionEnd}
+use Rattle.arc_sessions.specs.declared.session.SessionEnd.TheVariants.{Quit, InputEnded, ReadFault, WriteFault, Spent, Stopped}
 use Rattle.arc_server.specs.declared.status.Status.TheVariants.{Usage}
 
 pub no_usage : (stop : Stop) (before now : ℕ) → made_of_stop stop before now ≡ Usage → ⊥

@@ -2,19 +2,20 @@ use Rattle.std.proofs.Common.{true, false, sym, subst, ◌∙◌}
 use Rattle.centre_rules.specs.Summary.{nothing}
 use Rattle.centre_store.specs.Begins.{begun_after}
 use Rattle.centre_store.specs.Stores.{HasFailed}
-use Rattle.arc_server.specs.WholeRuns.{IsServed}
+use Rattle.arc_server.specs.SessionRuns.{IsServed}
 use Rattle.arc_server.specs.declared.status.Status.{Status}
-use Rattle.arc_server.proofs.Made.{never_usage}
+use Rattle.arc_server.proofs.MadeOf.{never_usage}
 use Rattle.arc_server.proofs.Served.{served_down, served_up, up_to_end}
-use Rattle.arc_server.proofs.run.serve_store.Goals as goal
+use Rattle.arc_server.proofs.session.serve_store.Goals as goal
 
 pub returns-then-has_risen-clause-served : goal.returns-then-has_risen-clause-served
 returns-then-has_risen-clause-served g c past text clock stands under =
-    served_down c.args.form c.serve_over-end.result.0 c.args.before c.faults-now.result
+    served_down c.args.side c.serve_over-end.result.0 c.args.before c.faults-now.result
     (record {
       begins = stands;
       under = under;
       did = c.serve_over-end.ensures.did (begun_after nothing past text clock) stands;
+      shown = c.serve_over-end.ensures.stop;
       limits = c.serve_over-end.ensures.limits ∙ c.requires.limits;
       handed = c.close-disk.ensures;
     })
@@ -35,12 +36,13 @@ returns-clause-served g c past text clock stands under =
     let up : HasFailed g.D.Disk.fault_count last → ⊥ =
     up_to_end g.D.Disk.fault_count c.args.before c.args.store.at_open c.faults-now.result last c.close-disk.result c.has_risen.result
     c.serve_over-end.ensures.at_open c.requires.before c.close-disk.ensures c.faults-now.ensures c.has_risen.ensures.1 c.if-has_risen.false in
-    subst (λ (status : Status). IsServed g.D.Disk.told g.D.Disk.may_leave g.D.Disk.fault_count c.args.form status past text clock p p' c.args.before c.close-disk.result) (sym made)
-    (served_up c.args.form c.serve_over-end.result.0 c.args.before c.faults-now.result
+    subst (λ (status : Status). IsServed g.D.Disk.told g.D.Disk.may_leave g.D.Disk.fault_count c.args.side status past text clock p p' c.args.before c.close-disk.result) (sym made)
+    (served_up c.args.side c.serve_over-end.result.0 c.args.before c.faults-now.result
     (record {
       begins = stands;
       under = under;
       did = c.serve_over-end.ensures.did (begun_after nothing past text clock) stands;
+      shown = c.serve_over-end.ensures.stop;
       limits = c.serve_over-end.ensures.limits ∙ c.requires.limits;
       handed = c.close-disk.ensures;
     })

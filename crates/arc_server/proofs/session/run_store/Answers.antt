@@ -1,11 +1,11 @@
 use Rattle.std.proofs.Common.{◌≡◌, ◌≤◌, inl, sym, subst, ◌∙◌}
-use Rattle.arc_server.specs.WholeRuns.{GoesOnFrom}
+use Rattle.arc_server.specs.SessionRuns.{GoesOnFrom}
 use Rattle.arc_server.specs.declared.status.Status.{Status}
 use Rattle.centre_core.specs.declared.hall.Stop.TheVariants.{Down}
 use Rattle.centre_rules.specs.Summary.{nothing}
 use Rattle.centre_store.specs.Stores.{HasFailed}
 use Rattle.arc_server.proofs.Over.{unbegun}
-use Rattle.arc_server.proofs.run.run_store.Goals as goal
+use Rattle.arc_server.proofs.session.run_store.Goals as goal
 
 pub returns-in-Err-clause-ran : goal.returns-in-Err-clause-ran
 returns-in-Err-clause-ran g c past stands =
@@ -16,7 +16,7 @@ returns-in-Err-clause-ran g c past stands =
     let up : HasFailed g.D.Disk.fault_count last → c.in-Err.stop ≡ Down last.at_open (g.D.Disk.fault_count last.journal.disk) =
     λ failed. let told = e.down.0 failed in cc in
     let since : c.args.before ≤ last.at_open = subst (λ n. c.args.before ≤ n) (sym e.at_open) c.requires.before in
-    subst (λ (status : Status). GoesOnFrom g.D.Disk.told g.D.Disk.may_leave g.D.Disk.fault_count c.args.form status past c.args.setup p p' c.args.before c.close-disk.result)
+    subst (λ (status : Status). GoesOnFrom g.D.Disk.told g.D.Disk.may_leave g.D.Disk.fault_count c.args.side status past c.args.setup p p' c.args.before c.close-disk.result)
     (sym c.stopped.ensures) (
       c.now-clock.result,
       inl (
