@@ -1,5 +1,5 @@
 -- The bodies of a history with one entry more, and how long a body is.
-use Rattle.std.proofs.Common.{◌≡◌, ◌≤◌, ◌+◌, ℕ, List, [], ◌∷◌, ◌++◌, Bool, true, false, length, Option, Some, None, refl, ap, ◌∙◌, arith, length-append}
+use Rattle.std.proofs.Common.{◌≡◌, ◌≤◌, ℕ, List, [], ◌∷◌, ◌++◌, Bool, true, false, length, Option, Some, None, refl, ap, ◌∙◌, arith, length-append}
 use Rattle.std.specs.Prelude.{map, reverse, ◌&&◌, nat_le, if◌then◌else◌}
 use Rattle.std.specs.Int.{to_be_bytes, w16, w64}
 use Rattle.std.proofs.lemmas.Bool.{leb-true, false≢true}

@@ -1,6 +1,7 @@
 pub mod Bodies
 pub mod Written
 pub mod Entered
+pub mod Ordered
 pub mod Begun
 pub mod Halled
 pub mod PastSteps

@@ -9,6 +9,7 @@ pub use Rattle.event_codec.specs.Spelling
 pub mod Bodies
 pub mod Pasts
 pub mod Stores
+pub mod Orders
 pub mod Writes
 pub mod Openings
 pub mod Begins

@@ -1,6 +1,6 @@
 // How an event is submitted: it is prepared, its record is written where it is to be recorded, and then it is applied.
 ghost use Rattle.std.specs.Prelude.{◌≡◌, ◌≤◌, ◌<◌, ◌⊎◌, ◌↔◌, ◌+◌, ◌^◌, ◌++◌, ◌∷◌, [], ℕ, List, false};
-ghost use Rattle.std.specs.Prelude.{Some, IfOk, IfErr, OnOk, OnErr, IsTrue};
+ghost use Rattle.std.specs.Prelude.{Some, IfOk, IfErr, IsErr, OnOk, OnErr, IsTrue};
 ghost use Rattle.arc_data.specs.WellFormed.{IsWellFormed};
 ghost use Rattle.arc_io.specs.Causes.{Rose};
 ghost use Rattle.arc_io.specs.Crashes.{LeavesOnly};
@@ -14,9 +14,10 @@ ghost use Rattle.disk_journal.specs.Journal.{Holds, StandsForEither};
 ghost use Rattle.disk_journal.specs.OtherArea.{SparesB};
 ghost use Rattle.event_codec.specs.Spelling.{IsKept, HasSpelling, spelling};
 ghost use Rattle.centre_store.specs.Bodies.{bodies_of, need_of};
-ghost use Rattle.centre_store.specs.Stores.{HasFailed, Leaves, StoreStands, Takes, IsToRecord, IsOverWith, Shows, IsDown, IsSameJournal};
+ghost use Rattle.centre_store.specs.Stores.{HasFailed, Leaves, StoreStands, Takes, Shows, IsDown, IsSameJournal};
+ghost use Rattle.centre_store.specs.Orders.{IsWornFirst, IsFullThen, StopsInOrder};
 ghost use Rattle.centre_store.specs.Writes.{IsOverAt, IsUnwritten};
-ghost use Rattle.centre_store.specs.Begins.{begun_after, adopted_after, is_in_force, IsOfBegin, StandsWithin};
+ghost use Rattle.centre_store.specs.Begins.{begun_after, adopted_after, is_in_force, StandsWithin, ShowsOfBegin, BeginsInOrder};
 
 use crate::store::Store;
 use arc_data::{Blob, Event};
@@ -41,12 +42,16 @@ impl<D: Disk> Store<D> {
         ensures stop { OnErr result ((b : Summary) (h : List Entry) → StoreStands D.told D.may_leave D.fault_count b self.old h
             → StoreStands D.told D.may_leave D.fault_count b self.new h
             ⊎ StoreStands D.told D.may_leave D.fault_count b self.new (adopted_after b h setup clock)) }
-        ensures cause { IfErr result (λ s. (event : Event) × IsOfBegin setup event × Shows D.told D.may_leave D.fault_count self.new s event clock) }
+        ensures cause { IfErr result (λ s. ShowsOfBegin D.told D.may_leave D.fault_count self.new setup clock s) }
 
         // Down comes exactly where the disk has failed since the opening, and is then the answer until the store is opened again.
         ensures down { HasFailed D.fault_count self.new
             ↔ (result ≡ Err (Stop.Down self.new.at_open (D.fault_count self.new.journal.disk))) }
         ensures already { HasFailed D.fault_count self.old → self.new ≡ self.old }
+
+        // Worn and Full come in their order, at each of the events by the numbers before it.
+        ensures order { (HasFailed D.fault_count self.old → ⊥)
+            → BeginsInOrder D.told D.may_leave D.fault_count self.old self.new setup clock result }
 
         // A crash at any moment of the call leaves the records from before it, with those of its entries up to some one.
         ensures any_moment { (b : Summary) (h : List Entry) → StoreStands D.told D.may_leave D.fault_count b self.old h
@@ -96,10 +101,8 @@ impl<D: Disk> Store<D> {
         ensures down { HasFailed D.fault_count self.new
             ↔ (result ≡ Err (Stop.Down self.new.at_open (D.fault_count self.new.journal.disk))) }
         ensures already { HasFailed D.fault_count self.old → self.new ≡ self.old }
-        ensures worn { (HasFailed D.fault_count self.old → ⊥) → 2 ^ 48 ≤ self.old.state.entries → result ≡ Err (Stop.Worn self.old.state.entries) }
-        ensures full { (HasFailed D.fault_count self.old → ⊥) → self.old.state.entries < 2 ^ 48 → (b : Summary) (h : List Entry)
-            → StoreStands D.told D.may_leave D.fault_count b self.old h → IsToRecord b h event clock → IsOverWith self.old event
-            → (result ≡ Err Stop.Memory) ⊎ (result ≡ Err (Stop.Full self.old.journal.used (need_of event) self.old.journal.records)) }
+        ensures worn { IsWornFirst D.fault_count self.old result }
+        ensures full { IsFullThen D.told D.may_leave D.fault_count self.old event clock result }
 
         // A crash at any moment of the call leaves the records from before it, with this event's or without; and so it is after a fault.
         ensures any_moment { (b : Summary) (h : List Entry) → StoreStands D.told D.may_leave D.fault_count b self.old h
@@ -127,10 +130,13 @@ impl<D: Disk> Store<D> {
         ensures text { OnOk result (self.new.state.sum.text ≡ Some setup.now) }
         ensures stop { OnErr result ((b : Summary) (h : List Entry) → StoreStands D.told D.may_leave D.fault_count b self.old h
             → StoreStands D.told D.may_leave D.fault_count b self.new h) }
-        ensures cause { IfErr result (λ s. (event : Event) × IsOfBegin setup.now event × Shows D.told D.may_leave D.fault_count self.new s event clock) }
+        ensures cause { IfErr result (λ s. ShowsOfBegin D.told D.may_leave D.fault_count self.new setup.now clock s) }
         ensures down { HasFailed D.fault_count self.new
             ↔ (result ≡ Err (Stop.Down self.new.at_open (D.fault_count self.new.journal.disk))) }
         ensures already { HasFailed D.fault_count self.old → self.new ≡ self.old }
+        ensures order { is_in_force self.old.state.sum.text setup.now ≡ false
+            → StopsInOrder D.told D.may_leave D.fault_count self.old (Event.Adopt setup.now) clock result }
+        ensures adopts { IsErr result → (HasFailed D.fault_count self.old → ⊥) → is_in_force self.old.state.sum.text setup.now ≡ false }
         ensures any_moment { (b : Summary) (h : List Entry) → StoreStands D.told D.may_leave D.fault_count b self.old h
             → (HasFailed D.fault_count self.old → ⊥)
             → LeavesOnly D.moment D.left_since self.old.journal.disk self.new.journal.disk (λ c. StandsWithin b h setup.now clock c.a) }
@@ -185,10 +191,8 @@ impl<D: Disk> Store<D> {
         ensures down { HasFailed D.fault_count self.new
             ↔ (result ≡ Err (Stop.Down self.new.at_open (D.fault_count self.new.journal.disk))) }
         ensures already { HasFailed D.fault_count self.old → self.new ≡ self.old }
-        ensures worn { (HasFailed D.fault_count self.old → ⊥) → 2 ^ 48 ≤ self.old.state.entries → result ≡ Err (Stop.Worn self.old.state.entries) }
-        ensures full { (HasFailed D.fault_count self.old → ⊥) → self.old.state.entries < 2 ^ 48 → (b : Summary) (h : List Entry)
-            → StoreStands D.told D.may_leave D.fault_count b self.old h → IsToRecord b h event clock → IsOverWith self.old event
-            → (result ≡ Err Stop.Memory) ⊎ (result ≡ Err (Stop.Full self.old.journal.used (need_of event) self.old.journal.records)) }
+        ensures worn { IsWornFirst D.fault_count self.old result }
+        ensures full { IsFullThen D.told D.may_leave D.fault_count self.old event clock result }
 
         ensures any_moment { (b : Summary) (h : List Entry) → StoreStands D.told D.may_leave D.fault_count b self.old h
             → (HasFailed D.fault_count self.old → ⊥) → LeavesOnly D.moment D.left_since self.old.journal.disk self.new.journal.disk

@@ -1,4 +1,4 @@
-use Rattle.std.proofs.Common.{◌≡◌, ◌<◌, ◌^◌, sym, ◌∙◌, refl, true, arith}
+use Rattle.std.proofs.Common.{◌≡◌, ◌<◌, ◌^◌, refl, true, arith}
 use Rattle.centre_rules.specs.Summary.{nothing}
 use Rattle.centre_rules.specs.History.{Entry, is_recorded}
 use Rattle.centre_rules.specs.State.{entry_of}

@@ -1,7 +1,11 @@
+use Rattle.std.proofs.Common.{◌≡◌, inr, refl, rules}
+use Rattle.std.specs.Prelude.{Err}
+use Rattle.arc_data.specs.declared.event.Event.TheVariants.{Adopt, Start}
 use Rattle.arc_io.specs.Areas.{Areas}
 use Rattle.arc_io.proofs.Moments.{joined}
 use Rattle.centre_store.specs.Begins.{adopted_after, StandsWithin}
 use Rattle.centre_store.proofs.Begun.{within_start, started_stands}
+use Rattle.centre_store.proofs.Ordered.{order_on, order_past}
 use Rattle.centre_store.proofs.Written.{spares_then}
 use Rattle.centre_store.proofs.store.Store.begin.Goals as goal
 
@@ -40,3 +44,44 @@ returns-clause-begun g c b h w =
     started_stands g.D.Disk.told g.D.Disk.may_leave g.D.Disk.fault_count b c.enter.new.self (adopted_after b h c.args.setup c.args.clock) c.args.clock
     c.in_ok-enter.field-0.at c.in_ok-enter.field-0.reply
     (c.in_ok-enter.ensures.done b (adopted_after b h c.args.setup c.args.clock) 0 (c.in_ok-adopt.ensures.adopted b h w))
+
+pub returns-in_err-enter-clause-order : goal.returns-in_err-enter-clause-order
+returns-in_err-enter-clause-order g c up =
+    let result = c.from_residual-in_err-enter.result in
+    let on : result ≡ Err c.in_err-enter.field-0.0 = search rules in
+    record {
+      adopt = λ other.
+          let o = c.in_ok-adopt.ensures.order other in
+          order_past g.D.Disk.told g.D.Disk.may_leave g.D.Disk.fault_count c.args.self.now (Adopt c.args.setup) c.args.clock _ result c.in_ok-adopt.field-0 refl o.worn o.full;
+      start = inr (
+        c.adopt.new.self,
+        record {
+          stands = c.in_ok-adopt.ensures.adopted;
+          limits = c.adopt.ensures.limits;
+          up = λ f.
+              let e = c.in_ok-adopt.ensures.down.0 f in
+              cc;
+        },
+        order_on g.D.Disk.told g.D.Disk.may_leave g.D.Disk.fault_count c.adopt.new.self Start c.args.clock _ result c.in_err-enter.field-0.0 refl on
+            c.in_err-enter.ensures.worn c.in_err-enter.ensures.full,
+      );
+    }
+
+pub returns-clause-order : goal.returns-clause-order
+returns-clause-order g c up = record {
+  adopt = λ other.
+      let o = c.in_ok-adopt.ensures.order other in
+      order_past g.D.Disk.told g.D.Disk.may_leave g.D.Disk.fault_count c.args.self.now (Adopt c.args.setup) c.args.clock _ _ c.in_ok-adopt.field-0 refl o.worn o.full;
+  start = inr (
+    c.adopt.new.self,
+    record {
+      stands = c.in_ok-adopt.ensures.adopted;
+      limits = c.adopt.ensures.limits;
+      up = λ f.
+          let e = c.in_ok-adopt.ensures.down.0 f in
+          cc;
+    },
+    order_past g.D.Disk.told g.D.Disk.may_leave g.D.Disk.fault_count c.adopt.new.self Start c.args.clock _ _ c.in_ok-enter.field-0 refl c.in_ok-enter.ensures.worn
+        c.in_ok-enter.ensures.full,
+  );
+}

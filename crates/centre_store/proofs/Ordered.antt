@@ -1,0 +1,50 @@
+-- In which order an event stops: what is handed on, and what a call that went past shows.
+use Rattle.std.proofs.Common.{◌≡◌, ℕ, Option, inl, inr, sym, ap, subst, ◌∙◌}
+use Rattle.std.specs.Prelude.{Result, Ok, Err}
+use Rattle.arc_data.specs.declared.event.Event.{Event}
+use Rattle.arc_io.specs.Areas.{Areas}
+use Rattle.centre_core.specs.declared.hall.Stop.{Stop}
+use Rattle.centre_core.specs.declared.hall.Stop.TheVariants.{Memory, Full, Worn}
+use Rattle.centre_store.specs.Bodies.{need_of}
+use Rattle.centre_store.specs.Stores.{Stored}
+use Rattle.centre_store.specs.Orders.{StopsInOrder, IsWornFirst, IsFullThen}
+
+abbrev stop_or : {A : Type 0} → Stop → Result A Stop → Stop
+stop_or x (Ok a) = x
+stop_or x (Err s) = s
+
+abbrev is_stop : {A : Type 0} → Result A Stop → Type 0
+is_stop (Ok a) = ⊥
+is_stop (Err s) = Unit {0}
+
+-- the one stop that it is
+one_stop : {A B : Type 0} (r : Result A Stop) (q : Result B Stop) (stop x : Stop) → r ≡ Err stop → q ≡ Err stop → r ≡ Err x → q ≡ Err x
+one_stop r q stop x of on is = on ∙ ap Err (sym (ap (stop_or stop) of) ∙ ap (stop_or stop) is)
+
+no_stop : {A : Type 0} (r : Result A Stop) (a : A) (x : Stop) → r ≡ Ok a → r ≡ Err x → ⊥
+no_stop r a x of is = subst is_stop (sym is ∙ of) tt
+
+module _ {D : Type 0} (told : D → Option Areas) (may_leave : D → Areas → Type 0) (faults : D → ℕ) (s : Stored D) (event : Event) (clock : ℕ) where
+  -- the stop of a call within is that of the call
+  pub order_on : {A B : Type 0} (r : Result A Stop) (q : Result B Stop) (stop : Stop) → r ≡ Err stop → q ≡ Err stop
+      → IsWornFirst faults s r → IsFullThen told may_leave faults s event clock r → StopsInOrder told may_leave faults s event clock q
+  order_on r q stop of on worn full = record {
+    worn = λ up many. one_stop r q stop (Worn s.state.entries) of on (worn up many);
+    full = λ up few b h w to over.
+        elim (full up few b h w to over) [
+          | inl memory ↦ inl (one_stop r q stop Memory of on memory)
+          | inr no_room ↦ inr (one_stop r q stop (Full s.journal.used (need_of event) s.journal.records) of on no_room)
+        ];
+  }
+
+  -- a call that answered Ok was not to be stopped
+  pub order_past : {A B : Type 0} (r : Result A Stop) (q : Result B Stop) (a : A) → r ≡ Ok a
+      → IsWornFirst faults s r → IsFullThen told may_leave faults s event clock r → StopsInOrder told may_leave faults s event clock q
+  order_past r q a of worn full = record {
+    worn = λ up many. absurd (no_stop r a (Worn s.state.entries) of (worn up many));
+    full = λ up few b h w to over.
+        elim (full up few b h w to over) [
+          | inl memory ↦ absurd (no_stop r a Memory of memory)
+          | inr no_room ↦ absurd (no_stop r a (Full s.journal.used (need_of event) s.journal.records) of no_room)
+        ];
+  }
