@@ -1,1 +1,37 @@
-// What no clause says of the store is tested by the runs of the top crate, over disks in memory.
+// What no clause says of the store: that calls succeed, with worked bytes, at its limits, and after each stop and each fault.
+
+ghost use Rattle.std.specs.Prelude.{◌<◌, ◌^◌};
+
+mod opening;
+mod submitting;
+
+use crate::Store;
+use arc_io::{Area, Fill, MemDisk};
+use disk_journal::{Limits, OpenFault, SHIPPED};
+use std::alloc::Global;
+use std::process::Abort;
+use std::test::Fail;
+
+// What a new area is given.
+const FRESH: &[u8] = b"ARC JOURNAL 0001\0";
+
+// An Adopt, a Start and a Message at the moment 1000000000.
+const AREA: &[u8] = b"ARC JOURNAL 0001\
+    \x01\0\0\0\x1a\x01\0\0\0\0\x3b\x9a\xca\0\0\0\0\x0daccount 1234\n\
+    \x01\0\0\0\x09\x02\0\0\0\0\x3b\x9a\xca\0\
+    \x01\0\0\0\x21\x03\0\0\0\0\x3b\x9a\xca\0\x041234\0\x010\0\x01\x02\0\x0b1131 01 001\0";
+
+fn opened(alloc: Global, disk: MemDisk, limits: Limits) -> Result<Store<MemDisk>, Fail>
+    requires { limits.bytes < 2 ^ 32 }
+{
+    match Store::open(alloc, disk, limits) {
+        Ok(store) => Ok(store),
+        Err(_) => Err("not opened")?,
+    }
+}
+
+// How many entries of the area are recorded.
+fn recorded(alloc: Global, disk: MemDisk) -> Result<u64, Fail> {
+    let store = opened(alloc, disk, SHIPPED)?;
+    Ok(store.centre().recorded())
+}
