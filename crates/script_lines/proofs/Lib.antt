@@ -1,0 +1,3 @@
+pub mod Spellings
+pub mod Asking
+pub mod DigitPairs
