@@ -1,4 +1,3 @@
-pub use Rattle.arc_sessions.specs.Served
 pub use Rattle.line_gate.specs.AtGates
 pub mod Served
 pub mod Next

@@ -1,4 +1,5 @@
 // One link.
+ghost use Rattle.std.specs.Prelude.{◌≡◌, false};
 ghost use Rattle.arc_sessions.specs.Served.{ShowsEnd};
 ghost use Rattle.line_gate.specs.AtGates.{gate_seen};
 ghost use Rattle.line_gate.specs.Passes.{IsPass};
