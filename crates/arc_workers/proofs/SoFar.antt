@@ -2,10 +2,11 @@
 use Rattle.std.proofs.Common.{◌≡◌, ◌≤◌, ◌<◌, ◌+◌, ℕ, List, [], ◌∷◌, ◌++◌, Bool, true, false, Option, Some, None, refl, sym, subst, arith, length-append, ⊎_elim}
 use Rattle.std.proofs.lemmas.List.Elements.{All-nil, All-push}
 use Rattle.std.proofs.lemmas.List.Sums.{sum_by-append}
-use Rattle.std.specs.Prelude.{length, cond}
+use Rattle.std.specs.Prelude.{length, cond, Result, Ok, Err}
 use Rattle.arc_data.specs.declared.event.Event.{Event}
-use Rattle.arc_doors.specs.Doors.{DoorSeen}
+use Rattle.arc_doors.specs.Doors.{DoorSeen, HasNoneLeft}
 use Rattle.arc_io.specs.Causes.{Rose}
+use Rattle.arc_io.specs.declared.traits.Failed.{Failed}
 use Rattle.arc_sessions.specs.Served.{ShowsEnd}
 use Rattle.arc_sessions.specs.declared.session.SessionEnd.{SessionEnd}
 use Rattle.arc_sessions.specs.declared.session.SessionEnd.TheVariants.{Quit, InputEnded, ReadFault, WriteFault, Spent, Stopped}
@@ -18,11 +19,11 @@ use Rattle.line_gate.specs.Terms.{Terms}
 use Rattle.session_rules.specs.Sessions.{IsShownFor}
 use Rattle.arc_workers.proofs.Links.{none_served, one_more, served_more, same_number}
 use Rattle.arc_workers.proofs.Sessions.{makes_in_order}
-use Rattle.arc_workers.specs.Next.{ServesOne, IsAsBefore}
+use Rattle.arc_workers.specs.Next.{ServesOne, IsAsBefore, ServesNext}
 use Rattle.arc_workers.specs.Served.{Served, AreServed, HasServed}
 use Rattle.arc_workers.specs.Works.{WentOn, IsShown, EndsWork, Works, is_refused, stop_of, refused_in}
 use Rattle.arc_workers.specs.declared.working.WorkerEnd.{WorkerEnd}
-use Rattle.arc_workers.specs.declared.working.WorkerEnd.TheVariants.{Stopped as WorkerStopped}
+use Rattle.arc_workers.specs.declared.working.WorkerEnd.TheVariants.{DoorEnded, Quota, DoorFault, Stopped as WorkerStopped}
 
 -- these links were served
 pub record HasDone (side : Side) (t : Terms) (p q : PassSeen) (door door' : DoorSeen) (count refused sessions : ℕ) (served : List Served) : Type 0 where
@@ -57,7 +58,7 @@ cond_few true = omega arith
 cond_few false = omega arith
 
 -- one more link, whatever its end
-pub done_more : (side : Side) (t : Terms) (p m q : PassSeen) (door first last : DoorSeen) (count refused refused' sessions : ℕ) (ss : List Served) (end : SessionEnd)
+done_more : (side : Side) (t : Terms) (p m q : PassSeen) (door first last : DoorSeen) (count refused refused' sessions : ℕ) (ss : List Served) (end : SessionEnd)
     → HasDone side t p m door first count refused sessions ss → (one : ServesOne side t m q first last end)
     → count < sessions → refused' ≡ refused + cond (is_refused end) 1 0
     → HasDone side t p q door last (count + 1) refused' sessions (ss ++ one.link ∷ [])
@@ -85,7 +86,7 @@ so_far_more side t p m q door first last count refused refused' sessions end w o
 }
 
 -- a call of the door that gave no link
-pub done_still : (side : Side) (t : Terms) (p m q : PassSeen) (door first last : DoorSeen) (count refused sessions : ℕ) (ss : List Served)
+done_still : (side : Side) (t : Terms) (p m q : PassSeen) (door first last : DoorSeen) (count refused sessions : ℕ) (ss : List Served)
     → HasDone side t p m door first count refused sessions ss → IsAsBefore m q first last → HasDone side t p q door last count refused sessions ss
 done_still side t p m q door first last count refused sessions ss w same = record {
   first = w.first;
@@ -99,11 +100,11 @@ done_still side t p m q door first last count refused sessions ss w same = recor
 }
 
 -- the count rose since the worker began
-pub rose_since : (first before now : ℕ) → first ≤ before → Rose before now → Rose first now
+rose_since : (first before now : ℕ) → first ≤ before → Rose before now → Rose first now
 rose_since first before now le rose = omega (arith, le, rose)
 
 -- a worker that ends says this
-pub works : (side : Side) (t : Terms) (p q : PassSeen) (door door' : DoorSeen) (count refused sessions : ℕ) (end : WorkerEnd) (served : List Served)
+works : (side : Side) (t : Terms) (p q : PassSeen) (door door' : DoorSeen) (count refused sessions : ℕ) (end : WorkerEnd) (served : List Served)
     → HasDone side t p q door door' count refused sessions served → EndsWork end t q door door' sessions served
     → Works side t p q door door' sessions (record { end = end; refused = refused })
 works side t p q door door' count refused sessions end served w ended = record {
@@ -116,6 +117,37 @@ works side t p q door door' count refused sessions end served w ended = record {
   refused = w.refused_is;
   ended = ended;
 }
+
+-- The ends of a worker of which the last link was not stopped.
+
+pub works_quota : (side : Side) (t : Terms) (p q : PassSeen) (door door' : DoorSeen) (count refused sessions : ℕ) → SoFar side t p q door door' count refused sessions → count ≡ sessions
+    → Works side t p q door door' sessions (record { end = Quota; refused = refused })
+works_quota side t p q door door' count refused sessions w all =
+    works side t p q door door' count refused sessions Quota w.served w.done (omega (arith, w.done.count_is, all), w.on)
+
+pub works_ended : (side : Side) (t : Terms) (p m q : PassSeen) (door first last : DoorSeen) (count refused sessions : ℕ) (r : Result (Option SessionEnd) Failed) (o : Option SessionEnd)
+    → SoFar side t p m door first count refused sessions → ServesNext side t m q first last r → r ≡ Ok o → o ≡ None → count < sessions
+    → Works side t p q door last sessions (record { end = DoorEnded; refused = refused })
+works_ended side t p m q door first last count refused sessions r o w next is none few =
+    let same : IsAsBefore m q first last × HasNoneLeft first.links =
+    subst (λ (x : Option SessionEnd). ServesNext side t m q first last (Ok x)) none (subst (λ (x : Result (Option SessionEnd) Failed). ServesNext side t m q first last x) is next) in
+    works side t p q door last count refused sessions DoorEnded w.served (done_still side t p m q door first last count refused sessions w.served w.done same.0)
+    (subst HasNoneLeft (sym same.0.links) same.1, w.on, omega (arith, w.done.count_is, few))
+
+pub works_faulted : (side : Side) (t : Terms) (p m q : PassSeen) (door first last : DoorSeen) (count refused sessions before now : ℕ) (r : Result (Option SessionEnd) Failed) (e : Failed)
+    → SoFar side t p m door first count refused sessions → ServesNext side t m q first last r → r ≡ Err e → count < sessions → before ≡ door.faults → now ≡ last.faults
+    → Works side t p q door last sessions (record { end = DoorFault before now; refused = refused })
+works_faulted side t p m q door first last count refused sessions before now r e w next is few is_before is_now =
+    let same : IsAsBefore m q first last × Rose first.faults last.faults = subst (λ (x : Result (Option SessionEnd) Failed). ServesNext side t m q first last x) is next in
+    let rose : Rose before now = subst (λ (x : ℕ). Rose x now) (sym is_before) (subst (λ (y : ℕ). Rose door.faults y) (sym is_now) (rose_since door.faults first.faults last.faults w.done.later same.1)) in
+    works side t p q door last count refused sessions (DoorFault before now) w.served (done_still side t p m q door first last count refused sessions w.served w.done same.0)
+    (is_before, is_now, rose, w.on, omega (arith, w.done.count_is, few))
+
+-- a link that was served
+pub next_served : (side : Side) (t : Terms) (m q : PassSeen) (first last : DoorSeen) (r : Result (Option SessionEnd) Failed) (o : Option SessionEnd) (end : SessionEnd)
+    → ServesNext side t m q first last r → r ≡ Ok o → o ≡ Some end → ServesOne side t m q first last end
+next_served side t m q first last r o end next is some =
+    subst (λ (x : Option SessionEnd). ServesNext side t m q first last (Ok x)) some (subst (λ (x : Result (Option SessionEnd) Failed). ServesNext side t m q first last x) is next)
 
 -- A stop that ends the worker is shown by its pass.
 

@@ -6,7 +6,7 @@ ghost use Rattle.arc_workers.specs.Works.{Works, is_refused, stop_of};
 
 use crate::link::serve_next;
 use arc_doors::Door;
-use arc_io::{Disk, Failed};
+use arc_io::Disk;
 use arc_sessions::{SessionEnd, Side};
 use centre_core::Stop;
 use line_gate::{Gate, GateName, Pass};
@@ -84,23 +84,21 @@ pub fn worker<A: Door, D: Disk, R: Wait, N: GateName>(
     let mut refused = 0;
     let mut count = 0;
     while count < sessions {
-        let (next, ended) = serve_next(side, rt, alloc, gate, pass, door);
+        let (next, told) = serve_next(side, rt, alloc, gate, pass, door);
         pass = next;
-        match ended {
-            Err(Failed) => {
-                let now = door.faults();
-                return (pass, outcome(WorkerEnd::DoorFault { before, now }, refused));
-            }
-            Ok(None) => return (pass, outcome(WorkerEnd::DoorEnded, refused)),
-            Ok(Some(end)) => {
-                count += 1;
-                if is_refused(&end) {
-                    refused += 1;
-                }
-                if let Some(stop) = stop_of(&end) {
-                    return (pass, outcome(WorkerEnd::Stopped(stop), refused));
-                }
-            }
+        let Ok(served) = told else {
+            let now = door.faults();
+            return (pass, outcome(WorkerEnd::DoorFault { before, now }, refused));
+        };
+        let Some(end) = served else {
+            return (pass, outcome(WorkerEnd::DoorEnded, refused));
+        };
+        count += 1;
+        if is_refused(&end) {
+            refused += 1;
+        }
+        if let Some(stop) = stop_of(&end) {
+            return (pass, outcome(WorkerEnd::Stopped(stop), refused));
         }
     }
     (pass, outcome(WorkerEnd::Quota, refused))
