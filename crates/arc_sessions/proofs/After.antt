@@ -1,5 +1,5 @@
 -- What is so of a session of either kind.
-use Rattle.std.proofs.Common.{◌≡◌, ℕ, List, Option, Some, None, inl, inr}
+use Rattle.std.proofs.Common.{ℕ, List, Option, Some, None}
 use Rattle.arc_io.specs.Seen.{PortSeen}
 use Rattle.centre_core.specs.Halls.{HallSeen}
 use Rattle.centre_rules.specs.Summary.{Summary}

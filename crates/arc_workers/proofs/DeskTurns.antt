@@ -1,5 +1,5 @@
 -- What the turns of a desk tell: the history after them begins with that before, and their entries are requests.
-use Rattle.std.proofs.Common.{◌≡◌, ℕ, List, [], ◌∷◌, ◌++◌, Option, Some, None, refl, sym, subst}
+use Rattle.std.proofs.Common.{◌≡◌, ℕ, List, [], ◌∷◌, Option, Some, None, refl, sym, subst}
 use Rattle.std.proofs.lemmas.List.Elements.{All-append, All-cons, All-nil}
 use Rattle.std.specs.Prelude.{All}
 use Rattle.std.specs.Option.{option_to_list}
@@ -9,7 +9,7 @@ use Rattle.arc_data.specs.declared.event.Event.TheVariants.{Next as TheNext, Cla
 use Rattle.arc_data.specs.declared.event.Event.TheVariants.{Close as TheClose, Show as TheShow, List as TheList}
 use Rattle.centre_rules.specs.Summary.{Summary}
 use Rattle.desk_session.specs.Events.{command_in, acts_after, event_by, event_of, text_of}
-use Rattle.desk_session.specs.Turns.{Turn, TakesEntry, IsAnswered, AreTurns, desk_turns}
+use Rattle.desk_session.specs.Turns.{Turn, IsAnswered, AreTurns, desk_turns}
 use Rattle.desk_wire.specs.declared.command.Command.{Command}
 use Rattle.desk_wire.specs.declared.command.Command.TheVariants.{Login, Quit, Next, Claim, Act, Release, Close, Show, List as Rows}
 use Rattle.line_gate.proofs.Histories.{extends_further}

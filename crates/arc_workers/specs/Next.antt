@@ -1,5 +1,5 @@
 -- What a worker did with the next link of its door.
-use Rattle.std.specs.Prelude.{◌≡◌, ◌≤◌, ℕ, Option, Result, MatchOption, MatchResult}
+use Rattle.std.specs.Prelude.{◌≡◌, ◌≤◌, Option, Result, MatchOption, MatchResult}
 use Rattle.arc_doors.specs.Doors.{DoorSeen, Links, HasNoneLeft, TakesLink, after_back}
 use Rattle.arc_io.specs.Causes.{Rose}
 use Rattle.arc_io.specs.declared.traits.Failed.{Failed}
