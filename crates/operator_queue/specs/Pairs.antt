@@ -1,6 +1,6 @@
 -- Pairs of numbers in order, and how many comparisons a search among them takes.
 use Rattle.std.specs.Prelude.{◌≡◌, ◌≤◌, ◌<◌, ◌+◌, ◌*◌, ◌-◌, ◌^◌, ℕ, List, [], ◌∷◌, false, Option, None, Some, ⊤, length, take, drop}
-use Rattle.std.specs.List.{AllByRecursion, Contains}
+use Rattle.std.specs.List.{All, AllByRecursion, Contains}
 use Rattle.std.specs.Ordering.{nat_cmp, ordering_then, is_gt}
 use Rattle.std.specs.declared.cmp.Ordering.{Ordering}
 use Rattle.std.specs.declared.cmp.Ordering.TheVariants.{Less, Greater}
@@ -38,7 +38,11 @@ pub record TakesFew (count before now : ℕ) : Type 0 where
 abbrev pub StepsAreDigits : Type 0
 StepsAreDigits = (digits count before now : ℕ) → count < 2 ^ digits → TakesFew count before now → now ≤ before + digits
 
--- what contracts see of a queue: its pairs, and for how many there is memory
-pub record QueueValue : Type 0 where
+-- priorities are less than 256
+abbrev pub ArePriorities : List (ℕ × ℕ) → Type 0
+ArePriorities pairs = All (λ p. p.0 < 256) pairs
+
+-- what contracts see of pairs in order: the pairs, and for how many there is memory
+pub record PairsValue : Type 0 where
   pub pairs : List (ℕ × ℕ)
   pub room : ℕ

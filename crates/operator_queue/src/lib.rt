@@ -2,6 +2,7 @@
 #![tactic(auto)]
 
 mod laws;
+mod ordered;
 mod pairs;
 mod queue;
 mod search;
@@ -9,6 +10,7 @@ mod steps;
 
 pub use arc_data::Memory;
 pub use laws::law_steps_are_digits;
+pub use ordered::OrderedPairs;
 pub use pairs::order;
 pub use queue::Queue;
 pub use steps::Steps;

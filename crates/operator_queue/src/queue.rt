@@ -1,10 +1,10 @@
 // The pairs of a queue, in order.
 ghost use Rattle.std.specs.Prelude.{◌≡◌, ◌≤◌, ◌<◌, ◌+◌, ◌↔◌, [], ◌∷◌, length, slice_get, false, IsTrue, OnOk};
-ghost use Rattle.std.specs.List.{Contains, insert};
+ghost use Rattle.std.specs.List.{Contains};
 ghost use Rattle.std.specs.List.Sorted.{IsPermutation};
 ghost use Rattle.operator_queue.specs.Pairs.{IsOrdered, IsLeast, TakesFew};
 
-use crate::search::search;
+use crate::ordered::OrderedPairs;
 use crate::steps::Steps;
 use arc_data::Memory;
 use std::alloc::Global;
@@ -15,18 +15,17 @@ use std::sync::ledger::Ledger;
 /// Contracts see the list of the pairs, and the room: for how many pairs there is memory, those that stand in it included.
 #[derive(Drop)]
 pub struct Queue {
-    pairs: Vec<(u8, u64)>,
+    pairs: OrderedPairs,
 }
 
 impl Model for Queue {
-    ghost use Rattle.std.specs.Vec.{vec_capacity};
-    ghost use Rattle.operator_queue.specs.Pairs.{QueueValue, IsOrdered};
+    ghost use Rattle.operator_queue.specs.Pairs.{PairsValue, ArePriorities};
 
-    ghost Value = { QueueValue };
+    ghost Value = { PairsValue };
 
-    ghost view = { λ q. record { pairs = q.pairs.items; room = vec_capacity q.pairs } };
+    ghost view = { λ q. q.pairs };
 
-    ghost invariant = { λ q. IsOrdered q.pairs.items };
+    ghost invariant = { λ q. ArePriorities q.pairs.pairs };
 }
 
 impl Queue {
@@ -35,7 +34,7 @@ impl Queue {
         ensures { result.pairs ≡ [] }
     {
         Queue {
-            pairs: Vec::new(alloc),
+            pairs: OrderedPairs::new(alloc),
         }
     }
 
@@ -45,10 +44,7 @@ impl Queue {
         ensures kept { self.old.room ≤ self.new.room }
         ensures enough { OnOk result (length self.new.pairs + more ≤ self.new.room) }
     {
-        match self.pairs.reserve(more) {
-            Ok(()) => Ok(()),
-            Err(_) => Err(Memory),
-        }
+        self.pairs.reserve(more)
     }
 
     /// The first pair, which no other comes before. It takes no comparison.
@@ -56,7 +52,10 @@ impl Queue {
         ensures first { result ≡ slice_get self.now.pairs 0 }
         ensures least { IsLeast result self.now.pairs }
     {
-        self.pairs.first().copied()
+        match self.pairs.as_slice().first() {
+            Some(pair) => Some((pair.0 as u8, pair.1)),
+            None => None,
+        }
     }
 
     /// Puts a pair in, also where an equal one stands already. Takes no memory.
@@ -67,8 +66,7 @@ impl Queue {
         ensures room { self.new.room ≡ self.old.room }
         ensures cost { TakesFew (length self.old.pairs) steps.old steps.new }
     {
-        let place = place_for(&self.pairs, (priority, number), steps);
-        let _ = self.pairs.insert(place, (priority, number));
+        self.pairs.insert((u64::from(priority), number), steps);
     }
 
     /// Takes a pair out, one of several where they are equal. False exactly where it is not there, and then all pairs stay.
@@ -80,23 +78,6 @@ impl Queue {
         ensures room { self.new.room ≡ self.old.room }
         ensures cost { TakesFew (length self.old.pairs) steps.old steps.new }
     {
-        let Ok(place) = search(&self.pairs, (priority, number), steps) else {
-            return false;
-        };
-        let _ = self.pairs.remove(place);
-        true
-    }
-}
-
-// A place before which no pair comes after this one, and from which on none comes before it.
-fn place_for<L: Ledger>(pairs: &[(u8, u64)], pair: (u8, u64), steps: &mut Steps<L>) -> usize
-    requires { IsOrdered pairs.now }
-    ensures within { result ≤ length pairs.now }
-    ensures fits { IsOrdered (insert pairs.now result pair) }
-    ensures cost { TakesFew (length pairs.now) steps.old steps.new }
-{
-    match search(pairs, pair, steps) {
-        Ok(place) => place,
-        Err(place) => place,
+        self.pairs.remove((u64::from(priority), number), steps)
     }
 }

@@ -1,6 +1,6 @@
 // The place of a pair among pairs in order, by halves.
-ghost use Rattle.std.specs.Prelude.{◌≡◌, ◌+◌, length, slice_get, Some, IfOk, IfErr};
-ghost use Rattle.operator_queue.specs.Pairs.{order_of, IsOrdered, IsApart, TakesFew};
+ghost use Rattle.std.specs.Prelude.{◌≡◌, length, slice_get, Some, IfOk, IfErr};
+ghost use Rattle.operator_queue.specs.Pairs.{IsOrdered, IsApart, TakesFew};
 
 use crate::pairs::order;
 use crate::steps::Steps;
@@ -9,8 +9,8 @@ use std::sync::ledger::Ledger;
 
 /// A place where the pair stands, or else the place before which all pairs are less and from which on all are greater.
 pub(crate) fn search<L: Ledger>(
-    pairs: &[(u8, u64)],
-    pair: (u8, u64),
+    pairs: &[(u64, u64)],
+    pair: (u64, u64),
     steps: &mut Steps<L>,
 ) -> Result<usize, usize>
     requires { IsOrdered pairs.now }
@@ -22,19 +22,11 @@ pub(crate) fn search<L: Ledger>(
     let mut high = pairs.len();
     while low < high {
         let place = low + (high - low) / 2;
-        match compare(pairs[place], pair, steps) {
+        match order(pairs[place], pair, steps) {
             Ordering::Less => low = place + 1,
             Ordering::Equal => return Ok(place),
             Ordering::Greater => high = place,
         }
     }
     Err(low)
-}
-
-// How a pair of a priority and a number stands to another. It is one step.
-fn compare<L: Ledger>(a: (u8, u64), b: (u8, u64), steps: &mut Steps<L>) -> Ordering
-    ensures order { result ≡ order_of a b }
-    ensures step { steps.new ≡ steps.old + 1 }
-{
-    order((u64::from(a.0), a.1), (u64::from(b.0), b.1), steps)
 }

@@ -1,1 +1,5 @@
+pub mod Sums
+pub mod Edits
+pub mod Room
+pub mod Cost
 pub mod Passed

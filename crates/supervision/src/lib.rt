@@ -1,10 +1,16 @@
 //! Deadlines, at most one of each place, and the places whose deadline is passed.
 #![tactic(auto)]
 
+mod laws;
+mod pairs;
+mod places;
 mod watch;
 
 pub use arc_data::Memory;
-pub use watch::{Places, Watch};
+pub use laws::law_steps_are_twice_digits;
+pub use operator_queue::Steps;
+pub use places::Places;
+pub use watch::Watch;
 
 #[cfg(test)]
 mod tests;

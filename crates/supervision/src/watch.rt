@@ -1,64 +1,32 @@
-// Deadlines by place, and lists of places.
-ghost use Rattle.std.specs.Prelude.{◌≡◌, ◌<◌, ◌≤◌, [], length, slice_index, slice_set, OnOk, OnErr};
-ghost use Rattle.supervision.specs.Deadlines.{with_room, is_past, due_at};
+// Deadlines by place, sorted.
+ghost use Rattle.std.specs.Prelude.{◌≡◌, ◌<◌, ◌≤◌, [], length, slice_set, OnOk, OnErr};
+ghost use Rattle.supervision.specs.Deadlines.{with_room, due_at, pairs_of, TakesTwice, TakesOneMore};
 
+use crate::pairs::{count_passed, put_in, put_places, take_out};
+use crate::places::Places;
 use arc_data::Memory;
+use operator_queue::{OrderedPairs, Steps};
 use std::alloc::Global;
 use std::marker::Model;
-
-/// A list of places. Contracts see it as a list of numbers.
-#[derive(Drop)]
-pub struct Places {
-    items: Vec<usize>,
-}
-
-impl Model for Places {
-    ghost use Rattle.std.specs.Prelude.{ℕ, List};
-
-    ghost Value = { List ℕ };
-
-    ghost view = { λ p. p.items.items };
-}
-
-impl Places {
-    /// No places. Takes no memory.
-    pub fn new(alloc: Global) -> Places
-        ensures { result ≡ [] }
-    {
-        Places {
-            items: Vec::new(alloc),
-        }
-    }
-
-    /// How many places stand in the list.
-    pub fn count(&self) -> usize
-        ensures { result ≡ length self.now }
-    {
-        self.items.len()
-    }
-
-    /// The place that stands at an index below the count.
-    pub fn at(&self, i: usize) -> usize
-        requires { i < length self.now }
-        ensures { result ≡ slice_index self.now i }
-    {
-        self.items[i]
-    }
-}
+use std::sync::ledger::Ledger;
 
 /// One deadline or none for each place that has room: the places from 0 up to a number. Contracts see them as a list, in the
 /// order of the places. Deadlines are seconds since 1970, GMT.
 #[derive(Drop)]
 pub struct Watch {
     deadlines: Vec<Option<u64>>,
+    sorted: OrderedPairs,
 }
 
 impl Model for Watch {
     ghost use Rattle.std.specs.Prelude.{ℕ, List, Option};
+    ghost use Rattle.supervision.specs.Deadlines.{IsSortedFrom};
 
     ghost Value = { List (Option ℕ) };
 
     ghost view = { λ w. w.deadlines.items };
+
+    ghost invariant = { λ w. IsSortedFrom w.deadlines.items w.sorted };
 }
 
 impl Watch {
@@ -68,6 +36,7 @@ impl Watch {
     {
         Watch {
             deadlines: Vec::new(alloc),
+            sorted: OrderedPairs::new(alloc),
         }
     }
 
@@ -81,6 +50,10 @@ impl Watch {
         if places <= self.deadlines.len() {
             return Ok(());
         }
+        let more = places.saturating_sub(self.sorted.as_slice().len());
+        let Ok(()) = self.sorted.reserve(more) else {
+            return Err(Memory);
+        };
         let Ok(()) = self.deadlines.resize(places, None) else {
             return Err(Memory);
         };
@@ -88,48 +61,36 @@ impl Watch {
     }
 
     /// Gives a place that has room this deadline, or none, in place of its own. Takes no memory.
-    pub fn set(&mut self, place: usize, deadline: Option<u64>)
+    pub fn set<L: Ledger>(&mut self, place: usize, deadline: Option<u64>, steps: &mut Steps<L>)
         requires { place < length self.old }
-        ensures { self.new ≡ slice_set self.old place deadline }
+        ensures set { self.new ≡ slice_set self.old place deadline }
+        ensures cost { TakesTwice (length (pairs_of self.old)) steps.old steps.new }
     {
+        let before = self.deadlines[place];
+        take_out(&mut self.sorted, place, before, steps);
+        put_in(&mut self.sorted, place, deadline, steps);
         self.deadlines[place] = deadline;
     }
 
     /// Makes the list that of the places whose deadline is less than the moment, ascending; what stood in it goes. The error is
-    /// want of memory, and then the list is empty.
-    pub fn due(&self, at: u64, out: &mut Places) -> Result<(), Memory>
+    /// want of memory, and then the list is empty. Only the deadlines that are passed are looked at, and one more; their places
+    /// are then sorted without `order`, and that takes no memory.
+    pub fn due<L: Ledger>(
+        &self,
+        at: u64,
+        out: &mut Places,
+        steps: &mut Steps<L>,
+    ) -> Result<(), Memory>
         ensures due { OnOk result (out.new ≡ due_at at self.now) }
         ensures memory { OnErr result (out.new ≡ []) }
+        ensures cost { TakesOneMore (length (due_at at self.now)) steps.old steps.new }
     {
-        let Ok(()) = fill(&mut out.items, &self.deadlines, at) else {
+        let pairs = self.sorted.as_slice();
+        let count = count_passed(pairs, at, steps);
+        let Ok(()) = put_places(&mut out.items, &pairs[..count]) else {
             out.items.clear();
             return Err(Memory);
         };
         Ok(())
-    }
-}
-
-// Makes the list that of the places whose deadline is less than the moment, ascending. The error is want of memory.
-fn fill(out: &mut Vec<usize>, deadlines: &[Option<u64>], at: u64) -> Result<(), Memory>
-    ensures { OnOk result (out.new.items ≡ due_at at deadlines.now) }
-{
-    out.clear();
-    for place in 0..deadlines.len() {
-        if is_due(deadlines[place], at) {
-            let Ok(()) = out.push(place) else {
-                return Err(Memory);
-            };
-        }
-    }
-    Ok(())
-}
-
-// Whether there is a deadline and it is less than the moment.
-fn is_due(deadline: Option<u64>, at: u64) -> bool
-    ensures { result ≡ is_past at deadline }
-{
-    match deadline {
-        Some(deadline) => deadline < at,
-        None => false,
     }
 }

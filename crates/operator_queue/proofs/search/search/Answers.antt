@@ -6,25 +6,25 @@ use Rattle.operator_queue.proofs.search.search.Goals as goal
 pub loop-low-preserved-in-Less : goal.loop-low-preserved-in-Less
 loop-low-preserved-in-Less g c =
     let l = c.loop-low in
-    subst (Narrowed c.args.pair c.args.pairs.now _ l.high c.args.steps.now) (sym c.compare.ensures.step)
+    subst (Narrowed c.args.pair c.args.pairs.now _ l.high c.args.steps.now) (sym c.order.ensures.step)
     (on_less c.args.pair c.args.pairs.now l.low l.high c.args.steps.now l.steps l.invariant c.requires c.loop-low-test.true
-    (sym c.compare.ensures.order ∙ c.in-Less.is))
+    (sym c.order.ensures.order ∙ c.in-Less.is))
 
 pub returns-in-Equal-clause-found : goal.returns-in-Equal-clause-found
 returns-in-Equal-clause-found g c =
     let l = c.loop-low in
     on_equal c.args.pair c.args.pairs.now l.low l.high c.args.steps.now l.steps l.invariant c.loop-low-test.true
-    (sym c.compare.ensures.order ∙ c.in-Equal.is)
+    (sym c.order.ensures.order ∙ c.in-Equal.is)
 
 pub returns-in-Equal-clause-cost : goal.returns-in-Equal-clause-cost
 returns-in-Equal-clause-cost g c =
     let l = c.loop-low in
-    subst (TakesFew (length c.args.pairs.now) c.args.steps.now) (sym c.compare.ensures.step)
+    subst (TakesFew (length c.args.pairs.now) c.args.steps.now) (sym c.order.ensures.step)
     (last_step c.args.pair c.args.pairs.now l.low l.high c.args.steps.now l.steps l.invariant c.loop-low-test.true)
 
 pub loop-low-preserved : goal.loop-low-preserved
 loop-low-preserved g c =
     let l = c.loop-low in
-    subst (Narrowed c.args.pair c.args.pairs.now l.low _ c.args.steps.now) (sym c.compare.ensures.step)
+    subst (Narrowed c.args.pair c.args.pairs.now l.low _ c.args.steps.now) (sym c.order.ensures.step)
     (on_greater c.args.pair c.args.pairs.now l.low l.high c.args.steps.now l.steps l.invariant c.requires c.loop-low-test.true
-    (sym c.compare.ensures.order ∙ c.in-Greater.is))
+    (sym c.order.ensures.order ∙ c.in-Greater.is))

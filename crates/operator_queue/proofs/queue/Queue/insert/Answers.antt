@@ -1,17 +1,7 @@
-use Rattle.std.proofs.Common.{◌<◌, ◌∷◌, ℕ, List, length, ap, subst, arith}
-use Rattle.std.specs.List.Sorted.{IsPermutation}
-use Rattle.std.specs.Result.{is_ok}
-use Rattle.std.specs.Vec.{vec_len, vec_capacity}
-use Rattle.operator_queue.specs.Pairs.{QueueValue}
-use Rattle.operator_queue.proofs.Edits.{put_in}
+use Rattle.std.proofs.Common.{arith}
+use Rattle.operator_queue.proofs.Priorities.{with_one}
 use Rattle.operator_queue.proofs.queue.Queue.insert.Goals as goal
 
-pub returns-clause-pairs : goal.returns-clause-pairs
-returns-clause-pairs g c =
-    let pair : ℕ × ℕ = (c.args.priority, c.args.number) in
-    let now : List (ℕ × ℕ) = c.insert.new.self.items in
-    let items = ap (λ (v : QueueValue). v.pairs) c.self.view_is in
-    let fits : vec_len c.self.inside.pairs < vec_capacity c.self.inside.pairs =
-    omega (arith, c.requires, ap length c.deref.ensures.value, c.deref.ensures.len, ap length items, ap (λ (v : QueueValue). v.room) c.self.view_is) in
-    subst (λ l. IsPermutation (pair ∷ l) now) items
-    (put_in c.self.inside.pairs.items now c.place_for-place.result pair (is_ok c.insert.result) c.insert.ensures.items (c.insert.ensures.succeeds fits))
+pub invariant_of-self : goal.invariant_of-self
+invariant_of-self g c =
+    with_one (c.from.result, c.args.number) c.self.inside.pairs.pairs c.insert.new.self.pairs (omega arith) c.self.invariant c.insert.ensures.pairs

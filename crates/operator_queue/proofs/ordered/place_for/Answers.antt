@@ -1,5 +1,5 @@
 use Rattle.operator_queue.proofs.Edits.{ordered_beside, ordered_between}
-use Rattle.operator_queue.proofs.queue.place_for.Goals as goal
+use Rattle.operator_queue.proofs.ordered.place_for.Goals as goal
 
 pub returns-in-Ok-clause-fits : goal.returns-in-Ok-clause-fits
 returns-in-Ok-clause-fits g c = ordered_beside c.in-Ok.place c.args.pairs.now c.args.pair c.requires c.in-Ok.ensures.found

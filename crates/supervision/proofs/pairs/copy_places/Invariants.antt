@@ -1,0 +1,6 @@
+-- So far the list is that of the places of the pairs copied.
+use Rattle.std.proofs.Common.{◌≡◌, map, take}
+use Rattle.supervision.proofs.pairs.copy_places.Given as goal
+
+abbrev pub invariant-loop-pair : goal.invariant-loop-pair
+invariant-loop-pair l = l.out.items ≡ map (λ p. p.1) (take l.pair-index l.pairs)

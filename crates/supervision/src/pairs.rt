@@ -1,0 +1,87 @@
+// Deadlines with their places, as sorted pairs.
+ghost use Rattle.std.specs.Prelude.{◌≡◌, ◌<◌, ◌≤◌, length, nat_lt, map, take, OnOk};
+ghost use Rattle.std.specs.List.{cons_option, filter};
+ghost use Rattle.std.specs.List.Sorted.{IsPermutation, IsSorted};
+ghost use Rattle.std.specs.Ordering.{nat_cmp};
+ghost use Rattle.operator_queue.specs.Pairs.{IsOrdered, TakesFew};
+ghost use Rattle.supervision.specs.Deadlines.{pair_of, IsWithout, TakesOneMore};
+
+use arc_data::Memory;
+// `order` and its count of steps move to `arc_text` once that crate is touched.
+use operator_queue::{OrderedPairs, Steps, order};
+use std::sync::ledger::Ledger;
+
+/// Takes the pair of a place's deadline out, if there is a deadline.
+pub(crate) fn take_out<L: Ledger>(
+    sorted: &mut OrderedPairs,
+    place: usize,
+    deadline: Option<u64>,
+    steps: &mut Steps<L>,
+)
+    ensures taken { IsWithout (pair_of place deadline) sorted.old.pairs sorted.new.pairs }
+    ensures room { sorted.new.room ≡ sorted.old.room }
+    ensures cost { TakesFew (length sorted.old.pairs) steps.old steps.new }
+{
+    if let Some(moment) = deadline {
+        sorted.remove((moment, place as u64), steps);
+    }
+}
+
+/// Puts the pair of a place's deadline in, if there is a deadline. Takes no memory.
+pub(crate) fn put_in<L: Ledger>(
+    sorted: &mut OrderedPairs,
+    place: usize,
+    deadline: Option<u64>,
+    steps: &mut Steps<L>,
+)
+    requires { length sorted.old.pairs < sorted.old.room }
+    ensures put { IsPermutation (cons_option (pair_of place deadline) sorted.old.pairs) sorted.new.pairs }
+    ensures room { sorted.new.room ≡ sorted.old.room }
+    ensures cost { TakesFew (length sorted.old.pairs) steps.old steps.new }
+{
+    if let Some(moment) = deadline {
+        sorted.insert((moment, place as u64), steps);
+    }
+}
+
+/// How many of the sorted pairs have a deadline less than the moment: these are the first so many.
+pub(crate) fn count_passed<L: Ledger>(pairs: &[(u64, u64)], at: u64, steps: &mut Steps<L>) -> usize
+    requires { IsOrdered pairs.now }
+    ensures within { result ≤ length pairs.now }
+    ensures passed { take result pairs.now ≡ filter (λ p. nat_lt p.0 at) pairs.now }
+    ensures cost { TakesOneMore result steps.old steps.new }
+{
+    let mut count = 0;
+    for pair in pairs {
+        // No pair of this moment comes before that with the place 0.
+        if !order(*pair, (at, 0), steps).is_lt() {
+            return count;
+        }
+        count += 1;
+    }
+    count
+}
+
+/// Makes the list that of the places of the pairs, ascending: they are sorted where they stand, without `order`. The error is want
+/// of memory.
+pub(crate) fn put_places(out: &mut Vec<usize>, pairs: &[(u64, u64)]) -> Result<(), Memory>
+    ensures places { OnOk result (IsPermutation (map (λ p. p.1) pairs.now) out.new.items) }
+    ensures ascending { OnOk result (IsSorted nat_cmp out.new.items) }
+{
+    copy_places(out, pairs)?;
+    out.sort_unstable();
+    Ok(())
+}
+
+// Makes the list that of the places of the pairs, in their order. The error is want of memory.
+fn copy_places(out: &mut Vec<usize>, pairs: &[(u64, u64)]) -> Result<(), Memory>
+    ensures { OnOk result (out.new.items ≡ map (λ p. p.1) pairs.now) }
+{
+    out.clear();
+    for pair in pairs {
+        let Ok(()) = out.push(pair.1 as usize) else {
+            return Err(Memory);
+        };
+    }
+    Ok(())
+}
