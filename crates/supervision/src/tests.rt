@@ -1,5 +1,6 @@
 // What no clause says: that memory for some places is found, and answers worked out by hand.
-ghost use Rattle.std.specs.Prelude.{◌≡◌, ◌<◌};
+ghost use Rattle.std.specs.Prelude.{◌≡◌, ◌<◌, ◌≤◌, ◌+◌, ℕ};
+ghost use Rattle.supervision.specs.Deadlines.{TakesTwice};
 
 use super::*;
 use std::alloc::Global;
@@ -214,4 +215,21 @@ fn compare_all(rt: &impl Abort, places: &Places) {
 #[test]
 fn two_thousand_places_at_once(rt: HostRuntime) -> Result<(), Fail> {
     play_storm::<Brand, _>(&rt, rt.alloc(), Blank::new(1))
+}
+
+// The most comparisons of `set` among so many deadlines.
+fn bounds_of_set()
+    ensures none { (before now : ℕ) → TakesTwice 0 before now → now ≤ before }
+    ensures one { (before now : ℕ) → TakesTwice 1 before now → now ≤ before + 2 }
+    ensures two { (before now : ℕ) → TakesTwice 2 before now → now ≤ before + 4 }
+    ensures three { (before now : ℕ) → TakesTwice 3 before now → now ≤ before + 4 }
+    ensures four { (before now : ℕ) → TakesTwice 4 before now → now ≤ before + 6 }
+    ensures thousand { (before now : ℕ) → TakesTwice 1000 before now → now ≤ before + 20 }
+{
+    law_steps_are_twice_digits();
+}
+
+#[test]
+fn comparisons_of_set(_rt: HostRuntime) {
+    bounds_of_set();
 }
