@@ -4,6 +4,7 @@ pub use Rattle.centre_store.specs.Begins
 pub use Rattle.centre_store.specs.Openings
 pub use Rattle.centre_store.specs.StoreHalls
 pub use Rattle.arc_sessions.specs.Served
+pub use Rattle.centre_rules.specs.Sums
 pub mod Forms
 pub mod Statuses
 pub mod Areas
@@ -12,4 +13,5 @@ pub mod Counts
 pub mod SetupReads
 pub mod Unopened
 pub mod SessionRuns
+pub mod Reports
 pub mod WholeRuns

@@ -10,6 +10,8 @@ use arc_sessions::Side;
 pub enum Form {
     /// `line` or `desk`: one session of a line, or of a desk, on the port.
     Session(Side),
+    /// `report`: the report of what the journal has.
+    Report,
 }
 
 /// The form of the words. None where they are of none.
@@ -30,6 +32,8 @@ fn form_named(word: &Txt) -> Option<Form>
         Some(Form::Session(Side::Lines))
     } else if word.bytes() == b"desk".as_slice() {
         Some(Form::Session(Side::Desks))
+    } else if word.bytes() == b"report".as_slice() {
+        Some(Form::Report)
     } else {
         None
     }

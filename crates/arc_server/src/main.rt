@@ -1,5 +1,6 @@
 //! The alarm receiving centre. `arc line` and `arc desk` read the setup from `setup.txt` in the working folder and serve one line,
-//! or one operator's desk, on their standard input and output. What they record stands in `journal.a`, beside `journal.b`.
+//! or one operator's desk, on their standard input and output. What they record stands in `journal.a`, beside `journal.b`, and
+//! `arc report` writes what stands there.
 #![tactic(auto)]
 
 use arc_data::Txt;
@@ -14,6 +15,7 @@ use std::{env, fs, io};
 mod form;
 mod made;
 mod opened;
+mod report;
 mod run;
 mod session;
 mod setup;

@@ -4,6 +4,7 @@ ghost use Rattle.arc_io.specs.Memory.{port_seen, source_seen};
 
 mod lasting;
 mod plays;
+mod reports;
 mod station;
 mod statuses;
 mod watching;

@@ -43,7 +43,7 @@ fn ran_over(
 }
 
 // A disk with these bytes in area A, of which these calls fail.
-fn disk_of(alloc: Global, bytes: &[u8], failing: &[u64]) -> Result<MemDisk, Fail> {
+pub(super) fn disk_of(alloc: Global, bytes: &[u8], failing: &[u64]) -> Result<MemDisk, Fail> {
     let area = bytes.to_vec(alloc)?;
     Ok(MemDisk::of(alloc, area, Vec::new(alloc), failing.to_vec(alloc)?)?)
 }

@@ -1,0 +1,100 @@
+-- What a written report shows.
+use Rattle.std.proofs.Common.{◌≡◌, ◌⊎◌, ◌++◌, ℕ, List, codes, decimal, Option, Result, Ok, Err, inl, inr, sym, subst, refl, ap, ◌∙◌}
+use Rattle.arc_data.specs.declared.incident.Incident.{Incident}
+use Rattle.arc_io.specs.Areas.{Areas}
+use Rattle.arc_io.specs.Causes.{Rose}
+use Rattle.arc_io.specs.Seen.{PortSeen}
+use Rattle.arc_io.specs.Told.{Puts}
+use Rattle.arc_report.specs.Reports.{report_of, table_of}
+use Rattle.desk_wire.specs.Replies.{ended}
+use Rattle.centre_rules.specs.Cases.{incidents}
+use Rattle.centre_rules.specs.Summary.{nothing}
+use Rattle.centre_rules.specs.Sums.{summary_of}
+use Rattle.centre_rules.specs.History.{Entry, marks}
+use Rattle.centre_rules.specs.State.{State, StandsFor}
+use Rattle.centre_rules.proofs.Steps.{incidents_begin}
+use Rattle.centre_store.specs.Openings.{IsOpened}
+use Rattle.centre_store.specs.Stores.{Stored, StoreStands, HasFailed}
+use Rattle.arc_server.specs.Areas.{EndsWith, HasRecorded}
+use Rattle.arc_server.specs.Reports.{report_after, WritesReport, WritesFront, IsReported, IsReportRun}
+use Rattle.arc_server.specs.Unopened.{StandsOn}
+use Rattle.arc_server.specs.declared.status.Status.{Status}
+use Rattle.arc_server.specs.declared.status.Status.TheVariants.{Done, DiskFault, WriteFault}
+use Rattle.arc_server.proofs.Kept.{kept, kept_up}
+
+-- the report of a centre that stands for a history is that of the history
+report_is : (s : State) (past : List Entry) → StandsFor nothing s past → report_of s.sum ≡ report_after past
+report_is s past stands =
+    let of_past : s.sum.incidents ≡ incidents nothing (marks nothing past) = sym (incidents_begin s.sum) ∙ stands.same.incidents in
+    ap (λ (r : ℕ). (codes "recorded " ++ ended (decimal r)) ++ table_of s.sum.incidents) stands.recorded
+    ∙ ap (λ (is : List Incident). (codes "recorded " ++ ended (decimal (summary_of nothing past).recorded)) ++ table_of is) of_past
+
+puts_past : {T E : Type 0} {p p' : PortSeen} {result : Result T E} (s : State) (past : List Entry) → StandsFor nothing s past
+    → Puts p p' result (report_of s.sum) → Puts p p' result (report_after past)
+puts_past {T} {E} {p} {p'} {result} s past stands puts = subst (λ (l : List ℕ). Puts p p' result l) (report_is s past stands) puts
+
+whole_or_front : {T E : Type 0} {p p' : PortSeen} (result : Result T E) (past : List Entry) → Puts p p' result (report_after past)
+    → WritesReport past p p' ⊎ WritesFront past p p'
+whole_or_front (Ok x) past puts = inl (puts.taken, puts.others)
+whole_or_front (Err e) past puts = inr (puts.taken, puts.others)
+
+-- where the disk has failed
+pub reported_down : {D T E : Type 0} {told : D → Option Areas} {may_leave : D → Areas → Type 0} {faults : D → ℕ} {p p' : PortSeen}
+    (result : Result T E) (last : Stored D) (disk' : D) (past : List Entry) (before now : ℕ)
+    → StoreStands told may_leave faults nothing last past → Puts p p' result (report_of last.state.sum)
+    → disk' ≡ last.journal.disk → now ≡ faults disk' → Rose before now
+    → EndsWith told may_leave (DiskFault before now) disk' past × IsReported (DiskFault before now) past p p' before (faults disk')
+reported_down {D} {T} {E} {told} {may_leave} {faults} {p} {p'} result last disk' past before now stands puts handed is rose = (
+  subst (λ (d : D). EndsWith told may_leave (DiskFault before now) d past) (sym handed) (kept last before now stands),
+  (record { before = refl; now = is; rose = rose }, whole_or_front result past (puts_past last.state past stands.centre puts)),
+)
+
+recorded_up : {D : Type 0} {told : D → Option Areas} {may_leave : D → Areas → Type 0} {faults : D → ℕ} (last : Stored D) (disk' : D)
+    (past : List Entry) → StoreStands told may_leave faults nothing last past → disk' ≡ last.journal.disk → (HasFailed faults last → ⊥)
+    → HasRecorded told may_leave disk' past
+recorded_up {D} {told} {may_leave} last disk' past stands handed up =
+    subst (λ (d : D). HasRecorded told may_leave d past) (sym handed) (kept_up last stands up)
+
+-- where it was written whole
+pub reported_whole : {D T E : Type 0} {told : D → Option Areas} {may_leave : D → Areas → Type 0} {faults : D → ℕ} {p p' : PortSeen}
+    (x : T) (last : Stored D) (disk' : D) (past : List Entry) (before : ℕ)
+    → StoreStands told may_leave faults nothing last past → Puts {E = E} p p' (Ok x) (report_of last.state.sum)
+    → disk' ≡ last.journal.disk → (HasFailed faults last → ⊥)
+    → EndsWith told may_leave Done disk' past × IsReported Done past p p' before (faults disk')
+reported_whole {D} {T} {E} x last disk' past before stands puts handed up =
+    let all = puts_past {E = E} last.state past stands.centre puts in
+    (recorded_up last disk' past stands handed up, (all.taken, all.others))
+
+-- where the sink failed
+pub reported_front : {D T E : Type 0} {told : D → Option Areas} {may_leave : D → Areas → Type 0} {faults : D → ℕ} {p p' : PortSeen}
+    (fault : E) (last : Stored D) (disk' : D) (past : List Entry) (before writes now : ℕ)
+    → StoreStands told may_leave faults nothing last past → Puts {T = T} p p' (Err fault) (report_of last.state.sum)
+    → disk' ≡ last.journal.disk → (HasFailed faults last → ⊥) → writes ≡ p.write_faults → now ≡ p'.write_faults
+    → EndsWith told may_leave (WriteFault writes now) disk' past × IsReported (WriteFault writes now) past p p' before (faults disk')
+reported_front {D} {T} {E} {p = p} {p' = p'} fault last disk' past before writes now stands puts handed up was is =
+    let all = puts_past {T = T} last.state past stands.centre puts in (
+      recorded_up last disk' past stands handed up,
+      (
+        record { before = was; now = is; rose = subst (λ (n : ℕ). Rose n now) (sym was) (subst (λ (n : ℕ). Rose p.write_faults n) (sym is) all.cause.failed) },
+        (all.taken, all.others),
+      ),
+    )
+
+-- what a run shows that opened the journal, and whose report of the store's past shows this
+pub reports_past : {D : Type 0} {told : D → Option Areas} {may_leave : D → Areas → Type 0} {moment : D → ℕ}
+    {left_since : D → ℕ → Areas → Type 0} {faults : D → ℕ} {p p' : PortSeen} (status : Status) (disk disk' : D) (s : Stored D) (before : ℕ)
+    → IsOpened told may_leave faults disk s → StandsOn told may_leave moment left_since disk s.journal.disk
+    → disk' ≡ s.journal.disk → before ≡ faults disk
+    → ((past : List Entry) → StoreStands told may_leave faults nothing s past
+    → EndsWith told may_leave status disk' past × IsReported status past p p' before (faults disk'))
+    → IsReportRun told may_leave moment left_since faults status p p' disk disk'
+reports_past {D} {told} {may_leave} {moment} {left_since} {faults} {p} {p'} status disk disk' s before opened stays handed is shows =
+    let shown = shows opened.past opened.stands in inr (
+      opened.past,
+      record {
+        begins = record { bodies = opened.bodies; is_past = opened.is_past; area = opened.area };
+        stays = subst (λ (d : D). StandsOn told may_leave moment left_since disk d) (sym handed) stays;
+        ends = shown.0;
+        shown = subst (λ (n : ℕ). IsReported status opened.past p p' n (faults disk')) is shown.1;
+      },
+    )

@@ -1,0 +1,60 @@
+-- What a run of `report` did, by its status.
+use Rattle.std.specs.Prelude.{◌≡◌, ◌<◌, ◌⊎◌, ℕ, List, length, take, Option}
+use Rattle.std.specs.Io.KnownBytes.{append_known}
+use Rattle.arc_io.specs.Areas.{Areas}
+use Rattle.arc_io.specs.Seen.{PortSeen}
+use Rattle.arc_io.specs.Told.{OnlyWrites}
+use Rattle.arc_report.specs.Reports.{report_of}
+use Rattle.centre_rules.specs.Summary.{nothing}
+use Rattle.centre_rules.specs.History.{Entry}
+use Rattle.centre_rules.specs.Sums.{summary_of}
+use Rattle.arc_server.specs.Areas.{BeginsWith, EndsWith}
+use Rattle.arc_server.specs.Counts.{HasRisen}
+use Rattle.arc_server.specs.Unopened.{StandsOn, IsUnopened}
+use Rattle.arc_server.specs.declared.status.Status.{Status}
+use Rattle.arc_server.specs.declared.status.Status.TheVariants.{Done, Usage, SetupBad, ReadFault, WriteFault, DiskFault, Journal, Full}
+use Rattle.arc_server.specs.declared.status.Status.TheVariants.{Memory, Spent, Worn}
+
+-- the report of a history: how much of it is recorded, and the incidents that are open after it
+abbrev pub report_after : List Entry → List ℕ
+report_after past = report_of (summary_of nothing past)
+
+-- the report of the past was written, and nothing else was done to the port
+abbrev pub WritesReport : List Entry → PortSeen → PortSeen → Type 0
+WritesReport past p p' = (p'.written ≡ append_known p.written (report_after past)) × OnlyWrites p p'
+
+-- so was a front of it, which lacks a byte at least
+abbrev pub WritesFront : List Entry → PortSeen → PortSeen → Type 0
+WritesFront past p p' =
+    ((n : ℕ) × (n < length (report_after past)) × (p'.written ≡ append_known p.written (take n (report_after past)))) × OnlyWrites p p'
+
+-- What a status shows where the journal was opened over a past, by the counts of the disk's faults at entry and at the end.
+abbrev pub IsReported : Status → List Entry → PortSeen → PortSeen → ℕ → ℕ → Type 0
+IsReported Done past p p' entry end = WritesReport past p p'
+IsReported (WriteFault before now) past p p' entry end = HasRisen before now p.write_faults p'.write_faults × WritesFront past p p'
+IsReported (DiskFault before now) past p p' entry end = HasRisen before now entry end × (WritesReport past p p' ⊎ WritesFront past p p')
+IsReported Usage past p p' entry end = ⊥
+IsReported (SetupBad fault) past p p' entry end = ⊥
+IsReported (ReadFault which before now) past p p' entry end = ⊥
+IsReported (Journal fault) past p p' entry end = ⊥
+IsReported (Full used need records) past p p' entry end = ⊥
+IsReported Memory past p p' entry end = ⊥
+IsReported Spent past p p' entry end = ⊥
+IsReported (Worn count) past p p' entry end = ⊥
+
+-- The area stood for a past, and its report was written. Whatever the area stood for, it stands for at the end, and so does all that a
+-- crash left of it at any moment between; and it has the recorded entries of the past.
+pub record ReportsPast {D : Type 0} (told : D → Option Areas) (may_leave : D → Areas → Type 0) (moment : D → ℕ)
+    (left_since : D → ℕ → Areas → Type 0) (faults : D → ℕ) (status : Status) (p p' : PortSeen) (disk disk' : D)
+    (past : List Entry) : Type 0 where
+  pub begins : BeginsWith told disk past
+  pub stays : StandsOn told may_leave moment left_since disk disk'
+  pub ends : EndsWith told may_leave status disk' past
+  pub shown : IsReported status past p p' (faults disk) (faults disk')
+
+-- What such a run did: the journal was not opened, and the port not touched; or the report of a past was written.
+abbrev pub IsReportRun : {D : Type 0} → (D → Option Areas) → (D → Areas → Type 0) → (D → ℕ) → (D → ℕ → Areas → Type 0) → (D → ℕ)
+    → Status → PortSeen → PortSeen → D → D → Type 0
+IsReportRun told may_leave moment left_since faults status p p' disk disk' =
+    (IsUnopened told may_leave moment left_since faults status disk disk' × (p' ≡ p))
+    ⊎ ((past : List Entry) × ReportsPast told may_leave moment left_since faults status p p' disk disk' past)

@@ -1,0 +1,115 @@
+// Runs of `report`: what is written, and what stays as it was.
+use super::lasting::disk_of;
+use super::{AREA, Failing, new_disk, outside_of};
+use crate::run::{Ended, Outside, run};
+use crate::status::Status;
+use arc_data::Txt;
+use arc_io::{Area, MemDisk};
+use disk_journal::OpenFault;
+use std::alloc::Global;
+use std::process::Abort;
+use std::test::Fail;
+
+// What a station reports that has recorded one alarm.
+const ONE: &[u8] = b"recorded 3
+open 1
+incident 1 burglary 1234 code 131 opened 1000000000 signals 1 restored no holder none next note
+";
+
+// What a run of `report` wrote, and its disk.
+#[derive(Drop)]
+struct Outcome {
+    status: Status,
+    written: Vec<u8>,
+    disk: MemDisk,
+}
+
+// A run of `report` over this disk. Its setup is none, and a read of it would fail.
+fn reported(
+    rt: &impl Abort,
+    alloc: Global,
+    writes: &[u64],
+    disk: MemDisk,
+) -> Result<Outcome, Fail> {
+    let failing = Failing {
+        setup: &[1],
+        reads: &[1],
+        writes,
+    };
+    let word = Txt::of(b"report").ok_or("a short word")?;
+    let outside = outside_of(alloc, b"no setup", b"", &[], &failing, disk)?;
+    let Ended { status, outside } = run(rt, alloc, &[word], outside);
+    let Outside { port, disk, .. } = outside;
+    let written = port.sink.bytes().to_vec(alloc)?;
+    Ok(Outcome {
+        status,
+        written,
+        disk,
+    })
+}
+
+#[test]
+fn an_alarm_is_reported(rt: HostRuntime) -> Result<(), Fail> {
+    let alloc = rt.alloc();
+    let ended = reported(&rt, alloc, &[], disk_of(alloc, AREA, &[])?)?;
+    assert_eq!(rt; ended.status, Status::Done);
+    assert_eq!(rt; ended.written.as_slice(), ONE);
+    assert_eq!(rt; ended.disk.bytes(Area::A), AREA);
+    Ok(())
+}
+
+// The area of a new station is begun, and has no record.
+#[test]
+fn an_empty_disk_is_reported(rt: HostRuntime) -> Result<(), Fail> {
+    let alloc = rt.alloc();
+    let ended = reported(&rt, alloc, &[], new_disk(alloc))?;
+    assert_eq!(rt; ended.status, Status::Done);
+    assert_eq!(rt;
+        ended.written.as_slice(),
+        b"recorded 0\nopen 0\n".as_slice()
+    );
+    assert_eq!(rt; ended.disk.bytes(Area::A), b"ARC JOURNAL 0001\0".as_slice());
+    Ok(())
+}
+
+// Where this write fails, a front of the report was written.
+fn cut_off(rt: &impl Abort, alloc: Global, call: u64) -> Result<(), Fail> {
+    let ended = reported(rt, alloc, &[call], disk_of(alloc, AREA, &[])?)?;
+    assert_eq!(rt;
+        ended.status,
+        Status::WriteFault { before: 0, now: 1 },
+        "{call}"
+    );
+    assert!(rt;
+        ONE.starts_with(&ended.written) && ended.written.len() < ONE.len(),
+        "{call}"
+    );
+    assert_eq!(rt; ended.disk.bytes(Area::A), AREA, "{call}");
+    Ok(())
+}
+
+#[test]
+fn a_sink_that_fails_in_a_report(rt: HostRuntime) -> Result<(), Fail> {
+    let alloc = rt.alloc();
+    for call in 1..8u64 {
+        cut_off(&rt, alloc, call)?;
+    }
+    Ok(())
+}
+
+#[test]
+fn an_area_that_is_not_reported(rt: HostRuntime) -> Result<(), Fail> {
+    let alloc = rt.alloc();
+    let other = disk_of(alloc, b"XXXXXXXXXXXXXXXXXX", &[])?;
+    let ended = reported(&rt, alloc, &[], other)?;
+    assert_eq!(rt;
+        ended.status,
+        Status::Journal(OpenFault::NotJournal { byte: 0 })
+    );
+    assert_eq!(rt; ended.written.len(), 0);
+    let failing = disk_of(alloc, AREA, &[1])?;
+    let ended = reported(&rt, alloc, &[], failing)?;
+    assert_eq!(rt; ended.status, Status::DiskFault { before: 0, now: 1 });
+    assert_eq!(rt; ended.written.len(), 0);
+    Ok(())
+}
