@@ -1,0 +1,4 @@
+pub mod Lists
+pub mod Seats
+pub mod Sides
+pub mod Served

@@ -1,0 +1,103 @@
+-- All that serving makes of a store.
+use Rattle.std.proofs.Common.{◌≡◌, ◌≤◌, ◌<◌, ℕ, List, [], ◌∷◌, ◌++◌, Option, Some, length, refl, sym, ap, ◌∙◌, subst, arith}
+use Rattle.std.proofs.lemmas.List.{map-append}
+use Rattle.std.proofs.lemmas.List.Elements.{All-nil, All-cons, All-append, All-weaker}
+use Rattle.std.specs.Prelude.{All, map, reverse}
+use Rattle.alarm_rules.specs.Setups.{meaning}
+use Rattle.arc_doors.specs.Doors.{DoorSeen}
+use Rattle.arc_io.specs.Areas.{Areas}
+use Rattle.arc_sessions.specs.declared.side.Side.{Side}
+use Rattle.arc_sessions.specs.declared.side.Side.TheVariants.{Lines, Desks}
+use Rattle.arc_workers.specs.Ticks.{WorksTicks}
+use Rattle.arc_doors.specs.Pulses.{Moments}
+use Rattle.arc_workers.specs.declared.working.Worked.{Worked}
+use Rattle.centre_rules.specs.History.{marks}
+use Rattle.centre_rules.specs.Marks.{force}
+use Rattle.centre_rules.specs.Summary.{Summary}
+use Rattle.centre_store.specs.Stores.{Stored}
+use Rattle.line_gate.proofs.Carried.{extends_base}
+use Rattle.line_gate.proofs.Histories.{extends_further}
+use Rattle.line_gate.specs.Entries.{Entry, Extends}
+use Rattle.line_gate.specs.Passes.{PassSeen, IsPass}
+use Rattle.line_gate.specs.Terms.{Terms}
+use Rattle.arc_serving.specs.Closing.{IsClosed, ServesSeated}
+use Rattle.arc_serving.specs.Jobs.{JobSeen, AreSeated, HasTaken, AreUnseated, doors_in, numbers_in, passes_in, worked_in}
+use Rattle.arc_serving.specs.Ran.{IsFresh, WorkerRan, IsSideServed, began_in, ended_in}
+use Rattle.arc_serving.specs.Rising.{AreRising}
+use Rattle.arc_serving.specs.Seen.{StationSeen, CameSeen}
+use Rattle.arc_serving.specs.Serving.{Serves, GoesOnFrom, StandsForAll, all_began, all_ended}
+use Rattle.arc_serving.specs.declared.station.Crew.{Crew}
+use Rattle.arc_serving.proofs.Lists.{rising_both}
+use Rattle.arc_serving.proofs.Sides.{SideRan, side_ran}
+
+-- the workers of a side stood at its first doors
+side_served : (side : Side) (t : Terms) (count sessions : ℕ) (last : PassSeen) (olds news : List JobSeen) (before left after : List DoorSeen) (came : List Worked)
+    → before ≡ doors_in olds ++ reverse left → length olds ≡ count → AreUnseated last news left after → came ≡ worked_in news → (w : SideRan side t sessions last olds news)
+    → IsSideServed side t count sessions w.ran before after came
+side_served side t count sessions last olds news before left after came seated long over worked w = record {
+  count_is = w.count ∙ long;
+  stood = record {
+    unused = reverse left;
+    before = seated ∙ ap (λ (l : List DoorSeen). l ++ reverse left) w.doors;
+    after = over.parts ∙ ap (λ (l : List DoorSeen). l ++ reverse left) w.doors';
+    came_is = worked ∙ w.came;
+  };
+  each = w.each;
+}
+
+-- what the gate was closed with has seen all that these passes have, and more
+stands_for_all : {D : Type 0} (told : D → Option Areas) (may_leave : D → Areas → Type 0) (faults : D → ℕ) (t : Terms) (last : PassSeen) (s : Stored D) (passes : List PassSeen)
+    → IsClosed told may_leave faults t last s → All (λ (p : PassSeen). HasTaken last p) passes → (b : Summary) (base : List Entry) → t.stood b base
+    → StandsForAll told may_leave faults b base passes s
+stands_for_all told may_leave faults t last s passes closed taken b base from =
+    let h = closed.stands b base from in record {
+      from = record { history = h.0; stands = h.2; begins = extends_further base (last.since ++ base) h.0 (last.since, refl) h.1 };
+      seen = All-weaker (λ (p : PassSeen). HasTaken last p) (λ (p : PassSeen). Extends (p.since ++ base) h.0)
+          (λ p w. extends_further (p.since ++ base) (last.since ++ base) h.0 (extends_base p.since last.since base w.since) h.1) passes taken;
+    }
+
+-- where nobody was served
+pub goes_on : {D : Type 0} (told : D → Option Areas) (may_leave : D → Areas → Type 0) (faults : D → ℕ) (t : Terms) (last : PassSeen) (s : Stored D)
+    → IsClosed told may_leave faults t last s → (b : Summary) (base : List Entry) → t.stood b base → GoesOnFrom told may_leave faults b base s
+goes_on told may_leave faults t last s closed b base from = (stands_for_all told may_leave faults t last s [] closed (All-nil (λ (p : PassSeen). HasTaken last p)) b base from).from
+
+-- the first pass, which has seen nothing since the gate was made, knows the setup in force
+setup_from : (t : Terms) (first : PassSeen) → IsPass t first → first.since ≡ [] → (b : Summary) (base : List Entry) → t.stood b base → force b (marks b base) ≡ Some (meaning t.text)
+setup_from t first pass none b base from =
+    subst (λ (l : List Entry). force b (marks b (l ++ base)) ≡ Some (meaning t.text)) none (pass.of_gate.over b base from).in_force
+
+-- the numbers of the callers: of lines, of desks, and of the ticker
+numbers_from : (low one two high : ℕ) (lines desks : List JobSeen) (ticker : PassSeen) (line_ran desk_ran : List WorkerRan) → AreRising low (numbers_in lines) one
+    → AreRising one (numbers_in desks) two → two ≤ ticker.number → ticker.number < high → passes_in lines ≡ began_in line_ran → passes_in desks ≡ began_in desk_ran
+    → AreRising low (map (λ (p : PassSeen). p.number) (began_in line_ran ++ (began_in desk_ran ++ ticker ∷ []))) high
+numbers_from low one two high lines desks ticker line_ran desk_ran w v le lt line_is desk_is =
+    let number : PassSeen → ℕ = λ p. p.number in
+    let same : map number (began_in line_ran ++ (began_in desk_ran ++ ticker ∷ [])) ≡ numbers_in lines ++ (numbers_in desks ++ ticker.number ∷ []) =
+    map-append number (began_in line_ran) (began_in desk_ran ++ ticker ∷ []) ∙ ap (λ (l : List ℕ). map number (began_in line_ran) ++ l) (map-append number (began_in desk_ran) (ticker ∷ []))
+    ∙ ap (λ (l : List PassSeen). map number l ++ (map number (began_in desk_ran) ++ ticker.number ∷ [])) (sym line_is) ∙ ap (λ (l : List PassSeen). numbers_in lines ++ (map number l ++ ticker.number ∷ [])) (sym desk_is) in
+    subst (λ (l : List ℕ). AreRising low l high) (sym same)
+    (rising_both low (numbers_in lines) (numbers_in desks ++ ticker.number ∷ []) one high w (rising_both one (numbers_in desks) (ticker.number ∷ []) two high v (le, omega (arith, lt))))
+
+pub serves : {D : Type 0} (told : D → Option Areas) (may_leave : D → Areas → Type 0) (faults : D → ℕ) (t : Terms) (crew : Crew) (first given ticker : PassSeen)
+    (low one two high : ℕ) (lines desks : List JobSeen) (before left after : StationSeen) (came : CameSeen) (s : Stored D)
+    → IsPass t first → first.since ≡ [] → IsFresh t ticker → two ≤ ticker.number → ticker.number < high
+    → AreSeated t before.lines left.lines lines low one → AreSeated t before.desks left.desks desks one two → length lines ≡ crew.lines → length desks ≡ crew.desks
+    → left.pulse ≡ before.pulse → ServesSeated told may_leave faults t crew.sessions given lines desks ticker left after came s
+    → Serves told may_leave faults t crew before after came s
+serves told may_leave faults t crew first given ticker low one two high lines desks before left after came s pass none fresh le lt seated_lines seated_desks line_count desk_count pulse w =
+    let l = side_ran Lines t crew.sessions w.last lines w.lines' seated_lines.ready w.lines_done w.lines_over.taken in
+    let d = side_ran Desks t crew.sessions w.last desks w.desks' seated_desks.ready w.desks_done w.desks_over.taken in
+    let taken = All-append (λ (p : PassSeen). HasTaken w.last p) (ended_in l.ran) (ended_in d.ran ++ w.ticker' ∷ []) l.taken
+    (All-append (λ (p : PassSeen). HasTaken w.last p) (ended_in d.ran) (w.ticker' ∷ []) d.taken (All-cons (λ (p : PassSeen). HasTaken w.last p) w.ticker' [] w.taken (All-nil (λ (p : PassSeen). HasTaken w.last p)))) in record {
+      ran = record { lines = l.ran; desks = d.ran; ticker = record { began = ticker; ended = w.ticker' } };
+      lines = side_served Lines t crew.lines crew.sessions w.last lines w.lines' before.lines left.lines after.lines came.lines seated_lines.parts line_count w.lines_over w.lines_came l;
+      desks = side_served Desks t crew.desks crew.sessions w.last desks w.desks' before.desks left.desks after.desks came.desks seated_desks.parts desk_count w.desks_over w.desks_came d;
+      ticker = record { fresh = fresh; pass = w.is_pass; works = subst (λ (m : Option Moments). WorksTicks t ticker w.ticker' m after.pulse came.ticked) pulse w.ticks };
+      low = low;
+      high = high;
+      numbers = numbers_from low one two high lines desks ticker l.ran d.ran seated_lines.rising seated_desks.rising le lt l.began d.began;
+      stands = stands_for_all told may_leave faults t w.last s (all_ended (record { lines = l.ran; desks = d.ran; ticker = record { began = ticker; ended = w.ticker' } })) w.closed taken;
+      setup = setup_from t first pass none;
+      all_told = All-weaker (λ (p : PassSeen). HasTaken w.last p) (λ (p : PassSeen). p.told ≤ faults s.journal.disk) (λ p v. let a = v.told in let b = w.closed.told_is in omega arith)
+          (ended_in l.ran ++ (ended_in d.ran ++ w.ticker' ∷ [])) taken;
+    }

@@ -1,0 +1,61 @@
+-- The workers and the ticker that ran at a gate.
+use Rattle.std.specs.Prelude.{◌≡◌, ℕ, List, [], ◌++◌, Option, All, map, length}
+use Rattle.arc_doors.specs.Doors.{DoorSeen}
+use Rattle.arc_doors.specs.Pulses.{Moments}
+use Rattle.arc_sessions.specs.declared.side.Side.{Side}
+use Rattle.arc_workers.specs.Ticks.{WorksTicks}
+use Rattle.arc_workers.specs.Works.{Works}
+use Rattle.arc_workers.specs.declared.ticking.Ticked.{Ticked}
+use Rattle.arc_workers.specs.declared.working.Worked.{Worked}
+use Rattle.line_gate.specs.Passes.{PassSeen, IsPass}
+use Rattle.line_gate.specs.Terms.{Terms}
+
+-- the pass of a caller that has done nothing yet
+pub record IsFresh (t : Terms) (p : PassSeen) : Type 0 where
+  pub pass : IsPass t p
+  pub made : p.made ≡ []
+
+-- one worker that ran: its pass as it began and as it ended, what its door told then, and what came of it
+pub record WorkerRan : Type 0 where
+  pub began : PassSeen
+  pub ended : PassSeen
+  pub door : DoorSeen
+  pub door' : DoorSeen
+  pub worked : Worked
+
+-- all that is said of it: its pass was fresh, and it did what a worker of this side does
+pub record IsWorkerRan (side : Side) (t : Terms) (sessions : ℕ) (w : WorkerRan) : Type 0 where
+  pub fresh : IsFresh t w.began
+  pub pass : IsPass t w.ended
+  pub works : Works side t w.began w.ended w.door w.door' sessions w.worked
+
+-- the ticker that ran: its pass as it began and as it ended
+pub record TickerRan : Type 0 where
+  pub began : PassSeen
+  pub ended : PassSeen
+
+pub record IsTickerRan (t : Terms) (w : TickerRan) (pulse pulse' : Option Moments) (ticked : Ticked) : Type 0 where
+  pub fresh : IsFresh t w.began
+  pub pass : IsPass t w.ended
+  pub works : WorksTicks t w.began w.ended pulse pulse' ticked
+
+abbrev pub began_in : List WorkerRan → List PassSeen
+began_in ran = map (λ w. w.began) ran
+
+abbrev pub ended_in : List WorkerRan → List PassSeen
+ended_in ran = map (λ w. w.ended) ran
+
+-- The first doors of a side had a worker each, in order, and the others are as they were. What came of the workers stands in the order of
+-- their doors.
+pub record StoodAt (ran : List WorkerRan) (doors doors' : List DoorSeen) (came : List Worked) : Type 0 where
+  pub unused : List DoorSeen
+  pub before : doors ≡ map (λ w. w.door) ran ++ unused
+  pub after : doors' ≡ map (λ w. w.door') ran ++ unused
+  pub came_is : came ≡ map (λ w. w.worked) ran
+
+-- all that is said of the workers of one side
+pub record IsSideServed (side : Side) (t : Terms) (count sessions : ℕ) (ran : List WorkerRan) (doors doors' : List DoorSeen)
+    (came : List Worked) : Type 0 where
+  pub count_is : length ran ≡ count
+  pub stood : StoodAt ran doors doors' came
+  pub each : All (λ w. IsWorkerRan side t sessions w) ran
