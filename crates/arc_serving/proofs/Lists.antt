@@ -50,4 +50,3 @@ rising_from low mid (n ∷ ns) high le w = (let l = w.0 in omega (arith, le, l),
 pub rising_both : (low : ℕ) (ns ms : List ℕ) (mid high : ℕ) → AreRising low ns mid → AreRising mid ms high → AreRising low (ns ++ ms) high
 rising_both low [] ms mid high w v = rising_from low mid ms high w v
 rising_both low (n ∷ ns) ms mid high w v = (w.0, rising_both (n + 1) ns ms mid high w.1 v)
-

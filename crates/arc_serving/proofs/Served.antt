@@ -2,7 +2,7 @@
 use Rattle.std.proofs.Common.{◌≡◌, ◌≤◌, ◌<◌, ℕ, List, [], ◌∷◌, ◌++◌, Option, Some, length, refl, sym, ap, ◌∙◌, subst, arith}
 use Rattle.std.proofs.lemmas.List.{map-append}
 use Rattle.std.proofs.lemmas.List.Elements.{All-nil, All-cons, All-append, All-weaker}
-use Rattle.std.specs.Prelude.{All, map, reverse}
+use Rattle.std.specs.Prelude.{All, Result, Ok, Err, IfOk, map, reverse}
 use Rattle.alarm_rules.specs.Setups.{meaning}
 use Rattle.arc_doors.specs.Doors.{DoorSeen}
 use Rattle.arc_io.specs.Areas.{Areas}
@@ -17,6 +17,7 @@ use Rattle.centre_rules.specs.Summary.{Summary}
 use Rattle.centre_store.specs.Stores.{Stored}
 use Rattle.line_gate.proofs.Carried.{extends_base}
 use Rattle.line_gate.proofs.Histories.{extends_further}
+use Rattle.line_gate.specs.Blanks.{BlankSeen, terms_of}
 use Rattle.line_gate.specs.Entries.{Entry, Extends}
 use Rattle.line_gate.specs.Passes.{PassSeen, IsPass}
 use Rattle.line_gate.specs.Terms.{Terms}
@@ -25,7 +26,7 @@ use Rattle.arc_serving.specs.Jobs.{JobSeen, AreSeated, HasTaken, AreUnseated, do
 use Rattle.arc_serving.specs.Ran.{IsFresh, WorkerRan, IsSideServed, began_in, ended_in}
 use Rattle.arc_serving.specs.Rising.{AreRising}
 use Rattle.arc_serving.specs.Seen.{StationSeen, CameSeen}
-use Rattle.arc_serving.specs.Serving.{Serves, GoesOnFrom, StandsForAll, all_began, all_ended}
+use Rattle.arc_serving.specs.Serving.{Serves, ServesStore, GoesOnFrom, StandsForAll, all_began, all_ended}
 use Rattle.arc_serving.specs.declared.station.Crew.{Crew}
 use Rattle.arc_serving.proofs.Lists.{rising_both}
 use Rattle.arc_serving.proofs.Sides.{SideRan, side_ran}
@@ -101,3 +102,10 @@ serves told may_leave faults t crew first given ticker low one two high lines de
       all_told = All-weaker (λ (p : PassSeen). HasTaken w.last p) (λ (p : PassSeen). p.told ≤ faults s.journal.disk) (λ p v. let a = v.told in let b = w.closed.told_is in omega arith)
           (ended_in l.ran ++ (ended_in d.ran ++ w.ticker' ∷ [])) taken;
     }
+
+-- at the gate that was before the store
+pub of_store : {D E : Type 0} (told : D → Option Areas) (may_leave : D → Areas → Type 0) (faults : D → ℕ) (gate : BlankSeen D) (from : Stored D) (crew : Crew) (before after : StationSeen)
+    (s : Stored D) (r : Result CameSeen E) → gate.store ≡ from → IfOk r (λ came. Serves told may_leave faults (terms_of told may_leave faults gate) crew before after came s)
+    → IfOk r (λ came. ServesStore told may_leave faults from crew before after came s)
+of_store told may_leave faults gate from crew before after s (Ok came) is w = record { gate = gate; from_is = is; serves = w }
+of_store told may_leave faults gate from crew before after s (Err e) is w = tt

@@ -116,17 +116,17 @@ fn work_beside<
         move || -> Vec<Job<A, N>>
             requires { IsSync R.row }
             ensures { AllZip (IsJobDone Lines N.terms sessions) lines.items result.items }
-        { work_all(Side::Lines, rt, alloc, gate, sessions, lines) },
+        { work_side(Side::Lines, rt, alloc, gate, sessions, lines) },
         move || -> Vec<Job<B, N>>
             requires { IsSync R.row }
             ensures { AllZip (IsJobDone Desks N.terms sessions) desks.items result.items }
-        { work_all(Side::Desks, rt, alloc, gate, sessions, desks) },
+        { work_side(Side::Desks, rt, alloc, gate, sessions, desks) },
     );
     Workers { lines, desks }
 }
 
 // Runs the workers of one side, each in a thread of its own.
-fn work_all<
+fn work_side<
     A: Door + Send + Drop,
     D: Disk + Send,
     R: Threads + Wait + Sync,
@@ -141,12 +141,11 @@ fn work_all<
 ) -> Vec<Job<A, N>>
     ensures { AllZip (IsJobDone side N.terms sessions) jobs.items result.items }
 {
-    let mut jobs = jobs;
-    work_each(side, rt, alloc, gate, sessions, jobs.as_mut_slice());
-    jobs
+    work_all(side, rt, alloc, gate, sessions, jobs)
 }
 
-fn work_each<
+// The same, of the job at each place.
+fn work_all<
     A: Door + Send + Drop,
     D: Disk + Send,
     R: Threads + Wait + Sync,
@@ -157,16 +156,34 @@ fn work_each<
     alloc: Global,
     gate: &Gate<D, N>,
     sessions: u32,
-    jobs: &mut [Job<A, N>],
-)
+    jobs: Vec<Job<A, N>>,
+) -> Vec<Job<A, N>>
+    ensures count { length result.items ≡ length jobs.items }
+    ensures each { (k : ℕ) (d : _) → k < length jobs.items
+        → IsJobDone side N.terms sessions (slice_index_or jobs.items k d) (slice_index_or result.items k d) }
+{
+    let mut jobs = jobs;
+    work_each(side, rt, alloc, gate, sessions, jobs.as_mut_slice());
+    jobs
+}
+
+fn work_each<
+    A: Door + Send + Drop,
+    D: Disk + Send,
+    R: Threads + Wait + Sync,
+    N: GateName + Send + Sync,
+>(side: Side, rt: &R, alloc: Global, gate: &Gate<D, N>, sessions: u32, jobs: &mut [Job<A, N>])
     ensures count { length jobs.new ≡ length jobs.old }
     ensures each { (k : ℕ) (d : _) → k < length jobs.old
         → IsJobDone side N.terms sessions (slice_index_or jobs.old k d) (slice_index_or jobs.new k d) }
 {
     let threads = jobs.len().max(1);
-    thread::for_each_mut(rt, jobs, threads, &|_, job| {
-        work(side, rt, alloc, gate, sessions, job)
-    });
+    thread::for_each_mut(
+        rt,
+        jobs,
+        threads,
+        &|_, job| { work(side, rt, alloc, gate, sessions, job) },
+    );
 }
 
 // Runs one worker.

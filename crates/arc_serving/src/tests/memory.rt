@@ -32,9 +32,7 @@ fn door_to(alloc: Global, input: &[u8]) -> Result<MemDoor<MemPort>, Fail> {
 }
 
 // Two doors of lines, and one more that has no worker; a door of desks; and two moments.
-fn station_of(
-    alloc: Global,
-) -> Result<Station<MemDoor<MemPort>, MemDoor<MemPort>, ListPulse>, Fail>
+fn station_of(alloc: Global) -> Result<Station<MemDoor<MemPort>, MemDoor<MemPort>, ListPulse>, Fail>
     ensures { IfOk result (λ s. (length s.lines ≡ 3) × (length s.desks ≡ 1)) }
 {
     let (one, two, three) = (
