@@ -4,12 +4,16 @@ ghost use Rattle.arc_io.specs.Seen.{untold};
 
 use super::*;
 use arc_io::{Clock, Ends, Failed, Noise, Sink, Source};
+use std::sync::Arc;
 use std::sync::atomic::{AtomicBool, Ordering};
 use std::time::Duration;
 use std::{thread, time};
 
 // How many turns of a millisecond a link or a pulse waits.
 const TURNS: usize = 10_000;
+
+// A flag that a link, a pulse and a test share.
+pub(super) type Flag = Arc<AtomicBool, Global>;
 
 // Waits until the flag is set. Whether it was.
 fn waited<C: time::Clock>(host: &C, flag: &AtomicBool) -> bool {
@@ -25,17 +29,19 @@ fn waited<C: time::Clock>(host: &C, flag: &AtomicBool) -> bool {
 // A link whose first read gives a heartbeat. Its second read waits for a flag, and fails where that is not set. Another flag is set when
 // it is written to.
 #[derive(Drop)]
-pub(super) struct TurnLink<'a, C: time::Clock> {
+pub(super) struct TurnLink<C: time::Clock> {
     host: C,
-    until: &'a AtomicBool,
-    tells: &'a AtomicBool,
+    until: Flag,
+    tells: Flag,
     was_read: bool,
     ended: bool,
     read_faults: u64,
 }
 
-impl<'a, C: time::Clock> TurnLink<'a, C> {
-    pub(super) fn new(host: C, until: &'a AtomicBool, tells: &'a AtomicBool) -> Self {
+impl<C: time::Clock> TurnLink<C> {
+    pub(super) fn new(host: C, until: Flag, tells: Flag) -> Self
+        ensures { result.ended ≡ false }
+    {
         TurnLink {
             host,
             until,
@@ -47,18 +53,18 @@ impl<'a, C: time::Clock> TurnLink<'a, C> {
     }
 }
 
-impl<'a, C: time::Clock> Ends for TurnLink<'a, C> {
+impl<C: time::Clock> Ends for TurnLink<C> {
     ghost seen = { λ p. record untold { ended = p.ended; read_faults = p.read_faults } };
 }
 
-impl<'a, C: time::Clock> Source for TurnLink<'a, C> {
+impl<C: time::Clock> Source for TurnLink<C> {
     fn read(&mut self, buf: &mut [u8]) -> Result<usize, Failed> {
         if !self.was_read && buf.len() >= BEAT.len() {
             self.was_read = true;
             buf[..BEAT.len()].copy_from_slice(BEAT);
             return Ok(BEAT.len());
         }
-        if !waited(&self.host, self.until) {
+        if !waited(&self.host, &*self.until) {
             self.read_faults = self.read_faults.saturating_add(1);
             return Err(Failed);
         }
@@ -71,7 +77,7 @@ impl<'a, C: time::Clock> Source for TurnLink<'a, C> {
     }
 }
 
-impl<'a, C: time::Clock> Sink for TurnLink<'a, C> {
+impl<C: time::Clock> Sink for TurnLink<C> {
     fn write(&mut self, bytes: &[u8]) -> Result<usize, Failed> {
         self.tells.store(true, Ordering::SeqCst);
         Ok(bytes.len())
@@ -82,32 +88,32 @@ impl<'a, C: time::Clock> Sink for TurnLink<'a, C> {
     }
 }
 
-impl<'a, C: time::Clock> Clock for TurnLink<'a, C> {
+impl<C: time::Clock> Clock for TurnLink<C> {
     fn now(&mut self) -> u64 {
         BEGIN
     }
 }
 
-impl<'a, C: time::Clock> Noise for TurnLink<'a, C> {
+impl<C: time::Clock> Noise for TurnLink<C> {
     fn ten(&mut self) -> [u8; 10] {
         [0; 10]
     }
 }
 
-impl<'a, C: time::Clock> Port for TurnLink<'a, C> {}
+impl<C: time::Clock> Port for TurnLink<C> {}
 
 // A pulse that gives one moment, and sets a flag then. It gives none where the flag of its call was set before that. Then it waits for
 // that flag, and notes whether it was set.
 #[derive(Drop)]
-pub(super) struct TurnPulse<'a, C: time::Clock> {
+pub(super) struct TurnPulse<C: time::Clock> {
     host: C,
-    tells: &'a AtomicBool,
+    tells: Flag,
     is_given: bool,
     is_told: bool,
 }
 
-impl<'a, C: time::Clock> TurnPulse<'a, C> {
-    pub(super) fn new(host: C, tells: &'a AtomicBool) -> Self {
+impl<C: time::Clock> TurnPulse<C> {
+    pub(super) fn new(host: C, tells: Flag) -> Self {
         TurnPulse {
             host,
             tells,
@@ -122,7 +128,7 @@ impl<'a, C: time::Clock> TurnPulse<'a, C> {
     }
 }
 
-impl<'a, C: time::Clock> Pulse for TurnPulse<'a, C> {
+impl<C: time::Clock> Pulse for TurnPulse<C> {
     fn next<R: Wait>(&mut self, _rt: &R, stop: &AtomicBool) -> Option<u64> {
         if !self.is_given && !stop.load(Ordering::SeqCst) {
             self.is_given = true;

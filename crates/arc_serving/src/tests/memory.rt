@@ -74,12 +74,20 @@ fn lines_a_desk_and_a_ticker_are_served(rt: HostRuntime) -> Result<(), Fail> {
         desks: 1,
         sessions: 1,
     };
-    let served = serve_in_memory(&rt, alloc, begun(alloc)?, station_of(alloc)?, crew);
+    let ServedStore {
+        store,
+        station,
+        came,
+    } = serve_in_memory(&rt, alloc, begun(alloc)?, station_of(alloc)?, crew);
     // An Adopt and a Start; two heartbeats, a question and two Ticks.
-    assert_eq!(rt; served.store.centre().entries(), 7);
-    let Station { lines, desks, .. } = served.station;
+    assert_eq!(rt; store.centre().entries(), 7);
+    let Station {
+        lines,
+        desks,
+        pulse: _,
+    } = station;
     compare_written(&rt, alloc, lines, desks)?;
-    compare_came(&rt, &served.came)
+    compare_came(&rt, &came)
 }
 
 // Each frame was acknowledged, and each line of the desk answered. The third door was not used.

@@ -2,22 +2,23 @@
 ghost use Rattle.std.specs.Prelude.{◌≡◌, ◌<◌, All, [], length, IfOk};
 ghost use Rattle.arc_serving.specs.Seen.{StationSeen};
 
-use super::links::{TurnLink, TurnPulse};
+use super::links::{Flag, TurnLink, TurnPulse};
 use super::*;
 use arc_doors::ListPulse;
 use arc_io::Source;
+use std::sync::Arc;
 use std::sync::atomic::AtomicBool;
 
-type TurnDoor<'a> = MemDoor<TurnLink<'a, HostRuntime>>;
+type TurnDoor = MemDoor<TurnLink<HostRuntime>>;
+
+// A flag that is not set.
+fn flag(alloc: Global) -> Result<Flag, Fail> {
+    Ok(Arc::new(alloc, AtomicBool::new(false))?)
+}
 
 // A door to one link.
-fn door_to<'a>(
-    alloc: Global,
-    host: HostRuntime,
-    until: &'a AtomicBool,
-    tells: &'a AtomicBool,
-) -> Result<TurnDoor<'a>, Fail> {
-    let link = TurnLink::new(host, until, tells);
+fn door_to(alloc: Global, host: HostRuntime, until: &Flag, tells: &Flag) -> Result<TurnDoor, Fail> {
+    let link = TurnLink::new(host, Arc::try_clone(until)?, Arc::try_clone(tells)?);
     door_of(alloc, Vec::from_array(alloc, [link])?)
 }
 
@@ -39,12 +40,12 @@ fn is_read(door: TurnDoor) -> bool {
 }
 
 // Two doors of lines, whose links wait for each other's answer.
-fn two_doors<'a>(
+fn two_doors(
     alloc: Global,
     host: HostRuntime,
-    one: &'a AtomicBool,
-    other: &'a AtomicBool,
-) -> Result<Station<TurnDoor<'a>, TurnDoor<'a>, ListPulse>, Fail>
+    one: &Flag,
+    other: &Flag,
+) -> Result<Station<TurnDoor, TurnDoor, ListPulse>, Fail>
     ensures { IfOk result (λ s. length s.lines ≡ 2) }
 {
     let first = door_to(alloc, host, one, other)?;
@@ -60,35 +61,43 @@ fn two_doors<'a>(
 #[test]
 fn sessions_go_on_beside_each_other(rt: HostRuntime) -> Result<(), Fail> {
     let alloc = rt.alloc();
-    let (one, other) = (AtomicBool::new(false), AtomicBool::new(false));
+    let (one, other) = (flag(alloc)?, flag(alloc)?);
     let station = two_doors(alloc, rt, &one, &other)?;
     let crew = Crew {
         lines: 2,
         desks: 0,
         sessions: 1,
     };
-    let served = serve_in_memory(&rt, alloc, begun(alloc)?, station, crew);
-    let Station { lines, .. } = served.station;
-    assert!(rt; are_read(lines));
+    let ServedStore {
+        store,
+        station,
+        came: _,
+    } = serve_in_memory(&rt, alloc, begun(alloc)?, station, crew);
     // An Adopt, a Start and two heartbeats.
-    assert_eq!(rt; served.store.centre().entries(), 4);
+    assert_eq!(rt; store.centre().entries(), 4);
+    let Station {
+        lines,
+        desks: _,
+        pulse: _,
+    } = station;
+    assert!(rt; are_read(lines));
     Ok(())
 }
 
 // A door of lines, whose link waits for the pulse's moment.
-fn one_door<'a>(
+fn one_door(
     alloc: Global,
     host: HostRuntime,
-    given: &'a AtomicBool,
-    answered: &'a AtomicBool,
-) -> Result<Station<TurnDoor<'a>, TurnDoor<'a>, TurnPulse<'a, HostRuntime>>, Fail>
+    given: &Flag,
+    answered: &Flag,
+) -> Result<Station<TurnDoor, TurnDoor, TurnPulse<HostRuntime>>, Fail>
     ensures { IfOk result (λ s. length s.lines ≡ 1) }
 {
     let door = door_to(alloc, host, given, answered)?;
     Ok(Station {
         lines: Vec::from_array(alloc, [door])?,
         desks: Vec::new(alloc),
-        pulse: TurnPulse::new(host, given),
+        pulse: TurnPulse::new(host, Arc::try_clone(given)?),
     })
 }
 
@@ -96,18 +105,26 @@ fn one_door<'a>(
 #[test]
 fn the_pulse_is_told_when_the_workers_have_ended(rt: HostRuntime) -> Result<(), Fail> {
     let alloc = rt.alloc();
-    let (given, answered) = (AtomicBool::new(false), AtomicBool::new(false));
+    let (given, answered) = (flag(alloc)?, flag(alloc)?);
     let station = one_door(alloc, rt, &given, &answered)?;
     let crew = Crew {
         lines: 1,
         desks: 0,
         sessions: 1,
     };
-    let served = serve_in_memory(&rt, alloc, begun(alloc)?, station, crew);
-    let Station { lines, pulse, .. } = served.station;
+    let ServedStore {
+        store,
+        station,
+        came: _,
+    } = serve_in_memory(&rt, alloc, begun(alloc)?, station, crew);
+    // An Adopt, a Start, a heartbeat and a Tick.
+    assert_eq!(rt; store.centre().entries(), 4);
+    let Station {
+        lines,
+        desks: _,
+        pulse,
+    } = station;
     assert!(rt; are_read(lines));
     assert!(rt; pulse.was_told());
-    // An Adopt, a Start, a heartbeat and a Tick.
-    assert_eq!(rt; served.store.centre().entries(), 4);
     Ok(())
 }
