@@ -90,7 +90,7 @@ impl Source for Drill {
     ghost use Rattle.arc_io.specs.Told.{Reads};
     ghost use Rattle.arc_drill.specs.Drills.{drill_seen};
 
-    /// Gives the next bytes of the script, up to the end of a line at most. It never fails.
+    /// Gives the next bytes of the script, at most those of a few lines that belong together. It never fails.
     fn read(&mut self, buf: &mut [u8]) -> Result<usize, Failed>
         ensures bound { ReadsAtMost result buf.new }
         ensures told { Reads (drill_seen self.old) (drill_seen self.new) result buf.new }

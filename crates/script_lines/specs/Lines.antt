@@ -6,7 +6,7 @@ use Rattle.arc_data.specs.Moments.{IsMoment}
 use Rattle.dc09_frame.specs.Frames.{IsBody}
 
 -- What a line asks for: that the clock is set to a moment; that a line is fed the bytes that digits spell; that it is fed the frame of
--- a body, and is then made anew; that a desk is fed a text and a line feed; and that all is made anew over what the journal keeps.
+-- a body, and is then made anew; that a text is a command of a desk; and that all is made anew over what the journal keeps.
 pub data Asked : Type 0 where
   Time : (moment : ℕ) → Asked
   Feed : (line : ℕ) (digits : List ℕ) → Asked

@@ -3,7 +3,7 @@ ghost use Rattle.std.specs.Prelude.{◌≡◌, ◌≤◌, length};
 ghost use Rattle.arc_data.specs.Digits.{bytes_spelled};
 ghost use Rattle.script_lines.specs.Lines.{AreDigits};
 
-/// How many digits a line of a script has at most.
+/// More digits than a line of a script has: no line is longer.
 pub const MOST_DIGITS: usize = 16384;
 
 /// The bytes that hexadecimal digits spell, put to the front of a buffer.

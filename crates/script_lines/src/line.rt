@@ -14,7 +14,7 @@ pub enum ScriptLine<'a> {
     Feed { line: usize, digits: &'a [u8] },
     /// `M N BODY`: a line is fed the frame of this body, and is then made anew.
     Message { line: usize, body: &'a [u8] },
-    /// `D N TEXT`: a desk is fed this text, of at most 1,000 bytes, and a line feed.
+    /// `D N TEXT`: this text, of at most 1,000 bytes, is a command of a desk.
     Command { desk: usize, text: &'a [u8] },
     /// `X`: all is made anew over what the journal keeps.
     Reopen,
