@@ -4,7 +4,7 @@ ghost use Rattle.arc_io.specs.Memory.{port_seen};
 ghost use Rattle.line_gate.specs.Blanks.{Names};
 
 use super::*;
-use arc_doors::{ListPulse, MemDoor};
+use arc_doors::{ListPulse, MemDoor, Pulse};
 use arc_io::{Disk, ListClock, ListNoise, MemDisk, MemPort, MemSink, MemSource, Port};
 use centre_core::{Hall, Setup, Stop};
 use centre_store::Store;
@@ -20,8 +20,8 @@ use std::test::Fail;
 // 2001-09-09, 01:46:40 GMT.
 const BEGIN: u64 = 1_000_000_000;
 
-// Its Adopt takes 49 bytes of a journal, and a Start takes 14.
-const SETUP: &[u8] = b"account 7777\noperator ann 1234\n";
+// Its Adopt takes 57 bytes of a journal, and a Start takes 14.
+const SETUP: &[u8] = b"account 7777 beat 60\noperator ann 1234\n";
 
 const BEAT: &[u8] = b"\n48CF0013\"NULL\"0000L0#7777[]\r";
 
@@ -190,7 +190,7 @@ fn a_full_journal_stops_a_worker(rt: HostRuntime) -> Result<(), Fail> {
         records: 2,
     };
     let full = Stop::Full {
-        used: 80,
+        used: 88,
         need: 19,
         records: 2,
     };
@@ -235,5 +235,25 @@ fn a_ticker_ticks_until_its_pulse_ends(rt: HostRuntime) -> Result<(), Fail> {
     let (ticked, entries) = tick(&rt, alloc, blank, &mut pulse);
     let Ticked { stop, refused } = ticked;
     assert_eq!(rt; (stop, refused, entries), (None, 0, 4));
+    Ok(())
+}
+
+// The journal has its first 17 bytes, an Adopt and a Start. The first Tick raises nothing, and the second one, which would raise an
+// incident, would take 14 bytes.
+#[test]
+fn a_full_journal_stops_the_ticker(rt: HostRuntime) -> Result<(), Fail> {
+    let alloc = rt.alloc();
+    let blank = blank(alloc, 2)?;
+    let mut pulse = ListPulse::new([BEGIN + 1, BEGIN + 61, BEGIN + 62].to_vec(alloc)?);
+    let (ticked, entries) = tick(&rt, alloc, blank, &mut pulse);
+    let Ticked { stop, refused } = ticked;
+    let full = Stop::Full {
+        used: 88,
+        need: 14,
+        records: 2,
+    };
+    assert_eq!(rt; (stop, refused, entries), (Some(full), 0, 3));
+    let flag = AtomicBool::new(false);
+    assert_eq!(rt; pulse.next(&rt, &flag), Some(BEGIN + 62));
     Ok(())
 }
