@@ -1,0 +1,5 @@
+pub mod Feeds
+pub mod Spaced
+pub mod Readings
+pub mod Stops
+pub mod Ticks

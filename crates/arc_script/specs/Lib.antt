@@ -1,0 +1,13 @@
+pub use Rattle.alarm_rules.specs.Setups
+pub use Rattle.arc_io.specs.Seen
+pub use Rattle.centre_rules.specs.Answers
+pub use Rattle.centre_store.specs.Stores
+pub mod Pages
+pub mod PageWords
+pub mod Fed
+pub mod Steps
+pub mod Texts
+pub mod Tallies
+pub mod Ends
+pub mod Playing
+pub mod Feeding

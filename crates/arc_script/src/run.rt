@@ -1,0 +1,124 @@
+// Running a script.
+ghost use Rattle.std.specs.Prelude.{◌≡◌, ◌<◌, ◌^◌, false, IsOk};
+ghost use Rattle.alarm_rules.specs.Setups.{setup_of};
+ghost use Rattle.arc_script.specs.Ends.{IsScript};
+
+use crate::play::{Halted, play_ended, play_line};
+use crate::script::{Script, tally_of};
+use crate::script_end::{ScriptEnd, ScriptEnded, Tally};
+use accounts::Setup;
+use arc_data::Memory;
+use arc_io::{Disk, Failed, Port};
+use arc_text::LineCutter;
+use centre_core::Stop;
+use centre_store::Store;
+use disk_journal::{Limits, OpenRefused};
+use session_rules::{PIECE, read_piece, room_behind};
+use std::alloc::Global;
+
+// How many bytes a line of a script has at most.
+const LINE_LIMIT: usize = 16_384;
+
+/// Runs the script on the port's source over the disk, and writes its output to the port's sink. The store is opened before the script is
+/// read, with these limits. The port's clock and noise are not asked: the clock is what the script sets, and the noise is zero. The
+/// script is read piece by piece, and is not kept. Of a journal that was not opened nothing is counted.
+pub fn run_script<D: Disk, P: Port>(
+    alloc: Global,
+    disk: D,
+    setup: Setup,
+    port: &mut P,
+    limits: Limits,
+) -> ScriptEnded<D>
+    requires few { limits.bytes < 2 ^ 32 }
+    requires not_ended { (P.seen port.old).ended ≡ false }
+    ensures script { IsScript (record { told = D.told; may_leave = D.may_leave; moment = D.moment; left_since = D.left_since; faults = D.fault_count })
+        setup limits result.end (P.seen port.old) (P.seen port.new) disk result.disk result.tally }
+{
+    match Store::open(alloc, disk, limits) {
+        Ok(store) => run_over(alloc, store, setup, port, limits),
+        Err(OpenRefused { fault, disk }) => ScriptEnded {
+            end: ScriptEnd::Refused(fault),
+            disk,
+            tally: Tally {
+                sent: 0,
+                repeats: 0,
+                recorded: 0,
+                opened: 0,
+                closed: 0,
+                total: 0,
+            },
+        },
+    }
+}
+
+// Runs the script over a store.
+fn run_over<D: Disk, P: Port>(
+    alloc: Global,
+    store: Store<D>,
+    setup: Setup,
+    port: &mut P,
+    limits: Limits,
+) -> ScriptEnded<D> {
+    match Script::new(alloc, setup, limits, store.centre()) {
+        Ok(mut script) => {
+            let (end, disk) = read_script(alloc, store, &mut script, port);
+            ScriptEnded {
+                end,
+                disk,
+                tally: script.tally,
+            }
+        }
+        Err(Memory) => ScriptEnded {
+            end: ScriptEnd::Stopped(Stop::Memory),
+            tally: tally_of(store.centre()),
+            disk: store.close(),
+        },
+    }
+}
+
+// Reads the script, and plays its lines.
+fn read_script<D: Disk, P: Port>(
+    alloc: Global,
+    store: Store<D>,
+    script: &mut Script,
+    port: &mut P,
+) -> (ScriptEnd, D) {
+    let mut store = store;
+    let mut cutter = LineCutter::new(LINE_LIMIT);
+    let mut buffer = [0; PIECE];
+    let mut count = 0;
+    'pieces: loop {
+        let most = (PIECE as u64).min(room_behind(count)) as usize;
+        if most == 0 {
+            return (ScriptEnd::Spent, script.close(store));
+        }
+        match read_piece(port, &mut buffer, most) {
+            Err(Failed) => return (ScriptEnd::ReadFault, script.close(store)),
+            Ok(0) => return finish(alloc, store, script, &mut cutter, port),
+            Ok(more) => {
+                count += more as u64;
+                match play_ended(alloc, store, script, &mut cutter, port, &buffer[..more]) {
+                    Ok(played) => store = played,
+                    Err(Halted { end, disk }) => return (end, disk),
+                }
+            }
+        }
+    }
+}
+
+// Plays what stands behind the last line feed, where it is not empty: the script has ended.
+fn finish<D: Disk, P: Port>(
+    alloc: Global,
+    store: Store<D>,
+    script: &mut Script,
+    cutter: &mut LineCutter,
+    port: &mut P,
+) -> (ScriptEnd, D) {
+    let Some(cut) = cutter.finish() else {
+        return (ScriptEnd::Done, script.close(store));
+    };
+    match play_line(alloc, store, script, port, cut, cutter.line()) {
+        Ok(store) => (ScriptEnd::Done, script.close(store)),
+        Err(Halted { end, disk }) => (end, disk),
+    }
+}
