@@ -1,5 +1,0 @@
-pub mod Feeds
-pub mod Spaced
-pub mod Readings
-pub mod Stops
-pub mod Ticks
