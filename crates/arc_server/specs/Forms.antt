@@ -1,9 +1,11 @@
 -- The forms of the words that a run is called with.
 use Rattle.std.specs.Prelude.{ℕ, if◌then◌else◌, List, [], ◌∷◌, Option, Some, None, codes}
 use Rattle.std.specs.Str.{bytes_eq}
+use Rattle.alarm_rules.specs.SetupWords.{number_between}
+use Rattle.arc_serving.specs.declared.station.Crew.{Crew}
 use Rattle.arc_sessions.specs.declared.side.Side.TheVariants.{Lines, Desks}
 use Rattle.arc_server.specs.declared.form.Form.{Form}
-use Rattle.arc_server.specs.declared.form.Form.TheVariants.{Session, Report}
+use Rattle.arc_server.specs.declared.form.Form.TheVariants.{Session, Report, Serve}
 
 abbrev pub form_named : List ℕ → Option Form
 form_named word =
@@ -12,7 +14,20 @@ form_named word =
     else if bytes_eq word (codes "report") then Some Report
     else None
 
--- the one word `line`, `desk` or `report`
+-- of three numbers, where all of them are given
+abbrev pub crew_with : Option ℕ → Option ℕ → Option ℕ → Option Form
+crew_with (Some lines) (Some desks) (Some sessions) = Some (Serve (record { lines = lines; desks = desks; sessions = sessions }))
+crew_with (Some lines) (Some desks) None = None
+crew_with (Some lines) None sessions = None
+crew_with None desks sessions = None
+
+-- 1 to 64 lines, no desk to 16, and 1 to 1,000,000 sessions, decimal without leading zeros
+abbrev pub crew_named : List ℕ → List ℕ → List ℕ → Option Form
+crew_named lines desks sessions =
+    crew_with (number_between 1 64 lines) (number_between 0 16 desks) (number_between 1 1_000_000 sessions)
+
+-- the one word `line`, `desk` or `report`; or `serve` and three numbers
 abbrev pub form_of : List (List ℕ) → Option Form
 form_of (word ∷ []) = form_named word
+form_of (word ∷ lines ∷ desks ∷ sessions ∷ []) = if bytes_eq word (codes "serve") then crew_named lines desks sessions else None
 form_of words = None

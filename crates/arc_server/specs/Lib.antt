@@ -5,6 +5,7 @@ pub use Rattle.centre_store.specs.Openings
 pub use Rattle.centre_store.specs.StoreHalls
 pub use Rattle.arc_sessions.specs.Served
 pub use Rattle.centre_rules.specs.Sums
+pub use Rattle.arc_serving.specs.Serving
 pub mod Forms
 pub mod Statuses
 pub mod Areas
@@ -14,4 +15,6 @@ pub mod SetupReads
 pub mod Unopened
 pub mod SessionRuns
 pub mod Reports
+pub mod Servings
+pub mod ServeRuns
 pub mod WholeRuns

@@ -24,7 +24,7 @@ use Rattle.arc_server.specs.SetupReads.{ReadsText, IsSetupEnd}
 use Rattle.arc_server.specs.Unopened.{IsUnopened}
 use Rattle.arc_server.specs.declared.status.Status.{Status}
 use Rattle.arc_server.specs.declared.status.Status.TheVariants.{Done, Usage, SetupBad, ReadFault, WriteFault, DiskFault, Journal, Full}
-use Rattle.arc_server.specs.declared.status.Status.TheVariants.{Memory, Spent, Worn}
+use Rattle.arc_server.specs.declared.status.Status.TheVariants.{DoorFault, Memory, Spent, Worn}
 use Rattle.arc_server.specs.declared.status.Which.TheVariants.{Setup, Input}
 
 -- From the history h on, over a hall and a port as they were and as they are: a session of this kind read some bytes and answered them.
@@ -68,6 +68,7 @@ IsUnbegun told may_leave faults (SetupBad fault) past text clock entry disk' = �
 IsUnbegun told may_leave faults (ReadFault which before now) past text clock entry disk' = ⊥
 IsUnbegun told may_leave faults (WriteFault before now) past text clock entry disk' = ⊥
 IsUnbegun told may_leave faults (Journal fault) past text clock entry disk' = ⊥
+IsUnbegun told may_leave faults (DoorFault door before now) past text clock entry disk' = ⊥
 IsUnbegun told may_leave faults Spent past text clock entry disk' = ⊥
 
 -- From the beginning of a run on, over a past, a session of this kind came to this end. The disk that is handed back is that of the
@@ -124,6 +125,7 @@ IsServed {D} told may_leave faults side (Worn count) past text clock p p' entry 
 IsServed told may_leave faults side Usage past text clock p p' entry disk' = ⊥
 IsServed told may_leave faults side (SetupBad fault) past text clock p p' entry disk' = ⊥
 IsServed told may_leave faults side (ReadFault Setup before now) past text clock p p' entry disk' = ⊥
+IsServed told may_leave faults side (DoorFault door before now) past text clock p p' entry disk' = ⊥
 IsServed told may_leave faults side (Journal fault) past text clock p p' entry disk' = ⊥
 
 -- What a run did over a past: at one reading of the clock it did not begin, or it began and a session was served.

@@ -5,9 +5,11 @@ use Rattle.arc_data.specs.declared.setup_fault.SetupFault.{SetupFault}
 use Rattle.arc_data.specs.declared.setup_fault.SetupFault.TheVariants.{TooLarge, BadLine, TwoSame, TooMany, Memory as NoMemory}
 use Rattle.disk_journal.specs.declared.fault.OpenFault.{OpenFault}
 use Rattle.disk_journal.specs.declared.fault.OpenFault.TheVariants as Open
+use Rattle.arc_sessions.specs.declared.side.Side.{Side}
+use Rattle.arc_sessions.specs.declared.side.Side.TheVariants.{Lines, Desks}
 use Rattle.arc_server.specs.declared.status.Status.{Status}
 use Rattle.arc_server.specs.declared.status.Status.TheVariants.{Done, Usage, SetupBad, ReadFault, WriteFault, DiskFault, Journal, Full}
-use Rattle.arc_server.specs.declared.status.Status.TheVariants.{Memory, Spent, Worn}
+use Rattle.arc_server.specs.declared.status.Status.TheVariants.{DoorFault, Memory, Spent, Worn}
 use Rattle.arc_server.specs.declared.status.Which.{Which}
 use Rattle.arc_server.specs.declared.status.Which.TheVariants.{Setup, Input}
 
@@ -21,6 +23,7 @@ number_of (WriteFault before now) = 4
 number_of (DiskFault before now) = 5
 number_of (Journal fault) = 6
 number_of (Full used need records) = 7
+number_of (DoorFault door before now) = 9
 number_of Memory = 10
 number_of Spent = 11
 number_of (Worn count) = 12
@@ -52,6 +55,10 @@ abbrev pub read_text : Which → List ℕ
 read_text Setup = codes "read fault on setup\n"
 read_text Input = codes "read fault on input\n"
 
+abbrev pub door_text : Side → List ℕ
+door_text Lines = codes "door fault on lines\n"
+door_text Desks = codes "door fault on desks\n"
+
 -- a number and what is counted
 abbrev pub counted : ℕ → List ℕ → List ℕ
 counted number what = decimal number ++ what
@@ -81,6 +88,7 @@ text_of_status (WriteFault before now) = codes "write fault\n"
 text_of_status (DiskFault before now) = codes "disk fault\n"
 text_of_status (Journal fault) = journal_text fault
 text_of_status (Full used need records) = full_text used need records
+text_of_status (DoorFault door before now) = door_text door
 text_of_status Memory = codes "out of memory\n"
 text_of_status Spent = codes "input too long\n"
 text_of_status (Worn count) = codes "count spent\n"

@@ -1,9 +1,12 @@
 // The forms of the words that a run is called with.
-ghost use Rattle.std.specs.Prelude.{◌≡◌};
-ghost use Rattle.arc_server.specs.Forms.{form_of, form_named};
+ghost use Rattle.std.specs.Prelude.{◌≡◌, ◌≤◌, IfSome};
+ghost use Rattle.alarm_rules.specs.SetupWords.{number_between};
+ghost use Rattle.arc_server.specs.Forms.{form_of, form_named, crew_named};
 
 use arc_data::Txt;
+use arc_serving::Crew;
 use arc_sessions::Side;
+use arc_text::dec;
 
 /// What the words ask for.
 #[derive(Clone, Copy, Debug, PartialEq, Eq)]
@@ -12,6 +15,8 @@ pub enum Form {
     Session(Side),
     /// `report`: the report of what the journal has.
     Report,
+    /// `serve LINES DESKS SESSIONS`: so many lines and desks at once, each for so many sessions.
+    Serve(Crew),
 }
 
 /// The form of the words. None where they are of none.
@@ -20,6 +25,9 @@ pub(crate) fn form_of(words: &[Txt]) -> Option<Form>
 {
     match words {
         [word] => form_named(word),
+        [word, lines, desks, sessions] if word.bytes() == b"serve".as_slice() => {
+            crew_named(lines, desks, sessions)
+        }
         _ => None,
     }
 }
@@ -34,6 +42,33 @@ fn form_named(word: &Txt) -> Option<Form>
         Some(Form::Session(Side::Desks))
     } else if word.bytes() == b"report".as_slice() {
         Some(Form::Report)
+    } else {
+        None
+    }
+}
+
+// The form of the three numbers behind `serve`.
+fn crew_named(lines: &Txt, desks: &Txt, sessions: &Txt) -> Option<Form>
+    ensures { result ≡ crew_named lines.now desks.now sessions.now }
+{
+    let lines = number(1, 64, lines.bytes())?;
+    let desks = number(0, 16, desks.bytes())?;
+    let sessions = number(1, 1_000_000, sessions.bytes())?;
+    Some(Form::Serve(Crew {
+        lines: lines as usize,
+        desks: desks as usize,
+        sessions: sessions as u32,
+    }))
+}
+
+// The number between two others, both included, whose decimal text the word is.
+fn number(low: u64, high: u64, word: &[u8]) -> Option<u64>
+    ensures value { result ≡ number_between low high word.now }
+    ensures high { IfSome result (λ n. n ≤ high) }
+{
+    let number = dec(word)?;
+    if low <= number && number <= high {
+        Some(number)
     } else {
         None
     }

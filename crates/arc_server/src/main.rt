@@ -1,25 +1,32 @@
 //! The alarm receiving centre. `arc line` and `arc desk` read the setup from `setup.txt` in the working folder and serve one line,
 //! or one operator's desk, on their standard input and output. What they record stands in `journal.a`, beside `journal.b`, and
-//! `arc report` writes what stands there.
+//! `arc report` writes what stands there. `arc serve` serves many lines and desks at once, each on a connection.
 #![tactic(auto)]
 
 use arc_data::Txt;
+use arc_doors::{SecondPulse, TcpDoor};
 use arc_io::{FileDisk, FileSource, RealClock, RealNoise, StdPort};
+use form::{Form, form_of};
 use run::{Outside, run};
 use status::Status;
 use std::env::Env;
 use std::io::Write;
 use std::process::ExitCode;
+use std::sync::Wait;
+use std::thread::Threads;
 use std::{env, fs, io};
 
+mod came;
 mod form;
 mod made;
 mod opened;
 mod report;
 mod run;
+mod serving;
 mod session;
 mod setup;
 mod status;
+mod summary;
 #[cfg(test)]
 mod tests;
 
@@ -43,7 +50,7 @@ fn main(rt: HostRuntime) -> ExitCode {
     let _output = fs::open(&rt, ".");
     let _errors = fs::open(&rt, ".");
     let status = match words(&rt) {
-        Ok(words) => run_over_machine(&rt, &words),
+        Ok(words) => run_over_machine(&rt, &rt, &words),
         Err(_) => Status::Memory,
     };
     let mut errors = StdPort::new(
@@ -57,7 +64,11 @@ fn main(rt: HostRuntime) -> ExitCode {
 }
 
 // Runs over the real setup file, the real standard streams, and the journal in the working folder.
-fn run_over_machine(rt: &HostRuntime, words: &[Txt]) -> Status {
+fn run_over_machine<W: Threads + Wait + Sync>(
+    threads: &W,
+    rt: &HostRuntime,
+    words: &[Txt],
+) -> Status {
     let port = StdPort::new(
         rt.reader(),
         io::writer(rt),
@@ -68,5 +79,24 @@ fn run_over_machine(rt: &HostRuntime, words: &[Txt]) -> Status {
     let Ok(disk) = FileDisk::new(rt, rt.alloc(), ".") else {
         return Status::Memory;
     };
-    run(rt, rt.alloc(), words, Outside { setup, port, disk }).status
+    // Only `serve` has doors.
+    let (lines, desks) = match form_of(words) {
+        Some(Form::Serve(_)) => (64, 16),
+        _ => (0, 0),
+    };
+    let (Ok(lines), Ok(desks)) = (
+        TcpDoor::shared(*rt, rt.alloc(), 9009, lines),
+        TcpDoor::shared(*rt, rt.alloc(), 9010, desks),
+    ) else {
+        return Status::Memory;
+    };
+    let outside = Outside {
+        setup,
+        port,
+        disk,
+        lines,
+        desks,
+        pulse: SecondPulse::new(*rt),
+    };
+    run(threads, rt.alloc(), words, outside).status
 }

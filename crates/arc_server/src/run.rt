@@ -1,49 +1,78 @@
 // The top call.
-ghost use Rattle.std.specs.Prelude.{◌≡◌, ◌≢◌, ◌↔◌, Some, None, false};
+ghost use Rattle.std.specs.Prelude.{◌≡◌, ◌≢◌, ◌↔◌, Some, None, false, length, map};
 ghost use Rattle.arc_server.specs.Forms.{form_of as form_by};
-ghost use Rattle.arc_server.specs.WholeRuns.{IsRun};
+ghost use Rattle.arc_server.specs.WholeRuns.{IsRun, HasDoors};
 
 use crate::form::{Form, form_of};
 use crate::report::run_report;
+use crate::serving::{Served, run_serve};
 use crate::session::run_session;
 use crate::status::Status;
 use arc_data::Txt;
+use arc_doors::{Door, Pulse};
 use arc_io::{Disk, Port, Source};
+use arc_serving::Station;
 use std::alloc::Global;
+use std::sync::Wait;
+use std::thread::Threads;
 
-/// What a run is handed: the source of the setup text, the port of the line or the desk, and the disk of the journal.
+/// What a run is handed: the source of the setup text, the port of one line or desk, the disk of the journal; and for `serve` the doors
+/// of lines and of desks, and the pulse that gives the moments at which to tick.
 #[derive(Drop)]
-pub struct Outside<S, P, D> {
+pub struct Outside<S, P, D, A, B, T> {
     pub setup: S,
     pub port: P,
     pub disk: D,
+    pub lines: Vec<A>,
+    pub desks: Vec<B>,
+    pub pulse: T,
 }
 
 /// What a run hands back: its status, and all that it was handed.
 #[derive(Drop)]
-pub struct Ended<S, P, D> {
+pub struct Ended<S, P, D, A, B, T> {
     pub status: Status,
-    pub outside: Outside<S, P, D>,
+    pub outside: Outside<S, P, D, A, B, T>,
 }
 
-/// Does what the words say. Three forms of them are built. Of `line` and `desk` the setup is read, the journal is opened with the
+/// Does what the words say. Four forms of them are built. Of `line` and `desk` the setup is read, the journal is opened with the
 /// limits that are shipped, a run begins at one reading of the clock, and one session is served on the port, of a line or of a desk.
-/// What it records stands in the journal before it is answered. Of `report` the setup is not read: the journal is opened, and what it
-/// has is reported on the port.
-pub fn run<R, S: Source, P: Port, D: Disk>(
-    _rt: &R,
+/// What it records stands in the journal before it is answered. Of `serve` a run begins in the same way, and then the first doors of each
+/// side have a worker each, all beside each other, and a ticker; when all have ended, a summary is written on the port. Of `report` the
+/// setup is not read: the journal is opened, and what it has is reported on the port.
+pub fn run<
+    R: Threads + Wait + Sync,
+    S: Source,
+    P: Port,
+    D: Disk + Send + Drop,
+    A: Door + Send + Drop,
+    B: Door + Send + Drop,
+    T: Pulse + Send + Drop,
+>(
+    rt: &R,
     alloc: Global,
     words: &[Txt],
-    outside: Outside<S, P, D>,
-) -> Ended<S, P, D>
+    outside: Outside<S, P, D, A, B, T>,
+) -> Ended<S, P, D, A, B, T>
     requires setup { (S.seen outside.setup).ended ≡ false }
     requires port { (P.seen outside.port).ended ≡ false }
+    requires doors { (form : Form) → form_by words.now ≡ Some form → HasDoors form (length outside.lines.items) (length outside.desks.items) }
     ensures usage { (result.status ≡ Status.Usage) ↔ (form_by words.now ≡ None) }
     ensures untouched { result.status ≡ Status.Usage → result.outside ≡ outside }
     ensures unread { form_by words.now ≡ Some Form.Report → result.outside.setup ≡ outside.setup }
     ensures ran { (form : Form) → form_by words.now ≡ Some form →
         IsRun D.told D.may_leave D.moment D.left_since D.fault_count form result.status
         (S.seen outside.setup) (S.seen result.outside.setup) (P.seen outside.port) (P.seen result.outside.port)
+        (record {
+          lines = map (λ d. A.seen d) outside.lines.items;
+          desks = map (λ d. B.seen d) outside.desks.items;
+          pulse = T.moments outside.pulse;
+        })
+        (record {
+          lines = map (λ d. A.seen d) result.outside.lines.items;
+          desks = map (λ d. B.seen d) result.outside.desks.items;
+          pulse = T.moments result.outside.pulse;
+        })
         outside.disk result.outside.disk }
 {
     let Some(form) = form_of(words) else {
@@ -56,31 +85,73 @@ pub fn run<R, S: Source, P: Port, D: Disk>(
         mut setup,
         mut port,
         disk,
+        lines,
+        desks,
+        pulse,
     } = outside;
-    let (status, disk) = run_form(form, alloc, &mut setup, &mut port, disk);
+    let station = Station {
+        lines,
+        desks,
+        pulse,
+    };
+    let served = run_form(rt, form, alloc, &mut setup, &mut port, disk, station);
+    let Served {
+        status,
+        disk,
+        station,
+    } = served;
+    let Station {
+        lines,
+        desks,
+        pulse,
+    } = station;
     Ended {
         status,
-        outside: Outside { setup, port, disk },
+        outside: Outside {
+            setup,
+            port,
+            disk,
+            lines,
+            desks,
+            pulse,
+        },
     }
 }
 
 // Does what is asked for.
-fn run_form<S: Source, P: Port, D: Disk>(
+fn run_form<
+    R: Threads + Wait + Sync,
+    S: Source,
+    P: Port,
+    D: Disk + Send + Drop,
+    A: Door + Send + Drop,
+    B: Door + Send + Drop,
+    T: Pulse + Send + Drop,
+>(
+    rt: &R,
     form: Form,
     alloc: Global,
     setup: &mut S,
     port: &mut P,
     disk: D,
-) -> (Status, D)
+    station: Station<A, B, T>,
+) -> Served<D, A, B, T>
     requires setup { (S.seen setup.old).ended ≡ false }
     requires port { (P.seen port.old).ended ≡ false }
-    ensures usage { result.0 ≢ Status.Usage }
+    requires doors { HasDoors form (length station.lines) (length station.desks) }
+    ensures usage { result.status ≢ Status.Usage }
     ensures unread { form ≡ Form.Report → setup.new ≡ setup.old }
-    ensures ran { IsRun D.told D.may_leave D.moment D.left_since D.fault_count form result.0
-        (S.seen setup.old) (S.seen setup.new) (P.seen port.old) (P.seen port.new) disk result.1 }
+    ensures ran { IsRun D.told D.may_leave D.moment D.left_since D.fault_count form result.status
+        (S.seen setup.old) (S.seen setup.new) (P.seen port.old) (P.seen port.new) station result.station disk result.disk }
 {
-    match form {
+    let (status, disk) = match form {
+        Form::Serve(crew) => return run_serve(rt, alloc, crew, setup, port, disk, station),
         Form::Session(side) => run_session(side, alloc, setup, port, disk),
         Form::Report => run_report(alloc, port, disk),
+    };
+    Served {
+        status,
+        disk,
+        station,
     }
 }

@@ -6,6 +6,7 @@ ghost use Rattle.arc_server.specs.Statuses.{number_of, text_of_status, setup_tex
 
 use arc_data::{LineKind, SetupFault};
 use arc_io::{Failed, Sink, put};
+use arc_sessions::Side;
 use disk_journal::OpenFault;
 use itoa::Buffer;
 
@@ -37,6 +38,8 @@ pub enum Status {
     Journal(OpenFault),
     /// The journal has no room for a record: the bytes that it has, those that the record needs, and its records.
     Full { used: u64, need: u64, records: u64 },
+    /// Taking a connection failed at a door of this side, with the door's counts at entry and at the end.
+    DoorFault { door: Side, before: u64, now: u64 },
     /// Want of memory.
     Memory,
     /// 1,099,511,627,776 bytes (2^40) of the input were read.
@@ -59,6 +62,7 @@ impl Status {
             Status::DiskFault { .. } => 5,
             Status::Journal(_) => 6,
             Status::Full { .. } => 7,
+            Status::DoorFault { .. } => 9,
             Status::Memory => 10,
             Status::Spent => 11,
             Status::Worn { .. } => 12,
@@ -94,6 +98,14 @@ impl Status {
                 need,
                 records,
             } => put_full(out, *used, *need, *records),
+            Status::DoorFault {
+                door: Side::Lines,
+                ..
+            } => put(out, b"door fault on lines\n"),
+            Status::DoorFault {
+                door: Side::Desks,
+                ..
+            } => put(out, b"door fault on desks\n"),
             Status::Memory => put(out, b"out of memory\n"),
             Status::Spent => put(out, b"input too long\n"),
             Status::Worn { .. } => put(out, b"count spent\n"),

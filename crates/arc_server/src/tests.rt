@@ -5,6 +5,7 @@ ghost use Rattle.arc_io.specs.Memory.{port_seen, source_seen};
 mod lasting;
 mod plays;
 mod reports;
+mod serving;
 mod station;
 mod statuses;
 mod watching;
@@ -12,11 +13,14 @@ mod watching;
 use crate::run::{Ended, Outside, run};
 use crate::status::{Status, Which};
 use arc_data::{LineKind, SetupFault, Txt};
+use arc_doors::{ListPulse, MemDoor};
 use arc_io::{Area, ListClock, ListNoise, MemDisk, MemPort, MemSink, MemSource};
 use disk_journal::{Journal, SHIPPED};
 use std::alloc::Global;
 use std::process::Abort;
+use std::sync::Wait;
 use std::test::Fail;
+use std::thread::Threads;
 
 const SETUP: &[u8] = b"account 1234\noperator ann 1234\noperator bob 5678\n";
 
@@ -38,7 +42,12 @@ const NONE: Failing<'static> = Failing {
     writes: &[],
 };
 
-type Ran = Ended<MemSource, MemPort, MemDisk>;
+// Doors in memory.
+type Doors = MemDoor<MemPort>;
+
+type Around = Outside<MemSource, MemPort, MemDisk, Doors, Doors, ListPulse>;
+
+type Ran = Ended<MemSource, MemPort, MemDisk, Doors, Doors, ListPulse>;
 
 // This setup, this input, these readings and this disk.
 fn outside_of(
@@ -48,7 +57,7 @@ fn outside_of(
     readings: &[u64],
     failing: &Failing,
     disk: MemDisk,
-) -> Result<Outside<MemSource, MemPort, MemDisk>, Fail>
+) -> Result<Around, Fail>
     requires { All (λ r. r < 253_402_300_800) readings.now }
     ensures setup { IfOk result (λ outside. (source_seen outside.setup).ended ≡ false) }
     ensures port { IfOk result (λ outside. (port_seen outside.port).ended ≡ false) }
@@ -62,6 +71,9 @@ fn outside_of(
             noise: ListNoise::new(Vec::new(alloc)),
         },
         disk,
+        lines: Vec::new(alloc),
+        desks: Vec::new(alloc),
+        pulse: ListPulse::new(Vec::new(alloc)),
     })
 }
 
@@ -72,7 +84,7 @@ fn new_disk(alloc: Global) -> MemDisk {
 
 // A run of this word over them.
 fn ran(
-    rt: &impl Abort,
+    rt: &(impl Abort + Threads + Wait + Sync),
     alloc: Global,
     word: &[u8],
     setup: &[u8],
@@ -88,7 +100,12 @@ fn ran(
 }
 
 // A run of `line` over one alarm.
-fn ran_alarm(rt: &impl Abort, alloc: Global, setup: &[u8], failing: &Failing) -> Result<Ran, Fail> {
+fn ran_alarm(
+    rt: &(impl Abort + Threads + Wait + Sync),
+    alloc: Global,
+    setup: &[u8],
+    failing: &Failing,
+) -> Result<Ran, Fail> {
     ran(rt, alloc, b"line", setup, ALARM, &[1_000_000_000], failing)
 }
 
@@ -133,7 +150,7 @@ fn one_alarm_is_acknowledged_and_recorded(rt: HostRuntime) -> Result<(), Fail> {
 
 // A line with this input, which is answered and recorded so.
 fn line_answers(
-    rt: &impl Abort,
+    rt: &(impl Abort + Threads + Wait + Sync),
     alloc: Global,
     input: &[&[u8]],
     readings: &[u64],
@@ -176,7 +193,11 @@ fn damaged_frames_are_not_answered(rt: HostRuntime) -> Result<(), Fail> {
 
 // The same alarm three times, the last two at these moments after a beginning and an alarm at others: each is acknowledged, and
 // the last alone is recorded again.
-fn repeats(rt: &impl Abort, alloc: Global, readings: &[u64]) -> Result<(), Fail>
+fn repeats(
+    rt: &(impl Abort + Threads + Wait + Sync),
+    alloc: Global,
+    readings: &[u64],
+) -> Result<(), Fail>
     requires { All (λ r. r < 253_402_300_800) readings.now }
 {
     line_answers(
@@ -283,7 +304,11 @@ fn a_setup_that_is_none(rt: HostRuntime) -> Result<(), Fail> {
 }
 
 // A run of these words over one alarm: nothing is touched.
-fn refused(rt: &impl Abort, alloc: Global, words: &[Txt]) -> Result<(), Fail> {
+fn refused(
+    rt: &(impl Abort + Threads + Wait + Sync),
+    alloc: Global,
+    words: &[Txt],
+) -> Result<(), Fail> {
     let outside = outside_of(alloc, SETUP, ALARM, &[], &NONE, new_disk(alloc))?;
     let ended = run(rt, alloc, words, outside);
     assert_eq!(rt; ended.status, Status::Usage);

@@ -9,7 +9,9 @@ use arc_io::{Area, MemDisk};
 use disk_journal::OpenFault;
 use std::alloc::Global;
 use std::process::Abort;
+use std::sync::Wait;
 use std::test::Fail;
+use std::thread::Threads;
 
 // What a run of `line` over one alarm wrote, and its disk.
 #[derive(Drop)]
@@ -21,7 +23,7 @@ struct Finished {
 
 // A run with this setup, at this reading and over this disk.
 fn ran_over(
-    rt: &impl Abort,
+    rt: &(impl Abort + Threads + Wait + Sync),
     alloc: Global,
     setup: &[u8],
     reading: u64,
@@ -88,7 +90,12 @@ fn a_changed_setup_is_adopted(rt: HostRuntime) -> Result<(), Fail> {
 }
 
 // A run over these bytes is refused so, and changes nothing.
-fn refused(rt: &impl Abort, alloc: Global, bytes: &[u8], fault: OpenFault) -> Result<(), Fail> {
+fn refused(
+    rt: &(impl Abort + Threads + Wait + Sync),
+    alloc: Global,
+    bytes: &[u8],
+    fault: OpenFault,
+) -> Result<(), Fail> {
     let disk = disk_of(alloc, bytes, &[])?;
     let ended = ran_over(rt, alloc, SETUP, 1_000_000_000, &NONE, disk)?;
     assert_eq!(rt; ended.status, Status::Journal(fault));
@@ -144,7 +151,11 @@ fn a_short_area_is_begun_anew(rt: HostRuntime) -> Result<(), Fail> {
 }
 
 // A run whose disk fails at this call. Where it came to one, the second run acknowledges the alarm, and the journal has it once.
-fn failed_at(rt: &impl Abort, alloc: Global, call: u64) -> Result<bool, Fail> {
+fn failed_at(
+    rt: &(impl Abort + Threads + Wait + Sync),
+    alloc: Global,
+    call: u64,
+) -> Result<bool, Fail> {
     let disk = disk_of(alloc, b"", &[call])?;
     let first = ran_over(rt, alloc, SETUP, 1_000_000_000, &NONE, disk)?;
     if first.status == Status::Done {

@@ -8,7 +8,9 @@ use arc_io::{Area, MemDisk};
 use disk_journal::OpenFault;
 use std::alloc::Global;
 use std::process::Abort;
+use std::sync::Wait;
 use std::test::Fail;
+use std::thread::Threads;
 
 // What a station reports that has recorded one alarm.
 const ONE: &[u8] = b"recorded 3
@@ -26,7 +28,7 @@ struct Outcome {
 
 // A run of `report` over this disk. Its setup is none, and a read of it would fail.
 fn reported(
-    rt: &impl Abort,
+    rt: &(impl Abort + Threads + Wait + Sync),
     alloc: Global,
     writes: &[u64],
     disk: MemDisk,
@@ -73,7 +75,11 @@ fn an_empty_disk_is_reported(rt: HostRuntime) -> Result<(), Fail> {
 }
 
 // Where this write fails, a front of the report was written.
-fn cut_off(rt: &impl Abort, alloc: Global, call: u64) -> Result<(), Fail> {
+fn cut_off(
+    rt: &(impl Abort + Threads + Wait + Sync),
+    alloc: Global,
+    call: u64,
+) -> Result<(), Fail> {
     let ended = reported(rt, alloc, &[call], disk_of(alloc, AREA, &[])?)?;
     assert_eq!(rt;
         ended.status,

@@ -1,0 +1,9 @@
+use Rattle.std.proofs.Common.{◌≡◌}
+use Rattle.arc_server.specs.Servings.{worn_in}
+use Rattle.arc_server.proofs.Fronts.{front_of_stops}
+use Rattle.arc_server.proofs.came.worn_among.Goals as goal
+
+pub returns : goal.returns
+returns c =
+    rw (← c.came.view_is)
+    (let all = front_of_stops worn_in (record { lines = c.came.inside.lines.items; desks = c.came.inside.desks.items; ticked = c.came.inside.ticked }) in cc)
