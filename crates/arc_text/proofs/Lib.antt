@@ -1,4 +1,5 @@
 pub mod Decimals
+pub mod Digits
 pub mod LineCutterLaws
 pub mod LineLaws
 pub mod Words

@@ -1,3 +1,4 @@
+pub mod Comparisons
 pub mod LineCutting
 pub mod LineHolding
 pub mod Lines

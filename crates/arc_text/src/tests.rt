@@ -1,10 +1,11 @@
-// Numbers and hexadecimal words at their limits, and streams cut into lines.
+// Numbers and hexadecimal words at their limits, streams cut into lines, and pairs compared.
 use super::*;
 use std::alloc::Global;
 use std::process::Abort;
 use std::test::Fail;
 
 mod lines;
+mod pairs;
 
 // A text, and its number or `-`.
 const NUMBERS: &str = "\

@@ -7,7 +7,8 @@ use Rattle.std.specs.declared.cmp.Ordering.TheVariants.{Less, Equal, Greater}
 use Rattle.std.specs.Cmp.{tied_itself}
 use Rattle.std.proofs.lemmas.List.Sorted.{IsPermutation-insert}
 use Rattle.std.proofs.lemmas.Option.{slice_get-get_or, slice_get_within, get_or_from_slice_get}
-use Rattle.operator_queue.specs.Pairs.{order_of, IsBeforeAll, IsOrdered, IsApart}
+use Rattle.arc_text.specs.Comparisons.{order_of}
+use Rattle.operator_queue.specs.Pairs.{IsBeforeAll, IsOrdered, IsApart}
 use Rattle.operator_queue.proofs.Orders.{total, turn}
 use Rattle.operator_queue.proofs.Halves.{one_of}
 

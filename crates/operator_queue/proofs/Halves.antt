@@ -5,7 +5,8 @@ use Rattle.std.specs.Ordering.{is_gt}
 use Rattle.std.specs.declared.cmp.Ordering.TheVariants.{Less, Equal, Greater}
 use Rattle.std.proofs.lemmas.Option.{slice_get-get_or}
 use Rattle.std.proofs.Math.Nat.{mul-le-mul_left, mul_assoc, mul_left_comm, pow-succ'}
-use Rattle.operator_queue.specs.Pairs.{order_of, IsBeforeAll, IsOrdered, TakesFew}
+use Rattle.arc_text.specs.Comparisons.{order_of, TakesFew}
+use Rattle.operator_queue.specs.Pairs.{IsBeforeAll, IsOrdered}
 use Rattle.operator_queue.proofs.Orders.{below, above, equal}
 
 -- what is left to look at stands from low up to high, and its length halves with each comparison

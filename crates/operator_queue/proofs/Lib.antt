@@ -1,5 +1,4 @@
 pub mod Orders
 pub mod Halves
 pub mod Edits
-pub mod Digits
 pub mod Priorities

@@ -1,13 +1,9 @@
--- Pairs of numbers in order, and how many comparisons a search among them takes.
-use Rattle.std.specs.Prelude.{◌≡◌, ◌≤◌, ◌<◌, ◌+◌, ◌*◌, ◌-◌, ◌^◌, ℕ, List, [], ◌∷◌, false, Option, None, Some, ⊤, length, take, drop}
+-- Pairs of numbers in order.
+use Rattle.std.specs.Prelude.{◌≡◌, ◌≤◌, ◌<◌, ℕ, List, [], ◌∷◌, false, Option, None, Some, ⊤, length, take, drop}
 use Rattle.std.specs.List.{All, AllByRecursion, Contains}
-use Rattle.std.specs.Ordering.{nat_cmp, ordering_then, is_gt}
-use Rattle.std.specs.declared.cmp.Ordering.{Ordering}
+use Rattle.std.specs.Ordering.{is_gt}
 use Rattle.std.specs.declared.cmp.Ordering.TheVariants.{Less, Greater}
-
--- by the first number, and where those are equal, by the second
-abbrev pub order_of : ℕ × ℕ → ℕ × ℕ → Ordering
-order_of a b = ordering_then (nat_cmp a.0 b.0) (nat_cmp a.1 b.1)
+use Rattle.arc_text.specs.Comparisons.{order_of}
 
 -- the pair comes after none of these
 abbrev pub IsBeforeAll : ℕ × ℕ → List (ℕ × ℕ) → Type 0
@@ -28,15 +24,6 @@ pub record IsApart (pair : ℕ × ℕ) (pairs : List (ℕ × ℕ)) (place : ℕ)
   pub within : place ≤ length pairs
   pub below : AllByRecursion (λ p. order_of p pair ≡ Less) (take place pairs)
   pub above : AllByRecursion (λ p. order_of p pair ≡ Greater) (drop place pairs)
-
--- the count of steps rises by at most as much as the number of the pairs has binary digits
-pub record TakesFew (count before now : ℕ) : Type 0 where
-  pub kept : before ≤ now
-  pub few : 2 ^ (now - before) ≤ 2 * count + 1
-
--- among fewer pairs than there are numbers of so many binary digits, at most so many comparisons
-abbrev pub StepsAreDigits : Type 0
-StepsAreDigits = (digits count before now : ℕ) → count < 2 ^ digits → TakesFew count before now → now ≤ before + digits
 
 -- priorities are less than 256
 abbrev pub ArePriorities : List (ℕ × ℕ) → Type 0

@@ -2,11 +2,12 @@
 ghost use Rattle.std.specs.Prelude.{◌≡◌, ◌≤◌, ◌<◌, ◌+◌, ◌↔◌, [], ◌∷◌, length, slice_get, false, IsTrue, OnOk};
 ghost use Rattle.std.specs.List.{Contains};
 ghost use Rattle.std.specs.List.Sorted.{IsPermutation};
-ghost use Rattle.operator_queue.specs.Pairs.{IsOrdered, IsLeast, TakesFew};
+ghost use Rattle.arc_text.specs.Comparisons.{TakesFew};
+ghost use Rattle.operator_queue.specs.Pairs.{IsOrdered, IsLeast};
 
 use crate::ordered::OrderedPairs;
-use crate::steps::Steps;
 use arc_data::Memory;
+use arc_text::Steps;
 use std::alloc::Global;
 use std::marker::Model;
 use std::sync::ledger::Ledger;

@@ -1,9 +1,9 @@
 // The place of a pair among pairs in order, by halves.
 ghost use Rattle.std.specs.Prelude.{◌≡◌, length, slice_get, Some, IfOk, IfErr};
-ghost use Rattle.operator_queue.specs.Pairs.{IsOrdered, IsApart, TakesFew};
+ghost use Rattle.arc_text.specs.Comparisons.{TakesFew};
+ghost use Rattle.operator_queue.specs.Pairs.{IsOrdered, IsApart};
 
-use crate::pairs::order;
-use crate::steps::Steps;
+use arc_text::{Steps, order};
 use std::cmp::Ordering;
 use std::sync::ledger::Ledger;
 

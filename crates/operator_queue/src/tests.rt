@@ -2,8 +2,8 @@
 ghost use Rattle.std.specs.Prelude.{◌≡◌, ◌<◌};
 
 use super::*;
+use arc_text::Steps;
 use std::alloc::Global;
-use std::cmp::Ordering;
 use std::marker::Brand;
 use std::process::Abort;
 use std::sync::ledger::{Blank, Ledger};
@@ -136,21 +136,4 @@ fn take_numbers<L: Ledger, R: Abort>(rt: &R, queue: &mut Queue, steps: &mut Step
 #[test]
 fn a_thousand_pairs(rt: HostRuntime) -> Result<(), Fail> {
     play_thousand::<Brand, _>(&rt, rt.alloc(), Blank::new(1))
-}
-
-fn play_order<L: Ledger, R: Abort>(rt: &R, blank: Blank)
-    requires name { blank.name ≡ L.name }
-    requires parts { blank.parts ≡ L.parts }
-    requires some { 0 < blank.parts }
-{
-    let mut steps = Steps::<L>::new(blank);
-    assert_eq!(rt; order((1, 9), (2, 0), &mut steps), Ordering::Less);
-    assert_eq!(rt; order((2, 9), (2, 10), &mut steps), Ordering::Less);
-    assert_eq!(rt; order((2, 9), (2, 9), &mut steps), Ordering::Equal);
-    assert_eq!(rt; order((3, 0), (2, 9), &mut steps), Ordering::Greater);
-}
-
-#[test]
-fn pairs_of_numbers(rt: HostRuntime) {
-    play_order::<Brand, _>(&rt, Blank::new(1));
 }

@@ -1,7 +1,7 @@
 -- What a removal and an insertion take together, and how many digits that is.
 use Rattle.std.proofs.Common.{◌≡◌, ◌≤◌, ◌+◌, ◌-◌, ◌*◌, ◌^◌, ℕ, arith, subst, ⊎_elim}
 use Rattle.std.proofs.lemmas.Bool.{cases_lt}
-use Rattle.operator_queue.specs.Pairs.{TakesFew, StepsAreDigits}
+use Rattle.arc_text.specs.Comparisons.{TakesFew, StepsAreDigits}
 use Rattle.supervision.specs.Deadlines.{TakesTwice, StepsAreTwiceDigits}
 
 pub twice : (count less before between now : ℕ) → less ≤ count → TakesFew count before between → TakesFew less between now → TakesTwice count before now

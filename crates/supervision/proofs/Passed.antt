@@ -13,7 +13,8 @@ use Rattle.std.proofs.lemmas.Option.{slice_get-get_or}
 use Rattle.std.proofs.lemmas.List.FromFn.{get_or-range_with_len, length-range_with_len}
 use Rattle.std.proofs.lemmas.List.Kept.{IsNonDecreasingBy-filter}
 use Rattle.std.proofs.lemmas.List.Sorted.{IsNonDecreasingBy-from_sort}
-use Rattle.operator_queue.specs.Pairs.{order_of, IsBeforeAll, IsOrdered}
+use Rattle.arc_text.specs.Comparisons.{order_of}
+use Rattle.operator_queue.specs.Pairs.{IsBeforeAll, IsOrdered}
 use Rattle.supervision.specs.Deadlines.{is_past, pair_of, pairs_of, places, due_at, TakesOneMore}
 use Rattle.supervision.proofs.Sums.{Same, same_from_permutation, same_back, same_on, same_length, same_filtered, same_mapped, one_order}
 

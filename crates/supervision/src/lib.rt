@@ -8,7 +8,6 @@ mod watch;
 
 pub use arc_data::Memory;
 pub use laws::law_steps_are_twice_digits;
-pub use operator_queue::Steps;
 pub use places::Places;
 pub use watch::Watch;
 

@@ -3,12 +3,13 @@ ghost use Rattle.std.specs.Prelude.{◌≡◌, ◌<◌, ◌≤◌, length, nat_l
 ghost use Rattle.std.specs.List.{cons_option, filter};
 ghost use Rattle.std.specs.List.Sorted.{IsPermutation, IsSorted};
 ghost use Rattle.std.specs.Ordering.{nat_cmp};
-ghost use Rattle.operator_queue.specs.Pairs.{IsOrdered, TakesFew};
+ghost use Rattle.arc_text.specs.Comparisons.{TakesFew};
+ghost use Rattle.operator_queue.specs.Pairs.{IsOrdered};
 ghost use Rattle.supervision.specs.Deadlines.{pair_of, IsWithout, TakesOneMore};
 
 use arc_data::Memory;
-// `order` and its count of steps move to `arc_text` once that crate is touched.
-use operator_queue::{OrderedPairs, Steps, order};
+use arc_text::{Steps, order};
+use operator_queue::OrderedPairs;
 use std::sync::ledger::Ledger;
 
 /// Takes the pair of a place's deadline out, if there is a deadline.

@@ -3,6 +3,7 @@ ghost use Rattle.std.specs.Prelude.{◌≡◌, ◌<◌, ◌≤◌, ◌+◌, ℕ}
 ghost use Rattle.supervision.specs.Deadlines.{TakesTwice};
 
 use super::*;
+use arc_text::Steps;
 use std::alloc::Global;
 use std::marker::Brand;
 use std::process::Abort;

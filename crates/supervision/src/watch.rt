@@ -5,7 +5,8 @@ ghost use Rattle.supervision.specs.Deadlines.{with_room, due_at, pairs_of, Takes
 use crate::pairs::{count_passed, put_in, put_places, take_out};
 use crate::places::Places;
 use arc_data::Memory;
-use operator_queue::{OrderedPairs, Steps};
+use arc_text::Steps;
+use operator_queue::OrderedPairs;
 use std::alloc::Global;
 use std::marker::Model;
 use std::sync::ledger::Ledger;

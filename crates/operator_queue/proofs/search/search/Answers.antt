@@ -1,5 +1,5 @@
 use Rattle.std.proofs.Common.{length, sym, ◌∙◌, subst}
-use Rattle.operator_queue.specs.Pairs.{TakesFew}
+use Rattle.arc_text.specs.Comparisons.{TakesFew}
 use Rattle.operator_queue.proofs.Halves.{Narrowed, on_less, on_equal, on_greater, last_step}
 use Rattle.operator_queue.proofs.search.search.Goals as goal
 

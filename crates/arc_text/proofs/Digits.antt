@@ -2,7 +2,7 @@
 use Rattle.std.proofs.Common.{◌≤◌, ◌<◌, ◌+◌, ◌-◌, ◌*◌, ◌^◌, ℕ, suc, arith, ⊎_elim}
 use Rattle.std.proofs.Math.Nat.{pow-le-pow_right, pow-succ'}
 use Rattle.std.proofs.lemmas.Bool.{cases_lt}
-use Rattle.operator_queue.specs.Pairs.{StepsAreDigits}
+use Rattle.arc_text.specs.Comparisons.{StepsAreDigits}
 
 too_many : (digits count used : ℕ) → count < 2 ^ digits → 2 ^ used ≤ 2 * count + 1 → digits < used → ⊥
 too_many digits count used fewer few more =

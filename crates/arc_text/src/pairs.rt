@@ -1,6 +1,6 @@
 // The order of pairs, and what it costs to ask for it.
 ghost use Rattle.std.specs.Prelude.{◌≡◌, ◌+◌};
-ghost use Rattle.operator_queue.specs.Pairs.{order_of};
+ghost use Rattle.arc_text.specs.Comparisons.{order_of};
 
 use crate::steps::Steps;
 use std::cmp::Ordering;

@@ -1,5 +1,0 @@
-use Rattle.operator_queue.proofs.Digits.{steps_are_digits}
-use Rattle.operator_queue.proofs.laws.law_steps_are_digits.Goals as goal
-
-pub returns : goal.returns
-returns c = steps_are_digits
