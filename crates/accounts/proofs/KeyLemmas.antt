@@ -10,7 +10,7 @@ use Rattle.hex.specs.Hex.{decode_sized}
 use Rattle.hex.specs.declared.error.FromHexError.{FromHexError}
 use Rattle.arc_data.specs.Digits.{is_hex, bytes_spelled}
 use Rattle.alarm_rules.specs.SetupWords.{is_key, key_spelled}
-use Rattle.accounts.proofs.DigitPairs.{IsSpelled, is-spelled, not-spelled}
+use Rattle.accounts.proofs.KeyDigits.{IsSpelled, is-spelled, not-spelled}
 
 abbrev is_length : ℕ → Bool
 is_length n = (n == 32) || (n == 48) || (n == 64)

@@ -1,5 +1,5 @@
 pub mod ChangeLemmas
-pub mod DigitPairs
+pub mod KeyDigits
 pub mod KeyLemmas
 pub mod LimitLemmas
 pub mod LineLemmas

@@ -1,4 +1,5 @@
 pub mod Decimals
+pub mod DigitPairs
 pub mod Digits
 pub mod LineCutterLaws
 pub mod LineLaws

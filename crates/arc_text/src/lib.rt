@@ -1,7 +1,7 @@
 //! Short texts, the numbers that texts spell, the lines of a stream, and counted comparisons of pairs of numbers.
 #![tactic(auto)]
 
-mod hex;
+mod hexadecimal;
 mod laws;
 mod line_cut;
 mod line_cutter;
@@ -10,7 +10,7 @@ mod pairs;
 mod steps;
 
 pub use arc_data::Txt;
-pub use hex::hex_word;
+pub use hexadecimal::hex_word;
 pub use laws::law_steps_are_digits;
 pub use line_cut::LineCut;
 pub use line_cutter::LineCutter;

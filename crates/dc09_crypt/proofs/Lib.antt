@@ -1,4 +1,3 @@
-pub mod DigitPairs
 pub mod Openings
 pub mod UpperDigits
 pub mod AckBodies

@@ -1,5 +1,5 @@
 use Rattle.std.proofs.Common.{◌∙◌, arith}
-use Rattle.accounts.proofs.DigitPairs.{decoded-ok, decoded-err}
+use Rattle.accounts.proofs.KeyDigits.{decoded-ok, decoded-err}
 use Rattle.accounts.proofs.KeyLemmas.{a-key, no-key}
 use Rattle.accounts.proofs.spelled.key.Goals as goal
 

@@ -1,5 +1,5 @@
 use Rattle.std.proofs.Common.{◌∙◌, sym, length}
-use Rattle.dc09_crypt.proofs.DigitPairs.{decodes}
+use Rattle.arc_text.proofs.DigitPairs.{decodes}
 use Rattle.dc09_crypt.proofs.body.decode.Goals as goal
 
 pub returns-clause-all : goal.returns-clause-all

@@ -1,6 +1,6 @@
 use Rattle.std.proofs.Common.{arith, ◌∙◌, ◌≡◌, ◌*◌, ◌/◌, length, take}
 use Rattle.std.proofs.lemmas.List.{length-take}
-use Rattle.script_lines.proofs.DigitPairs.{decodes}
+use Rattle.arc_text.proofs.DigitPairs.{decodes}
 use Rattle.script_lines.proofs.digits.spelled.Goals as goal
 
 pub returns : goal.returns

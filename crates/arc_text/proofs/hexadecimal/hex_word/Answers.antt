@@ -1,6 +1,6 @@
 use Rattle.std.proofs.Common.{sym, ◌∙◌, ap, Some}
 use Rattle.arc_text.proofs.Words.{word_of_digits}
-use Rattle.arc_text.proofs.hex.hex_word.Goals as goal
+use Rattle.arc_text.proofs.hexadecimal.hex_word.Goals as goal
 
 pub returns : goal.returns
 returns c =

@@ -31,6 +31,12 @@ decode_pairs-spelled i (a ∷ b ∷ rest) even all =
 pub decode_sized-spelled : (s : List ℕ) (n : ℕ) → length s ≡ 2 * n → list_all is_hex s ≡ true → decode_sized s n ≡ Ok (bytes_spelled s)
 decode_sized-spelled s n len all = decode_sized-pairs s n (omega arith) (omega arith) ∙ decode_pairs-spelled 0 s (omega arith) all
 
+-- what it decodes are hexadecimal digits
+pub all_hex : (s : List ℕ) (n : ℕ) → is_ok (decode_sized s n) ≡ true → list_all is_hex s ≡ true
+all_hex s n taken =
+    let digits = (IsOk-decode_sized s n).0 taken in
+    list_all-from_AllPass is_hex s (λ k d lt. sym (same_test (slice_index_or s k d)) ∙ digits.1 k d lt)
+
 -- the decoder takes digits exactly where all are hexadecimal, and gives the bytes that they spell
 pub record Decodes (s out : List ℕ) (taken : Bool) : Type 0 where
   pub all : taken ≡ list_all is_hex s
@@ -40,8 +46,7 @@ pub decodes : (s out : List ℕ) (n : ℕ) (r : Result Unit FromHexError) → le
 decodes s out n r len written =
     elim (cases_Bool (is_ok r)) [
       | inl taken ↦
-          let digits = (IsOk-decode_sized s n).0 ((IsOk-written (decode_sized s n) r out written).0 taken) in
-          let all : list_all is_hex s ≡ true = list_all-from_AllPass is_hex s (λ k d lt. sym (same_test (slice_index_or s k d)) ∙ digits.1 k d lt) in
+          let all = all_hex s n ((IsOk-written (decode_sized s n) r out written).0 taken) in
           let parts = rw (decode_sized-spelled s n len all) at written in
           record { all = taken ∙ sym all; spelled = λ _. parts.1 }
       | inr refused ↦ record { all = refused ∙ sym (none s out n r len refused written); spelled = λ taken. absurd cc }
