@@ -22,9 +22,9 @@ use std::thread::Threads;
 // 2001-09-09, 01:46:40 GMT.
 const BEGIN: u64 = 1_000_000_000;
 
-const SETUP: &[u8] = b"account 7777\noperator ann 1234\n";
+const SETUP: &[u8] = b"account 5150\noperator ann 1234\n";
 
-const BEAT: &[u8] = b"\n48CF0013\"NULL\"0000L0#7777[]\r";
+const BEAT: &[u8] = b"\nD3F60013\"NULL\"0000L0#5150[]\r";
 
 // A store in memory on which a run has begun.
 fn begun(alloc: Global) -> Result<Store<MemDisk>, Fail>

@@ -33,7 +33,7 @@ fn check_session(
     answer: &[u8],
     wanted: SessionEnd,
 ) -> Result<(), Fail> {
-    let setup = Setup::read(alloc, b"account 1234\noperator ann 1234\n")?;
+    let setup = Setup::read(alloc, b"account 2468\noperator ann 1234\n")?;
     let mut hall = RamHall::new(alloc, setup, BEGIN)?;
     let mut port = port_of(alloc, input)?;
     let end = serve(side, alloc, &mut hall, &mut port);
@@ -44,8 +44,8 @@ fn check_session(
 
 #[test]
 fn a_line_acknowledges_a_message(rt: HostRuntime) -> Result<(), Fail> {
-    let alarm = b"\n2EE70027\"ADM-CID\"0001L0#1234[#1234|1131 01 001]\r";
-    let reply = b"\n1BC10012\"ACK\"0001L0#1234[]\r";
+    let alarm = b"\n24AA0027\"ADM-CID\"0001L0#2468[#2468|1131 01 001]\r";
+    let reply = b"\nE7890012\"ACK\"0001L0#2468[]\r";
     check_session(
         &rt,
         rt.alloc(),

@@ -21,11 +21,11 @@ use std::test::Fail;
 const BEGIN: u64 = 1_000_000_000;
 
 // Its Adopt takes 57 bytes of a journal, and a Start takes 14.
-const SETUP: &[u8] = b"account 7777 beat 60\noperator ann 1234\n";
+const SETUP: &[u8] = b"account 8080 beat 60\noperator ann 1234\n";
 
-const BEAT: &[u8] = b"\n48CF0013\"NULL\"0000L0#7777[]\r";
+const BEAT: &[u8] = b"\nA2C80013\"NULL\"0000L0#8080[]\r";
 
-const ACKNOWLEDGEMENT: &[u8] = b"\n88AD0012\"ACK\"0000L0#7777[]\r";
+const ACKNOWLEDGEMENT: &[u8] = b"\n62AA0012\"ACK\"0000L0#8080[]\r";
 
 // A gate before a store in memory on which a run has begun. Its journal takes so many records.
 fn blank(alloc: Global, records: u64) -> Result<Blank<MemDisk>, Fail> {

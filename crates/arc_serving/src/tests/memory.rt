@@ -8,7 +8,7 @@ use arc_doors::ListPulse;
 use arc_io::{ListClock, ListNoise, MemPort, MemSink, MemSource};
 
 // What two doors with a link each have written, and one without.
-const LINES: &[u8] = b"\n88AD0012\"ACK\"0000L0#7777[]\r|\n\n88AD0012\"ACK\"0000L0#7777[]\r|\n\n";
+const LINES: &[u8] = b"\n13940012\"ACK\"0000L0#5150[]\r|\n\n13940012\"ACK\"0000L0#5150[]\r|\n\n";
 
 // What one door with a desk has written.
 const DESKS: &[u8] = b"ok ann\nnone waiting\nbye\n|\n";
