@@ -1,4 +1,4 @@
-# What a user runs. It needs the kit's rt on PATH, make, bash, grep, sed and coreutils; test also needs awk, openssl and script.
+# What a user runs. It needs the kit's rt on PATH, make, bash, grep, sed and coreutils; test also needs awk, openssl, perl and script.
 PREFIX = /usr/local
 PROGRAM = crates/arc_server/out/arc_server
 
