@@ -3,3 +3,4 @@ pub mod Reading
 pub mod Faults
 pub mod Journal
 pub mod OtherArea
+pub mod Behind

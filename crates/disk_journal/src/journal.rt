@@ -5,6 +5,7 @@ ghost use Rattle.arc_io.specs.Crashes.{Becomes, IsQuiet, LeavesOnly};
 ghost use Rattle.disk_journal.specs.Records.{MayHave, Stands};
 ghost use Rattle.disk_journal.specs.Reading.{GoesOn};
 ghost use Rattle.disk_journal.specs.OtherArea.{SparesB};
+ghost use Rattle.disk_journal.specs.Behind.{SparesBehind};
 ghost use Rattle.disk_journal.specs.Faults.{IsShown, IsOfContent, HasCounts, IsOver, IsFull, HasCountsOf};
 
 use crate::bodies::Bodies;
@@ -132,7 +133,9 @@ impl<D: Disk> Journal<D> {
         ensures told { (bodies : List (List ℕ)) → Holds D.told D.may_leave self.old bodies
             → Becomes (D.told self.old.disk) (D.told self.new.disk) (λ _ t. StandsForEither bodies body.now t.a) }
 
+        // Nothing but the record and its gates is written: all that stands behind is as it was.
         ensures spared { SparesB D.told D.may_leave D.moment D.left_since self.old.disk self.new.disk }
+        ensures behind { SparesBehind D.told D.may_leave (self.old.used + 5 + length body.now) self.old.disk self.new.disk }
 
         // Full comes exactly over a limit, before any device call.
         ensures full { IsOver self.old.used (5 + length body.now) self.old.records self.old.limits.bytes self.old.limits.records

@@ -6,6 +6,7 @@ ghost use Rattle.arc_io.specs.Causes.{HasCause};
 ghost use Rattle.disk_journal.specs.Records.{MayHave, bytes_of, size};
 ghost use Rattle.disk_journal.specs.Journal.{Keeps, StandsForEither};
 ghost use Rattle.disk_journal.specs.OtherArea.{SparesB};
+ghost use Rattle.disk_journal.specs.Behind.{SparesBehind};
 
 use arc_io::{Area, Disk, Failed, write_synced};
 
@@ -39,6 +40,7 @@ pub fn write_record<D: Disk>(
     ensures told { (bodies : List (List ℕ)) → used ≡ size bodies → Keeps D.told D.may_leave disk.old bodies
         → Becomes (D.told disk.old) (D.told disk.new) (λ _ t. StandsForEither bodies body.now t.a) }
     ensures spared { SparesB D.told D.may_leave D.moment D.left_since disk.old disk.new }
+    ensures behind { SparesBehind D.told D.may_leave (used + 5 + length body.now) disk.old disk.new }
     ensures cause { HasCause (D.fault_count disk.old) (D.fault_count disk.new) result }
 {
     write_synced(disk, Area::A, used, laid)?;

@@ -4,6 +4,7 @@ use Rattle.arc_io.proofs.Moments.{weaker, joined}
 use Rattle.disk_journal.specs.Records.{AtRest, size}
 use Rattle.disk_journal.specs.Journal.{StandsForEither}
 use Rattle.disk_journal.proofs.Gates.{place, size-least, sizes-more, torn_behind, torn_gate, Staged, staged_file, images_of, gate_place, opened_file, on_ok_both, first_torn, second_torn, either_image}
+use Rattle.disk_journal.proofs.Behind.{laid_length, torn_spares, spares_more}
 use Rattle.disk_journal.proofs.record.write_record.Goals as goal
 
 pub write_synced-requires-clause-place : goal.write_synced-requires-clause-place
@@ -61,3 +62,19 @@ returns-clause-added g c = on_ok_both c.write_synced-2.result c.write_synced-2.e
       file = now;
       images = images_of (λ l. AtRest l (bodies ++ body ∷ [])) _ _ now durable (λ x none. g.met.D.Disk.silent c.write_synced-2.new.disk x none);
     })
+
+pub returns-in_err-write_synced-clause-behind : goal.returns-in_err-write_synced-clause-behind
+returns-in_err-write_synced-clause-behind g c =
+    torn_spares g.D.Disk.told g.D.Disk.may_leave _ _ c.args.used (length c.args.laid.now) _ (omega (arith, laid_length c.args.body.now c.args.laid.now c.requires.laid))
+    c.write_synced.ensures.torn c.write_synced.ensures.crash
+
+pub returns-clause-behind : goal.returns-clause-behind
+returns-clause-behind g c =
+    let told = g.D.Disk.told in
+    let may_leave = g.D.Disk.may_leave in
+    let h = c.requires.kept in
+    let m = c.args.used + 5 + length c.args.body.now in
+    spares_more told may_leave _ _ _ m
+    (torn_spares told may_leave _ _ c.args.used (length c.args.laid.now) m (omega (arith, laid_length c.args.body.now c.args.laid.now c.requires.laid))
+    c.write_synced.ensures.torn c.write_synced.ensures.crash)
+    (torn_spares told may_leave _ _ (c.args.used - 1) 1 m (omega (arith, h.1, size-least h.0)) c.write_synced-2.ensures.torn c.write_synced-2.ensures.crash)

@@ -1,0 +1,61 @@
+-- What stands behind the records is not written.
+use Rattle.std.proofs.Common.{◌≡◌, ◌≤◌, ◌+◌, ◌-◌, ℕ, List, ◌++◌, [], ◌∷◌, length, drop, Option, Some, None, refl, sym, ap, ◌∙◌, arith, length-append}
+use Rattle.std.proofs.lemmas.List.{drop-drop}
+use Rattle.arc_io.specs.Areas.{Areas}
+use Rattle.arc_io.specs.Crashes.{TornIn, Becomes, Follows}
+use Rattle.arc_io.specs.declared.disk.Area.TheVariants.{A}
+use Rattle.disk_journal.specs.Records.{bytes_of}
+use Rattle.disk_journal.specs.Behind.{SparesBehind}
+
+-- the bytes of a record with its next gate
+pub laid_length : (body laid : List ℕ) → laid ≡ bytes_of body ++ 0 ∷ [] → length laid ≡ 5 + length body
+laid_length body laid spelled = omega (arith, ap length spelled, length-append (bytes_of body) (0 ∷ []))
+
+further : (at m : ℕ) (d c : List ℕ) → at ≤ m → drop at c ≡ drop at d → drop m c ≡ drop m d
+further at m d c le same =
+    let is : at + (m - at) ≡ m = omega (arith, le) in
+    ap (λ k. drop k c) (sym is) ∙ sym (drop-drop (m - at) at c) ∙ ap (drop (m - at)) same ∙ drop-drop (m - at) at d ∙ ap (λ k. drop k d) is
+
+told_behind : (o n : Option Areas) (at k m : ℕ) → at + k ≤ m → Becomes o n (TornIn A at k) → Becomes o n (λ s t. drop m t.a ≡ drop m s.a)
+told_behind None None at k m le torn = tt
+told_behind None (Some t) at k m le torn = absurd torn
+told_behind (Some s) None at k m le torn = absurd torn
+told_behind (Some s) (Some t) at k m le torn = further (at + k) m s.a t.a le torn.0.after
+
+told_then : (o m n : Option Areas) (k : ℕ) → Becomes o m (λ s t. drop k t.a ≡ drop k s.a) → Becomes m n (λ s t. drop k t.a ≡ drop k s.a)
+    → Becomes o n (λ s t. drop k t.a ≡ drop k s.a)
+told_then None None None k one two = tt
+told_then None None (Some u) k one two = absurd two
+told_then None (Some t) n k one two = absurd one
+told_then (Some s) None n k one two = absurd one
+told_then (Some s) (Some t) None k one two = absurd two
+told_then (Some s) (Some t) (Some u) k one two = two ∙ one
+
+told_still : (o : Option Areas) (k : ℕ) → Becomes o o (λ s t. drop k t.a ≡ drop k s.a)
+told_still None k = tt
+told_still (Some s) k = refl
+
+module _ {D : Type 0} (told : D → Option Areas) (may_leave : D → Areas → Type 0) where
+  -- a write in front
+  pub torn_spares : (old new : D) (at n m : ℕ) → at + n ≤ m → Becomes (told old) (told new) (TornIn A at n) → Follows (TornIn A at n) (may_leave old) (may_leave new)
+      → SparesBehind told may_leave m old new
+  torn_spares old new at n m le torn crash = record {
+    same = told_behind (told old) (told new) at n m le torn;
+    crash = λ c now.
+        let d = crash c now in
+        (d.0, d.1, further (at + n) m d.0.a c.a le d.2.0.after);
+  }
+
+  -- one run after another
+  pub spares_more : (old mid new : D) (m : ℕ) → SparesBehind told may_leave m old mid → SparesBehind told may_leave m mid new → SparesBehind told may_leave m old new
+  spares_more old mid new m one two = record {
+    same = told_then (told old) (told mid) (told new) m one.same two.same;
+    crash = λ c now.
+        let d = two.crash c now in
+        let e = one.crash d.0 d.1 in
+        (e.0, e.1, d.2 ∙ e.2);
+  }
+
+  -- no run at all
+  pub spares_still : (old : D) (m : ℕ) → SparesBehind told may_leave m old old
+  spares_still old m = record { same = told_still (told old) m; crash = λ c now. (c, now, refl) }
