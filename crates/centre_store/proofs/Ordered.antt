@@ -1,12 +1,12 @@
--- In which order an event stops: what is handed on, and what a call that went past shows.
+-- In which order an event stops and what it leaves: what is handed on, and what a call that went past shows.
 use Rattle.std.proofs.Common.{◌≡◌, ℕ, Option, inl, inr, sym, ap, subst, ◌∙◌}
-use Rattle.std.specs.Prelude.{Result, Ok, Err}
+use Rattle.std.specs.Prelude.{Result, Ok, Err, OnErr}
 use Rattle.arc_data.specs.declared.event.Event.{Event}
 use Rattle.arc_io.specs.Areas.{Areas}
 use Rattle.centre_core.specs.declared.hall.Stop.{Stop}
 use Rattle.centre_core.specs.declared.hall.Stop.TheVariants.{Memory, Full, Worn}
 use Rattle.centre_store.specs.Bodies.{need_of}
-use Rattle.centre_store.specs.Stores.{Stored}
+use Rattle.centre_store.specs.Stores.{Stored, IsDown, IsSameJournal, LeavesJournal, IsAsBefore}
 use Rattle.centre_store.specs.Orders.{StopsInOrder, IsWornFirst, IsFullThen}
 
 abbrev stop_or : {A : Type 0} → Stop → Result A Stop → Stop
@@ -48,3 +48,12 @@ module _ {D : Type 0} (told : D → Option Areas) (may_leave : D → Areas → T
           | inr no_room ↦ absurd (no_stop r a (Full s.journal.used (need_of event) s.journal.records) of no_room)
         ];
   }
+
+-- what a call within left as it was, the call did
+pub before_on : {B D : Type 0} (old new : Stored D) (q : Result B Stop) (stop : Stop) → q ≡ Err stop
+    → new.state.entries ≡ old.state.entries → new.state.sum ≡ old.state.sum → ((IsDown stop → ⊥) → IsSameJournal old.journal new.journal) → IsAsBefore old new q
+before_on {B} old new q stop on entries sum unwritten = record {
+  entries = subst (λ (x : Result B Stop). OnErr x (new.state.entries ≡ old.state.entries)) (sym on) entries;
+  sum = subst (λ (x : Result B Stop). OnErr x (new.state.sum ≡ old.state.sum)) (sym on) sum;
+  unwritten = subst (λ (x : Result B Stop). LeavesJournal old.journal new.journal x) (sym on) unwritten;
+}

@@ -1,15 +1,18 @@
 -- What a journal holds after a call, and what a disk leaves.
-use Rattle.std.proofs.Common.{◌≡◌, ◌≤◌, ◌<◌, ◌^◌, ℕ, List, Option, Some, None, sym, ap, subst, ◌∙◌}
-use Rattle.std.specs.Prelude.{IfSome}
+use Rattle.std.proofs.Common.{◌≡◌, ◌≤◌, ◌<◌, ◌+◌, ◌^◌, ℕ, List, length, Option, Some, None, refl, sym, ap, subst, ◌∙◌, arith}
+use Rattle.std.specs.Prelude.{IfSome, Result, Ok, Err, OnOk}
 use Rattle.arc_data.specs.declared.event.Event.{Event}
 use Rattle.arc_io.specs.Areas.{Areas}
 use Rattle.arc_io.specs.Crashes.{Becomes, LeavesOnly}
 use Rattle.arc_io.proofs.Moments.{joined}
 use Rattle.disk_journal.specs.Journal.{Keeps, Holds, StandsForEither}
 use Rattle.disk_journal.specs.OtherArea.{SparesB}
+use Rattle.disk_journal.specs.Behind.{SparesBehind}
 use Rattle.disk_journal.specs.declared.journal.Journal.{Journal}
+use Rattle.disk_journal.proofs.Behind.{spares_still}
 use Rattle.event_codec.specs.Spelling.{spelling}
-use Rattle.centre_store.specs.Stores.{Leaves, IsSameJournal}
+use Rattle.centre_store.specs.Bodies.{need_of}
+use Rattle.centre_store.specs.Stores.{Stored, Leaves, IsSameJournal}
 
 -- What is told.
 
@@ -74,6 +77,37 @@ module _ {D : Type 0} (told : D → Option Areas) (may_leave : D → Areas → T
   written_leaves j k new bodies body want same is counts_now h run file =
       let held = holds_same told may_leave j k bodies same h in
       subst (λ (b : List ℕ). Leaves told may_leave new bodies b) is (leaves_after k.disk new bodies body counts_now (file held) (run held))
+
+-- what is so whatever a call answers
+pub on_ok : {T E P : Type 0} (r : Result T E) → P → OnOk r P
+on_ok (Ok x) so = so
+on_ok (Err e) so = tt
+
+-- Behind the record.
+
+-- a body has as many bytes at each moment
+size_stays : (event : Event) (at : ℕ) → length (spelling event at) ≡ length (spelling event 0)
+size_stays event at = refl
+
+module _ {D : Type 0} (told : D → Option Areas) (may_leave : D → Areas → Type 0) where
+  -- over the journal with its room, for the body in other words
+  pub behind_record : (j k : Journal D) (new : D) (body : List ℕ) (event : Event) (at : ℕ) → IsSameJournal j k → body ≡ spelling event at
+      → SparesBehind told may_leave (k.used + 5 + length body) k.disk new → SparesBehind told may_leave (j.used + need_of event) j.disk new
+  behind_record j k new body event at same is spares =
+      let place : k.used + 5 + length body ≡ j.used + need_of event = omega (arith, ap (λ (x : Journal D). x.used) same, ap length is, size_stays event at) in
+      subst (λ (d : D). SparesBehind told may_leave (j.used + need_of event) d new) (ap (λ (x : Journal D). x.disk) same)
+      (subst (λ (m : ℕ). SparesBehind told may_leave m k.disk new) place spares)
+
+  -- over the parts of a store
+  pub behind_event : (old s : Stored D) (new : D) (event made : Event) → s ≡ old → made ≡ event
+      → SparesBehind told may_leave (s.journal.used + need_of made) s.journal.disk new → SparesBehind told may_leave (old.journal.used + need_of event) old.journal.disk new
+  behind_event old s new event made is same spares =
+      subst (λ (x : Stored D). SparesBehind told may_leave (x.journal.used + need_of event) x.journal.disk new) is
+      (subst (λ (e : Event). SparesBehind told may_leave (s.journal.used + need_of e) s.journal.disk new) same spares)
+
+  -- where nothing was written
+  pub behind_still : (old s : Stored D) (m : ℕ) → s ≡ old → SparesBehind told may_leave m old.journal.disk s.journal.disk
+  behind_still old s m is = subst (λ (x : Stored D). SparesBehind told may_leave m old.journal.disk x.journal.disk) (sym is) (spares_still told may_leave old.journal.disk m)
 
 -- the body that was made
 pub body_is : (items piece : List ℕ) (e event : Event) (at moment : ℕ) → piece ≡ items → items ≡ spelling e at → e ≡ event → at ≡ moment → piece ≡ spelling event moment

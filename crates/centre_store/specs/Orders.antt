@@ -1,13 +1,17 @@
--- When Worn and Full stop an event, by the numbers of the store before it.
-use Rattle.std.specs.Prelude.{◌≡◌, ◌≤◌, ◌<◌, ◌⊎◌, ◌^◌, ℕ, List, Option, Result, Err}
+-- When Down stops an event, and when Worn and Full do, by the numbers of the store before it.
+use Rattle.std.specs.Prelude.{◌≡◌, ◌≤◌, ◌<◌, ◌⊎◌, ◌↔◌, ◌^◌, ℕ, List, Option, Result, Err}
 use Rattle.arc_data.specs.declared.event.Event.{Event}
 use Rattle.arc_io.specs.Areas.{Areas}
 use Rattle.centre_rules.specs.Summary.{Summary}
 use Rattle.centre_rules.specs.History.{Entry}
 use Rattle.centre_core.specs.declared.hall.Stop.{Stop}
-use Rattle.centre_core.specs.declared.hall.Stop.TheVariants.{Memory, Full, Worn}
+use Rattle.centre_core.specs.declared.hall.Stop.TheVariants.{Memory, Down, Full, Worn}
 use Rattle.centre_store.specs.Bodies.{need_of}
 use Rattle.centre_store.specs.Stores.{Stored, HasFailed, StoreStands, IsToRecord, IsOverWith}
+
+-- Down comes exactly where the store shows at the end that the disk has failed.
+abbrev pub IsDownWhereFailed : {A D : Type 0} → (D → ℕ) → Stored D → Result A Stop → Type 0
+IsDownWhereFailed faults s r = HasFailed faults s ↔ (r ≡ Err (Down s.at_open (faults s.journal.disk)))
 
 -- As long as the disk has not failed, Worn comes first: it does where there are 2^48 entries or more.
 abbrev pub IsWornFirst : {A D : Type 0} → (D → ℕ) → Stored D → Result A Stop → Type 0

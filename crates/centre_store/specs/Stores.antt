@@ -1,5 +1,5 @@
 -- What a store stands for, what a call of it does, and what it shows after a stop.
-use Rattle.std.specs.Prelude.{◌≡◌, ◌≤◌, ◌⊎◌, ◌^◌, ℕ, List, ◌∷◌, true, Option, IfSome}
+use Rattle.std.specs.Prelude.{◌≡◌, ◌≤◌, ◌⊎◌, ◌^◌, ℕ, List, ◌∷◌, true, Option, IfSome, Result, OnErr, IfErr}
 use Rattle.arc_data.specs.declared.event.Event.{Event}
 use Rattle.arc_io.specs.Areas.{Areas}
 use Rattle.arc_io.specs.Causes.{Rose}
@@ -44,6 +44,11 @@ pub record StoreStands {D : Type 0} (told : D → Option Areas) (may_leave : D �
     (b : Summary) (s : Stored D) (h : List Entry) : Type 0 where
   pub centre : StandsFor b s.state h
   pub journal : Holds told may_leave s.journal (bodies_of h) ⊎ (HasFailed faults s × IsTorn told may_leave s.journal.disk h)
+
+-- whatever the store stood for, it stands for
+abbrev pub StandsOn : {D : Type 0} → (D → Option Areas) → (D → Areas → Type 0) → (D → ℕ) → Stored D → Stored D → Type 0
+StandsOn told may_leave faults old new =
+    (b : Summary) (h : List Entry) → StoreStands told may_leave faults b old h → StoreStands told may_leave faults b new h
 
 -- every store stands for some history over some beginning, and the count of the disk's faults is at least that at opening
 pub record IsStored {D : Type 0} (told : D → Option Areas) (may_leave : D → Areas → Type 0) (faults : D → ℕ) (s : Stored D) : Type 0 where
@@ -93,3 +98,13 @@ IsDown stop = ⊥
 -- the same but for the journal's room
 abbrev pub IsSameJournal : {D : Type 0} → Journal D → Journal D → Type 0
 IsSameJournal old new = new ≡ record old { room = new.room }
+
+-- After a stop that is no fault of the disk the journal and its disk are as they were.
+abbrev pub LeavesJournal : {A D : Type 0} → Journal D → Journal D → Result A Stop → Type 0
+LeavesJournal old new r = IfErr r (λ s. (IsDown s → ⊥) → IsSameJournal old new)
+
+-- After a stop the centre is as it was, and where it is no fault of the disk, the journal and its disk are, too.
+pub record IsAsBefore {A D : Type 0} (old new : Stored D) (r : Result A Stop) : Type 0 where
+  pub entries : OnErr r (new.state.entries ≡ old.state.entries)
+  pub sum : OnErr r (new.state.sum ≡ old.state.sum)
+  pub unwritten : LeavesJournal old.journal new.journal r

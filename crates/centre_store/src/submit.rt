@@ -1,5 +1,5 @@
 // How an event is submitted: it is prepared, its record is written where it is to be recorded, and then it is applied.
-ghost use Rattle.std.specs.Prelude.{◌≡◌, ◌≤◌, ◌<◌, ◌⊎◌, ◌↔◌, ◌+◌, ◌^◌, ◌++◌, ◌∷◌, [], ℕ, List, false};
+ghost use Rattle.std.specs.Prelude.{◌≡◌, ◌≤◌, ◌<◌, ◌⊎◌, ◌↔◌, ◌+◌, ◌^◌, ◌++◌, ◌∷◌, [], ℕ, List, true, false};
 ghost use Rattle.std.specs.Prelude.{Some, IfOk, IfErr, IsErr, OnOk, OnErr, IsTrue};
 ghost use Rattle.arc_data.specs.WellFormed.{IsWellFormed};
 ghost use Rattle.arc_io.specs.Causes.{Rose};
@@ -12,12 +12,14 @@ ghost use Rattle.centre_core.specs.Runs.{IsSubmitted};
 ghost use Rattle.centre_core.specs.Setting.{IsSetting};
 ghost use Rattle.disk_journal.specs.Journal.{Holds, StandsForEither};
 ghost use Rattle.disk_journal.specs.OtherArea.{SparesB};
+ghost use Rattle.disk_journal.specs.Behind.{SparesBehind};
 ghost use Rattle.event_codec.specs.Spelling.{IsKept, HasSpelling, spelling};
 ghost use Rattle.centre_store.specs.Bodies.{bodies_of, need_of};
-ghost use Rattle.centre_store.specs.Stores.{HasFailed, Leaves, StoreStands, Takes, Shows, IsDown, IsSameJournal};
-ghost use Rattle.centre_store.specs.Orders.{IsWornFirst, IsFullThen, StopsInOrder};
+ghost use Rattle.centre_store.specs.Stores.{HasFailed, Leaves, StoreStands, StandsOn, Takes, Shows};
+ghost use Rattle.centre_store.specs.Stores.{IsSameJournal, LeavesJournal, IsAsBefore};
+ghost use Rattle.centre_store.specs.Orders.{IsDownWhereFailed, IsWornFirst, IsFullThen, StopsInOrder};
 ghost use Rattle.centre_store.specs.Writes.{IsOverAt, IsUnwritten};
-ghost use Rattle.centre_store.specs.Begins.{begun_after, adopted_after, is_in_force, StandsWithin, ShowsOfBegin, BeginsInOrder};
+ghost use Rattle.centre_store.specs.Begins.{begun_after, adopted_after, is_in_force, LeavesWithin, ShowsOfBegin, BeginsInOrder};
 
 use crate::store::Store;
 use arc_data::{Blob, Event};
@@ -45,18 +47,16 @@ impl<D: Disk> Store<D> {
         ensures cause { IfErr result (λ s. ShowsOfBegin D.told D.may_leave D.fault_count self.new setup clock s) }
 
         // Down comes exactly where the disk has failed since the opening, and is then the answer until the store is opened again.
-        ensures down { HasFailed D.fault_count self.new
-            ↔ (result ≡ Err (Stop.Down self.new.at_open (D.fault_count self.new.journal.disk))) }
+        ensures down { IsDownWhereFailed D.fault_count self.new result }
         ensures already { HasFailed D.fault_count self.old → self.new ≡ self.old }
 
-        // Worn and Full come in their order, at each of the events by the numbers before it.
+        // Worn and Full come in their order, at each of the events by the numbers before it. After a stop that is no fault of the disk
+        // the store, its disk too, is as it was before that event.
         ensures order { (HasFailed D.fault_count self.old → ⊥)
             → BeginsInOrder D.told D.may_leave D.fault_count self.old self.new setup clock result }
 
         // A crash at any moment of the call leaves the records from before it, with those of its entries up to some one.
-        ensures any_moment { (b : Summary) (h : List Entry) → StoreStands D.told D.may_leave D.fault_count b self.old h
-            → (HasFailed D.fault_count self.old → ⊥)
-            → LeavesOnly D.moment D.left_since self.old.journal.disk self.new.journal.disk (λ c. StandsWithin b h setup clock c.a) }
+        ensures any_moment { LeavesWithin D.told D.may_leave D.fault_count D.moment D.left_since self.old self.new setup clock }
         ensures spared { SparesB D.told D.may_leave D.moment D.left_since self.old.journal.disk self.new.journal.disk }
         ensures at_open { self.new.at_open ≡ self.old.at_open }
         ensures limits { self.new.journal.limits ≡ self.old.journal.limits }
@@ -88,18 +88,16 @@ impl<D: Disk> Store<D> {
         ensures by { IfOk result (λ d. d.caller ≡ caller) }
         ensures few { OnOk result (self.old.state.entries < 2 ^ 48) }
         ensures taken { OnOk result (self.new.state.entries ≡ self.old.state.entries + 1) }
-        ensures stop { OnErr result ((b : Summary) (h : List Entry) → StoreStands D.told D.may_leave D.fault_count b self.old h
-            → StoreStands D.told D.may_leave D.fault_count b self.new h) }
+        ensures stop { OnErr result (StandsOn D.told D.may_leave D.fault_count self.old self.new) }
         ensures cause { IfErr result (λ s. Shows D.told D.may_leave D.fault_count self.new s event clock) }
 
         ensures entries { OnErr result (self.new.state.entries ≡ self.old.state.entries) }
         ensures sum { OnErr result (self.new.state.sum ≡ self.old.state.sum) }
-        ensures unwritten { IfErr result (λ s. (IsDown s → ⊥) → IsSameJournal self.old.journal self.new.journal) }
+        ensures unwritten { LeavesJournal self.old.journal self.new.journal result }
         ensures quiet { IfOk result (λ d. is_recorded d.reply ≡ false → IsSameJournal self.old.journal self.new.journal) }
 
         // When each stop comes, want of memory aside.
-        ensures down { HasFailed D.fault_count self.new
-            ↔ (result ≡ Err (Stop.Down self.new.at_open (D.fault_count self.new.journal.disk))) }
+        ensures down { IsDownWhereFailed D.fault_count self.new result }
         ensures already { HasFailed D.fault_count self.old → self.new ≡ self.old }
         ensures worn { IsWornFirst D.fault_count self.old result }
         ensures full { IsFullThen D.told D.may_leave D.fault_count self.old event clock result }
@@ -112,6 +110,8 @@ impl<D: Disk> Store<D> {
             → (HasFailed D.fault_count self.old → ⊥)
             → Leaves D.told D.may_leave self.new.journal.disk (bodies_of h) (spelling event (moment_after b h clock)) }
         ensures spared { SparesB D.told D.may_leave D.moment D.left_since self.old.journal.disk self.new.journal.disk }
+        ensures behind { OnOk result (SparesBehind D.told D.may_leave (self.old.journal.used + need_of event)
+            self.old.journal.disk self.new.journal.disk) }
         ensures at_open { self.new.at_open ≡ self.old.at_open }
         ensures limits { self.new.journal.limits ≡ self.old.journal.limits }
         ensures text { self.new.state.sum.text ≡ self.old.state.sum.text }
@@ -128,19 +128,19 @@ impl<D: Disk> Store<D> {
         ensures adopted { OnOk result ((b : Summary) (h : List Entry) → StoreStands D.told D.may_leave D.fault_count b self.old h
             → StoreStands D.told D.may_leave D.fault_count b self.new (adopted_after b h setup.now clock)) }
         ensures text { OnOk result (self.new.state.sum.text ≡ Some setup.now) }
-        ensures stop { OnErr result ((b : Summary) (h : List Entry) → StoreStands D.told D.may_leave D.fault_count b self.old h
-            → StoreStands D.told D.may_leave D.fault_count b self.new h) }
+        ensures stop { OnErr result (StandsOn D.told D.may_leave D.fault_count self.old self.new) }
         ensures cause { IfErr result (λ s. ShowsOfBegin D.told D.may_leave D.fault_count self.new setup.now clock s) }
-        ensures down { HasFailed D.fault_count self.new
-            ↔ (result ≡ Err (Stop.Down self.new.at_open (D.fault_count self.new.journal.disk))) }
+        ensures down { IsDownWhereFailed D.fault_count self.new result }
         ensures already { HasFailed D.fault_count self.old → self.new ≡ self.old }
         ensures order { is_in_force self.old.state.sum.text setup.now ≡ false
             → StopsInOrder D.told D.may_leave D.fault_count self.old (Event.Adopt setup.now) clock result }
+        ensures before { IsAsBefore self.old self.new result }
+        ensures in_force { is_in_force self.old.state.sum.text setup.now ≡ true → self.new ≡ self.old }
         ensures adopts { IsErr result → (HasFailed D.fault_count self.old → ⊥) → is_in_force self.old.state.sum.text setup.now ≡ false }
-        ensures any_moment { (b : Summary) (h : List Entry) → StoreStands D.told D.may_leave D.fault_count b self.old h
-            → (HasFailed D.fault_count self.old → ⊥)
-            → LeavesOnly D.moment D.left_since self.old.journal.disk self.new.journal.disk (λ c. StandsWithin b h setup.now clock c.a) }
+        ensures any_moment { LeavesWithin D.told D.may_leave D.fault_count D.moment D.left_since self.old self.new setup.now clock }
         ensures spared { SparesB D.told D.may_leave D.moment D.left_since self.old.journal.disk self.new.journal.disk }
+        ensures behind { OnOk result (SparesBehind D.told D.may_leave (self.old.journal.used + need_of (Event.Adopt setup.now))
+            self.old.journal.disk self.new.journal.disk) }
         ensures at_open { self.new.at_open ≡ self.old.at_open }
         ensures limits { self.new.journal.limits ≡ self.old.journal.limits }
         ensures later { D.fault_count self.old.journal.disk ≤ D.fault_count self.new.journal.disk }
@@ -179,17 +179,15 @@ impl<D: Disk> Store<D> {
         ensures few { OnOk result (self.old.state.entries < 2 ^ 48) }
         ensures answer { IfOk result (λ d. d.reply ≡ answer_over self.old.state.sum [] event d.at) }
         ensures grows { IfOk result (λ d. Grows self.old.state self.new.state (record { caller = 0; event = event; at = d.at; reply = d.reply })) }
-        ensures stop { OnErr result ((b : Summary) (h : List Entry) → StoreStands D.told D.may_leave D.fault_count b self.old h
-            → StoreStands D.told D.may_leave D.fault_count b self.new h) }
+        ensures stop { OnErr result (StandsOn D.told D.may_leave D.fault_count self.old self.new) }
         ensures cause { IfErr result (λ s. Shows D.told D.may_leave D.fault_count self.new s event clock) }
 
         ensures entries { OnErr result (self.new.state.entries ≡ self.old.state.entries) }
         ensures sum { OnErr result (self.new.state.sum ≡ self.old.state.sum) }
-        ensures unwritten { IfErr result (λ s. (IsDown s → ⊥) → IsSameJournal self.old.journal self.new.journal) }
+        ensures unwritten { LeavesJournal self.old.journal self.new.journal result }
         ensures quiet { IfOk result (λ d. is_recorded d.reply ≡ false → IsSameJournal self.old.journal self.new.journal) }
 
-        ensures down { HasFailed D.fault_count self.new
-            ↔ (result ≡ Err (Stop.Down self.new.at_open (D.fault_count self.new.journal.disk))) }
+        ensures down { IsDownWhereFailed D.fault_count self.new result }
         ensures already { HasFailed D.fault_count self.old → self.new ≡ self.old }
         ensures worn { IsWornFirst D.fault_count self.old result }
         ensures full { IsFullThen D.told D.may_leave D.fault_count self.old event clock result }
@@ -201,6 +199,8 @@ impl<D: Disk> Store<D> {
             → (HasFailed D.fault_count self.old → ⊥)
             → Leaves D.told D.may_leave self.new.journal.disk (bodies_of h) (spelling event (moment_after b h clock)) }
         ensures spared { SparesB D.told D.may_leave D.moment D.left_since self.old.journal.disk self.new.journal.disk }
+        ensures behind { OnOk result (SparesBehind D.told D.may_leave (self.old.journal.used + need_of event)
+            self.old.journal.disk self.new.journal.disk) }
         ensures at_open { self.new.at_open ≡ self.old.at_open }
         ensures limits { self.new.journal.limits ≡ self.old.journal.limits }
         ensures later { D.fault_count self.old.journal.disk ≤ D.fault_count self.new.journal.disk }
@@ -271,6 +271,7 @@ fn write<D: Disk>(
     ensures met { (bodies : List (List ℕ)) → Holds D.told D.may_leave journal.old bodies
         → Leaves D.told D.may_leave journal.new.disk bodies (spelling ready.now.event ready.now.at) }
     ensures spared { SparesB D.told D.may_leave D.moment D.left_since journal.old.disk journal.new.disk }
+    ensures behind { OnOk result (SparesBehind D.told D.may_leave (journal.old.used + need_of ready.now.event) journal.old.disk journal.new.disk) }
     ensures spelled { HasSpelling ready.now.event ready.now.at }
     ensures limits { journal.new.limits ≡ journal.old.limits }
     ensures later { D.fault_count journal.old.disk ≤ D.fault_count journal.new.disk }

@@ -1,10 +1,12 @@
-use Rattle.std.proofs.Common.{◌≡◌, ◌∙◌, List, ℕ, rules, inr, refl, subst, sym}
-use Rattle.std.specs.Prelude.{false, IfErr, IsOk}
-use Rattle.arc_data.specs.declared.event.Event.TheVariants.{Start}
+use Rattle.std.proofs.Common.{◌≡◌, ◌∙◌, List, ℕ, rules, inr, refl, ap, subst, sym}
+use Rattle.std.specs.Prelude.{false, Err, IfErr, IsOk}
+use Rattle.arc_data.specs.declared.event.Event.TheVariants.{Adopt, Start}
 use Rattle.alarm_rules.specs.Setups.{setup_of}
 use Rattle.centre_store.specs.Begins.{is_in_force}
 use Rattle.centre_store.specs.Stores.{Shows}
 use Rattle.centre_store.proofs.Begun.{still_within, adopt_within, adopted_stands, known_force, cause_of}
+use Rattle.centre_store.proofs.Ordered.{before_on}
+use Rattle.centre_store.proofs.Written.{behind_still, behind_event}
 use Rattle.centre_store.proofs.store.Store.adopt.Goals as goal
 
 pub returns-in_err-check_disk-clause-cause : goal.returns-in_err-check_disk-clause-cause
@@ -58,3 +60,19 @@ returns-clause-adopted g c b h w =
     adopted_stands g.D.Disk.told g.D.Disk.may_leave g.D.Disk.fault_count b c.enter.new.self h c.args.setup.now c.in-Ok.text c.args.clock
     c.in_ok-enter.field-0.at c.in_ok-enter.field-0.reply same valid
     (known_force b c.args.self.now.state h c.args.setup.now false w.centre is) (c.in_ok-enter.ensures.done b h 0 w)
+
+pub returns-then-has_in_force-clause-behind : goal.returns-then-has_in_force-clause-behind
+returns-then-has_in_force-clause-behind g c = behind_still g.D.Disk.told g.D.Disk.may_leave c.args.self.now c.args.self.now _ refl
+
+pub returns-clause-behind : goal.returns-clause-behind
+returns-clause-behind g c =
+    let same : c.in-Ok.text ≡ c.args.setup.now = c.in-Ok.ensures ∙ c.text-bytes.ensures.value in
+    behind_event g.D.Disk.told g.D.Disk.may_leave c.args.self.now c.args.self.now c.enter.new.self.journal.disk (Adopt c.args.setup.now) (Adopt c.in-Ok.text) refl
+    (ap Adopt same) c.in_ok-enter.ensures.behind
+
+pub returns-in_err-enter-clause-before : goal.returns-in_err-enter-clause-before
+returns-in_err-enter-clause-before g c =
+    let result = c.from_residual-in_err-enter.result in
+    let on : result ≡ Err c.in_err-enter.field-0.0 = search rules in
+    before_on c.args.self.now c.enter.new.self result c.in_err-enter.field-0.0 on
+    c.in_err-enter.ensures.entries c.in_err-enter.ensures.sum c.in_err-enter.ensures.unwritten

@@ -5,7 +5,7 @@ use Rattle.arc_io.specs.Areas.{Areas}
 use Rattle.arc_io.proofs.Moments.{joined}
 use Rattle.centre_store.specs.Begins.{adopted_after, StandsWithin}
 use Rattle.centre_store.proofs.Begun.{within_start, started_stands}
-use Rattle.centre_store.proofs.Ordered.{order_on, order_past}
+use Rattle.centre_store.proofs.Ordered.{order_on, order_past, before_on}
 use Rattle.centre_store.proofs.Written.{spares_then}
 use Rattle.centre_store.proofs.store.Store.begin.Goals as goal
 
@@ -53,18 +53,22 @@ returns-in_err-enter-clause-order g c up =
       adopt = λ other.
           let o = c.in_ok-adopt.ensures.order other in
           order_past g.D.Disk.told g.D.Disk.may_leave g.D.Disk.fault_count c.args.self.now (Adopt c.args.setup) c.args.clock _ result c.in_ok-adopt.field-0 refl o.worn o.full;
-      start = inr (
-        c.adopt.new.self,
-        record {
+      start = inr (record {
+        between = c.adopt.new.self;
+        adopted = record {
           stands = c.in_ok-adopt.ensures.adopted;
+          same = c.adopt.ensures.in_force;
+          behind = c.in_ok-adopt.ensures.behind;
           limits = c.adopt.ensures.limits;
           up = λ f.
               let e = c.in_ok-adopt.ensures.down.0 f in
               cc;
-        },
-        order_on g.D.Disk.told g.D.Disk.may_leave g.D.Disk.fault_count c.adopt.new.self Start c.args.clock _ result c.in_err-enter.field-0.0 refl on
-            c.in_err-enter.ensures.worn c.in_err-enter.ensures.full,
-      );
+        };
+        order = order_on g.D.Disk.told g.D.Disk.may_leave g.D.Disk.fault_count c.adopt.new.self Start c.args.clock _ result c.in_err-enter.field-0.0 refl on
+            c.in_err-enter.ensures.worn c.in_err-enter.ensures.full;
+        before = before_on c.adopt.new.self c.enter.new.self result c.in_err-enter.field-0.0 on
+            c.in_err-enter.ensures.entries c.in_err-enter.ensures.sum c.in_err-enter.ensures.unwritten;
+      });
     }
 
 pub returns-clause-order : goal.returns-clause-order
@@ -72,16 +76,19 @@ returns-clause-order g c up = record {
   adopt = λ other.
       let o = c.in_ok-adopt.ensures.order other in
       order_past g.D.Disk.told g.D.Disk.may_leave g.D.Disk.fault_count c.args.self.now (Adopt c.args.setup) c.args.clock _ _ c.in_ok-adopt.field-0 refl o.worn o.full;
-  start = inr (
-    c.adopt.new.self,
-    record {
+  start = inr (record {
+    between = c.adopt.new.self;
+    adopted = record {
       stands = c.in_ok-adopt.ensures.adopted;
+      same = c.adopt.ensures.in_force;
+      behind = c.in_ok-adopt.ensures.behind;
       limits = c.adopt.ensures.limits;
       up = λ f.
           let e = c.in_ok-adopt.ensures.down.0 f in
           cc;
-    },
-    order_past g.D.Disk.told g.D.Disk.may_leave g.D.Disk.fault_count c.adopt.new.self Start c.args.clock _ _ c.in_ok-enter.field-0 refl c.in_ok-enter.ensures.worn
-        c.in_ok-enter.ensures.full,
-  );
+    };
+    order = order_past g.D.Disk.told g.D.Disk.may_leave g.D.Disk.fault_count c.adopt.new.self Start c.args.clock _ _ c.in_ok-enter.field-0 refl c.in_ok-enter.ensures.worn
+        c.in_ok-enter.ensures.full;
+    before = record { entries = tt; sum = tt; unwritten = tt };
+  });
 }

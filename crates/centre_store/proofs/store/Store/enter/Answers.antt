@@ -7,6 +7,7 @@ use Rattle.event_codec.specs.Spelling.{IsKept}
 use Rattle.centre_store.specs.Stores.{Stored, HasFailed}
 use Rattle.centre_store.proofs.Bodies.{kept_event}
 use Rattle.centre_store.proofs.Entered.{takes_quiet, takes_written, written_moment}
+use Rattle.centre_store.proofs.Written.{behind_still, behind_event}
 use Rattle.centre_store.proofs.store.Store.enter.Goals as goal
 
 pub returns-then-quiet-clause-done : goal.returns-then-quiet-clause-done
@@ -78,3 +79,14 @@ write-requires-clause-kept g c =
     let stands = c.in-Ok.ensures.stays b h c.self.invariant.stands.centre in
     let recorded = subst (λ (r : Reply). is_recorded r ≡ true) (c.in-Ok.ensures.reply b h stands) (not_quiet _ _ c.quiet.ensures c.if-quiet.false) in
     subst IsKept (sym c.in-Ok.ensures.event) (kept_event b h c.args.event c.in-Ok.ready.at recorded)
+
+pub returns-then-quiet-clause-behind : goal.returns-then-quiet-clause-behind
+returns-then-quiet-clause-behind g c =
+    behind_still g.D.Disk.told g.D.Disk.may_leave c.args.self.now
+    (record { state = c.self.inside.centre; journal = c.self.inside.journal; at_open = c.self.inside.at_open }) _ c.self.view_is
+
+pub returns-in-Ok-write-clause-behind : goal.returns-in-Ok-write-clause-behind
+returns-in-Ok-write-clause-behind g c =
+    behind_event g.D.Disk.told g.D.Disk.may_leave c.args.self.now
+    (record { state = c.self.inside.centre; journal = c.self.inside.journal; at_open = c.self.inside.at_open }) c.write.new.journal.disk c.args.event c.in-Ok.ready.event
+    c.self.view_is c.in-Ok.ensures.event c.in-Ok-write.ensures.behind
