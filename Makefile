@@ -1,7 +1,7 @@
 # What a user runs. It needs the kit's rt on PATH, make, bash, grep, sed and coreutils; test also needs awk, openssl, perl and script.
 PREFIX = /usr/local
 PROGRAM = crates/arc_server/out/arc_server
-UNITS = arc.service arc-lines.socket arc-lines.service arc-watch.service arc-watch.timer
+UNITS = arc.service arc-lines.service arc-watch.service arc-watch.timer
 ROOT = $(DESTDIR)$(PREFIX)
 
 .PHONY: build demo test install install-files uninstall clean
