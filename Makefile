@@ -31,7 +31,7 @@ install-files:
 	install -D -m 644 -t '$(ROOT)/share/man/man7' station/arc-desk.7
 	install -D -m 644 -t '$(ROOT)/share/arc' tools/panel
 	install -D -m 755 -t '$(ROOT)/share/arc' tools/visible station/watch
-	install -D -m 644 -t '$(ROOT)/share/doc/arc' docs/OPERATING.md example/setup.txt
+	install -D -m 644 -t '$(ROOT)/share/doc/arc' README.md docs/OPERATING.md example/setup.txt
 	install -D -m 644 station/arc.sysusers '$(ROOT)/lib/sysusers.d/arc.conf'
 	install -d '$(ROOT)/lib/systemd/system'
 	for unit in $(UNITS); do \
