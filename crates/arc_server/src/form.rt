@@ -2,6 +2,7 @@
 ghost use Rattle.std.specs.Prelude.{◌≡◌, ◌≤◌, IfSome};
 ghost use Rattle.alarm_rules.specs.SetupWords.{number_between};
 ghost use Rattle.arc_server.specs.Forms.{form_of, form_named, crew_named};
+ghost use Rattle.arc_server.specs.WholeRuns.{HasDoors};
 
 use arc_data::Txt;
 use arc_serving::Crew;
@@ -21,7 +22,8 @@ pub enum Form {
 
 /// The form of the words. None where they are of none.
 pub(crate) fn form_of(words: &[Txt]) -> Option<Form>
-    ensures { result ≡ form_of words.now }
+    ensures form { result ≡ form_of words.now }
+    ensures doors { IfSome result (λ form. HasDoors form 64 16) }
 {
     match words {
         [word] => form_named(word),
@@ -34,7 +36,8 @@ pub(crate) fn form_of(words: &[Txt]) -> Option<Form>
 
 // The form of one word.
 fn form_named(word: &Txt) -> Option<Form>
-    ensures { result ≡ form_named word.now }
+    ensures form { result ≡ form_named word.now }
+    ensures doors { IfSome result (λ form. HasDoors form 64 16) }
 {
     if word.bytes() == b"line".as_slice() {
         Some(Form::Session(Side::Lines))
@@ -49,7 +52,8 @@ fn form_named(word: &Txt) -> Option<Form>
 
 // The form of the three numbers behind `serve`.
 fn crew_named(lines: &Txt, desks: &Txt, sessions: &Txt) -> Option<Form>
-    ensures { result ≡ crew_named lines.now desks.now sessions.now }
+    ensures form { result ≡ crew_named lines.now desks.now sessions.now }
+    ensures doors { IfSome result (λ form. HasDoors form 64 16) }
 {
     let lines = number(1, 64, lines.bytes())?;
     let desks = number(0, 16, desks.bytes())?;

@@ -3,6 +3,10 @@
 //! `arc report` writes what stands there. `arc serve` serves many lines and desks at once, each on a connection.
 #![tactic(auto)]
 
+ghost use Rattle.std.specs.Prelude.{◌≡◌, Some};
+ghost use Rattle.arc_server.specs.Forms.{form_of as form_by};
+ghost use Rattle.arc_server.specs.WholeRuns.{HasDoors};
+
 use arc_data::Txt;
 use arc_doors::{SecondPulse, TcpDoor};
 use arc_io::{FileDisk, FileSource, RealClock, RealNoise, StdPort};
@@ -63,6 +67,16 @@ fn main(rt: HostRuntime) -> ExitCode {
     ExitCode::from(status.number())
 }
 
+// How many doors of lines, and how many of desks, are made for these words: enough for the greatest numbers. Only `serve` has doors.
+fn doors_for(words: &[Txt]) -> (usize, usize)
+    ensures { (form : Form) → form_by words.now ≡ Some form → HasDoors form result.0 result.1 }
+{
+    match form_of(words) {
+        Some(Form::Serve(_)) => (64, 16),
+        _ => (0, 0),
+    }
+}
+
 // Runs over the real setup file, the real standard streams, and the journal in the working folder.
 fn run_over_machine<W: Threads + Wait + Sync>(
     threads: &W,
@@ -79,11 +93,7 @@ fn run_over_machine<W: Threads + Wait + Sync>(
     let Ok(disk) = FileDisk::new(rt, rt.alloc(), ".") else {
         return Status::Memory;
     };
-    // Only `serve` has doors.
-    let (lines, desks) = match form_of(words) {
-        Some(Form::Serve(_)) => (64, 16),
-        _ => (0, 0),
-    };
+    let (lines, desks) = doors_for(words);
     let (Ok(lines), Ok(desks)) = (
         TcpDoor::shared(*rt, rt.alloc(), 9009, lines),
         TcpDoor::shared(*rt, rt.alloc(), 9010, desks),
