@@ -1,8 +1,11 @@
 // Whole runs over forms in memory, byte for byte.
-ghost use Rattle.std.specs.Prelude.{◌≡◌, ◌<◌, All, false, IfOk};
+ghost use Rattle.std.specs.Prelude.{◌≡◌, ◌<◌, All, true, false, Some, IfOk};
 ghost use Rattle.arc_io.specs.Memory.{port_seen, source_seen};
+ghost use Rattle.arc_server.specs.Forms.{form_of as form_by};
+ghost use Rattle.arc_server.specs.WholeRuns.{HasDoors};
 
 mod lasting;
+mod links;
 mod plays;
 mod reports;
 mod serving;
@@ -10,11 +13,12 @@ mod station;
 mod statuses;
 mod watching;
 
+use crate::form::{Form, form_of};
 use crate::run::{Ended, Outside, run};
 use crate::status::{Status, Which};
-use arc_data::{LineKind, SetupFault, Txt};
-use arc_doors::{ListPulse, MemDoor};
-use arc_io::{Area, ListClock, ListNoise, MemDisk, MemPort, MemSink, MemSource};
+use arc_data::Txt;
+use arc_doors::{ListPulse, MemDoor, Pulse};
+use arc_io::{Area, ListClock, ListNoise, MemDisk, MemPort, MemSink, MemSource, Port};
 use disk_journal::{Journal, SHIPPED};
 use std::alloc::Global;
 use std::process::Abort;
@@ -77,16 +81,41 @@ fn outside_of(
     })
 }
 
+// Runs these words, for which there are doors enough. That doors may go to a thread is found for ports of any type, and not for each.
+fn run_words<P: Port + Send + Drop, T: Pulse + Send + Drop>(
+    rt: &(impl Abort + Threads + Wait + Sync),
+    alloc: Global,
+    words: &[Txt],
+    outside: Outside<MemSource, MemPort, MemDisk, MemDoor<P>, MemDoor<P>, T>,
+) -> Result<Ended<MemSource, MemPort, MemDisk, MemDoor<P>, MemDoor<P>, T>, Fail>
+    requires setup { (source_seen outside.setup).ended ≡ false }
+    requires port { (port_seen outside.port).ended ≡ false }
+{
+    if !has_doors(words, outside.lines.len(), outside.desks.len()) {
+        return Err("too few doors")?;
+    }
+    Ok(run(rt, alloc, words, outside))
+}
+
+// Whether so many doors of lines and of desks are enough for these words.
+fn has_doors(words: &[Txt], lines: usize, desks: usize) -> bool
+    ensures { result ≡ true → (form : Form) → form_by words.now ≡ Some form → HasDoors form lines desks }
+{
+    match form_of(words) {
+        Some(Form::Serve(crew)) => crew.lines <= lines && crew.desks <= desks,
+        _ => true,
+    }
+}
+
 // A disk without faults, with two empty areas.
 fn new_disk(alloc: Global) -> MemDisk {
     MemDisk::new(alloc, Vec::new(alloc))
 }
 
-// A run of this word over them.
-fn ran(
+// A run of `line` over this input, at these readings.
+fn ran_line(
     rt: &(impl Abort + Threads + Wait + Sync),
     alloc: Global,
-    word: &[u8],
     setup: &[u8],
     input: &[u8],
     readings: &[u64],
@@ -94,9 +123,9 @@ fn ran(
 ) -> Result<Ran, Fail>
     requires { All (λ r. r < 253_402_300_800) readings.now }
 {
-    let word = Txt::of(word).ok_or("a short word")?;
+    let word = Txt::of(b"line").ok_or("a short word")?;
     let outside = outside_of(alloc, setup, input, readings, failing, new_disk(alloc))?;
-    Ok(run(rt, alloc, &[word], outside))
+    run_words(rt, alloc, &[word], outside)
 }
 
 // A run of `line` over one alarm.
@@ -106,7 +135,7 @@ fn ran_alarm(
     setup: &[u8],
     failing: &Failing,
 ) -> Result<Ran, Fail> {
-    ran(rt, alloc, b"line", setup, ALARM, &[1_000_000_000], failing)
+    ran_line(rt, alloc, setup, ALARM, &[1_000_000_000], failing)
 }
 
 // Of each record that a disk's journal has, the first byte of its body, which tells its event: 1 an Adopt, 2 a Start, 3 a Message.
@@ -121,15 +150,6 @@ fn recorded(alloc: Global, disk: &MemDisk) -> Result<Vec<u8>, Fail> {
         tags.extend_from_slice(bodies.at(i).get(..1).unwrap_or(b""))?;
     }
     Ok(tags)
-}
-
-// These pieces, one after the other.
-fn joined(alloc: Global, pieces: &[&[u8]]) -> Result<Vec<u8>, Fail> {
-    let mut all = Vec::new(alloc);
-    for piece in pieces {
-        all.extend_from_slice(piece)?;
-    }
-    Ok(all)
 }
 
 // An Adopt, a Start and the alarm, as a journal has them.
@@ -148,49 +168,6 @@ fn one_alarm_is_acknowledged_and_recorded(rt: HostRuntime) -> Result<(), Fail> {
     Ok(())
 }
 
-// A line with this input, which is answered and recorded so.
-fn line_answers(
-    rt: &(impl Abort + Threads + Wait + Sync),
-    alloc: Global,
-    input: &[&[u8]],
-    readings: &[u64],
-    output: &[&[u8]],
-    tags: &[u8],
-) -> Result<(), Fail>
-    requires { All (λ r. r < 253_402_300_800) readings.now }
-{
-    let input = joined(alloc, input)?;
-    let output = joined(alloc, output)?;
-    let ended = ran(rt, alloc, b"line", SETUP, &input, readings, &NONE)?;
-    assert_eq!(rt; ended.status, Status::Done);
-    assert_eq!(rt; ended.outside.port.sink.bytes(), output.as_slice());
-    assert_eq!(rt; recorded(alloc, &ended.outside.disk)?.as_slice(), tags);
-    Ok(())
-}
-
-#[test]
-fn an_empty_input_is_done(rt: HostRuntime) -> Result<(), Fail> {
-    line_answers(&rt, rt.alloc(), &[], &[1_000_000_000], &[], b"\x01\x02")
-}
-
-// The alarm with another check, with another length, and as it is.
-#[test]
-fn damaged_frames_are_not_answered(rt: HostRuntime) -> Result<(), Fail> {
-    let input = [
-        b"\n2EE80027\"ADM-CID\"0001L0#1234[#1234|1131 01 001]\r".as_slice(),
-        b"\n2EE70028\"ADM-CID\"0001L0#1234[#1234|1131 01 001]\r",
-        ALARM,
-    ];
-    line_answers(
-        &rt,
-        rt.alloc(),
-        &input,
-        &[1_000_000_000],
-        &[ACKNOWLEDGEMENT],
-        b"\x01\x02\x03",
-    )
-}
-
 // The same alarm three times, the last two at these moments after a beginning and an alarm at others: each is acknowledged, and
 // the last alone is recorded again.
 fn repeats(
@@ -200,14 +177,13 @@ fn repeats(
 ) -> Result<(), Fail>
     requires { All (λ r. r < 253_402_300_800) readings.now }
 {
-    line_answers(
-        rt,
-        alloc,
-        &[ALARM, ALARM, ALARM],
-        readings,
-        &[ACKNOWLEDGEMENT, ACKNOWLEDGEMENT, ACKNOWLEDGEMENT],
-        b"\x01\x02\x03\x03",
-    )
+    let ended = ran_line(rt, alloc, SETUP, &ALARM.repeat(alloc, 3)?, readings, &NONE)?;
+    assert_eq!(rt; ended.status, Status::Done);
+    let acknowledged = ACKNOWLEDGEMENT.repeat(alloc, 3)?;
+    assert_eq!(rt; ended.outside.port.sink.bytes(), acknowledged.as_slice());
+    let tags = recorded(alloc, &ended.outside.disk)?;
+    assert_eq!(rt; tags.as_slice(), b"\x01\x02\x03\x03".as_slice());
+    Ok(())
 }
 
 #[test]
@@ -224,46 +200,6 @@ fn a_repeat_is_not_recorded_again(rt: HostRuntime) -> Result<(), Fail> {
         rt.alloc(),
         &[1_000_000_300, 1_000_000_000, 1_000_000_600, 1_000_000_601],
     )
-}
-
-#[test]
-fn an_operator_at_a_desk(rt: HostRuntime) -> Result<(), Fail> {
-    let typed = b"list\nhello\nlogin ann 9999\nlogin ann 1234\nlist\nquit\nlist\n";
-    let ended = ran(
-        &rt,
-        rt.alloc(),
-        b"desk",
-        SETUP,
-        typed,
-        &[1_000_000_000],
-        &NONE,
-    )?;
-    assert_eq!(rt; ended.status, Status::Done);
-    let answers = b"denied\nwhat\ndenied\nok ann\nlist 0\nbye\n".as_slice();
-    assert_eq!(rt; ended.outside.port.sink.bytes(), answers);
-    assert_eq!(rt;
-        recorded(rt.alloc(), &ended.outside.disk)?.as_slice(),
-        b"\x01\x02".as_slice()
-    );
-    Ok(())
-}
-
-#[test]
-fn a_desk_whose_input_ends(rt: HostRuntime) -> Result<(), Fail> {
-    let typed = b"login bob 5678\nnext\nshow 1";
-    let ended = ran(
-        &rt,
-        rt.alloc(),
-        b"desk",
-        SETUP,
-        typed,
-        &[1_000_000_000],
-        &NONE,
-    )?;
-    assert_eq!(rt; ended.status, Status::Done);
-    let answers = b"ok bob\nnone waiting\nnot open 1\n".as_slice();
-    assert_eq!(rt; ended.outside.port.sink.bytes(), answers);
-    Ok(())
 }
 
 #[test]
@@ -288,40 +224,4 @@ fn reads_that_fail(rt: HostRuntime) -> Result<(), Fail> {
     assert_eq!(rt; ended.status, Status::ReadFault { input, before, now });
     assert_eq!(rt; ended.outside.port.sink.bytes(), ACKNOWLEDGEMENT);
     Ok(())
-}
-
-#[test]
-fn a_setup_that_is_none(rt: HostRuntime) -> Result<(), Fail> {
-    let ended = ran_alarm(&rt, rt.alloc(), b"account 1234\naccount 1234\n", &NONE)?;
-    let fault = SetupFault::TwoSame { line: 2, first: 1 };
-    assert_eq!(rt; ended.status, Status::SetupBad(fault));
-    assert_eq!(rt; ended.outside.disk.calls(), 0);
-    let ended = ran_alarm(&rt, rt.alloc(), b"# one panel\n\naccount 1234 \n", &NONE)?;
-    let kind = LineKind::Form;
-    let fault = SetupFault::BadLine { line: 3, kind };
-    assert_eq!(rt; ended.status, Status::SetupBad(fault));
-    Ok(())
-}
-
-// A run of these words over one alarm: nothing is touched.
-fn refused(
-    rt: &(impl Abort + Threads + Wait + Sync),
-    alloc: Global,
-    words: &[Txt],
-) -> Result<(), Fail> {
-    let outside = outside_of(alloc, SETUP, ALARM, &[], &NONE, new_disk(alloc))?;
-    let ended = run(rt, alloc, words, outside);
-    assert_eq!(rt; ended.status, Status::Usage);
-    assert_eq!(rt; ended.outside.disk.calls(), 0);
-    Ok(())
-}
-
-#[test]
-fn other_words_are_refused(rt: HostRuntime) -> Result<(), Fail> {
-    let line = Txt::of(b"line").ok_or("a short word")?;
-    let drill = Txt::of(b"drill").ok_or("a short word")?;
-    let zero = Txt::of(b"0").ok_or("a short word")?;
-    refused(&rt, rt.alloc(), &[])?;
-    refused(&rt, rt.alloc(), &[line, line])?;
-    refused(&rt, rt.alloc(), &[drill, zero])
 }

@@ -1,12 +1,11 @@
 // Runs over one disk, one after another.
 ghost use Rattle.std.specs.Prelude.{◌<◌};
 
-use super::{ACKNOWLEDGEMENT, ALARM, AREA, Failing, NONE, SETUP, outside_of, recorded};
-use crate::run::{Ended, Outside, run};
+use super::{ACKNOWLEDGEMENT, ALARM, Failing, NONE, SETUP, outside_of, recorded, run_words};
+use crate::run::{Ended, Outside};
 use crate::status::Status;
 use arc_data::Txt;
-use arc_io::{Area, MemDisk};
-use disk_journal::OpenFault;
+use arc_io::MemDisk;
 use std::alloc::Global;
 use std::process::Abort;
 use std::sync::Wait;
@@ -34,7 +33,7 @@ fn ran_over(
 {
     let word = Txt::of(b"line").ok_or("a short word")?;
     let outside = outside_of(alloc, setup, ALARM, &[reading], failing, disk)?;
-    let Ended { status, outside } = run(rt, alloc, &[word], outside);
+    let Ended { status, outside } = run_words(rt, alloc, &[word], outside)?;
     let Outside { port, disk, .. } = outside;
     let written = port.sink.bytes().to_vec(alloc)?;
     Ok(Finished {
@@ -74,79 +73,6 @@ fn an_alarm_that_was_not_acknowledged(rt: HostRuntime) -> Result<(), Fail> {
     assert_eq!(rt; second.written.as_slice(), ACKNOWLEDGEMENT);
     let tags = recorded(alloc, &second.disk)?;
     assert_eq!(rt; tags.as_slice(), b"\x01\x02\x03\x02".as_slice());
-    Ok(())
-}
-
-// Its journal has the same alarm, and another text.
-#[test]
-fn a_changed_setup_is_adopted(rt: HostRuntime) -> Result<(), Fail> {
-    let alloc = rt.alloc();
-    let disk = disk_of(alloc, AREA, &[])?;
-    let ended = ran_over(&rt, alloc, SETUP, 1_000_000_010, &NONE, disk)?;
-    assert_eq!(rt; ended.status, Status::Done);
-    let tags = recorded(alloc, &ended.disk)?;
-    assert_eq!(rt; tags.as_slice(), b"\x01\x02\x03\x01\x02".as_slice());
-    Ok(())
-}
-
-// A run over these bytes is refused so, and changes nothing.
-fn refused(
-    rt: &(impl Abort + Threads + Wait + Sync),
-    alloc: Global,
-    bytes: &[u8],
-    fault: OpenFault,
-) -> Result<(), Fail> {
-    let disk = disk_of(alloc, bytes, &[])?;
-    let ended = ran_over(rt, alloc, SETUP, 1_000_000_000, &NONE, disk)?;
-    assert_eq!(rt; ended.status, Status::Journal(fault));
-    assert_eq!(rt; ended.disk.bytes(Area::A), bytes);
-    assert_eq!(rt; ended.written.as_slice(), b"".as_slice());
-    Ok(())
-}
-
-// The area with another byte at a place.
-fn spoilt(alloc: Global, place: usize, byte: u8) -> Result<Vec<u8>, Fail> {
-    let mut bytes = AREA.to_vec(alloc)?;
-    if let Some(there) = bytes.get_mut(place) {
-        *there = byte;
-    }
-    Ok(bytes)
-}
-
-#[test]
-fn other_bytes_are_refused(rt: HostRuntime) -> Result<(), Fail> {
-    let alloc = rt.alloc();
-    refused(
-        &rt,
-        alloc,
-        b"XXXXXXXXXXXXXXXXXX",
-        OpenFault::NotJournal { byte: 0 },
-    )?;
-    let version = OpenFault::WrongVersion { found: *b"0009" };
-    refused(&rt, alloc, &spoilt(alloc, 15, b'9')?, version)?;
-    refused(
-        &rt,
-        alloc,
-        &spoilt(alloc, 17, 0xff)?,
-        OpenFault::Damaged { at: 16 },
-    )?;
-    // A length that is right, and a body of an event that no entry goes on with.
-    refused(
-        &rt,
-        alloc,
-        &spoilt(alloc, 21, 9)?,
-        OpenFault::Damaged { at: 16 },
-    )
-}
-
-#[test]
-fn a_short_area_is_begun_anew(rt: HostRuntime) -> Result<(), Fail> {
-    let alloc = rt.alloc();
-    let disk = disk_of(alloc, b"ARC JOURNA", &[])?;
-    let ended = ran_over(&rt, alloc, SETUP, 1_000_000_000, &NONE, disk)?;
-    assert_eq!(rt; ended.status, Status::Done);
-    let tags = recorded(alloc, &ended.disk)?;
-    assert_eq!(rt; tags.as_slice(), b"\x01\x02\x03".as_slice());
     Ok(())
 }
 

@@ -1,11 +1,10 @@
 // Runs of `report`: what is written, and what stays as it was.
 use super::lasting::disk_of;
-use super::{AREA, Failing, new_disk, outside_of};
-use crate::run::{Ended, Outside, run};
+use super::{AREA, Failing, outside_of, run_words};
+use crate::run::{Ended, Outside};
 use crate::status::Status;
 use arc_data::Txt;
 use arc_io::{Area, MemDisk};
-use disk_journal::OpenFault;
 use std::alloc::Global;
 use std::process::Abort;
 use std::sync::Wait;
@@ -40,7 +39,7 @@ fn reported(
     };
     let word = Txt::of(b"report").ok_or("a short word")?;
     let outside = outside_of(alloc, b"no setup", b"", &[], &failing, disk)?;
-    let Ended { status, outside } = run(rt, alloc, &[word], outside);
+    let Ended { status, outside } = run_words(rt, alloc, &[word], outside)?;
     let Outside { port, disk, .. } = outside;
     let written = port.sink.bytes().to_vec(alloc)?;
     Ok(Outcome {
@@ -57,20 +56,6 @@ fn an_alarm_is_reported(rt: HostRuntime) -> Result<(), Fail> {
     assert_eq!(rt; ended.status, Status::Done);
     assert_eq!(rt; ended.written.as_slice(), ONE);
     assert_eq!(rt; ended.disk.bytes(Area::A), AREA);
-    Ok(())
-}
-
-// The area of a new station is begun, and has no record.
-#[test]
-fn an_empty_disk_is_reported(rt: HostRuntime) -> Result<(), Fail> {
-    let alloc = rt.alloc();
-    let ended = reported(&rt, alloc, &[], new_disk(alloc))?;
-    assert_eq!(rt; ended.status, Status::Done);
-    assert_eq!(rt;
-        ended.written.as_slice(),
-        b"recorded 0\nopen 0\n".as_slice()
-    );
-    assert_eq!(rt; ended.disk.bytes(Area::A), b"ARC JOURNAL 0001\0".as_slice());
     Ok(())
 }
 
@@ -100,22 +85,5 @@ fn a_sink_that_fails_in_a_report(rt: HostRuntime) -> Result<(), Fail> {
     for call in 1..8u64 {
         cut_off(&rt, alloc, call)?;
     }
-    Ok(())
-}
-
-#[test]
-fn an_area_that_is_not_reported(rt: HostRuntime) -> Result<(), Fail> {
-    let alloc = rt.alloc();
-    let other = disk_of(alloc, b"XXXXXXXXXXXXXXXXXX", &[])?;
-    let ended = reported(&rt, alloc, &[], other)?;
-    assert_eq!(rt;
-        ended.status,
-        Status::Journal(OpenFault::NotJournal { byte: 0 })
-    );
-    assert_eq!(rt; ended.written.len(), 0);
-    let failing = disk_of(alloc, AREA, &[1])?;
-    let ended = reported(&rt, alloc, &[], failing)?;
-    assert_eq!(rt; ended.status, Status::DiskFault { before: 0, now: 1 });
-    assert_eq!(rt; ended.written.len(), 0);
     Ok(())
 }

@@ -1,31 +1,57 @@
 // Runs of `serve` over doors in memory.
-ghost use Rattle.std.specs.Prelude.{◌≡◌, ◌<◌, All, length, IfOk};
+ghost use Rattle.std.specs.Prelude.{◌≡◌, All, false};
+ghost use Rattle.arc_io.specs.Memory.{port_seen, source_seen};
 
-use super::{Around, Doors, Failing, NONE, Ran, SETUP, new_disk, outside_of};
-use crate::run::{Ended, run};
+use super::links::{Flag, WaitingLink, WaitingPulse};
+use super::{Failing, NONE, SETUP, new_disk, outside_of, run_words};
+use crate::form::{Form, form_of};
+use crate::run::{Ended, Outside};
 use crate::status::Status;
 use arc_data::Txt;
-use arc_doors::MemDoor;
+use arc_doors::{ListPulse, MemDoor, Pulse};
+use arc_io::{MemDisk, MemPort, MemSource, Port, Source};
 use arc_sessions::Side;
 use std::alloc::Global;
 use std::process::Abort;
-use std::sync::Wait;
+use std::sync::atomic::AtomicBool;
+use std::sync::{Arc, Wait};
 use std::test::Fail;
 use std::thread::Threads;
 
-// A door without links, whose calls of these numbers fail.
-fn door_of(alloc: Global, failing: &[u64]) -> Result<Doors, Fail> {
-    match MemDoor::new(alloc, Vec::new(alloc), failing.to_vec(alloc)?) {
+// What `serve` gives back over doors to such ports, and such a pulse.
+type Served<P, T> = Ended<MemSource, MemPort, MemDisk, MemDoor<P>, MemDoor<P>, T>;
+
+// A door to these ports, of which none has been read. Its calls of these numbers fail.
+fn door_of<P: Port + Send + Drop>(
+    alloc: Global,
+    ports: Vec<P>,
+    failing: &[u64],
+) -> Result<MemDoor<P>, Fail>
+    requires { All (λ port. (P.seen port).ended ≡ false) ports.items }
+{
+    match MemDoor::new(alloc, ports, failing.to_vec(alloc)?) {
         Ok(door) => Ok(door),
         Err(_) => Err("no memory")?,
     }
 }
 
-// A line and a desk with such doors.
-fn around(alloc: Global, line: &[u64], desk: &[u64], failing: &Failing) -> Result<Around, Fail>
-    ensures { IfOk result (λ o. (length o.lines.items ≡ 1) × (length o.desks.items ≡ 1)) }
-{
-    let mut outside = outside_of(
+// A run of `serve` with these numbers, over a new disk. These calls of its port fail.
+fn served<P: Port + Send + Drop, T: Pulse + Send + Drop>(
+    rt: &(impl Abort + Threads + Wait + Sync),
+    alloc: Global,
+    numbers: [&[u8]; 3],
+    failing: &Failing,
+    lines: Vec<MemDoor<P>>,
+    desks: Vec<MemDoor<P>>,
+    pulse: T,
+) -> Result<Served<P, T>, Fail> {
+    let words = words_of(numbers)?;
+    let Outside {
+        setup,
+        port,
+        disk,
+        ..
+    } = outside_of(
         alloc,
         SETUP,
         b"",
@@ -33,31 +59,49 @@ fn around(alloc: Global, line: &[u64], desk: &[u64], failing: &Failing) -> Resul
         failing,
         new_disk(alloc),
     )?;
-    outside.lines.push(door_of(alloc, line)?)?;
-    outside.desks.push(door_of(alloc, desk)?)?;
-    Ok(outside)
+    let outside = Outside {
+        setup,
+        port,
+        disk,
+        lines,
+        desks,
+        pulse,
+    };
+    run_words(rt, alloc, &words, outside)
 }
 
-// A run of `serve 1 1 1` over them.
-fn served(
+// `serve` and these numbers.
+fn words_of(numbers: [&[u8]; 3]) -> Result<[Txt; 4], Fail> {
+    let [lines, desks, sessions] = numbers;
+    let serve = Txt::of(b"serve").ok_or("a short word")?;
+    let lines = Txt::of(lines).ok_or("a short word")?;
+    let desks = Txt::of(desks).ok_or("a short word")?;
+    let sessions = Txt::of(sessions).ok_or("a short word")?;
+    Ok([serve, lines, desks, sessions])
+}
+
+// A run of `serve` for one session over a door of lines without links, and over one of desks where there is one. The doors' calls of these
+// numbers fail. It ends with this status, and has written this.
+fn serves(
     rt: &(impl Abort + Threads + Wait + Sync),
     alloc: Global,
-    outside: Around,
-) -> Result<Ran, Fail> {
-    let serve = Txt::of(b"serve").ok_or("a short word")?;
-    let one = Txt::of(b"1").ok_or("a short word")?;
-    Ok(run(rt, alloc, &[serve, one, one, one], outside))
-}
-
-// What was written after a run of this status.
-fn compare(rt: &impl Abort, ended: &Ran, status: Status, written: &[u8]) -> Result<(), Fail> {
-    let Ended {
-        status: is,
-        outside,
-    } = ended;
-    assert_eq!(rt; *is, status);
-    assert_eq!(rt; outside.port.sink.bytes(), written);
-    assert_eq!(rt; (outside.lines.len(), outside.desks.len()), (1, 1));
+    line: &[u64],
+    desk: Option<&[u64]>,
+    failing: &Failing,
+    status: Status,
+    written: &[u8],
+) -> Result<(), Fail> {
+    let mut desks: Vec<MemDoor<MemPort>> = Vec::new(alloc);
+    let mut count = b"0";
+    if let Some(failing) = desk {
+        desks.push(door_of(alloc, Vec::new(alloc), failing)?)?;
+        count = b"1";
+    }
+    let lines = Vec::from_array(alloc, [door_of(alloc, Vec::new(alloc), line)?])?;
+    let pulse = ListPulse::new(Vec::new(alloc));
+    let ended = served(rt, alloc, [b"1", count, b"1"], failing, lines, desks, pulse)?;
+    assert_eq!(rt; ended.status, status);
+    assert_eq!(rt; ended.outside.port.sink.bytes(), written);
     Ok(())
 }
 
@@ -66,34 +110,22 @@ const SUMMARY: &[u8] = b"recorded 2, open 0\n";
 #[test]
 fn doors_that_end_at_once(rt: HostRuntime) -> Result<(), Fail> {
     let alloc = rt.alloc();
-    let ended = served(&rt, alloc, around(alloc, &[], &[], &NONE)?)?;
-    compare(&rt, &ended, Status::Done, SUMMARY)
+    serves(&rt, alloc, &[], None, &NONE, Status::Done, SUMMARY)?;
+    serves(&rt, alloc, &[], Some(&[]), &NONE, Status::Done, SUMMARY)
 }
 
+// Where both sides' doors fail, that of lines decides.
 #[test]
-fn a_door_of_lines_that_fails(rt: HostRuntime) -> Result<(), Fail> {
+fn doors_that_fail(rt: HostRuntime) -> Result<(), Fail> {
     let alloc = rt.alloc();
-    let (door, before, now) = (Side::Lines, 0, 1);
-    let ended = served(&rt, alloc, around(alloc, &[1], &[1], &NONE)?)?;
-    compare(
-        &rt,
-        &ended,
-        Status::DoorFault { door, before, now },
-        SUMMARY,
-    )
-}
-
-#[test]
-fn a_door_of_desks_that_fails(rt: HostRuntime) -> Result<(), Fail> {
-    let alloc = rt.alloc();
-    let (door, before, now) = (Side::Desks, 0, 1);
-    let ended = served(&rt, alloc, around(alloc, &[], &[1], &NONE)?)?;
-    compare(
-        &rt,
-        &ended,
-        Status::DoorFault { door, before, now },
-        SUMMARY,
-    )
+    let (before, now) = (0, 1);
+    let door = Side::Lines;
+    let of_lines = Status::DoorFault { door, before, now };
+    serves(&rt, alloc, &[1], None, &NONE, of_lines, SUMMARY)?;
+    serves(&rt, alloc, &[1], Some(&[1]), &NONE, of_lines, SUMMARY)?;
+    let door = Side::Desks;
+    let of_desks = Status::DoorFault { door, before, now };
+    serves(&rt, alloc, &[], Some(&[1]), &NONE, of_desks, SUMMARY)
 }
 
 // A door's fault stands before that of the summary's write.
@@ -105,57 +137,59 @@ fn a_summary_that_is_cut_off(rt: HostRuntime) -> Result<(), Fail> {
         reads: &[],
         writes: &[2],
     };
-    let (door, before, now) = (Side::Desks, 0, 1);
-    let ended = served(&rt, alloc, around(alloc, &[], &[], &failing)?)?;
-    compare(
-        &rt,
-        &ended,
-        Status::WriteFault { before, now },
-        b"recorded ",
-    )?;
-    let ended = served(&rt, alloc, around(alloc, &[], &[1], &failing)?)?;
-    compare(
-        &rt,
-        &ended,
-        Status::DoorFault { door, before, now },
-        b"recorded ",
+    let (before, now) = (0, 1);
+    let cut = Status::WriteFault { before, now };
+    serves(&rt, alloc, &[], None, &failing, cut, b"recorded ")?;
+    let door = Side::Lines;
+    let of_lines = Status::DoorFault { door, before, now };
+    serves(&rt, alloc, &[1], None, &failing, of_lines, b"recorded ")
+}
+
+// A run of `serve` for one line, whose link ends when the pulse has given its moment.
+fn served_in_turn(
+    rt: &(impl Abort + Threads + Wait + Sync),
+    alloc: Global,
+    host: HostRuntime,
+) -> Result<Served<WaitingLink<HostRuntime>, WaitingPulse<HostRuntime>>, Fail> {
+    let given: Flag = Arc::new(alloc, AtomicBool::new(false))?;
+    let link = WaitingLink::new(host, Arc::try_clone(&given)?);
+    let door = door_of(alloc, Vec::from_array(alloc, [link])?, &[])?;
+    let lines = Vec::from_array(alloc, [door])?;
+    let pulse = WaitingPulse::new(host, given);
+    served(
+        rt,
+        alloc,
+        [b"1", b"0", b"1"],
+        &NONE,
+        lines,
+        Vec::new(alloc),
+        pulse,
     )
 }
 
-// Whether words with these numbers are of no form.
-fn are_none(
-    rt: &(impl Abort + Threads + Wait + Sync),
-    alloc: Global,
-    row: &str,
-) -> Result<(), Fail> {
-    let mut words = Vec::new(alloc);
-    for word in row.split(' ') {
-        words.push(Txt::of(word.as_bytes()).ok_or("a short word")?)?;
+// The ticker goes on beside a session, and the pulse is told to end when the worker has ended, and not before.
+#[test]
+fn a_tick_beside_a_session(rt: HostRuntime) -> Result<(), Fail> {
+    let Ended { status, outside } = served_in_turn(&rt, rt.alloc(), rt)?;
+    let Outside {
+        port,
+        lines,
+        pulse,
+        ..
+    } = outside;
+    assert_eq!(rt; status, Status::Done);
+    assert_eq!(rt; port.sink.bytes(), SUMMARY);
+    for door in lines {
+        assert_eq!(rt; faults_of_back(door), Some(0));
     }
-    assert_eq!(rt; crate::form::form_of(&words), None, "{row}");
+    assert!(rt; pulse.was_told());
     Ok(())
 }
 
-const NO_FORMS: &str = "serve 0 0 1
-serve 65 0 1
-serve 1 17 1
-serve 1 0 0
-serve 1 0 1000001
-serve 01 0 1
-serve 1 0 +1
-serve 1 00 1
-serve 1 0
-serve 1 0 1 1
-serve
-Serve 1 0 1
-line 1 0 1";
-
-#[test]
-fn numbers_outside_their_limits(rt: HostRuntime) -> Result<(), Fail> {
-    for row in NO_FORMS.lines() {
-        are_none(&rt, rt.alloc(), row)?;
-    }
-    Ok(())
+// How many reads failed of the first link that a door got back.
+fn faults_of_back<P: Port + Drop>(door: MemDoor<P>) -> Option<u64> {
+    let back = door.into_back();
+    Some(back.first()?.read_faults())
 }
 
 // The words with the least numbers and with the greatest are of a form.
@@ -166,13 +200,7 @@ fn numbers_at_their_limits(rt: HostRuntime) -> Result<(), Fail> {
 }
 
 fn crew_is(rt: &impl Abort, numbers: [&[u8]; 3], crew: (usize, usize, u32)) -> Result<(), Fail> {
-    let [lines, desks, sessions] = numbers;
-    let serve = Txt::of(b"serve").ok_or("a short word")?;
-    let lines = Txt::of(lines).ok_or("a short word")?;
-    let desks = Txt::of(desks).ok_or("a short word")?;
-    let sessions = Txt::of(sessions).ok_or("a short word")?;
-    let Some(crate::form::Form::Serve(is)) = crate::form::form_of(&[serve, lines, desks, sessions])
-    else {
+    let Some(Form::Serve(is)) = form_of(&words_of(numbers)?) else {
         return Err("no form")?;
     };
     assert_eq!(rt; (is.lines, is.desks, is.sessions), crew);

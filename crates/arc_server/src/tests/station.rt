@@ -129,13 +129,19 @@ impl Station {
         Ok(())
     }
 
-    /// Plays a row: `T MOMENT > raised COUNT`, `M BODY > REPLY` with bodies of frames (`-` for no reply), `D NUMBER COMMAND > ANSWER`, or
+    /// Plays a row of the play of this name: `T MOMENT > raised COUNT`, `M BODY > REPLY` with bodies of frames (`-` for no reply), `D NUMBER COMMAND > ANSWER`, or
     /// `S FIRST LAST` for the sequences of messages that are all acknowledged.
-    pub(crate) fn play(&mut self, rt: &impl Abort, alloc: Global, row: &str) -> Result<(), Fail> {
+    pub(crate) fn play(
+        &mut self,
+        rt: &impl Abort,
+        alloc: Global,
+        name: &str,
+        row: &str,
+    ) -> Result<(), Fail> {
         let (told, wanted) = row.split_once(" > ").unwrap_or((row, ""));
         let (kind, rest) = told.split_once(' ').ok_or("no row")?;
         match kind {
-            "T" => assert_eq!(rt; self.tick(alloc, rest)?.as_str(), wanted, "{row}"),
+            "T" => assert_eq!(rt; self.tick(alloc, rest)?.as_str(), wanted, "{name}: {row}"),
             "M" => {
                 let got = self.receive(alloc, rest)?;
                 let reply = if wanted == "-" {
@@ -143,13 +149,13 @@ impl Station {
                 } else {
                     frame(alloc, wanted)?
                 };
-                assert_eq!(rt; got.as_slice(), reply.as_bytes(), "{row}");
+                assert_eq!(rt; got.as_slice(), reply.as_bytes(), "{name}: {row}");
             }
             "D" => {
                 let (number, text) = rest.split_once(' ').ok_or("no desk")?;
                 let got = self.command(alloc, number, text)?;
                 let line = got.strip_suffix(b"\n").ok_or("no line")?;
-                assert_eq!(rt; line, wanted.as_bytes(), "{row}");
+                assert_eq!(rt; line, wanted.as_bytes(), "{name}: {row}");
             }
             _ => {
                 let (first, last) = rest.split_once(' ').ok_or("no numbers")?;
