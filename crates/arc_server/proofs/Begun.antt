@@ -33,6 +33,7 @@ use Rattle.arc_server.specs.declared.status.Status.TheVariants.{Done, Usage, Set
 use Rattle.arc_server.specs.declared.status.Status.TheVariants.{DoorFault, Memory as NoMemory, Spent, Worn}
 use Rattle.arc_server.proofs.Kept.{kept, kept_up}
 use Rattle.arc_server.proofs.Served.{up_to_end}
+use Rattle.arc_server.proofs.Shown.{shown, rose_line, all_may}
 
 abbrev line_of : ℕ → List Incident → List ℕ
 line_of r is = (codes "recorded " ++ decimal r) ++ ((codes ", open " ++ decimal (length is)) ++ codes "\n")
@@ -119,12 +120,12 @@ pub serves_all : {D : Type 0} {told : D → Option Areas} {may_leave : D → Are
     → IfOk came (λ came. ServesStore told may_leave faults first crew around around' came last)
     → OnErr came ((b : Summary) (h : List Entry) → StoreStands told may_leave faults b first h → GoesOnFrom told may_leave faults b h last)
     → OnErr came (around' ≡ around)
-    → last.journal.limits ≡ shipped → disk' ≡ last.journal.disk
+    → last.journal.limits ≡ shipped → disk' ≡ last.journal.disk → entry ≤ first.at_open
     → ((h : List Entry) → StoreStands told may_leave faults nothing last h → EndsWith told may_leave status disk' h)
     → ((h : List Entry) → StoreStands told may_leave faults nothing last h → WritesLine cut (line_after h) p p')
     → status ≡ first_of (occurred entry (faults disk') p p' cut came)
     → ServesAll told may_leave faults crew status past text clock p p' around around' entry disk'
-serves_all {D} {told} {may_leave} {faults} (Ok came) cut first last crew status past text clock p p' around around' entry disk' begins under served refused untouched limits handed ends line is =
+serves_all {D} {told} {may_leave} {faults} (Ok came) cut first last crew status past text clock p p' around around' entry disk' begins under served refused untouched limits handed since ends line is =
     let base : List Entry = begun_after nothing past text clock in
     let stood : StoreStands told may_leave faults nothing served.gate.store base =
     subst (λ (s : Stored D). StoreStands told may_leave faults nothing s base) (sym served.from_is) begins.stands in
@@ -142,8 +143,11 @@ serves_all {D} {told} {may_leave} {faults} (Ok came) cut first last crew status 
       cut = cut;
       line = line all.from.history all.from.stands;
       status_is = is;
+      shows =
+          shown (Ok came) cut status entry (faults disk') p p' is (λ written. rose_line cut (line_after all.from.history) p p' written (line all.from.history all.from.stands))
+          (λ up. all_may first last crew around around' came entry disk' served since handed up);
     }
-serves_all {D} {told} {may_leave} {faults} (Err none) cut first last crew status past text clock p p' around around' entry disk' begins under served refused untouched limits handed ends line is =
+serves_all {D} {told} {may_leave} {faults} (Err none) cut first last crew status past text clock p p' around around' entry disk' begins under served refused untouched limits handed since ends line is =
     let base : List Entry = begun_after nothing past text clock in
     let from : GoesOnFrom told may_leave faults nothing base last = refused nothing base begins.stands in record {
       first = first;
@@ -159,4 +163,5 @@ serves_all {D} {told} {may_leave} {faults} (Err none) cut first last crew status
       cut = cut;
       line = line from.history from.stands;
       status_is = is;
+      shows = shown (Err none) cut status entry (faults disk') p p' is (λ written. rose_line cut (line_after from.history) p p' written (line from.history from.stands)) (λ up. tt);
     }

@@ -22,7 +22,7 @@ use Rattle.line_gate.specs.Passes.{PassSeen}
 use Rattle.arc_server.specs.Areas.{BeginsWith, EndsWith, shipped}
 use Rattle.arc_server.specs.SessionRuns.{IsUnbegun}
 use Rattle.arc_server.specs.SetupReads.{ReadsText, IsSetupEnd}
-use Rattle.arc_server.specs.Servings.{occurred, first_of}
+use Rattle.arc_server.specs.Servings.{occurred, first_of, IsShownBy}
 use Rattle.arc_server.specs.Unopened.{IsUnopened}
 use Rattle.arc_server.specs.declared.status.Status.{Status}
 
@@ -75,6 +75,7 @@ pub record ServesAll {D : Type 0} (told : D → Option Areas) (may_leave : D →
   pub cut : Bool
   pub line : WritesLine cut (line_after stands.from.history) p p'
   pub status_is : status ≡ first_of (occurred entry (faults disk') p p' cut came)
+  pub shows : IsShownBy status entry (faults disk') p p' came
 
 -- What a run did over a past: at one reading of the clock it did not begin, and what stood around it is as it was; or it began and all
 -- callers were served.

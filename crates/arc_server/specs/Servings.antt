@@ -1,6 +1,6 @@
 -- Which status is made of what came of all callers.
-use Rattle.std.specs.Prelude.{ℕ, ◌==◌, ◌||◌, List, [], ◌∷◌, ◌++◌, Bool, true, false, not, if◌then◌else◌, nat_le}
-use Rattle.std.specs.Prelude.{Option, Some, None, Result, Ok, Err}
+use Rattle.std.specs.Prelude.{ℕ, ◌≡◌, ◌==◌, ◌||◌, ◌⊎◌, List, [], ◌∷◌, ◌++◌, Bool, true, false, not, if◌then◌else◌, nat_le}
+use Rattle.std.specs.Prelude.{Option, Some, None, Result, Ok, Err, All, Contains}
 use Rattle.std.specs.List.{flat_map, list_any}
 use Rattle.std.specs.Option.{option_to_list}
 use Rattle.arc_data.specs.declared.blob.Memory.{Memory}
@@ -15,7 +15,10 @@ use Rattle.arc_workers.specs.declared.working.WorkerEnd.TheVariants.{DoorEnded, 
 use Rattle.centre_core.specs.declared.hall.Stop.{Stop}
 use Rattle.centre_core.specs.declared.hall.Stop.TheVariants.{Memory as MemoryWanted, Down, Full as HallFull, Worn as HallWorn}
 use Rattle.arc_server.specs.declared.status.Status.{Status}
-use Rattle.arc_server.specs.declared.status.Status.TheVariants.{Done, WriteFault, DiskFault, Full, DoorFault, Memory as NoMemory, Worn}
+use Rattle.arc_server.specs.Counts.{HasRisen}
+use Rattle.arc_server.specs.declared.status.Status.TheVariants.{Done, Usage, SetupBad, ReadFault, WriteFault, DiskFault, Journal, Full}
+use Rattle.arc_server.specs.declared.status.Status.TheVariants.{DoorFault, Memory as NoMemory, Spent, Worn}
+use Rattle.arc_server.specs.declared.status.Which.{Which}
 
 -- the stop that ended a worker
 abbrev pub stop_in : WorkerEnd → List Stop
@@ -86,3 +89,41 @@ front_of (status ∷ more) = Some status
 abbrev pub first_of : List Status → Status
 first_of [] = Done
 first_of (status ∷ more) = status
+
+-- What each status shows.
+
+-- a worker went on until its door ended or its quota was reached, and no session of it was refused memory
+abbrev pub HasEnded : Worked → Type 0
+HasEnded w = ((w.end ≡ DoorEnded) ⊎ (w.end ≡ Quota)) × (w.refused ≡ 0)
+
+-- all workers did, the ticker went on to the end of its pulse, and no Tick was refused memory
+pub record HaveEnded (came : CameSeen) : Type 0 where
+  pub lines : All HasEnded came.lines
+  pub desks : All HasEnded came.desks
+  pub ticker : came.ticked.stop ≡ None
+  pub refused : came.ticked.refused ≡ 0
+
+-- callers ran, and this came of them
+abbrev pub HasCome : (CameSeen → Type 0) → Result CameSeen Memory → Type 0
+HasCome so (Ok came) = so came
+HasCome so (Err refused) = ⊥
+
+-- a worker of this side ended by a fault of its door, of these counts
+abbrev pub HasDoorFault : Side → ℕ → ℕ → CameSeen → Type 0
+HasDoorFault Lines before now came = (w : Worked) × Contains came.lines w × (w.end ≡ WorkerFault before now)
+HasDoorFault Desks before now came = (w : Worked) × Contains came.desks w × (w.end ≡ WorkerFault before now)
+
+-- What a status shows of what occurred, by the same values. Want of memory shows nothing.
+abbrev pub IsShownBy : Status → ℕ → ℕ → PortSeen → PortSeen → Result CameSeen Memory → Type 0
+IsShownBy Done entry end p p' came = HasCome HaveEnded came
+IsShownBy (DiskFault before now) entry end p p' came = HasRisen before now entry end
+IsShownBy (Full used need records) entry end p p' came = HasCome (λ c. Contains (stops_in c) (HallFull used need records)) came
+IsShownBy (Worn count) entry end p p' came = HasCome (λ c. Contains (stops_in c) (HallWorn count)) came
+IsShownBy (DoorFault side before now) entry end p p' came = HasCome (HasDoorFault side before now) came
+IsShownBy (WriteFault before now) entry end p p' came = HasRisen before now p.write_faults p'.write_faults
+IsShownBy NoMemory entry end p p' came = Unit {0}
+IsShownBy Usage entry end p p' came = ⊥
+IsShownBy (SetupBad fault) entry end p p' came = ⊥
+IsShownBy (ReadFault which before now) entry end p p' came = ⊥
+IsShownBy (Journal fault) entry end p p' came = ⊥
+IsShownBy Spent entry end p p' came = ⊥

@@ -25,6 +25,7 @@ returns-clause-served g c past text clock begins under =
     let late = c.write_faults.result in
     serves_all came (is_err written) c.args.store last c.args.crew status past text clock p p' c.args.station c.serve_store-store.result.station
     c.args.before c.close-disk.result begins under e.served e.refused e.untouched (e.kept.1 ∙ c.requires.limits) c.close-disk.ensures
+    c.requires.before
     (ends_first status c.args.before c.args.store.at_open c.faults.result (met_by came (where_so (is_err written) (WriteFault writes late))) last
     c.close-disk.result c.first_occurred-status.ensures.first e.kept.0 c.requires.before c.close-disk.ensures c.faults.ensures)
     (puts_line p p' written last
