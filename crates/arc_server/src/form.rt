@@ -1,8 +1,8 @@
 // The forms of the words that a run is called with.
 ghost use Rattle.std.specs.Prelude.{◌≡◌, ◌≤◌, IfSome};
 ghost use Rattle.alarm_rules.specs.SetupWords.{number_between};
-ghost use Rattle.arc_server.specs.Forms.{form_of, form_named, crew_named, drill_named};
-ghost use Rattle.arc_server.specs.WholeRuns.{HasDoors, HasMessages};
+ghost use Rattle.arc_server.specs.Forms.{form_of, form_named, crew_named};
+ghost use Rattle.arc_server.specs.WholeRuns.{HasDoors};
 
 use arc_data::Txt;
 use arc_serving::Crew;
@@ -14,12 +14,8 @@ use arc_text::dec;
 pub enum Form {
     /// `line` or `desk`: one session of a line, or of a desk, on the port.
     Session(Side),
-    /// `script`: the script on the port.
-    Script,
     /// `report`: the report of what the journal has.
     Report,
-    /// `drill N`: the script of so many messages, over a disk in memory.
-    Drill(u32),
     /// `serve LINES DESKS SESSIONS`: so many lines and desks at once, each for so many sessions.
     Serve(Crew),
 }
@@ -28,11 +24,9 @@ pub enum Form {
 pub(crate) fn form_of(words: &[Txt]) -> Option<Form>
     ensures form { result ≡ form_of words.now }
     ensures doors { IfSome result (λ form. HasDoors form 64 16) }
-    ensures few { IfSome result HasMessages }
 {
     match words {
         [word] => form_named(word),
-        [word, messages] if word.bytes() == b"drill".as_slice() => drill_named(messages),
         [word, lines, desks, sessions] if word.bytes() == b"serve".as_slice() => {
             crew_named(lines, desks, sessions)
         }
@@ -44,14 +38,11 @@ pub(crate) fn form_of(words: &[Txt]) -> Option<Form>
 fn form_named(word: &Txt) -> Option<Form>
     ensures form { result ≡ form_named word.now }
     ensures doors { IfSome result (λ form. HasDoors form 64 16) }
-    ensures few { IfSome result HasMessages }
 {
     if word.bytes() == b"line".as_slice() {
         Some(Form::Session(Side::Lines))
     } else if word.bytes() == b"desk".as_slice() {
         Some(Form::Session(Side::Desks))
-    } else if word.bytes() == b"script".as_slice() {
-        Some(Form::Script)
     } else if word.bytes() == b"report".as_slice() {
         Some(Form::Report)
     } else {
@@ -59,21 +50,10 @@ fn form_named(word: &Txt) -> Option<Form>
     }
 }
 
-// The form of the number behind `drill`.
-fn drill_named(messages: &Txt) -> Option<Form>
-    ensures form { result ≡ drill_named messages.now }
-    ensures doors { IfSome result (λ form. HasDoors form 64 16) }
-    ensures few { IfSome result HasMessages }
-{
-    let messages = number(1, 100_000, messages.bytes())?;
-    Some(Form::Drill(messages as u32))
-}
-
 // The form of the three numbers behind `serve`.
 fn crew_named(lines: &Txt, desks: &Txt, sessions: &Txt) -> Option<Form>
     ensures form { result ≡ crew_named lines.now desks.now sessions.now }
     ensures doors { IfSome result (λ form. HasDoors form 64 16) }
-    ensures few { IfSome result HasMessages }
 {
     let lines = number(1, 64, lines.bytes())?;
     let desks = number(0, 16, desks.bytes())?;
@@ -88,7 +68,6 @@ fn crew_named(lines: &Txt, desks: &Txt, sessions: &Txt) -> Option<Form>
 // The number between two others, both included, whose decimal text the word is.
 fn number(low: u64, high: u64, word: &[u8]) -> Option<u64>
     ensures value { result ≡ number_between low high word.now }
-    ensures low { IfSome result (λ n. low ≤ n) }
     ensures high { IfSome result (λ n. n ≤ high) }
 {
     let number = dec(word)?;

@@ -1,7 +1,6 @@
 //! The alarm receiving centre. `arc line` and `arc desk` read the setup from `setup.txt` in the working folder and serve one line,
 //! or one operator's desk, on their standard input and output. What they record stands in `journal.a`, beside `journal.b`, and
-//! `arc report` writes what stands there. `arc serve` serves many lines and desks at once, each on a connection. `arc script` runs a
-//! script from standard input over the same journal, and `arc drill` one of its own over a journal in memory.
+//! `arc report` writes what stands there. `arc serve` serves many lines and desks at once, each on a connection.
 #![tactic(auto)]
 
 ghost use Rattle.std.specs.Prelude.{◌≡◌, Some};
@@ -22,13 +21,11 @@ use std::thread::Threads;
 use std::{env, fs, io};
 
 mod came;
-mod drill;
 mod form;
 mod made;
 mod opened;
 mod report;
 mod run;
-mod script;
 mod serving;
 mod session;
 mod setup;

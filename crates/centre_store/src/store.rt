@@ -1,8 +1,6 @@
 // The store, over a disk.
-ghost use Rattle.std.specs.Prelude.{◌≡◌, ◌↔◌, IsTrue};
-ghost use Rattle.centre_store.specs.Stores.{HasFailed};
+ghost use Rattle.std.specs.Prelude.{◌≡◌};
 
-use crate::submit::has_risen;
 use arc_io::Disk;
 use centre_core::Centre;
 use disk_journal::Journal;
@@ -35,13 +33,6 @@ impl<D: Disk> Store<D> {
         ensures { result.now ≡ self.now.state }
     {
         &self.centre
-    }
-
-    /// Whether the disk has failed since the opening.
-    pub fn has_failed(&self) -> bool
-        ensures { IsTrue result ↔ HasFailed D.fault_count self.now }
-    {
-        has_risen(self.at_open, self.journal.disk().faults())
     }
 
     /// Gives the disk back.
