@@ -4,6 +4,7 @@ use Rattle.arc_io.specs.Areas.{Areas}
 use Rattle.centre_rules.specs.Summary.{nothing}
 use Rattle.centre_rules.specs.History.{Entry}
 use Rattle.disk_journal.specs.Faults.{IsShown, IsOfContent}
+use Rattle.disk_journal.specs.Journal.{Holds}
 use Rattle.disk_journal.specs.Records.{Stands, IsDamaged}
 use Rattle.disk_journal.specs.declared.fault.OpenFault.{OpenFault}
 use Rattle.disk_journal.specs.declared.fault.OpenFault.TheVariants.{Damaged, Memory}
@@ -11,13 +12,14 @@ use Rattle.disk_journal.specs.declared.journal.OpenRefused.{OpenRefused}
 use Rattle.centre_store.specs.Pasts.{IsPast, IsBadAt}
 use Rattle.centre_store.specs.Stores.{Stored, StoreStands}
 
--- the store stands for the past of the bodies for which the area stood
+-- the store stands for the past of the bodies for which the area stood, and its journal holds them
 pub record IsOpened {D : Type 0} (told : D → Option Areas) (may_leave : D → Areas → Type 0) (faults : D → ℕ)
     (disk : D) (s : Stored D) : Type 0 where
   pub bodies : List (List ℕ)
   pub past : List Entry
   pub is_past : IsPast bodies past
   pub stands : StoreStands told may_leave faults nothing s past
+  pub held : Holds told may_leave s.journal bodies
   pub area : IfSome (told disk) (λ a. Stands a.a bodies)
 
 -- what a refusal says of the bodies that were read

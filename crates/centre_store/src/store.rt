@@ -1,6 +1,8 @@
 // The store, over a disk.
-ghost use Rattle.std.specs.Prelude.{◌≡◌};
+ghost use Rattle.std.specs.Prelude.{◌≡◌, ◌≤◌, ◌↔◌, IsTrue};
+ghost use Rattle.centre_store.specs.Stores.{HasFailed};
 
+use crate::submit::has_risen;
 use arc_io::Disk;
 use centre_core::Centre;
 use disk_journal::Journal;
@@ -33,6 +35,21 @@ impl<D: Disk> Store<D> {
         ensures { result.now ≡ self.now.state }
     {
         &self.centre
+    }
+
+    /// The count of the disk's faults at the opening, which is no less now.
+    pub fn at_open(&self) -> u64
+        ensures count { result ≡ self.now.at_open }
+        ensures later { self.now.at_open ≤ D.fault_count self.now.journal.disk }
+    {
+        self.at_open
+    }
+
+    /// Whether the disk has failed since the opening.
+    pub fn has_failed(&self) -> bool
+        ensures { IsTrue result ↔ HasFailed D.fault_count self.now }
+    {
+        has_risen(self.at_open, self.journal.disk().faults())
     }
 
     /// Gives the disk back.

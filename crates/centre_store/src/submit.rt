@@ -316,7 +316,7 @@ fn check_count_of_faults(at_open: u64, now: u64) -> Result<(), Stop>
 }
 
 // The later count is above the earlier one, or stands at its last value.
-fn has_risen(before: u64, now: u64) -> bool
+pub(crate) fn has_risen(before: u64, now: u64) -> bool
     ensures { IsTrue result ↔ Rose before now }
 {
     now > before || now == u64::MAX

@@ -106,43 +106,6 @@ fn area_of(alloc: Global, letters: &str) -> Result<MemDisk, Fail> {
     disk_of(alloc, &area)
 }
 
-// A place of the worked area, another byte there, and what opening it tells.
-const CHANGES: &str = "\
-0 65 3
-0 88 NotJournal { byte: 0 }
-11 88 NotJournal { byte: 11 }
-15 57 WrongVersion { found: [48, 48, 48, 57] }
-17 255 Damaged { at: 16 }
-52 12 Damaged { at: 47 }";
-
-#[test]
-fn an_area_that_is_no_journal_is_refused(rt: HostRuntime) -> Result<(), Fail> {
-    for row in CHANGES.lines() {
-        compare_change(&rt, rt.alloc(), row)?;
-    }
-    let ten = disk_of(rt.alloc(), b"XXXXXXXXXX")?;
-    assert_eq!(rt; told(rt.alloc(), ten)?.as_str(), "0");
-    Ok(())
-}
-
-fn compare_change(rt: &impl Abort, alloc: Global, row: &str) -> Result<(), Fail> {
-    let (at, rest) = row.split_once(' ').ok_or("no row")?;
-    let (byte, want) = rest.split_once(' ').ok_or("no row")?;
-    let told = told(alloc, changed(alloc, at.parse()?, byte.parse()?)?)?;
-    assert_eq!(rt; told.as_str(), want, "{row}");
-    Ok(())
-}
-
-// A disk that has the worked area with another byte at a place.
-fn changed(alloc: Global, at: usize, byte: u8) -> Result<MemDisk, Fail> {
-    let mut area = AREA.to_vec(alloc)?;
-    match area.get_mut(at) {
-        Some(there) => *there = byte,
-        None => return Err("no place")?,
-    }
-    disk_of(alloc, &area)
-}
-
 #[test]
 fn a_disk_that_fails_comes_back_with_both_counts(rt: HostRuntime) -> Result<(), Fail> {
     for call in 1..5u64 {

@@ -41,12 +41,14 @@ fn play_part(
     Ok(())
 }
 
-// What a store says to `begin` and `begin other`, which name a setup; `recorded`, `list`, or a sequence, that of a message.
+// What a store says to `begin` and `begin other`, which name a setup; `recorded`, `list`, or a sequence, that of a message; and `faults`,
+// how many its disk had when it was opened, and whether it had more since.
 fn told(alloc: Global, store: &mut Store<MemDisk>, words: &str) -> Result<String, Fail> {
     match words {
         "begin" => begun(alloc, store, b"account 1234\n"),
         "begin other" => begun(alloc, store, b"account 1234\naccount ABC\n"),
         "recorded" => Ok(format!(in alloc; "{}", store.centre().recorded())?),
+        "faults" => Ok(format!(in alloc; "{} {}", store.at_open(), store.has_failed())?),
         "list" => submitted(alloc, store, Event::List),
         _ => {
             let event = message(alloc, Token::AdmCid, words.parse()?, b"1131 01 001")?;
@@ -189,30 +191,6 @@ fn filled(alloc: Global, store: &mut Store<MemDisk>, seq: u16) -> Result<String,
     submitted(alloc, store, event)
 }
 
-// An Adopt comes with a first run, and where another setup is in force.
-const RUNS: &str = "\
-begin=begun;recorded=2;begin=begun;recorded=3;begin other=begun;recorded=5;begin=begun;recorded=7";
-
-#[test]
-fn a_setup_is_adopted_where_another_is_in_force(rt: HostRuntime) -> Result<(), Fail> {
-    let alloc = rt.alloc();
-    let disk = play(
-        &rt,
-        alloc,
-        MemDisk::new(alloc, Vec::new(alloc)),
-        SHIPPED,
-        RUNS,
-    )?;
-    let disk = play(
-        &rt,
-        alloc,
-        disk,
-        SHIPPED,
-        "recorded=7;begin=begun;recorded=8",
-    )?;
-    Ok(())
-}
-
 // How many of the three records a stop within this call leaves. Four calls open a new area, and four write each record; the third and
 // fourth of these leave the new one where its gate is 01.
 fn left_by(call: u64, fill: Fill) -> u64 {
@@ -248,7 +226,7 @@ fn left_after(alloc: Global, disk: &MemDisk, call: u64, fill: Fill) -> Result<u6
 // The call that fails, what is told then and ever after, and how many records are found when the disk is opened again. Where the last sync
 // of a record fails, its gate is written already.
 const FAULTS: &str = "\
-5|begin=down;begin=down;recorded=0|0
+5|faults=0 false;begin=down;begin=down;recorded=0;faults=0 true|0
 6|begin=down;begin=down;recorded=0|0
 7|begin=down;begin=down;recorded=0|0
 8|begin=down;begin=down;recorded=0|1
