@@ -22,3 +22,4 @@ pub use account::Account;
 pub use arc_data::{LineKind, SetupFault};
 pub use operator::Operator;
 pub use setup::Setup;
+pub use spelled::number_between;

@@ -38,7 +38,7 @@ pub(crate) fn key(word: &[u8]) -> Option<Key>
 pub(crate) fn seconds(word: &[u8]) -> Option<u64>
     ensures { result ≡ seconds_spelled word.now }
 {
-    number(1, 1_000_000, word)
+    number_between(1, 1_000_000, word)
 }
 
 /// The minutes that local time is ahead of GMT, from -840 to 840.
@@ -48,13 +48,14 @@ pub(crate) fn minutes(word: &[u8]) -> Option<i16>
 {
     match word {
         [] => None,
-        [b'-', digits @ ..] => Some(-(number(1, 840, digits)? as i16)),
-        digits => Some(number(0, 840, digits)? as i16),
+        [b'-', digits @ ..] => Some(-(number_between(1, 840, digits)? as i16)),
+        digits => Some(number_between(0, 840, digits)? as i16),
     }
 }
 
-/// The number between two others, both included, whose decimal text the word is.
-fn number(low: u64, high: u64, word: &[u8]) -> Option<u64>
+/// The number between two others, both included, whose decimal text the word is. None where it is the text of no such number. Words of
+/// the command line are read by it too.
+pub fn number_between(low: u64, high: u64, word: &[u8]) -> Option<u64>
     ensures value { result ≡ number_between low high word.now }
     ensures low { IfSome result (λ n. low ≤ n) }
     ensures high { IfSome result (λ n. n ≤ high) }

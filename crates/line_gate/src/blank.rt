@@ -1,5 +1,5 @@
 // A gate that has no name yet.
-ghost use Rattle.std.specs.Prelude.{◌≡◌, List, IfOk, IfErr};
+ghost use Rattle.std.specs.Prelude.{◌≡◌, List, Some, IfOk, IfErr};
 ghost use Rattle.centre_core.specs.Setting.{IsSetting};
 
 use crate::steps::new_pass;
@@ -41,6 +41,7 @@ impl<D: Disk> Blank<D> {
     pub fn new(alloc: Global, store: Store<D>) -> Result<Blank<D>, GateRefused<D>>
         requires begun { IsSetting store.state.sum.text }
         ensures ok { IfOk result (λ b. b.store ≡ store) }
+        ensures text { IfOk result (λ b. Some b.text ≡ store.state.sum.text) }
         ensures refused { IfErr result (λ r. r.store ≡ store) }
     {
         let Ok(setup) = store.setup().copy(alloc) else {

@@ -1,7 +1,7 @@
 use Rattle.std.proofs.Common.{◌∙◌, arith}
 use Rattle.accounts.proofs.NamedLemmas.{number-found, number-outside, number-none}
-use Rattle.accounts.proofs.spelled.number.Goals as goal
-use Rattle.accounts.proofs.spelled.number.Goals.{else-low-number-via-then-low-number+else-number-high, else-low-number-via-else-low-number}
+use Rattle.accounts.proofs.spelled.number_between.Goals as goal
+use Rattle.accounts.proofs.spelled.number_between.Goals.{else-low-number-via-then-low-number+else-number-high, else-low-number-via-else-low-number}
 
 pub returns-in_err-number-clause-value : goal.returns-in_err-number-clause-value
 returns-in_err-number-clause-value c =
