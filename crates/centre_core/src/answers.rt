@@ -121,8 +121,8 @@ impl Centre {
                 number,
                 ..
             } => Ok(self.on_close(operator, *number)),
-            Event::Show { number } => Ok(desk_answers::show(&self.table, *number)),
-            Event::List => desk_answers::list(alloc, self.table.items()),
+            Event::Show { number } => Ok(desk_answers::show(self.queued.table(), *number)),
+            Event::List => desk_answers::list(alloc, self.queued.table().items()),
             Event::Message(_) | Event::Tick => Ok(Reply::Unknown),
         }
     }

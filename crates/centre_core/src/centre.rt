@@ -14,6 +14,7 @@ use accounts::Setup;
 use arc_data::{Carried, Event, Memory, Reply, SetupFault};
 use centre_rules::is_recorded;
 use incidents::Table;
+use queued_incidents::QueuedTable;
 use std::alloc::Global;
 use std::marker::Model;
 use std::snapshot::Snapshot;
@@ -27,7 +28,7 @@ pub struct Centre {
     pub(crate) last: u64,
     pub(crate) setup: Option<Setup>,
     pub(crate) rows: AccountRows,
-    pub(crate) table: Table,
+    pub(crate) queued: QueuedTable,
 }
 
 impl Model for Centre {
@@ -38,9 +39,9 @@ impl Model for Centre {
     ghost use Rattle.centre_marks.specs.Taken.{sum_of};
     ghost use Rattle.centre_core.specs.Kept.{IsCentre};
 
-    ghost view = { λ c. record { entries = c.entries; sum = sum_of c.last c.recorded c.setup c.rows c.table; rooms = record { incidents = c.table.room; accounts = c.rows.room } } };
+    ghost view = { λ c. record { entries = c.entries; sum = sum_of c.last c.recorded c.setup c.rows c.queued; rooms = record { incidents = c.queued.room; accounts = c.rows.room } } };
 
-    ghost invariant = { λ c. IsCentre c.entries c.recorded c.last c.setup c.rows c.table };
+    ghost invariant = { λ c. IsCentre c.entries c.recorded c.last c.setup c.rows c.queued };
 }
 
 impl Centre {
@@ -54,7 +55,7 @@ impl Centre {
             last: 0,
             setup: None,
             rows: AccountRows::new(alloc),
-            table: Table::new(alloc),
+            queued: QueuedTable::new(alloc),
         }
     }
 
@@ -84,7 +85,7 @@ impl Centre {
         ensures incidents { result.now.incidents ≡ self.now.sum.incidents }
         ensures opened { result.now.opened ≡ self.now.sum.opened }
     {
-        &self.table
+        self.queued.table()
     }
 
     /// Works out the answer to an event that is submitted at a reading of the clock (seconds since 1970), and takes all
@@ -174,7 +175,7 @@ impl Centre {
             self.setup = setup;
             return;
         }
-        centre_marks::mark(&mut self.rows, &mut self.table, event, at, reply, carried);
+        centre_marks::mark(&mut self.rows, &mut self.queued, event, at, reply, carried);
     }
 }
 

@@ -22,7 +22,7 @@ impl Centre {
         ensures accounts { OnOk result (named_by event.now + carried ≤ self.new.rooms.accounts) }
         ensures incidents { OnOk result (length self.new.sum.incidents + carried ≤ self.new.rooms.incidents) }
     {
-        self.table.reserve(carried)?;
+        self.queued.reserve(carried)?;
         self.rows.reserve(alloc, named(event) + carried)
     }
 }

@@ -5,5 +5,5 @@ mod marks;
 
 pub use account_rows::AccountRows;
 pub use arc_data::{Carried, Event, Message, Outcome, Reply, Step, Txt};
-pub use incidents::Table;
 pub use marks::mark;
+pub use queued_incidents::QueuedTable;

@@ -12,12 +12,12 @@ ghost use Rattle.centre_marks.specs.Taken.{Takes, MayTake, IsNoAdopt, marks_with
 
 use account_rows::AccountRows;
 use arc_data::{Carried, Event, Message, Outcome, Reply, Step, Txt};
-use incidents::Table;
+use queued_incidents::QueuedTable;
 
 /// Takes up the marks of a recorded event that is no Adopt, with its reply and the signals that it carries.
 pub fn mark(
     rows: &mut AccountRows,
-    table: &mut Table,
+    table: &mut QueuedTable,
     event: Event,
     at: u64,
     reply: &Reply,
@@ -49,15 +49,21 @@ pub fn mark(
 }
 
 // A run starts.
-fn start(rows: &mut AccountRows, table: &mut Table, at: u64)
+fn start(rows: &mut AccountRows, table: &mut QueuedTable, at: u64)
     ensures { Takes (Starts at ∷ []) rows.old rows.new table.old table.new }
 {
     rows.start(at);
-    incident_marks::start(table);
+    table.start();
 }
 
 // A message is recorded, and its signals are taken up.
-fn send(rows: &mut AccountRows, table: &mut Table, message: Message, at: u64, carried: &[Carried])
+fn send(
+    rows: &mut AccountRows,
+    table: &mut QueuedTable,
+    message: Message,
+    at: u64,
+    carried: &[Carried],
+)
     requires bound { IsFew (2 ^ 61) table.old.opened table.old.incidents }
     requires few { length carried.now ≤ 8000 }
     requires accounts { 1 + length carried.now ≤ rows.old.room }
@@ -69,7 +75,7 @@ fn send(rows: &mut AccountRows, table: &mut Table, message: Message, at: u64, ca
 }
 
 // Takes up signals, one after another.
-fn carry_all(rows: &mut AccountRows, table: &mut Table, carried: &[Carried])
+fn carry_all(rows: &mut AccountRows, table: &mut QueuedTable, carried: &[Carried])
     requires bound { IsFew (2 ^ 61) table.old.opened table.old.incidents }
     requires few { length carried.now ≤ 8000 }
     requires accounts { length carried.now ≤ rows.old.room }
@@ -78,45 +84,45 @@ fn carry_all(rows: &mut AccountRows, table: &mut Table, carried: &[Carried])
 {
     for x in carried {
         rows.carry(x);
-        incident_marks::carry(table, x);
+        table.carry(x);
     }
 }
 
 // An operator holds an incident, if the reply says so.
-fn claim(table: &mut Table, operator: Txt, at: u64, reply: &Reply)
+fn claim(table: &mut QueuedTable, operator: Txt, at: u64, reply: &Reply)
     ensures { (v : RowsValue) → Takes (claim_marks operator at reply.now) v v table.old table.new }
 {
     if let Reply::Claimed { number, .. } = reply {
-        incident_marks::claim(table, operator, *number, at);
+        table.claim(operator, *number, at);
     }
 }
 
 // A step is recorded, if the reply says so.
-fn act(table: &mut Table, operator: Txt, step: Step, outcome: Outcome, at: u64, reply: &Reply)
+fn act(table: &mut QueuedTable, operator: Txt, step: Step, outcome: Outcome, at: u64, reply: &Reply)
     requires fits { (n left : ℕ) → reply.now ≡ Recorded n left → FitsAct n (acted_by operator step outcome at) table.old.incidents }
     requires acts { HaveActRoom table.old.incidents }
     ensures { (v : RowsValue) → Takes (act_marks (acted_by operator step outcome at) reply.now) v v table.old table.new }
 {
     if let Reply::Recorded { number, .. } = reply {
-        incident_marks::act(table, *number, step, outcome, at, operator);
+        table.act(*number, step, outcome, at, operator);
     }
 }
 
 // An incident is given back, if the reply says so.
-fn release(table: &mut Table, reply: &Reply)
+fn release(table: &mut QueuedTable, reply: &Reply)
     ensures { (v : RowsValue) → Takes (release_marks reply.now) v v table.old table.new }
 {
     if let Reply::Released { number } = reply {
-        incident_marks::release(table, *number);
+        table.release(*number);
     }
 }
 
 // An incident is closed, if the reply says so.
-fn close(table: &mut Table, reply: &Reply)
+fn close(table: &mut QueuedTable, reply: &Reply)
     requires { (n : ℕ) → reply.now ≡ Closed n → IsSome (find (has_number n) table.old.incidents) }
     ensures { (v : RowsValue) → Takes (close_marks reply.now) v v table.old table.new }
 {
     if let Reply::Closed { number } = reply {
-        incident_marks::close(table, *number);
+        table.close(*number);
     }
 }

@@ -8,6 +8,7 @@ pub use arc_data::{Acted, Incident, Memory, Reply, Txt, View};
 pub use incidents::Table;
 pub use listing::list;
 pub use orders::{act, claim, close, next, release, show, view};
+pub use queued_incidents::QueuedTable;
 
 #[cfg(test)]
 mod tests;

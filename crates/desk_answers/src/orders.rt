@@ -1,8 +1,6 @@
 // The answers to what operators order, and to a question for one incident.
-ghost use Rattle.std.specs.Prelude.{◌≡◌, Option, Some, None, length};
-ghost use Rattle.std.specs.Option.{option_map};
-ghost use Rattle.arc_data.specs.Incidents.{has_number};
-ghost use Rattle.centre_rules.specs.Desks.{holds as holds_it, held_by as held_in, is_before as comes_before, lesser as lesser_of, best as best_of};
+ghost use Rattle.std.specs.Prelude.{◌≡◌};
+ghost use Rattle.centre_rules.specs.Desks.{holds as holds_it, held_by as held_in};
 ghost use Rattle.centre_rules.specs.Desks.{claimed as claimed_one, on_claim, on_next, on_act, on_release, on_close, on_show, view_of};
 ghost use Rattle.incidents.specs.Tables.{number_of};
 ghost use Rattle.incident_marks.specs.Marked.{HaveActRoom};
@@ -10,6 +8,7 @@ ghost use Rattle.incident_marks.specs.Marked.{HaveActRoom};
 use action_plans::{expected_step, left};
 use arc_data::{Acted, Incident, Reply, Txt, View};
 use incidents::Table;
+use queued_incidents::QueuedTable;
 
 /// The answer to a claim: another operator may hold the incident, or this one another incident.
 pub fn claim(table: &Table, operator: &Txt, number: u64) -> Reply
@@ -30,13 +29,13 @@ pub fn claim(table: &Table, operator: &Txt, number: u64) -> Reply
 }
 
 /// The answer to an operator who asks for the next incident.
-pub fn next(table: &Table, operator: &Txt) -> Reply
-    ensures { result ≡ on_next operator.now table.now.incidents }
+pub fn next(queued: &QueuedTable, operator: &Txt) -> Reply
+    ensures { result ≡ on_next operator.now queued.now.incidents }
 {
-    if let Some(number) = held_by(table.items(), operator) {
+    if let Some(number) = held_by(queued.table().items(), operator) {
         return Reply::BusyWith { number };
     }
-    match best(table.items()) {
+    match queued.first() {
         Some(i) => claimed(i),
         None => Reply::NoneWaiting,
     }
@@ -153,37 +152,4 @@ fn held_by(items: &[Incident], operator: &Txt) -> Option<u64>
         Some(i) => Some(i.number),
         None => None,
     }
-}
-
-// The most urgent incident that nobody holds.
-fn best(items: &[Incident]) -> Option<&Incident>
-    ensures { option_map (λ i. i.now) result ≡ best_of items.now }
-{
-    let mut best: Option<&Incident> = None;
-    for k in (0..items.len()).rev() {
-        let i = &items[k];
-        if i.holder.is_none() {
-            best = match best {
-                None => Some(i),
-                Some(j) => Some(lesser(i, j)),
-            };
-        }
-    }
-    best
-}
-
-// The more urgent of two.
-fn lesser<'a>(i: &'a Incident, j: &'a Incident) -> &'a Incident
-    ensures { Some result.now ≡ lesser_of i.now (Some j.now) }
-{
-    if is_before(j, i) { j } else { i }
-}
-
-// By priority, and of one priority by number.
-fn is_before(i: &Incident, j: &Incident) -> bool
-    ensures { result ≡ comes_before i.now j.now }
-{
-    let first = i.class.priority();
-    let second = j.class.priority();
-    first < second || first == second && i.number < j.number
 }

@@ -2,3 +2,4 @@ pub mod Orders
 pub mod Halves
 pub mod Edits
 pub mod Priorities
+pub mod Sums

@@ -48,6 +48,13 @@ impl Queue {
         self.pairs.reserve(more)
     }
 
+    /// How many pairs there are. It takes no comparison.
+    pub fn count(&self) -> usize
+        ensures { result ≡ length self.now.pairs }
+    {
+        self.pairs.as_slice().len()
+    }
+
     /// The first pair, which no other comes before. It takes no comparison.
     pub fn first(&self) -> Option<(u8, u64)>
         ensures first { result ≡ slice_get self.now.pairs 0 }

@@ -11,7 +11,7 @@ use Rattle.std.proofs.lemmas.List.Sorted.{IsPermutation-cons, IsPermutation-tran
 use Rattle.std.proofs.lemmas.Option.{same_Some, slice_get-get_or}
 use Rattle.operator_queue.specs.Pairs.{PairsValue}
 use Rattle.supervision.specs.Deadlines.{pair_of, pairs_of, places, IsSortedFrom}
-use Rattle.supervision.proofs.Sums.{Same, same_from_permutation, same_back, same_on, same_rest, permuted_pairs}
+use Rattle.operator_queue.proofs.Sums.{Same, same_from_permutation, same_back, same_on, same_rest, permuted_pairs}
 
 taken_pair : (p : ℕ × ℕ) (old now rest : List (ℕ × ℕ)) (found : Bool) → (IsTrue found ↔ Contains old p) → (IsTrue found → IsPermutation (p ∷ now) old)
     → IsPermutation (p ∷ rest) old → IsPermutation rest now

@@ -1,4 +1,3 @@
-pub mod Sums
 pub mod Edits
 pub mod Room
 pub mod Cost

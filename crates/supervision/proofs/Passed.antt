@@ -16,7 +16,7 @@ use Rattle.std.proofs.lemmas.List.Sorted.{IsNonDecreasingBy-from_sort}
 use Rattle.arc_text.specs.Comparisons.{order_of}
 use Rattle.operator_queue.specs.Pairs.{IsBeforeAll, IsOrdered}
 use Rattle.supervision.specs.Deadlines.{is_past, pair_of, pairs_of, places, due_at, TakesOneMore}
-use Rattle.supervision.proofs.Sums.{Same, same_from_permutation, same_back, same_on, same_length, same_filtered, same_mapped, one_order}
+use Rattle.operator_queue.proofs.Sums.{Same, same_from_permutation, same_back, same_on, same_length, same_filtered, same_mapped, one_order}
 
 -- whether a pair's deadline is passed
 abbrev pub passed : ℕ → ℕ × ℕ → Bool

@@ -9,7 +9,7 @@ pub returns-in-Recorded : goal.returns-in-Recorded
 returns-in-Recorded c v =
     let a = acted_by c.args.operator c.args.step c.args.outcome c.args.at in
     rw c.in-Recorded.is
-    (table_taken (Acts c.in-Recorded.number a) v c.args.table.now c.act.new.table (λ text. refl) (rows_acts c.in-Recorded.number a v)
+    (table_taken (Acts c.in-Recorded.number a) v c.args.table.now c.act.new.self (λ text. refl) (rows_acts c.in-Recorded.number a v)
     c.act.ensures.marked c.act.ensures.few (λ r. c.act.ensures.room))
 
 pub returns-in_default : goal.returns-in_default

@@ -16,7 +16,7 @@ pub loop-x-preserved : goal.loop-x-preserved
 loop-x-preserved c =
     let next : take (c.loop-x.x-index + 1) c.args.carried.now ≡ take c.loop-x.x-index c.args.carried.now ++ c.x-item.result ∷ [] =
     take_more c.args.carried.now c.loop-x.x-index c.x-item.result c.loop-x-test.true ∙ ap (λ (x : Carried). take c.loop-x.x-index c.args.carried.now ++ x ∷ []) (sym c.x-item.is) in
-    carries_more c.loop-x.x-index c.args.carried.now c.x-item.result c.args.rows.now c.loop-x.rows c.carry.new.self c.args.table.now c.loop-x.table c.carry-in-loop-x.new.table
+    carries_more c.loop-x.x-index c.args.carried.now c.x-item.result c.args.rows.now c.loop-x.rows c.carry.new.self c.args.table.now c.loop-x.table c.carry-in-loop-x.new.self
     c.loop-x.invariant next c.carry.ensures.marked c.carry.ensures.room c.carry-in-loop-x.ensures.marked c.carry-in-loop-x.ensures.few c.carry-in-loop-x.ensures.room
 
 pub returns : goal.returns

@@ -7,7 +7,7 @@ use Rattle.centre_marks.proofs.marks.claim.Goals as goal
 pub returns-in-Claimed : goal.returns-in-Claimed
 returns-in-Claimed c v =
     rw c.in-Claimed.is
-    (table_taken (Claims c.args.operator c.in-Claimed.number c.args.at) v c.args.table.now c.claim.new.table (λ text. refl) (rows_claims c.args.operator c.in-Claimed.number c.args.at v)
+    (table_taken (Claims c.args.operator c.in-Claimed.number c.args.at) v c.args.table.now c.claim.new.self (λ text. refl) (rows_claims c.args.operator c.in-Claimed.number c.args.at v)
     c.claim.ensures.marked c.claim.ensures.few c.claim.ensures.room)
 
 pub returns-in_default : goal.returns-in_default

@@ -7,7 +7,7 @@ use Rattle.centre_marks.proofs.marks.close.Goals as goal
 pub returns-in-Closed : goal.returns-in-Closed
 returns-in-Closed c v =
     rw c.in-Closed.is
-    (one_taken (Closes c.in-Closed.number) v v c.args.table.now c.close.new.table (λ text. refl) (rows_closes c.in-Closed.number v)
+    (one_taken (Closes c.in-Closed.number) v v c.args.table.now c.close.new.self (λ text. refl) (rows_closes c.in-Closed.number v)
     c.close.ensures.opened c.close.ensures.incidents c.close.ensures.few c.close.ensures.room)
 
 pub returns-in_default : goal.returns-in_default

@@ -7,7 +7,7 @@ use Rattle.centre_marks.proofs.marks.release.Goals as goal
 pub returns-in-Released : goal.returns-in-Released
 returns-in-Released c v =
     rw c.in-Released.is
-    (table_taken (Releases c.in-Released.number) v c.args.table.now c.release.new.table (λ text. refl) (rows_releases c.in-Released.number v)
+    (table_taken (Releases c.in-Released.number) v c.args.table.now c.release.new.self (λ text. refl) (rows_releases c.in-Released.number v)
     c.release.ensures.marked c.release.ensures.few c.release.ensures.room)
 
 pub returns-in_default : goal.returns-in_default

@@ -15,13 +15,13 @@ returns-in-Adopt c =
     let may = subst (λ (e : Event). MayRecord s e c.args.at c.args.reply.now c.args.setup c.args.carried.now) c.in-Adopt.is c.requires in
     let t : State = the_view (record c.self.inside { recorded = c.self.inside.recorded + 1; last = c.args.at; setup = c.args.setup }) in
     subst (λ (e : Event). Records s t e c.args.at c.args.reply.now) (sym c.in-Adopt.is)
-    (records_adopted s t c.in-Adopt.text c.args.at c.args.reply.now c.args.setup c.args.carried.now c.self.inside.rows c.self.inside.table c.self.inside.last c.self.inside.recorded c.self.inside.setup
+    (records_adopted s t c.in-Adopt.text c.args.at c.args.reply.now c.args.setup c.args.carried.now c.self.inside.rows c.self.inside.queued c.self.inside.last c.self.inside.recorded c.self.inside.setup
     may (ap (λ (x : State). x.sum) (sym c.self.view_is)) (ap (λ (x : State). x.entries) c.self.view_is) refl)
 
 pub mark-requires : goal.mark-requires
 mark-requires c = record {
   other = no_adopt c.args.event c.in_default.not-Adopt;
-  may = may_take c.args.self.now c.args.event c.args.at c.args.reply.now c.args.setup c.args.carried.now c.self.inside.rows c.self.inside.table c.self.inside.entries c.self.inside.last c.self.inside.recorded c.self.inside.setup
+  may = may_take c.args.self.now c.args.event c.args.at c.args.reply.now c.args.setup c.args.carried.now c.self.inside.rows c.self.inside.queued c.self.inside.entries c.self.inside.last c.self.inside.recorded c.self.inside.setup
       c.requires (ap (λ (x : State). x.sum) (sym c.self.view_is)) (ap (λ (x : State). x.rooms) (sym c.self.view_is)) c.self.invariant;
 }
 
@@ -35,11 +35,11 @@ invariant_of-self-2 c =
       valid = c.self.invariant.valid;
       counts = counts_taken c.self.inside.recorded c.mark.new.table.opened c.mark.new.table.incidents (c.mark.ensures.few _ c.self.invariant.counts);
       acts = c.mark.ensures.acts c.self.invariant.acts;
-      openings = openings_taken _ c.self.inside.rows c.mark.new.rows c.self.inside.table c.mark.new.table c.mark.ensures
+      openings = openings_taken _ c.self.inside.rows c.mark.new.rows c.self.inside.queued c.mark.new.table c.mark.ensures
           (marks_timely c.args.carried.now c.args.event c.args.at c.args.reply.now carried) c.self.invariant.openings;
     }
 
 pub returns : goal.returns
 returns c =
-    records_taken c.args.self.now _ c.args.event c.args.at c.args.reply.now c.args.setup c.args.carried.now c.self.inside.rows c.mark.new.rows c.self.inside.table c.mark.new.table c.self.inside.last c.self.inside.recorded c.self.inside.setup
+    records_taken c.args.self.now _ c.args.event c.args.at c.args.reply.now c.args.setup c.args.carried.now c.self.inside.rows c.mark.new.rows c.self.inside.queued c.mark.new.table c.self.inside.last c.self.inside.recorded c.self.inside.setup
     c.requires (ap (λ (x : State). x.sum) (sym c.self.view_is)) (ap (λ (x : State). x.entries) c.self.view_is) refl c.mark.ensures

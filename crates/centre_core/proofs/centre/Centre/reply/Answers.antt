@@ -29,11 +29,12 @@ returns-in-Close c = λ plain. c.on_close.ensures c.in-Close.code c.args.at ∙ 
 
 pub returns-in-Show : goal.returns-in-Show
 returns-in-Show c = λ plain.
-    asked c.args.self.now.sum c.show.result (on_show _) (of_table (the_view c.self.inside) c.args.self.now c.show.result (on_show _) c.self.view_is c.show.ensures)
+    asked c.args.self.now.sum c.show.result (on_show _) (of_table (the_view c.self.inside) c.args.self.now c.show.result (on_show _) c.self.view_is
+    (c.show.ensures ∙ ap (on_show c.in-Show.number) c.table.ensures.incidents))
     ∙ ap (λ (e : Event). answer_over c.args.self.now.sum [] e c.args.at) (sym c.in-Show.is)
 
 pub returns-in-List : goal.returns-in-List
 returns-in-List c =
     ok_more c.list.result _ _ (λ r is plain.
-    asked c.args.self.now.sum r on_list (of_table (the_view c.self.inside) c.args.self.now r on_list c.self.view_is (is ∙ ap on_list c.items.ensures.value))
+    asked c.args.self.now.sum r on_list (of_table (the_view c.self.inside) c.args.self.now r on_list c.self.view_is (is ∙ ap on_list (c.items.ensures.value ∙ c.table-in-List.ensures.incidents)))
     ∙ ap (λ (e : Event). answer_over c.args.self.now.sum [] e c.args.at) (sym c.in-List.is)) c.list.ensures

@@ -126,6 +126,10 @@ pair_itself p = and_from (eqb p.0 p.0) (eqb p.1 p.1) (eq-eqb p.0 p.0 refl) (eq-e
 pub permuted_pairs : (xs ys : List (ℕ × ℕ)) → Same xs ys → IsPermutation xs ys
 permuted_pairs xs ys same = permuted pair_eq pair_sound pair_itself xs ys same
 
+-- where both have one pair more, and it is the same, they are in each other's order without it
+pub permuted_rest : (p : ℕ × ℕ) (xs ys : List (ℕ × ℕ)) → IsPermutation (p ∷ xs) (p ∷ ys) → IsPermutation xs ys
+permuted_rest p xs ys moved = permuted_pairs xs ys (same_rest p xs ys (same_from_permutation (p ∷ xs) (p ∷ ys) moved))
+
 -- a list in order whose first number is no greater than another has no lesser number
 least : (x y : ℕ) (ys : List ℕ) → IsNonDecreasing (y ∷ ys) → Place x (y ∷ ys) → y ≤ x
 unfolding Place

@@ -1,0 +1,4 @@
+pub mod Parts
+pub mod Edits
+pub mod Marks
+pub mod First

@@ -1,0 +1,21 @@
+-- The queue is that of the others that wait.
+use Rattle.std.proofs.Common.{arith}
+use Rattle.queued_incidents.proofs.Marks.{closed, long_closed, few_seen}
+use Rattle.queued_incidents.proofs.queued_table.QueuedTable.close.Goals as goal
+
+pub invariant_of-self : goal.invariant_of-self
+invariant_of-self c =
+    let old = c.self.inside.table in
+    record {
+      same = closed c.args.number old.opened old.incidents c.close.new.table.incidents c.take_out.new.queue.pairs c.close.ensures.incidents
+          c.take_out.ensures.pairs;
+      memory = omega (
+        arith,
+        long_closed c.args.number old.opened old.incidents c.close.new.table.incidents c.close.ensures.incidents,
+        c.self.invariant.memory,
+        c.take_out.ensures.room,
+      );
+    }
+
+pub returns-clause-few : goal.returns-clause-few
+returns-clause-few c n few = c.close.ensures.few n (few_seen c.self.inside.table c.args.self.now c.self.inside.queue n c.self.view_is few)
