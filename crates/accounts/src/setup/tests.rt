@@ -1,9 +1,7 @@
 // Setups and their faults, from the grammar of setup lines and its table of faults.
-ghost use Rattle.std.specs.Prelude.{◌<◌, length, IfSome};
-ghost use Rattle.alarm_rules.specs.Setups.{meaning};
 
 use super::*;
-use arc_data::{LineKind, Step};
+use arc_data::LineKind;
 use arc_text::dec;
 use std::alloc::AllocError;
 use std::test::Fail;
@@ -289,113 +287,9 @@ plan * burglary premises police
 plan 1234 burglary premises holders police@closed
 plan * fire holders@closed";
 
-// Accounts and moments, where 1000000000 is Sunday, 9 September 2001, at 01:46:40, and what their hours are.
-const HOURS: &str = "\
-1234 1000000000;closed until 1000058400
-1234 1000026000;open until 1000058400
-1234 1000058400;closed until 1000663200
-ABCD 1000000000;closed until 1000216800
-ABCD 1000211400;open until 1000216800";
-
-// Accounts and classes, in or outside open hours, and the steps of their plans.
-const PLANS: &str = "\
-1234 burglary closed;premises holder1 holder2 police
-1234 burglary open;premises holder1 holder2
-1234 fire closed;holder1 holder2
-1234 fire open;
-1234 gas open;note
-ABCD burglary open;premises police
-ABCD fire closed;
-ABCD test closed;note";
-
-// The place of an account, and the rest of the row behind it.
-fn place_in<'a>(setup: &Setup, row: &'a str) -> Option<(usize, &'a str)>
-    ensures { IfSome result (λ found. found.0 < length (meaning setup.now).accounts) }
-{
-    let (number, rest) = row.split_once(' ')?;
-    let account = Txt::of(number.as_bytes())?;
-    Some((setup.place(&account)?, rest))
-}
-
-// Whether a moment is in hours, and the closing moment after it.
-fn hours_at(alloc: Global, setup: &Setup, row: &str) -> Result<String, Fail> {
-    let (place, moment) = place_in(setup, row).ok_or("no account")?;
-    let moment = dec(moment.as_bytes()).unwrap_or(0) % 253_402_300_800;
-    let week = &setup.account(place).week;
-    let word = if week.in_hours(moment) {
-        "open"
-    } else {
-        "closed"
-    };
-    let close = week.next_close(moment).unwrap_or(0);
-    Ok(format!(in alloc; "{word} until {close}")?)
-}
-
-// Whether a plan's steps, in or outside open hours, have these words.
-fn has_steps(setup: &Setup, row: &str, words: &str) -> Option<bool> {
-    let (place, rest) = place_in(setup, row)?;
-    let (name, hours) = rest.split_once(' ')?;
-    let holders = setup.account(place).holders;
-    let steps = setup
-        .plan(place, class(name))
-        .steps(hours == "open", holders);
-    Some(are_steps(steps.items(), words))
-}
-
-fn class(word: &str) -> Class {
-    match word {
-        "burglary" => Class::Burglary,
-        "fire" => Class::Fire,
-        "gas" => Class::Gas,
-        _ => Class::Test,
-    }
-}
-
-fn word(step: Step) -> &'static str {
-    match step {
-        Step::Premises => "premises",
-        Step::Holder(1) => "holder1",
-        Step::Holder(2) => "holder2",
-        Step::Police => "police",
-        Step::Note => "note",
-        _ => "another step",
-    }
-}
-
-fn are_steps(steps: &[Step], words: &str) -> bool {
-    let mut left = words.split_whitespace();
-    for step in steps {
-        if left.next() != Some(word(*step)) {
-            return false;
-        }
-    }
-    left.next().is_none()
-}
-
 // A copy of the station.
 fn station(alloc: Global) -> Option<Setup> {
     Setup::read(alloc, STATION).ok()?.copy(alloc).ok()
-}
-
-#[test]
-fn hours_of_accounts(rt: HostRuntime) -> Result<(), Fail> {
-    let setup = station(rt.alloc()).ok_or("no setup")?;
-    for row in HOURS.lines() {
-        let (what, want) = row.split_once(';').ok_or("no row")?;
-        let told = hours_at(rt.alloc(), &setup, what)?;
-        assert_eq!(rt; told.as_str(), want, "{row}");
-    }
-    Ok(())
-}
-
-#[test]
-fn plans_of_accounts(rt: HostRuntime) -> Result<(), Fail> {
-    let setup = station(rt.alloc()).ok_or("no setup")?;
-    for row in PLANS.lines() {
-        let (what, words) = row.split_once(';').ok_or("no row")?;
-        assert!(rt; has_steps(&setup, what, words) == Some(true), "{row}");
-    }
-    Ok(())
 }
 
 // The PIN of an operator of the setup.

@@ -1,5 +1,5 @@
 // What each frame is answered. Checks and lengths are worked out by another program.
-use super::{ALARM_REPLY, BEGIN, SETUP, framed, port_of, row_of, session};
+use super::{BEGIN, framed, port_of, row_of, session};
 use crate::LineEnd;
 use std::alloc::Global;
 use std::process::Abort;
@@ -42,55 +42,6 @@ fn compare(rt: &impl Abort, alloc: Global, row: &str) -> Result<(), Fail> {
 fn frames_have_their_replies(rt: HostRuntime) -> Result<(), Fail> {
     for row in ROWS.lines() {
         compare(&rt, rt.alloc(), row)?;
-    }
-    Ok(())
-}
-// A frame of this front, so many letters, and a bracket.
-fn lettered(alloc: Global, front: &[u8], count: usize) -> Result<Vec<u8>, Fail> {
-    let mut frame = front.to_vec(alloc)?;
-    for _ in 0..count {
-        frame.push(b'x')?;
-    }
-    frame.extend_from_slice(b"]\r")?;
-    Ok(frame)
-}
-
-#[test]
-fn bodies_have_at_most_4095_bytes(rt: HostRuntime) -> Result<(), Fail> {
-    // The front of a frame, how many letters follow before a bracket ends it, what is written, and how many entries are
-    // recorded then. The length of 4,096 bytes has no digits, and `0000` are its last four.
-    let cases: [(&[u8], usize, &[u8], u64); 4] = [
-        (
-            b"\nFEAF0FFF\"SIA-DCS\"0001L0#7777[#7777|NBA01*",
-            4061,
-            ALARM_REPLY,
-            3,
-        ),
-        (
-            b"\n15650000\"SIA-DCS\"0001L0#7777[#7777|NBA01*",
-            4062,
-            b"",
-            2,
-        ),
-        (
-            b"\n72960FFF\"ADM-CID\"0001L0#7777[#7777|1131 01 001][",
-            4054,
-            ALARM_REPLY,
-            3,
-        ),
-        (
-            b"\n07290000\"ADM-CID\"0001L0#7777[#7777|1131 01 001][",
-            4055,
-            b"",
-            2,
-        ),
-    ];
-    for (front, count, output, recorded) in cases {
-        let input = lettered(rt.alloc(), front, count)?;
-        let mut port = port_of(rt.alloc(), &input, BEGIN)?;
-        let came = session(rt.alloc(), SETUP, &mut port)?;
-        assert_eq!(rt; came, (LineEnd::InputEnded, recorded), "{count} letters");
-        assert_eq!(rt; port.sink.bytes(), output, "{count} letters");
     }
     Ok(())
 }
