@@ -1,0 +1,343 @@
+-- What the line `X` leaves: all was made anew over what the journal keeps of a history, and a run began again, or was stopped.
+use Rattle.std.proofs.Common.{◌≡◌, ◌≤◌, ◌+◌, ◌++◌, ◌∷◌, ℕ, List, [], Bool, true, false, Option, Some, None, Result, Ok, Err, OnOk, OnErr, IfErr, IfSome, length, reverse, inl, inr, refl, sym, ap, subst, ◌∙◌, arith}
+use Rattle.std.specs.Prelude.{if◌then◌else◌, All, slice_get}
+use Rattle.std.specs.Io.KnownBytes.{append_known}
+use Rattle.alarm_rules.specs.Setups.{meaning}
+use Rattle.arc_data.specs.declared.event.Event.TheVariants.{Adopt, Start}
+use Rattle.arc_data.specs.declared.reply.Reply.TheVariants.{Adopted, Started}
+use Rattle.arc_io.specs.Areas.{Areas}
+use Rattle.arc_io.specs.Crashes.{Becomes, IsQuiet, LeavesOnly}
+use Rattle.arc_io.specs.Seen.{PortSeen}
+use Rattle.centre_core.specs.declared.hall.Stop.{Stop}
+use Rattle.centre_rules.specs.Answers.{IsLegal}
+use Rattle.centre_rules.specs.History.{Entry, IsMoment, marks, moment_after, recorded}
+use Rattle.centre_rules.specs.Marks.{text}
+use Rattle.centre_rules.specs.Summary.{nothing}
+use Rattle.centre_store.specs.Begins.{adopted_after, begun_after, is_in_force, IsOfBegin}
+use Rattle.centre_store.specs.Bodies.{bodies_of}
+use Rattle.centre_store.specs.Openings.{IsOpened, IsRefused}
+use Rattle.centre_store.specs.Pasts.{AreKept}
+use Rattle.centre_store.specs.Stores.{Stored, StoreStands}
+use Rattle.desk_session.specs.Desks as Desk
+use Rattle.disk_journal.specs.Faults.{HasCounts, IsOfContent}
+use Rattle.disk_journal.specs.Journal.{Holds}
+use Rattle.disk_journal.specs.OtherArea.{SparesB}
+use Rattle.disk_journal.specs.Reading.{GoesOn}
+use Rattle.disk_journal.specs.declared.journal.OpenRefused.{OpenRefused}
+use Rattle.line_session.specs.Lines as Line
+use Rattle.script_lines.specs.Lines.{Asked, Reopen, spelling}
+use Rattle.arc_script.specs.Between.{Begun, Between, CarriedOut, CountsMore, ShutAt, StoppedAt}
+use Rattle.arc_script.specs.Carrying.{HasRead, HaveTaken}
+use Rattle.arc_script.specs.Causes.{HasShown}
+use Rattle.arc_script.specs.Ends.{DiskWords, Tells}
+use Rattle.arc_script.specs.Fed.{clock_of}
+use Rattle.arc_script.specs.Halting.{closing}
+use Rattle.arc_script.specs.Pages.{counted_line}
+use Rattle.arc_script.specs.Playing.{IsNewDesk, IsUntil}
+use Rattle.arc_script.specs.Standing.{IsReadable, is_told}
+use Rattle.arc_script.specs.Steps.{Keeps, Step}
+use Rattle.arc_script.specs.Tallies.{count_of, is_closed, is_repeat}
+use Rattle.arc_script.specs.declared.script.Script.{Script}
+use Rattle.arc_script.specs.declared.script_end.Tally.{Tally}
+use Rattle.arc_script.proofs.Counts.{grows_none}
+use Rattle.arc_script.proofs.Ended.{recorded_in}
+use Rattle.arc_script.proofs.Opening.{taken_none}
+use Rattle.arc_script.proofs.Reopening.{keeps_recorded, kept_recorded}
+use Rattle.arc_script.proofs.Telling.{readable_more, spared_tells}
+
+-- What the beginning of a run adds.
+
+abbrev adopted_at : List ℕ → ℕ → Entry
+adopted_at setup at = record { caller = 0; event = Adopt setup; at = at; reply = Adopted }
+
+abbrev started_at : ℕ → Entry
+started_at at = record { caller = 0; event = Start; at = at; reply = Started }
+
+-- entries of which none is counted lead from one history to the other
+record Adds (h x : List Entry) : Type 0 where
+  entries : List Entry
+  added : x ≡ reverse entries ++ h
+  repeats : count_of is_repeat entries ≡ 0
+  closed : count_of is_closed entries ≡ 0
+
+none_adds : (h : List Entry) → Adds h h
+none_adds h = record { entries = []; added = refl; repeats = refl; closed = refl }
+
+adopted_adds : (h : List Entry) (setup : List ℕ) (at : ℕ) (same : Bool) → Adds h (if same then h else adopted_at setup at ∷ h)
+adopted_adds h setup at true = none_adds h
+adopted_adds h setup at false = record { entries = adopted_at setup at ∷ []; added = refl; repeats = refl; closed = refl }
+
+begun_adds : (h : List Entry) (setup : List ℕ) (at start : ℕ) (same : Bool)
+    → Adds h (started_at start ∷ (if same then h else adopted_at setup at ∷ h))
+begun_adds h setup at start true = record { entries = started_at start ∷ []; added = refl; repeats = refl; closed = refl }
+begun_adds h setup at start false = record {
+  entries = adopted_at setup at ∷ started_at start ∷ [];
+  added = refl;
+  repeats = refl;
+  closed = refl;
+}
+
+begun_after_adds : (h : List Entry) (setup : List ℕ) (moment : ℕ) → Adds h (begun_after nothing h setup moment)
+begun_after_adds h setup moment =
+    begun_adds h setup (moment_after nothing h moment) (moment_after nothing (adopted_after nothing h setup moment) moment)
+    (is_in_force (text nothing (marks nothing h)) setup)
+
+until_adds : (h x : List Entry) (setup : List ℕ) (moment : ℕ) → IsUntil None setup moment h x → Adds h x
+until_adds h x setup moment (inl is) = subst (λ (k : List Entry). Adds h k) (sym is) (none_adds h)
+until_adds h x setup moment (inr (inl is)) =
+    subst (λ (k : List Entry). Adds h k) (sym is)
+    (adopted_adds h setup (moment_after nothing h moment) (is_in_force (text nothing (marks nothing h)) setup))
+until_adds h x setup moment (inr (inr is)) = subst (λ (k : List Entry). Adds h k) (sym is) (begun_after_adds h setup moment)
+
+-- It can be read again.
+
+adopted_readable : (h : List Entry) (setup : List ℕ) (moment : ℕ) (same : Bool) → IsMoment moment → IsReadable h
+    → IsLegal nothing (if same then h else adopted_at setup (moment_after nothing h moment) ∷ h)
+    → IsReadable (if same then h else adopted_at setup (moment_after nothing h moment) ∷ h)
+adopted_readable h setup moment true fits kept legal = kept
+adopted_readable h setup moment false fits kept legal =
+    readable_more h (adopted_at setup (moment_after nothing h moment)) moment refl legal.0.event fits refl legal.0.reply kept
+
+begun_readable : (h : List Entry) (setup : List ℕ) (moment : ℕ) → IsMoment moment → IsReadable h
+    → IsLegal nothing (begun_after nothing h setup moment) → IsReadable (begun_after nothing h setup moment)
+begun_readable h setup moment fits kept legal =
+    let x = adopted_after nothing h setup moment in
+    readable_more x (started_at (moment_after nothing x moment)) moment refl legal.0.event fits refl legal.0.reply
+    (adopted_readable h setup moment (is_in_force (text nothing (marks nothing h)) setup) fits kept legal.1)
+
+-- Lines and desks that were made anew, behind more of the script.
+
+read_more : (setup : List ℕ) (desk : Option Desk.DeskValue) (few more : ℕ) → few ≤ more → IfSome desk (HasRead (meaning setup) few [])
+    → IfSome desk (HasRead (meaning setup) more [])
+read_more setup None few more less read = tt
+read_more setup (Some desk) few more less read = record {
+  stream = read.stream;
+  took = read.took;
+  ended = read.ended;
+  none = read.none;
+  few = (let short = read.few in omega (arith, short, less));
+}
+
+taken_anew : (setup : List ℕ) (count : ℕ) (before : List Asked) (lines : List Line.LineValue) (desks : List Desk.DeskValue)
+    → All (Line.TookStream []) lines → All IsNewDesk desks → HaveTaken (meaning setup) count (Reopen ∷ before) lines desks
+taken_anew setup count before lines desks new_lines new_desks =
+    let none = taken_none setup lines desks new_lines new_desks in
+    record {
+      fed = none.fed;
+      few = λ n. omega arith;
+      read = λ i. read_more setup (slice_get desks i) 0 count (omega arith) (none.read i);
+    }
+
+-- The store was closed, opened again, and a run was to begin: the script and the store are as they were then, in all that is not said of
+-- that run.
+pub record IsAnew {D : Type 0} (w : DiskWords D) (script script' : Script) (s mid s' : Stored D) : Type 0 where
+  pub opened : IsOpened w.told w.may_leave w.faults s.journal.disk mid
+  pub setup : script'.setup ≡ script.setup
+  pub limits : script'.limits ≡ script.limits
+  pub clock : script'.clock ≡ script.clock
+  pub lines : All (Line.TookStream []) script'.lines.items
+  pub desks : All IsNewDesk script'.desks.items
+  pub tally : script'.tally ≡ closing script.tally script.opened_before s.state.sum
+  pub tells : is_told (w.told s'.journal.disk) ≡ is_told (w.told s.journal.disk)
+  pub journal : s'.journal.limits ≡ script.limits
+  pub later : s.at_open ≤ s'.at_open
+
+pub made_anew : {D : Type 0} (w : DiskWords D) (script closed script' : Script) (s mid s' : Stored D) (disk : D) → s.at_open ≤ w.faults s.journal.disk
+    → disk ≡ s.journal.disk → closed ≡ record script { tally = closing script.tally script.opened_before s.state.sum }
+    → IsOpened w.told w.may_leave w.faults disk mid → SparesB w.told w.may_leave w.moment w.left_since disk mid.journal.disk
+    → mid.journal.limits ≡ closed.limits → mid.at_open ≡ w.faults mid.journal.disk → w.faults disk ≤ w.faults mid.journal.disk
+    → All (Line.TookStream []) script'.lines.items → All IsNewDesk script'.desks.items
+    → script' ≡ record closed {
+      lines = script'.lines;
+      desks = script'.desks;
+      sixteen = script'.sixteen;
+      eight = script'.eight;
+    }
+    → is_told (w.told s'.journal.disk) ≡ is_told (w.told mid.journal.disk) → s'.at_open ≡ mid.at_open → s'.journal.limits ≡ mid.journal.limits
+    → IsAnew w script script' s mid s'
+made_anew w script closed script' s mid s' disk before disk_is closed_is opened spared limits opened_at later lines desks rest tells at_open journal
+    = record {
+      opened = subst (λ d. IsOpened w.told w.may_leave w.faults d mid) disk_is opened;
+      setup = ap (λ (k : Script). k.setup) rest ∙ ap (λ (k : Script). k.setup) closed_is;
+      limits = ap (λ (k : Script). k.limits) rest ∙ ap (λ (k : Script). k.limits) closed_is;
+      clock = ap (λ (k : Script). k.clock) rest ∙ ap (λ (k : Script). k.clock) closed_is;
+      lines = lines;
+      desks = desks;
+      tally = ap (λ (k : Script). k.tally) rest ∙ ap (λ (k : Script). k.tally) closed_is;
+      tells = tells ∙ spared_tells spared ∙ ap (λ d. is_told (w.told d)) disk_is;
+      journal = journal ∙ limits ∙ ap (λ (k : Script). k.limits) closed_is;
+      later = (let same : w.faults disk ≡ w.faults s.journal.disk = ap w.faults disk_is in omega (arith, before, same, later, opened_at, at_open));
+    }
+
+module _ {D : Type 0} (w : DiskWords D) (script script' : Script) (s mid s' : Stored D) (anew : IsAnew w script script' s mid s') (moment : ℕ)
+    (b : Begun D) (before : List Asked) (count : ℕ) (h : List Entry) (between : Between w b before count h script s)
+    (held : Holds w.told w.may_leave s.journal (bodies_of h)) (set : clock_of before ≡ Some moment) where
+  abbrev past : List Entry
+  past = anew.opened.past
+
+  keeps : Keeps (Tells w b.disk) h past
+  keeps = keeps_recorded w b h s mid between.store.stands.centre.legal between.store.readable between.store.tells held anew.opened
+
+  setup_is : script'.setup ≡ b.setup
+  setup_is = anew.setup ∙ between.setup
+
+  limits_are : s'.journal.limits ≡ b.limits
+  limits_are = anew.journal ∙ between.limits
+
+  later : w.faults b.disk ≤ s'.at_open
+  later = let first = between.store.later in let second = anew.later in omega (arith, first, second)
+
+  abbrev step_of : ℕ → List Entry → List ℕ → Step
+  step_of number entries text = record { number = number; asked = Reopen; entries = entries; sent = 0; text = text }
+
+  counts : (number : ℕ) (x : List Entry) (text : List ℕ) (adds : Adds past x)
+      → CountsMore (step_of number adds.entries text) script.tally script'.tally
+  counts number x text adds =
+      subst (λ (t : Tally). CountsMore (step_of number adds.entries text) script.tally t) (sym anew.tally) (record {
+        sent = grows_none 0 script.tally.sent refl;
+        repeats = grows_none (count_of is_repeat adds.entries) script.tally.repeats adds.repeats;
+        closed = grows_none (count_of is_closed adds.entries) script.tally.closed adds.closed;
+      })
+
+  readable_past : IsReadable past
+  readable_past = subst AreKept (sym (kept_recorded past anew.opened.is_past.kept)) anew.opened.is_past.kept
+
+  carried : (number : ℕ) (p p' : PortSeen) → IsMoment moment
+      → StoreStands w.told w.may_leave w.faults nothing s' (begun_after nothing past b.setup moment)
+      → s'.state.sum.text ≡ Some b.setup → p'.written ≡ append_known p.written (counted_line s'.state.sum.recorded)
+      → CarriedOut w b before count number h Reopen script.tally script' s' p p'
+  carried number p p' fits stands text put =
+      let x = begun_after nothing past b.setup moment in
+      let adds = begun_after_adds past b.setup moment in
+      let count_is : s'.state.sum.recorded ≡ length (recorded x) = (let e = stands.centre.recorded in omega (arith, e)) in
+      let said = counted_line (length (recorded x)) in
+      record {
+        step = step_of number adds.entries said;
+        history = x;
+        number_is = refl;
+        asked_is = refl;
+        is = record {
+          kept = past;
+          keeps = keeps;
+          clock = moment;
+          set = set;
+          is = refl;
+          added = adds.added;
+          sent = refl;
+          text = refl;
+        };
+        text = put ∙ ap (λ (n : ℕ). append_known p.written (counted_line n)) count_is;
+        counts = counts number x said adds;
+        between = record {
+          setup = setup_is;
+          limits = anew.limits ∙ between.limits;
+          clock = record {
+            is = anew.clock ∙ between.clock.is;
+            moment = subst (λ (c : Option ℕ). IfSome c IsMoment) (sym anew.clock) between.clock.moment;
+            once = (moment, set);
+          };
+          set = subst (λ (c : Option ℕ). IfSome c (λ last. s'.state.sum.text ≡ Some b.setup))
+              (sym (anew.clock ∙ between.clock.is ∙ set)) text;
+          taken = taken_anew b.setup (count + length (spelling Reopen)) before script'.lines.items script'.desks.items anew.lines anew.desks;
+          store = record {
+            stands = stands;
+            readable = begun_readable past b.setup moment fits readable_past stands.centre.legal;
+            tells = anew.tells ∙ between.store.tells;
+            limits_are = limits_are;
+            later = later;
+          };
+        };
+      }
+
+  stopped : (stop : Stop) (x : List Entry) → StoreStands w.told w.may_leave w.faults nothing s' x → IsUntil None b.setup moment past x
+      → HasShown w.told w.may_leave w.faults s' stop moment (IsOfBegin b.setup)
+      → StoppedAt w b before h Reopen stop script.tally script'.tally s'
+  stopped stop x stands until cause =
+      let adds = until_adds past x b.setup moment until in
+      record {
+        waiting = [];
+        partial = step_of 0 adds.entries [];
+        history = x;
+        clock = moment;
+        came = inl (inr (record {
+          kept = past;
+          keeps = keeps;
+          clock = moment;
+          set = set;
+          until = until;
+          by = record { added = adds.added; sent = refl };
+        }));
+        set = set;
+        cause = cause;
+        stands = stands;
+        limits_are = limits_are;
+        later = later;
+        counts = counts 0 x [] adds;
+      }
+
+-- by what beginning the run answered
+module _ {D : Type 0} (w : DiskWords D) (script script' : Script) (s mid s' : Stored D) (anew : IsAnew w script script' s mid s') (moment : ℕ) where
+  pub carried_on : (r : Result (Unit {0}) Stop) (p p' : PortSeen) → IsMoment moment
+      → OnOk r ((k : List Entry) → StoreStands w.told w.may_leave w.faults nothing mid k
+      → StoreStands w.told w.may_leave w.faults nothing s' (begun_after nothing k script'.setup moment))
+      → OnOk r (s'.state.sum.text ≡ Some script'.setup)
+      → OnOk r (p'.written ≡ append_known p.written (counted_line s'.state.sum.recorded))
+      → OnOk r ((b : Begun D) (before : List Asked) (count number : ℕ) (h : List Entry) → Between w b before count h script s
+      → Holds w.told w.may_leave s.journal (bodies_of h) → clock_of before ≡ Some moment
+      → CarriedOut w b before count number h Reopen script.tally script' s' p p')
+  carried_on (Ok done) p p' fits begun text put = λ b before count number h between held set.
+      let same = anew.setup ∙ between.setup in
+      carried w script script' s mid s' anew moment b before count h between held set number p p' fits
+      (subst (λ (l : List ℕ). StoreStands w.told w.may_leave w.faults nothing s' (begun_after nothing anew.opened.past l moment)) same
+      (begun anew.opened.past anew.opened.stands))
+      (text ∙ ap Some same) put
+  carried_on (Err stop) p p' fits begun text put = tt
+
+  pub stopped_on : (r : Result (Unit {0}) Stop)
+      → OnErr r ((k : List Entry) → StoreStands w.told w.may_leave w.faults nothing mid k
+      → (x : List Entry) × StoreStands w.told w.may_leave w.faults nothing s' x × IsUntil None script'.setup moment k x)
+      → IfErr r (λ stop. HasShown w.told w.may_leave w.faults s' stop moment (IsOfBegin script'.setup))
+      → IfErr r (λ stop. (b : Begun D) (before : List Asked) (count : ℕ) (h : List Entry) → Between w b before count h script s
+      → Holds w.told w.may_leave s.journal (bodies_of h) → clock_of before ≡ Some moment
+      → StoppedAt w b before h Reopen stop script.tally script'.tally s')
+  stopped_on (Ok done) stops cause = tt
+  stopped_on (Err stop) stops cause = λ b before count h between held set.
+      let same = anew.setup ∙ between.setup in
+      let at = stops anew.opened.past anew.opened.stands in
+      stopped w script script' s mid s' anew moment b before count h between held set stop at.0 at.1
+      (subst (λ (l : List ℕ). IsUntil None l moment anew.opened.past at.0) same at.2)
+      (subst (λ (l : List ℕ). HasShown w.told w.may_leave w.faults s' stop moment (IsOfBegin l)) same cause)
+
+-- The journal was not opened again.
+shut : {D : Type 0} (w : DiskWords D) (script : Script) (s : Stored D) (r : OpenRefused D) → s.at_open ≤ w.faults s.journal.disk
+    → IfSome (w.told s.journal.disk) (λ a. IsRefused r.fault a.a) → HasCounts r.fault (w.faults s.journal.disk) (w.faults r.disk)
+    → Becomes (w.told s.journal.disk) (w.told r.disk) (λ a c. GoesOn a.a c.a)
+    → LeavesOnly w.moment w.left_since s.journal.disk r.disk (λ c. (d : Areas) × w.may_leave s.journal.disk d × GoesOn d.a c.a)
+    → (IsOfContent r.fault → IsQuiet w.told w.may_leave w.moment w.left_since s.journal.disk r.disk)
+    → (b : Begun D) (before : List Asked) (count : ℕ) (h : List Entry) → Between w b before count h script s
+    → Holds w.told w.may_leave s.journal (bodies_of h) → ShutAt w b h r.fault r.disk
+shut w script s r later shown counts told any_moment unwritten b before count h between held = record {
+  closed = s.journal.disk;
+  later = (let first = between.store.later in omega (arith, first, later));
+  area = recorded_in w s h s.journal.disk held refl;
+  unopened = record { shown = shown; counts = counts; told = told; any_moment = any_moment; unwritten = unwritten };
+}
+
+pub shut_on : {A D : Type 0} (w : DiskWords D) (script : Script) (s : Stored D) (disk : D) (refused : OpenRefused D) (r : Result A (OpenRefused D))
+    → r ≡ Err refused → disk ≡ s.journal.disk → s.at_open ≤ w.faults s.journal.disk
+    → IfSome (w.told disk) (λ a. IsRefused refused.fault a.a) → HasCounts refused.fault (w.faults disk) (w.faults refused.disk)
+    → Becomes (w.told disk) (w.told refused.disk) (λ a c. GoesOn a.a c.a)
+    → LeavesOnly w.moment w.left_since disk refused.disk (λ c. (d : Areas) × w.may_leave disk d × GoesOn d.a c.a)
+    → (IsOfContent refused.fault → IsQuiet w.told w.may_leave w.moment w.left_since disk refused.disk)
+    → IfErr r (λ o. (b : Begun D) (before : List Asked) (count : ℕ) (h : List Entry) → Between w b before count h script s
+    → Holds w.told w.may_leave s.journal (bodies_of h) → ShutAt w b h o.fault o.disk)
+shut_on {A} {D} w script s disk refused r is disk_is later shown counts told any_moment unwritten =
+    let at = λ (o : OpenRefused D). (b : Begun D) (before : List Asked) (count : ℕ) (h : List Entry) → Between w b before count h script s
+    → Holds w.told w.may_leave s.journal (bodies_of h) → ShutAt w b h o.fault o.disk in
+    subst (λ (q : Result A (OpenRefused D)). IfErr q at) (sym is)
+    (shut w script s refused later
+    (subst (λ d. IfSome (w.told d) (λ a. IsRefused refused.fault a.a)) disk_is shown)
+    (subst (λ d. HasCounts refused.fault (w.faults d) (w.faults refused.disk)) disk_is counts)
+    (subst (λ d. Becomes (w.told d) (w.told refused.disk) (λ a c. GoesOn a.a c.a)) disk_is told)
+    (subst (λ d. LeavesOnly w.moment w.left_since d refused.disk (λ c. (e : Areas) × w.may_leave d e × GoesOn e.a c.a)) disk_is any_moment)
+    (subst (λ d. IsOfContent refused.fault → IsQuiet w.told w.may_leave w.moment w.left_since d refused.disk) disk_is unwritten))

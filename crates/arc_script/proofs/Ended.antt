@@ -1,0 +1,168 @@
+-- What is handed back of a script: what the area holds, the tally, and what was played.
+use Rattle.std.proofs.Common.{◌≡◌, ◌≤◌, ◌+◌, ◌-◌, ◌++◌, ◌∷◌, ℕ, List, [], Option, Some, None, IfSome, Bool, false, filter, map, length, inr, refl, sym, ap, subst, ◌∙◌, append-nil, length-append, arith}
+use Rattle.arc_io.specs.Areas.{Areas}
+use Rattle.arc_io.specs.Seen.{PortSeen}
+use Rattle.arc_data.specs.declared.incident.Incident.{Incident}
+use Rattle.arc_data.specs.declared.reply.Reply.{Reply}
+use Rattle.centre_rules.specs.Cases.{opened, begun, incident_of}
+use Rattle.centre_rules.specs.History.{Entry, marks}
+use Rattle.centre_rules.specs.State.{StandsFor}
+use Rattle.centre_rules.specs.Summary.{nothing}
+use Rattle.centre_store.specs.Bodies.{bodies_of}
+use Rattle.centre_store.specs.Stores.{Stored}
+use Rattle.disk_journal.specs.Journal.{Holds}
+use Rattle.disk_journal.specs.Records.{AtRest, Stands}
+use Rattle.script_lines.specs.Lines.{Asked, Time, Feed, Message, Command, Reopen, Asks}
+use Rattle.arc_script.specs.Between.{Begun, CountsSteps, CountsMore, IsClock, SoFar}
+use Rattle.arc_script.specs.Ends.{DiskWords, Tells, HasRecorded, Played}
+use Rattle.arc_script.specs.Fed.{clock_of}
+use Rattle.arc_script.specs.Halting.{Halts, Whole, closing}
+use Rattle.arc_script.specs.Playing.{moment_at}
+use Rattle.arc_script.specs.Steps.{Step, asked_after}
+use Rattle.arc_script.specs.Tallies.{IsTally, told, count_of, entries_of, is_closed, is_repeat, sent_by}
+use Rattle.arc_script.specs.Texts.{MayFollow, counted, is_passed, line_limit, numbered_from}
+use Rattle.arc_script.specs.declared.script.Script.{Script}
+use Rattle.arc_script.specs.declared.script_end.ScriptEnd.TheVariants.{BadScript}
+use Rattle.arc_script.specs.declared.script_end.Tally.{Tally}
+use Rattle.arc_script.proofs.Behind.{entries_last, sent_last}
+use Rattle.arc_script.proofs.Counted.{counted_next, is_played}
+use Rattle.std.proofs.lemmas.List.{length-map}
+use Rattle.std.proofs.lemmas.List.Elements.{filter-append}
+
+at_rest : (told : Option Areas) (bodies : List (List ℕ)) → IfSome told (λ s. AtRest s.a bodies) → IfSome told (λ s. Stands s.a bodies)
+at_rest None bodies rests = rests
+at_rest (Some s) bodies rests = inr rests
+
+-- the disk of a journal that holds the bodies of the recorded entries
+pub recorded_in : {D : Type 0} (w : DiskWords D) (s : Stored D) (h : List Entry) (disk : D) → Holds w.told w.may_leave s.journal (bodies_of h)
+    → disk ≡ s.journal.disk → HasRecorded w disk h
+recorded_in w s h disk holds is =
+    subst (λ d. HasRecorded w d h) (sym is) (record {
+      area = at_rest (w.told s.journal.disk) (bodies_of h) holds.kept.file;
+      images = λ c left. inr (holds.kept.images c left);
+    })
+
+open_count : (xs : List Incident) → length (map incident_of (map begun xs)) ≡ length xs
+open_count xs = length-map (map begun xs) incident_of ∙ length-map xs begun
+
+-- the tally at the end
+pub tally_is : {D : Type 0} (s : Stored D) (past h : List Entry) (steps : List Step) (t t' : Tally) (opened_before : ℕ)
+    → opened_before ≡ opened nothing (marks nothing past) → CountsSteps steps t → StandsFor nothing s.state h
+    → t' ≡ closing t opened_before s.state.sum → IsTally past steps h t'
+tally_is s past h steps t t' opened_before before counts stands is =
+    subst (λ (k : Tally). IsTally past steps h k) (sym is) (record {
+      sent = counts.sent;
+      repeats = counts.repeats;
+      closed = counts.closed;
+      opened = ap (λ n. n - opened_before) stands.same.opened ∙ ap (λ n. opened nothing (marks nothing h) - n) before;
+      recorded = omega (arith, stands.recorded);
+      total = sym (open_count s.state.sum.incidents) ∙ ap length stands.same.incidents;
+    })
+
+count_both : (test : Reply → Bool) (xs ys : List Entry) → count_of test (xs ++ ys) ≡ count_of test xs + count_of test ys
+count_both test xs ys =
+    let has = λ (e : Entry). test e.reply in
+    ap length (filter-append has xs ys) ∙ length-append (filter has xs) (filter has ys)
+
+-- one step more is counted
+pub counts_last : (steps : List Step) (s : Step) (t t' : Tally) → CountsSteps steps t → CountsMore s t t' → CountsSteps (steps ++ s ∷ []) t'
+counts_last steps s t t' so_far more =
+    let entries = entries_last steps s in
+    record {
+      sent = more.sent (sent_by steps) so_far.sent ∙ ap told (sym (sent_last steps s));
+      repeats = more.repeats (count_of is_repeat (entries_of steps)) so_far.repeats
+          ∙ ap told (sym (count_both is_repeat (entries_of steps) s.entries) ∙ ap (count_of is_repeat) (sym entries));
+      closed = more.closed (count_of is_closed (entries_of steps)) so_far.closed
+          ∙ ap told (sym (count_both is_closed (entries_of steps) s.entries) ∙ ap (count_of is_closed) (sym entries));
+    }
+
+-- Where a clock is set each line has its moment, and no other line.
+
+pub moment_of : (clock : Option ℕ) (before : List Asked) (a : Asked) → IsClock clock before → MayFollow before a
+    → (moment : ℕ) × (moment_at clock a ≡ Some moment)
+moment_of clock before (Time moment) is follows = (moment, refl)
+moment_of clock [] (Feed line digits) is follows = absurd follows
+moment_of clock [] (Message line body) is follows = absurd follows
+moment_of clock [] (Command desk text) is follows = absurd follows
+moment_of clock [] Reopen is follows = absurd follows
+moment_of clock (first ∷ before) (Feed line digits) is follows = (is.once.0, is.is ∙ is.once.1)
+moment_of clock (first ∷ before) (Message line body) is follows = (is.once.0, is.is ∙ is.once.1)
+moment_of clock (first ∷ before) (Command desk text) is follows = (is.once.0, is.is ∙ is.once.1)
+moment_of clock (first ∷ before) Reopen is follows = (is.once.0, is.is ∙ is.once.1)
+
+none_set : (clock : Option ℕ) (moment : ℕ) → clock ≡ None → clock ≡ Some moment → ⊥
+none_set clock moment none set = let e = sym none ∙ set in cc
+
+pub may_follow : (clock : Option ℕ) (before : List Asked) (a : Asked) (moment : ℕ) → clock ≡ clock_of before → moment_at clock a ≡ Some moment
+    → MayFollow before a
+may_follow clock [] (Time at) moment is set = tt
+may_follow clock [] (Feed line digits) moment is set = none_set clock moment is set
+may_follow clock [] (Message line body) moment is set = none_set clock moment is set
+may_follow clock [] (Command desk text) moment is set = none_set clock moment is set
+may_follow clock [] Reopen moment is set = none_set clock moment is set
+may_follow clock (first ∷ before) a moment is set = tt
+
+module _ {D : Type 0} (w : DiskWords D) (b : Begun D) (lines : List (List ℕ)) (script : Script) (s : Stored D) (p : PortSeen)
+    (so : SoFar w b lines script s p) (disk : D) (tally : Tally) (disk_is : disk ≡ s.journal.disk)
+    (tally_as : tally ≡ closing script.tally script.opened_before s.state.sum) where
+  area : HasRecorded w disk so.history
+  area = recorded_in w s so.history disk so.held disk_is
+
+  counts : IsTally b.past so.steps so.history tally
+  counts = tally_is s b.past so.history so.steps script.tally tally script.opened_before so.opened_before so.counts so.between.store.stands.centre tally_as
+
+  -- all of them were carried out
+  pub whole : Whole w b lines p disk tally
+  whole = record {
+    played = record {
+      front = counted lines;
+      behind = [];
+      steps = so.steps;
+      history = so.history;
+      split = sym (append-nil (counted lines));
+      of = so.of;
+      are = so.are;
+    };
+    whole = record { none_behind = refl; output = so.written; area = area; counts = counts };
+  }
+
+  -- what stands behind a line
+  abbrev behind : List (List ℕ) → List (ℕ × List ℕ)
+  behind more = filter is_played (numbered_from (1 + length lines + 1) more)
+
+  next_split : (line : List ℕ) (more : List (List ℕ)) → is_passed line ≡ false
+      → counted (lines ++ line ∷ more) ≡ counted lines ++ (1 + length lines, line) ∷ behind more
+  next_split line more is = counted_next lines line more is
+
+  -- those before a line
+  abbrev before_line : (line : List ℕ) (more : List (List ℕ)) → is_passed line ≡ false → Played (Tells w b.disk) b.setup b.past (counted (lines ++ line ∷ more))
+  before_line line more is = record {
+    front = counted lines;
+    behind = (1 + length lines, line) ∷ behind more;
+    steps = so.steps;
+    history = so.history;
+    split = next_split line more is;
+    of = so.of;
+    are = so.are;
+  }
+
+  -- the next line asks for nothing
+  pub bad : (line : List ℕ) (more : List (List ℕ)) (number : ℕ) → is_passed line ≡ false → number ≡ 1 + length lines
+      → ((a : Asked) (moment : ℕ) → length line ≤ line_limit → Asks line a → moment_at script.clock a ≡ Some moment → ⊥)
+      → Halts w b lines (lines ++ line ∷ more) (BadScript number) p disk tally
+  bad line more number is at none = record {
+    played = before_line line more is;
+    ends = record {
+      line = line;
+      more = behind more;
+      next = ap (λ n. (n, line) ∷ behind more) (sym at);
+      wrong = λ asked playable.
+          let set = moment_of script.clock (asked_after [] so.steps) asked so.between.clock playable.follows in
+          none asked set.0 playable.short playable.asks set.1;
+      output = so.written;
+      area = area;
+      counts = counts;
+    };
+    more = [];
+    front = sym (append-nil (counted lines));
+  }

@@ -1,0 +1,115 @@
+-- What feeding bytes to a line answers, in the words of what was called for it.
+use Rattle.std.proofs.Common.{◌≡◌, ◌<◌, ◌-◌, ◌+◌, ◌++◌, ◌^◌, ℕ, List, [], Option, Some, None, Result, Ok, Err, inl, length, set, refl, ap, subst, ◌∙◌, arith}
+use Rattle.std.specs.Prelude.{min, unwrap_or}
+use Rattle.std.specs.List.{slice_get}
+use Rattle.arc_io.specs.Areas.{Areas}
+use Rattle.arc_io.specs.Memory.{clock_calls, sink_bytes}
+use Rattle.centre_core.specs.Setting.{IsSetting}
+use Rattle.centre_core.specs.declared.hall.Stop.{Stop}
+use Rattle.centre_core.specs.declared.hall.Stop.TheVariants.{Memory}
+use Rattle.centre_rules.specs.History.{Entry}
+use Rattle.centre_rules.specs.State.{State}
+use Rattle.centre_rules.specs.Summary.{nothing}
+use Rattle.centre_store.specs.Stores.{Stored, StoreStands}
+use Rattle.line_session.specs.Lines as Line
+use Rattle.line_session.specs.Sessions.{ReadsNothing}
+use Rattle.line_session.specs.declared.line_end.LineEnd.{LineEnd}
+use Rattle.line_session.specs.declared.line_end.LineEnd.TheVariants.{InputEnded, ReadFault, Spent, Stopped, WriteFault}
+use Rattle.session_rules.specs.Inputs.{input_limit}
+use Rattle.arc_script.specs.Feeding.{FeedStops, HasFed, TookAt}
+use Rattle.arc_script.specs.Standing.{IsReadable}
+use Rattle.arc_script.specs.declared.page.Page.{Page}
+use Rattle.arc_script.specs.declared.script_end.Tally.{Tally}
+use Rattle.arc_script.proofs.Carries.{set_there}
+use Rattle.arc_script.proofs.FedCounts.{Tallied}
+use Rattle.arc_script.proofs.FedEnds.{all_fed, fed_failed, fed_stopped, took_was, IsTaking}
+
+-- how many entries are not recorded
+abbrev quiet : State → ℕ
+quiet s = s.entries - s.sum.recorded
+
+pub tallied : (calls : ℕ) (s s' k k' : State) (t t' : Tally) (taken before behind repeats : ℕ) → k ≡ s → k' ≡ s' → taken ≡ min (calls - 1) (2 ^ 64 - 1)
+    → before ≡ k.entries - k.sum.recorded → behind ≡ k'.entries - k'.sum.recorded → repeats ≡ behind - before
+    → t'.sent ≡ min (t.sent + taken) (2 ^ 64 - 1) → t'.repeats ≡ min (t.repeats + repeats) (2 ^ 64 - 1)
+    → t' ≡ record t { sent = t'.sent; repeats = t'.repeats } → Tallied calls s s' t t'
+tallied calls s s' k k' t t' taken before behind repeats same same' taken_is before_is behind_is repeats_is sent_is told_is rest =
+    let was = before_is ∙ ap quiet same in
+    let now = behind_is ∙ ap quiet same' in
+    record {
+      frames = sent_is ∙ ap (λ (n : ℕ). min (t.sent + n) (2 ^ 64 - 1)) taken_is;
+      repeats = told_is ∙ ap (λ (n : ℕ). min (t.repeats + n) (2 ^ 64 - 1))
+          (repeats_is ∙ ap (λ (n : ℕ). n - before) now ∙ ap (λ (n : ℕ). quiet s' - n) was);
+      rest = rest;
+    }
+
+-- the text in force is a setup, the same as before
+pub still_set : (o : Option (List ℕ)) (setup : List ℕ) → IsSetting o → unwrap_or o [] ≡ setup → o ≡ Some setup
+still_set None setup ready same = absurd ready
+still_set (Some text) setup ready same = ap Some same
+
+module _ {D : Type 0} (told_of : D → Option Areas) (may_leave : D → Areas → Type 0) (faults : D → ℕ) (s s' : Stored D) (setup : List ℕ)
+    (moment place : ℕ) (lines : List Line.LineValue) (was : Line.LineValue) (page page' : Page) (given : List ℕ) (t t' : Tally)
+    (sums : Tallied (clock_calls page'.port.clock) s.state s'.state t t') (r : Result (Unit {0}) LineEnd)
+    (taking : IsTaking told_of may_leave faults s s' setup moment place lines was page page' given r) where
+  taking_as : (q : Result (Unit {0}) LineEnd) → r ≡ q → IsTaking told_of may_leave faults s s' setup moment place lines was page page' given q
+  taking_as q is = subst (λ (q : Result (Unit {0}) LineEnd). IsTaking told_of may_leave faults s s' setup moment place lines was page page' given q) is taking
+
+  pub ended_fed : r ≡ Ok tt → (stream : List ℕ) (h : List Entry) → TookAt stream lines place → length (stream ++ given) < input_limit
+      → StoreStands told_of may_leave faults nothing s h → IsReadable h
+      → HasFed told_of may_leave faults setup moment stream given h t t' (sink_bytes page'.port.sink) s'
+  ended_fed is = all_fed told_of may_leave faults s s' setup moment place lines was page page' given t t' sums (taking_as (Ok tt) is)
+
+  pub ended_stopped : (stop : Stop) → r ≡ Err (Stopped stop) → (stream : List ℕ) (h : List Entry) → TookAt stream lines place
+      → length (stream ++ given) < input_limit → StoreStands told_of may_leave faults nothing s h → IsReadable h
+      → FeedStops told_of may_leave faults setup moment stream given h t t' stop s'
+  ended_stopped stop is =
+      fed_stopped told_of may_leave faults s s' setup moment place lines was page page' given t t' sums stop (taking_as (Err (Stopped stop)) is)
+
+  wanting : (stream : List ℕ) (h : List Entry) (stop : Stop) → FeedStops told_of may_leave faults setup moment stream given h t t' stop s'
+      → FeedStops told_of may_leave faults setup moment stream given h t t' Memory s'
+  wanting stream h stop w = record {
+    turns = w.turns;
+    more = w.more;
+    history = w.history;
+    sent = w.sent;
+    fed = w.fed;
+    stands = w.stands;
+    readable = w.readable;
+    cause = inl refl;
+    sent_is = w.sent_is;
+    counts = w.counts;
+  }
+
+  -- Of the other ends a failed write alone can come: memory was wanted for it.
+  otherwise : (end : LineEnd) (now : Line.LineValue) → ReadsNothing (Err end)
+      → ((stream : List ℕ) → Line.TookStream stream was → Line.IsTaken (Err end) stream given now) → r ≡ Err end
+      → (stream : List ℕ) (h : List Entry) → TookAt stream lines place → length (stream ++ given) < input_limit
+      → StoreStands told_of may_leave faults nothing s h → IsReadable h
+      → FeedStops told_of may_leave faults setup moment stream given h t t' Memory s'
+  otherwise InputEnded now reads taken is stream h took short stands readable = absurd reads
+  otherwise ReadFault now reads taken is stream h took short stands readable = absurd reads
+  otherwise WriteFault now reads taken is stream h took short stands readable =
+      fed_failed told_of may_leave faults s s' setup moment place lines was page page' given t t' sums (taking_as (Err WriteFault) is) stream h took short
+      stands readable
+  otherwise Spent now reads taken is stream h took short stands readable =
+      let over = taken stream (took_was stream lines place was taking.there took) in
+      absurd (omega (arith, short, over))
+  otherwise (Stopped stop) now reads taken is stream h took short stands readable =
+      wanting stream h stop (ended_stopped stop is stream h took short stands readable)
+
+  pub ended_otherwise : (end : LineEnd) (now : Line.LineValue) → r ≡ Err end → ReadsNothing r
+      → ((stream : List ℕ) → Line.TookStream stream was → Line.IsTaken r stream given now)
+      → (stream : List ℕ) (h : List Entry) → TookAt stream lines place → length (stream ++ given) < input_limit
+      → StoreStands told_of may_leave faults nothing s h → IsReadable h
+      → FeedStops told_of may_leave faults setup moment stream given h t t' Memory s'
+  ended_otherwise end now is reads taken =
+      otherwise end now (subst ReadsNothing is reads)
+      (λ stream took. subst (λ (q : Result (Unit {0}) LineEnd). Line.IsTaken q stream given now) is (taken stream took)) is
+
+-- a line to which all was fed took it
+pub took_all : (place : ℕ) (lines : List Line.LineValue) (was now : Line.LineValue) (given : List ℕ) (r : Result (Unit {0}) LineEnd)
+    → slice_get lines place ≡ Some was → r ≡ Ok tt → ((stream : List ℕ) → Line.TookStream stream was → Line.IsTaken r stream given now)
+    → (stream : List ℕ) → TookAt stream lines place → length (stream ++ given) < input_limit → TookAt (stream ++ given) (set lines place now) place
+took_all place lines was now given r there is taken stream took short =
+    set_there (Line.TookStream (stream ++ given)) lines place now
+    (subst (λ (q : Result (Unit {0}) LineEnd). Line.IsTaken q stream given now) is (taken stream (took_was stream lines place was there took)))

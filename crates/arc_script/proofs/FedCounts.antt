@@ -1,0 +1,119 @@
+-- What a line leaves that was fed bytes, with what is counted.
+use Rattle.std.proofs.Common.{◌≡◌, ◌-◌, ◌+◌, ◌++◌, ◌^◌, ℕ, List, [], ◌∷◌, Option, Some, length, reverse, inl, refl, ap, sym, ◌∙◌, append-nil}
+use Rattle.std.specs.Prelude.{min, unwrap_or}
+use Rattle.std.specs.Io.KnownBytes.{append_known}
+use Rattle.alarm_rules.specs.Setups.{meaning}
+use Rattle.arc_io.specs.Areas.{Areas}
+use Rattle.arc_io.specs.Lists.{noise_of as noise_given}
+use Rattle.arc_io.specs.Memory.{clock_calls, clock_list, noise_calls, noise_list, sink_bytes}
+use Rattle.centre_core.specs.declared.hall.Stop.{Stop}
+use Rattle.centre_core.specs.declared.hall.Stop.TheVariants.{Memory}
+use Rattle.centre_rules.specs.History.{Entry}
+use Rattle.centre_rules.specs.State.{State, StandsFor}
+use Rattle.centre_rules.specs.Summary.{nothing}
+use Rattle.centre_store.specs.Stores.{Stored, StoreStands}
+use Rattle.dc09_frame.specs.Frames.{bodies}
+use Rattle.line_session.proofs.Fed.{bodies_more}
+use Rattle.line_session.specs.Turns.{Turn, line_turns, AreTurns}
+use Rattle.session_rules.specs.Turns.{entries_of, text_of}
+use Rattle.arc_script.specs.Feeding.{CountsFed, FeedStops, HasFed}
+use Rattle.arc_script.specs.PageWords.{page_seen}
+use Rattle.arc_script.specs.Standing.{IsReadable}
+use Rattle.arc_script.specs.Tallies.{count_of, is_repeat, told}
+use Rattle.arc_script.specs.declared.page.Page.{Page}
+use Rattle.arc_script.specs.declared.script_end.Tally.{Tally}
+use Rattle.arc_script.proofs.Answered.{turns_lined}
+use Rattle.arc_script.proofs.Counts.{grows_none, grows_told, repeats_told, sent_told}
+use Rattle.arc_script.proofs.Feeds.{FedBy, PageTells}
+use Rattle.arc_script.proofs.Halts.{FedUpTo}
+
+-- a page whose clock stands still and whose noise is zero
+abbrev pub page_tells : (clock : ℕ) (page page' : Page) → (page_seen page).readings ≡ Some (clock ∷ []) → (page_seen page).noise ≡ Some []
+    → length (clock_list page'.port.clock) ≡ 1 → noise_list page'.port.noise ≡ [] → PageTells clock (page_seen page) (page_seen page')
+page_tells clock page page' first none one silent = record {
+  first = first;
+  none = none;
+  list = clock_list page'.port.clock;
+  one = one;
+  calls = clock_calls page'.port.clock;
+  readings = refl;
+  tens = noise_calls page'.port.noise;
+  noise = ap (λ (l : List (List ℕ)). Some (noise_given l (noise_calls page'.port.noise))) (sym silent);
+}
+
+-- what the code counts: the readings behind the first of the page, and the entries more that are not recorded
+pub record Tallied (calls : ℕ) (s s' : State) (t t' : Tally) : Type 0 where
+  pub frames : t'.sent ≡ min (t.sent + min (calls - 1) (2 ^ 64 - 1)) (2 ^ 64 - 1)
+  pub repeats : t'.repeats ≡ min (t.repeats + (s'.entries - s'.sum.recorded - (s.entries - s.sum.recorded))) (2 ^ 64 - 1)
+  pub rest : t' ≡ record t { sent = t'.sent; repeats = t'.repeats }
+
+counts_fed : (setup : List ℕ) (calls sent : ℕ) (s s' : State) (t t' : Tally) (h x : List Entry) (turns : List Turn) → StandsFor nothing s h
+    → StandsFor nothing s' x → AreTurns nothing (meaning setup) 0 h x turns → x ≡ reverse (entries_of line_turns turns) ++ h
+    → calls ≡ sent + 1 → Tallied calls s s' t t' → CountsFed sent turns t t'
+counts_fed setup calls sent s s' t t' h x turns before behind are own count w = record {
+  frames = grows_told sent t.sent t'.sent (w.frames ∙ sent_told t.sent calls sent count);
+  repeats = grows_told (count_of is_repeat (entries_of line_turns turns)) t.repeats t'.repeats
+      (w.repeats ∙ ap (λ (n : ℕ). told (t.repeats + n))
+      (repeats_told s s' h x (entries_of line_turns turns) before behind own (turns_lined (meaning setup) h x turns are)));
+  rest = w.rest;
+}
+
+pub has_fed : {D : Type 0} (told_of : D → Option Areas) (may_leave : D → Areas → Type 0) (faults : D → ℕ) (s s' : Stored D)
+    (setup : List ℕ) (clock : ℕ) (stream bytes : List ℕ) (h : List Entry) (t t' : Tally) (page page' : Page) (calls : ℕ)
+    → StoreStands told_of may_leave faults nothing s h → (page_seen page).written ≡ Some []
+    → FedBy told_of may_leave faults s' setup clock stream bytes h (page_seen page) (page_seen page') calls
+    → Tallied calls s.state s'.state t t'
+    → HasFed told_of may_leave faults setup clock stream bytes h t t' (sink_bytes page'.port.sink) s'
+has_fed told_of may_leave faults s s' setup clock stream bytes h t t' page page' calls before empty w tallied = record {
+  turns = w.turns;
+  history = w.history;
+  fed = w.fed;
+  stands = w.stands;
+  readable = w.readable;
+  written_is = ap (λ (k : Option (List ℕ)). unwrap_or k []) (w.written ∙ ap (λ (k : Option (List ℕ)). append_known k (text_of line_turns w.turns)) empty);
+  counts = counts_fed setup calls (length w.turns) s.state s'.state t t' h w.history w.turns before.centre w.stands.centre w.fed.are w.fed.own w.count
+      tallied;
+}
+
+pub feed_stops : {D : Type 0} (told_of : D → Option Areas) (may_leave : D → Areas → Type 0) (faults : D → ℕ) (s s' : Stored D)
+    (setup : List ℕ) (clock : ℕ) (stream bytes : List ℕ) (h : List Entry) (t t' : Tally) (stop : Stop) (calls : ℕ)
+    → StoreStands told_of may_leave faults nothing s h → FedUpTo told_of may_leave faults s' setup clock stream bytes h stop calls
+    → Tallied calls s.state s'.state t t' → FeedStops told_of may_leave faults setup clock stream bytes h t t' stop s'
+feed_stops told_of may_leave faults s s' setup clock stream bytes h t t' stop calls before w tallied = record {
+  turns = w.turns;
+  more = w.more;
+  history = w.history;
+  sent = w.sent;
+  fed = w.fed;
+  stands = w.stands;
+  readable = w.readable;
+  cause = w.cause;
+  sent_is = w.sent_is;
+  counts = counts_fed setup calls w.sent s.state s'.state t t' h w.history w.turns before.centre w.stands.centre w.fed.are w.fed.own w.count tallied;
+}
+
+-- Memory was wanted before anything was fed.
+pub none_fed : {D : Type 0} (told_of : D → Option Areas) (may_leave : D → Areas → Type 0) (faults : D → ℕ) (s : Stored D) (setup : List ℕ)
+    (clock : ℕ) (stream bytes : List ℕ) (h : List Entry) (t : Tally) → StoreStands told_of may_leave faults nothing s h → IsReadable h
+    → FeedStops told_of may_leave faults setup clock stream bytes h t t Memory s
+none_fed told_of may_leave faults s setup clock stream bytes h t stands readable =
+    let more = bodies_more stream bytes in
+    record {
+      turns = [];
+      more = more.0;
+      history = h;
+      sent = 0;
+      fed = record {
+        ended = more.1 ∙ ap (λ l. l ++ more.0) (sym (append-nil (bodies stream)));
+        are = ([], refl);
+        legal = stands.centre.legal;
+        readings = refl;
+        noise = refl;
+        own = refl;
+      };
+      stands = stands;
+      readable = readable;
+      cause = inl refl;
+      sent_is = inl refl;
+      counts = record { frames = grows_none 0 t.sent refl; repeats = grows_none 0 t.repeats refl; rest = refl };
+    }

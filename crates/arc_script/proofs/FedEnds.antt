@@ -1,0 +1,85 @@
+-- What feeding bytes to a line answers, by what the line answered.
+use Rattle.std.proofs.Common.{◌≡◌, ◌<◌, ◌++◌, ℕ, List, [], Option, Some, Result, Ok, Err, length, ap, subst}
+use Rattle.std.specs.Prelude.{IfSome, unwrap_or}
+use Rattle.std.specs.List.{slice_get}
+use Rattle.arc_io.specs.Areas.{Areas}
+use Rattle.arc_io.specs.Memory.{clock_calls, clock_list, noise_list, sink_bytes}
+use Rattle.arc_io.specs.Seen.{PortSeen}
+use Rattle.centre_core.specs.Setting.{IsSetting, text_of}
+use Rattle.centre_core.specs.declared.hall.Stop.{Stop}
+use Rattle.centre_core.specs.declared.hall.Stop.TheVariants.{Memory}
+use Rattle.centre_rules.specs.History.{Entry}
+use Rattle.centre_rules.specs.Summary.{nothing}
+use Rattle.centre_store.specs.StoreHalls.{IsStoreFor}
+use Rattle.centre_store.specs.Stores.{Stored, StoreStands}
+use Rattle.line_session.specs.Lines as Line
+use Rattle.line_session.specs.declared.line_end.LineEnd.{LineEnd}
+use Rattle.line_session.specs.declared.line_end.LineEnd.TheVariants.{Stopped, WriteFault}
+use Rattle.session_rules.specs.Inputs.{in_limit, input_limit}
+use Rattle.arc_script.specs.Feeding.{FeedStops, HasFed, TookAt}
+use Rattle.arc_script.specs.PageWords.{page_seen}
+use Rattle.arc_script.specs.Pages.{blank}
+use Rattle.arc_script.specs.Standing.{IsReadable, script_seen}
+use Rattle.arc_script.specs.declared.page.Page.{Page}
+use Rattle.arc_script.specs.declared.script_end.Tally.{Tally}
+use Rattle.arc_script.proofs.FedCounts.{feed_stops, has_fed, page_tells, Tallied}
+use Rattle.arc_script.proofs.Feeds.{feeds, PageTells}
+use Rattle.arc_script.proofs.Halts.{cut_short, stopped_at}
+
+-- the line at this place was fed these bytes over a page at this moment
+pub record IsTaking {D : Type 0} (told_of : D → Option Areas) (may_leave : D → Areas → Type 0) (faults : D → ℕ) (s s' : Stored D) (setup : List ℕ)
+    (moment place : ℕ) (lines : List Line.LineValue) (was : Line.LineValue) (page page' : Page) (given : List ℕ) (r : Result (Unit {0}) LineEnd) : Type 0 where
+  pub there : slice_get lines place ≡ Some was
+  pub set : s.state.sum.text ≡ Some setup
+  pub setting : IsSetting s.state.sum.text
+  pub empty : page_seen page ≡ blank moment
+  pub one : length (clock_list page'.port.clock) ≡ 1
+  pub silent : noise_list page'.port.noise ≡ []
+  pub served : (stream : List ℕ) (h : List Entry) → Line.TookStream stream was → IsStoreFor told_of may_leave faults nothing s h → IsReadable h
+      → Line.ServesBytes r stream (in_limit stream given) nothing h (script_seen told_of may_leave faults s) (script_seen told_of may_leave faults s')
+      (page_seen page) (page_seen page')
+
+pub took_was : (stream : List ℕ) (lines : List Line.LineValue) (place : ℕ) (was : Line.LineValue) → slice_get lines place ≡ Some was
+    → TookAt stream lines place → Line.TookStream stream was
+took_was stream lines place was there took = subst (λ (o : Option Line.LineValue). IfSome o (Line.TookStream stream)) there took
+
+module _ {D : Type 0} (told_of : D → Option Areas) (may_leave : D → Areas → Type 0) (faults : D → ℕ) (s s' : Stored D) (setup : List ℕ)
+    (moment place : ℕ) (lines : List Line.LineValue) (was : Line.LineValue) (page page' : Page) (given : List ℕ) (t t' : Tally)
+    (tallied : Tallied (clock_calls page'.port.clock) s.state s'.state t t') where
+  same_text : (r : Result (Unit {0}) LineEnd) → IsTaking told_of may_leave faults s s' setup moment place lines was page page' given r → text_of s.state ≡ setup
+  same_text r g = ap (λ (o : Option (List ℕ)). unwrap_or o []) g.set
+
+  abbrev tells : (r : Result (Unit {0}) LineEnd) → IsTaking told_of may_leave faults s s' setup moment place lines was page page' given r
+      → PageTells moment (page_seen page) (page_seen page')
+  tells r g = page_tells moment page page' (ap (λ (q : PortSeen). q.readings) g.empty) (ap (λ (q : PortSeen). q.noise) g.empty) g.one g.silent
+
+  pub all_fed : IsTaking told_of may_leave faults s s' setup moment place lines was page page' given (Ok tt)
+      → (stream : List ℕ) (h : List Entry) → TookAt stream lines place → length (stream ++ given) < input_limit
+      → StoreStands told_of may_leave faults nothing s h → IsReadable h
+      → HasFed told_of may_leave faults setup moment stream given h t t' (sink_bytes page'.port.sink) s'
+  all_fed g stream h took short stands readable =
+      let serves = g.served stream h (took_was stream lines place was g.there took) (record { stands = stands; setting = g.setting }) readable in
+      has_fed told_of may_leave faults s s' setup moment stream given h t t' page page' (clock_calls page'.port.clock) stands
+      (ap (λ (q : PortSeen). q.written) g.empty)
+      (feeds told_of may_leave faults s s' setup moment stream given h (page_seen page) (page_seen page') (same_text (Ok tt) g) short (tells (Ok tt) g) serves)
+      tallied
+
+  pub fed_stopped : (stop : Stop) → IsTaking told_of may_leave faults s s' setup moment place lines was page page' given (Err (Stopped stop))
+      → (stream : List ℕ) (h : List Entry) → TookAt stream lines place → length (stream ++ given) < input_limit
+      → StoreStands told_of may_leave faults nothing s h → IsReadable h
+      → FeedStops told_of may_leave faults setup moment stream given h t t' stop s'
+  fed_stopped stop g stream h took short stands readable =
+      let serves = g.served stream h (took_was stream lines place was g.there took) (record { stands = stands; setting = g.setting }) readable in
+      feed_stops told_of may_leave faults s s' setup moment stream given h t t' stop (clock_calls page'.port.clock) stands
+      (stopped_at told_of may_leave faults s s' setup moment stream given h (page_seen page) (page_seen page') stop (same_text (Err (Stopped stop)) g) short
+      (tells (Err (Stopped stop)) g) serves) tallied
+
+  pub fed_failed : IsTaking told_of may_leave faults s s' setup moment place lines was page page' given (Err WriteFault)
+      → (stream : List ℕ) (h : List Entry) → TookAt stream lines place → length (stream ++ given) < input_limit
+      → StoreStands told_of may_leave faults nothing s h → IsReadable h
+      → FeedStops told_of may_leave faults setup moment stream given h t t' Memory s'
+  fed_failed g stream h took short stands readable =
+      let serves = g.served stream h (took_was stream lines place was g.there took) (record { stands = stands; setting = g.setting }) readable in
+      feed_stops told_of may_leave faults s s' setup moment stream given h t t' Memory (clock_calls page'.port.clock) stands
+      (cut_short told_of may_leave faults s s' setup moment stream given h (page_seen page) (page_seen page') (same_text (Err WriteFault) g) short
+      (tells (Err WriteFault) g) serves) tallied

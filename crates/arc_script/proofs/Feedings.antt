@@ -1,0 +1,143 @@
+-- What feeding bytes or a frame answers, by the results of its two calls.
+use Rattle.std.proofs.Common.{◌≡◌, ◌⊎◌, ◌<◌, ◌≤◌, ◌-◌, ◌++◌, ℕ, List, [], ◌∷◌, Option, Some, Result, Ok, Err, OnOk, IfErr, IfOk, inl, inr, length, refl, sym, subst}
+use Rattle.std.specs.Prelude.{IsOk}
+use Rattle.std.specs.Io.KnownBytes.{append_known}
+use Rattle.std.proofs.lemmas.Bool.{false≢true}
+use Rattle.alarm_rules.specs.Setups.{meaning}
+use Rattle.arc_data.specs.Moments.{IsMoment}
+use Rattle.arc_io.specs.Areas.{Areas}
+use Rattle.arc_io.specs.Memory.{sink_bytes}
+use Rattle.arc_io.specs.Seen.{PortSeen}
+use Rattle.centre_core.specs.declared.hall.Stop.{Stop}
+use Rattle.centre_core.specs.declared.hall.Stop.TheVariants.{Memory}
+use Rattle.centre_rules.specs.History.{Entry}
+use Rattle.centre_rules.specs.Summary.{nothing}
+use Rattle.centre_store.specs.Stores.{Stored, StoreStands}
+use Rattle.desk_session.specs.Desks as Desk
+use Rattle.line_session.specs.Lines as Line
+use Rattle.script_lines.specs.Lines.{Asked}
+use Rattle.session_rules.specs.Inputs.{input_limit}
+use Rattle.arc_script.specs.Carrying.{Carried, Halted, HaveTakenWith, IsNext}
+use Rattle.arc_script.specs.Causes.{HasShown, IsOfFrame}
+use Rattle.arc_script.specs.Ends.{FedUntil}
+use Rattle.arc_script.specs.Fed.{clock_of, line_fed}
+use Rattle.arc_script.specs.Feeding.{FeedStops, HasFed, TookAt}
+use Rattle.arc_script.specs.Pages.{head_of, replied}
+use Rattle.arc_script.specs.Standing.{IsReadable}
+use Rattle.arc_script.specs.Steps.{Feeds}
+use Rattle.arc_script.specs.declared.page.Page.{Page}
+use Rattle.arc_script.specs.declared.script_end.Tally.{Tally}
+use Rattle.arc_script.proofs.Carries.{carried, finished, halted_at, took_before}
+
+-- what is known of a line that is next and feeds these bytes
+pub record IsFeed (setup : List ℕ) (moment line : ℕ) (asked : Asked) (bytes : List ℕ) (lines : List Line.LineValue) (desks : List Desk.DeskValue)
+    : Type 0 where
+  pub at : IsMoment moment
+  pub low : 1 ≤ line
+  pub set : (before : List Asked) (count : ℕ) → IsNext (meaning setup) moment count before asked lines desks → clock_of before ≡ Some moment
+  pub short : (before : List Asked) (count : ℕ) → IsNext (meaning setup) moment count before asked lines desks
+      → length (line_fed line before ++ bytes) < input_limit
+
+pub fed_ok : {D : Type 0} (told_of : D → Option Areas) (may_leave : D → Areas → Type 0) (faults : D → ℕ) (s s' : Stored D) (setup : List ℕ)
+    (moment letter line : ℕ) (asked : Asked) (given bytes : List ℕ) (lines : List Line.LineValue) (desks : List Desk.DeskValue) (t t' : Tally)
+    (p p' : PortSeen) (r : Result (Unit {0}) Stop) (frames : Result Page Stop) → given ≡ bytes → IsFeed setup moment line asked bytes lines desks
+    → OnOk r (IsOk frames)
+    → OnOk r (IfOk frames (λ f. p'.written ≡ append_known p.written (head_of letter line ++ replied (sink_bytes f.port.sink) ++ 10 ∷ [])))
+    → IfOk frames (λ f. (stream : List ℕ) (h : List Entry) → TookAt stream lines (line - 1) → length (stream ++ given) < input_limit
+    → StoreStands told_of may_leave faults nothing s h → IsReadable h
+    → HasFed told_of may_leave faults setup moment stream given h t t' (sink_bytes f.port.sink) s')
+    → OnOk r ((before : List Asked) (count number : ℕ) (h : List Entry) → IsNext (meaning setup) moment count before asked lines desks
+    → StoreStands told_of may_leave faults nothing s h → IsReadable h
+    → Carried told_of may_leave faults (λ x k. Feeds setup before letter line bytes h x k) number asked t t' p p' s')
+fed_ok told_of may_leave faults s s' setup moment letter line asked given bytes lines desks t t' p p' (Ok done) (Ok page) same is ok put fed =
+    λ before count number h next stands readable.
+    let stream = line_fed line before in
+    let took = took_before (meaning setup) moment count line before asked lines desks is.low next in
+    let short = subst (λ (l : List ℕ). length (stream ++ l) < input_limit) (sym same) (is.short before count next) in
+    let has = subst (λ (l : List ℕ). HasFed told_of may_leave faults setup moment stream l h t t' (sink_bytes page.port.sink) s') same
+    (fed stream h took short stands readable) in
+    carried told_of may_leave faults s' setup moment number letter line asked before bytes h t t' p p' (sink_bytes page.port.sink) is.at
+    (is.set before count next) has put
+fed_ok told_of may_leave faults s s' setup moment letter line asked given bytes lines desks t t' p p' (Ok done) (Err stop) same is ok put fed = absurd (false≢true ok)
+fed_ok told_of may_leave faults s s' setup moment letter line asked given bytes lines desks t t' p p' (Err stop) frames same is ok put fed = tt
+
+-- where memory was wanted, that is the cause
+wanting : {D : Type 0} {told_of : D → Option Areas} {may_leave : D → Areas → Type 0} {faults : D → ℕ} {s' : Stored D} {setup : List ℕ} {moment : ℕ}
+    {stream bytes : List ℕ} {h : List Entry} {t t' : Tally} (stop other : Stop) → (stop ≡ Memory) ⊎ (other ≡ stop)
+    → FeedStops told_of may_leave faults setup moment stream bytes h t t' other s' → FeedStops told_of may_leave faults setup moment stream bytes h t t' stop s'
+wanting stop other (inl is) w = record {
+  turns = w.turns;
+  more = w.more;
+  history = w.history;
+  sent = w.sent;
+  fed = w.fed;
+  stands = w.stands;
+  readable = w.readable;
+  cause = inl is;
+  sent_is = w.sent_is;
+  counts = w.counts;
+}
+wanting {D} {told_of} {may_leave} {faults} {s'} {setup} {moment} {stream} {bytes} {h} {t} {t'} stop other (inr same) w =
+    subst (λ (k : Stop). FeedStops told_of may_leave faults setup moment stream bytes h t t' k s') same w
+
+stop_or : (stop other : Stop) (frames : Result Page Stop) → frames ≡ Err other → (stop ≡ Memory) ⊎ (frames ≡ Err stop) → (stop ≡ Memory) ⊎ (other ≡ stop)
+stop_or stop other frames at (inl is) = inl is
+stop_or stop other frames at (inr same) = inr cc
+
+memory_of : (page : Page) (stop : Stop) (frames : Result Page Stop) → frames ≡ Ok page → (stop ≡ Memory) ⊎ (frames ≡ Err stop) → stop ≡ Memory
+memory_of page stop frames at (inl is) = is
+memory_of page stop frames at (inr same) = absurd cc
+
+pub fed_stops : {D : Type 0} (told_of : D → Option Areas) (may_leave : D → Areas → Type 0) (faults : D → ℕ) (s s' : Stored D) (setup : List ℕ)
+    (moment letter line : ℕ) (asked : Asked) (given bytes : List ℕ) (lines : List Line.LineValue) (desks : List Desk.DeskValue) (t t' : Tally)
+    (r : Result (Unit {0}) Stop) (frames : Result Page Stop) → given ≡ bytes → IsFeed setup moment line asked bytes lines desks
+    → IfErr r (λ stop. (stop ≡ Memory) ⊎ (frames ≡ Err stop))
+    → IfOk frames (λ f. (stream : List ℕ) (h : List Entry) → TookAt stream lines (line - 1) → length (stream ++ given) < input_limit
+    → StoreStands told_of may_leave faults nothing s h → IsReadable h
+    → HasFed told_of may_leave faults setup moment stream given h t t' (sink_bytes f.port.sink) s')
+    → IfErr frames (λ stop. (stream : List ℕ) (h : List Entry) → TookAt stream lines (line - 1) → length (stream ++ given) < input_limit
+    → StoreStands told_of may_leave faults nothing s h → IsReadable h
+    → FeedStops told_of may_leave faults setup moment stream given h t t' stop s')
+    → IfErr r (λ stop. (before : List Asked) (count : ℕ) (h : List Entry) → IsNext (meaning setup) moment count before asked lines desks
+    → StoreStands told_of may_leave faults nothing s h → IsReadable h
+    → Halted told_of may_leave faults (λ x k.
+    ((waiting : List (List ℕ)) × FedUntil setup before line bytes waiting h x k
+    × HasShown told_of may_leave faults s' stop moment (IsOfFrame setup moment waiting))
+    ⊎ ((stop ≡ Memory) × Feeds setup before letter line bytes h x k)) t t' s')
+fed_stops told_of may_leave faults s s' setup moment letter line asked given bytes lines desks t t' (Ok done) frames same is stops fed stopped = tt
+fed_stops told_of may_leave faults s s' setup moment letter line asked given bytes lines desks t t' (Err stop) (Ok page) same is stops fed stopped =
+    λ before count h next stands readable.
+    let stream = line_fed line before in
+    let took = took_before (meaning setup) moment count line before asked lines desks is.low next in
+    let short = subst (λ (l : List ℕ). length (stream ++ l) < input_limit) (sym same) (is.short before count next) in
+    let has = subst (λ (l : List ℕ). HasFed told_of may_leave faults setup moment stream l h t t' (sink_bytes page.port.sink) s') same
+    (fed stream h took short stands readable) in
+    finished told_of may_leave faults s' setup moment letter line asked before bytes h t t' (sink_bytes page.port.sink) stop
+    (memory_of page stop (Ok page) refl stops) (is.set before count next) has
+fed_stops told_of may_leave faults s s' setup moment letter line asked given bytes lines desks t t' (Err stop) (Err other) same is stops fed stopped =
+    λ before count h next stands readable.
+    let stream = line_fed line before in
+    let took = took_before (meaning setup) moment count line before asked lines desks is.low next in
+    let short = subst (λ (l : List ℕ). length (stream ++ l) < input_limit) (sym same) (is.short before count next) in
+    let has = subst (λ (l : List ℕ). FeedStops told_of may_leave faults setup moment stream l h t t' other s') same
+    (stopped stream h took short stands readable) in
+    halted_at told_of may_leave faults s' setup moment letter line asked before bytes h t t' stop (is.set before count next)
+    (wanting stop other (stop_or stop other (Err other) refl stops) has)
+
+-- where all was fed, the lines and desks took it
+pub took_ok : (setup : List ℕ) (moment line : ℕ) (asked : Asked) (given bytes : List ℕ) (lines lines' : List Line.LineValue)
+    (desks : List Desk.DeskValue) (r : Result (Unit {0}) Stop) (frames : Result Page Stop) → given ≡ bytes
+    → IsFeed setup moment line asked bytes lines desks → OnOk r (IsOk frames)
+    → OnOk frames ((stream : List ℕ) → TookAt stream lines (line - 1) → length (stream ++ given) < input_limit → TookAt (stream ++ given) lines' (line - 1))
+    → ((before : List Asked) (count : ℕ) → IsNext (meaning setup) moment count before asked lines desks → TookAt (line_fed line before ++ bytes) lines' (line - 1)
+    → HaveTakenWith (meaning setup) count before asked lines' desks)
+    → OnOk r ((before : List Asked) (count : ℕ) → IsNext (meaning setup) moment count before asked lines desks
+    → HaveTakenWith (meaning setup) count before asked lines' desks)
+took_ok setup moment line asked given bytes lines lines' desks (Ok done) (Ok page) same is ok took behind =
+    λ before count next.
+    let stream = line_fed line before in
+    let there = took_before (meaning setup) moment count line before asked lines desks is.low next in
+    let short = subst (λ (l : List ℕ). length (stream ++ l) < input_limit) (sym same) (is.short before count next) in
+    behind before count next (subst (λ (l : List ℕ). TookAt (stream ++ l) lines' (line - 1)) same (took stream there short))
+took_ok setup moment line asked given bytes lines lines' desks (Ok done) (Err stop) same is ok took behind = absurd (false≢true ok)
+took_ok setup moment line asked given bytes lines lines' desks (Err stop) frames same is ok took behind = tt

@@ -1,0 +1,85 @@
+-- What a line did that was fed bytes over a store.
+use Rattle.std.proofs.Common.{◌≡◌, ◌<◌, ◌≤◌, ◌-◌, ◌+◌, ◌++◌, ℕ, suc, List, [], ◌∷◌, Option, Some, Ok, length, map, replicate, refl, ap, sym, subst, ◌∙◌, arith}
+use Rattle.std.specs.Io.KnownBytes.{append_known}
+use Rattle.std.proofs.lemmas.List.{append_assoc, length-append}
+use Rattle.alarm_rules.specs.Setups.{meaning}
+use Rattle.arc_io.specs.Areas.{Areas}
+use Rattle.arc_io.specs.Lists.{readings_of as given_of, noise_of as noise_given}
+use Rattle.arc_io.specs.Seen.{PortSeen}
+use Rattle.centre_core.specs.Setting.{text_of as text_in}
+use Rattle.centre_rules.specs.History.{Entry}
+use Rattle.centre_rules.specs.Summary.{nothing}
+use Rattle.centre_store.specs.Stores.{Stored, StoreStands}
+use Rattle.dc09_frame.specs.Frames.{bodies}
+use Rattle.line_session.proofs.Ported.{all_in_limit}
+use Rattle.line_session.specs.Lines.{ServesBytes}
+use Rattle.line_session.specs.Turns.{Turn, line_turns, AreTurns}
+use Rattle.session_rules.specs.Inputs.{in_limit, input_limit}
+use Rattle.session_rules.specs.Turns.{readings_of, noise_of, text_of}
+use Rattle.arc_script.proofs.Readings.{still, silent}
+use Rattle.arc_script.specs.Feeding.{FeedsBehind}
+use Rattle.arc_script.specs.Standing.{IsReadable, script_seen}
+
+-- what a page tells of its clock and its noise before a line is fed, and after
+pub record PageTells (clock : ℕ) (p p' : PortSeen) : Type 0 where
+  pub first : p.readings ≡ Some (clock ∷ [])
+  pub none : p.noise ≡ Some []
+  pub list : List ℕ
+  pub one : length list ≡ 1
+  pub calls : ℕ
+  pub readings : Some (given_of list calls) ≡ p'.readings
+  pub tens : ℕ
+  pub noise : Some (noise_given [] tens) ≡ p'.noise
+
+-- all frames have their turns
+pub record FedBy {D : Type 0} (told : D → Option Areas) (may_leave : D → Areas → Type 0) (faults : D → ℕ) (s' : Stored D)
+    (setup : List ℕ) (clock : ℕ) (stream bytes : List ℕ) (h : List Entry) (p p' : PortSeen) (calls : ℕ) : Type 0 where
+  pub turns : List Turn
+  pub history : List Entry
+  pub fed : FeedsBehind setup clock stream bytes h history turns []
+  pub stands : StoreStands told may_leave faults nothing s' history
+  pub readable : IsReadable history
+  pub written : p'.written ≡ append_known p.written (text_of line_turns turns)
+  pub count : calls ≡ length turns + 1
+
+pub readings_count : (turns : List Turn) → length (readings_of line_turns turns) ≡ length turns
+readings_count [] = refl
+readings_count (t ∷ ts) = ap suc (readings_count ts)
+
+pub feeds : {D : Type 0} (told : D → Option Areas) (may_leave : D → Areas → Type 0) (faults : D → ℕ) (s s' : Stored D)
+    (setup : List ℕ) (clock : ℕ) (stream bytes : List ℕ) (h : List Entry) (p p' : PortSeen) → text_in s.state ≡ setup
+    → length (stream ++ bytes) < input_limit → (page : PageTells clock p p')
+    → ServesBytes (Ok tt) stream (in_limit stream bytes) nothing h (script_seen told may_leave faults s) (script_seen told may_leave faults s') p p'
+    → FedBy told may_leave faults s' setup clock stream bytes h p p' page.calls
+feeds told may_leave faults s s' setup clock stream bytes h p p' same short page serves =
+    let session = serves.session in
+    let turns = session.turns in
+    let fits : length bytes ≤ input_limit - length stream = (let long = length-append stream bytes in omega (arith, long, short)) in
+    let all : in_limit stream bytes ≡ bytes = all_in_limit stream bytes fits in
+    let told_of = session.adds.told in
+    let added = session.ended.added in
+    let readings : Some (given_of page.list page.calls) ≡ append_known (Some (clock ∷ [])) (readings_of line_turns turns) =
+    page.readings ∙ ap (λ (q : PortSeen). q.readings) told_of ∙ ap (λ k. append_known k session.added.readings) page.first
+    ∙ ap (λ a. append_known (Some (clock ∷ [])) a.readings) added in
+    let noise : Some (noise_given [] page.tens) ≡ append_known (Some []) (noise_of line_turns turns) =
+    page.noise ∙ ap (λ (q : PortSeen). q.noise) told_of ∙ ap (λ k. append_known k session.added.noise) page.none
+    ∙ ap (λ a. append_known (Some []) a.noise) added in
+    let stands = still page.list page.calls clock (readings_of line_turns turns) page.one readings in
+    record {
+      turns = turns;
+      history = session.history;
+      fed = record {
+        ended = ap (λ l. bodies (stream ++ l)) (sym all) ∙ serves.ended ∙ ap (λ l. bodies stream ++ l) session.taken
+            ∙ ap (λ l. bodies stream ++ (map (λ (t : Turn). t.body) turns ++ l)) session.ended.none_left
+            ∙ sym (append_assoc (bodies stream) (map (λ (t : Turn). t.body) turns) []);
+        are = subst (λ (text : List ℕ). AreTurns nothing (meaning text) 0 h session.history turns) same session.each;
+        legal = session.legal;
+        readings = stands.same ∙ ap (λ n. replicate n clock) (readings_count turns);
+        noise = silent page.tens (noise_of line_turns turns) noise;
+        own = session.own;
+      };
+      stands = session.holds.0.stands;
+      readable = session.holds.1 refl;
+      written = ap (λ (q : PortSeen). q.written) told_of ∙ ap (λ a. append_known p.written a.text) added;
+      count = stands.count ∙ ap (λ n. n + 1) (readings_count turns);
+    }

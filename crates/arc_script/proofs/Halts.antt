@@ -1,0 +1,164 @@
+-- What a line did that was fed bytes over a store and was stopped.
+use Rattle.std.proofs.Common.{◌≡◌, ◌⊎◌, ◌<◌, ◌≤◌, ◌-◌, ◌+◌, ◌++◌, ℕ, zero, suc, List, [], ◌∷◌, Option, Some, Err, inl, inr, length, map, replicate, drop, refl, ap, sym, subst, ◌∙◌, arith}
+use Rattle.std.specs.Prelude.{slice_index}
+use Rattle.std.specs.Io.KnownBytes.{append_known}
+use Rattle.std.proofs.lemmas.List.{append_assoc, append-nil, length-append}
+use Rattle.alarm_rules.specs.Setups.{meaning}
+use Rattle.arc_io.specs.Areas.{Areas}
+use Rattle.arc_io.specs.Lists.{readings_of as given_of, noise_of as noise_given}
+use Rattle.arc_io.specs.Seen.{PortSeen}
+use Rattle.centre_core.specs.Setting.{text_of as text_in}
+use Rattle.centre_core.specs.declared.hall.Stop.{Stop}
+use Rattle.centre_core.specs.declared.hall.Stop.TheVariants.{Memory}
+use Rattle.centre_rules.specs.History.{Entry}
+use Rattle.centre_rules.specs.Summary.{nothing}
+use Rattle.centre_store.specs.Stores.{Stored, StoreStands, Shows}
+use Rattle.dc09_frame.specs.Frames.{bodies}
+use Rattle.dc09_message.specs.Verdicts.{verdict_of}
+use Rattle.line_session.proofs.Ported.{all_in_limit}
+use Rattle.line_session.specs.Lines.{ServesBytes}
+use Rattle.line_session.specs.Sessions.{HasStopped}
+use Rattle.line_session.specs.Turns.{Turn, line_turns, event_of, AreTurns}
+use Rattle.line_session.specs.declared.line_end.LineEnd.TheVariants.{WriteFault, Stopped}
+use Rattle.session_rules.specs.Inputs.{in_limit, input_limit}
+use Rattle.session_rules.specs.Turns.{readings_of, noise_of}
+use Rattle.arc_script.proofs.Feeds.{PageTells, readings_count}
+use Rattle.arc_script.proofs.Readings.{still, silent}
+use Rattle.arc_script.specs.Causes.{HasShown, IsOfFrame}
+use Rattle.arc_script.specs.Feeding.{FeedsBehind}
+use Rattle.arc_script.specs.Standing.{IsReadable, script_seen}
+
+-- the frames before the one that was stopped have their turns; that one may have taken its reading
+pub record FedUpTo {D : Type 0} (told : D → Option Areas) (may_leave : D → Areas → Type 0) (faults : D → ℕ) (s' : Stored D)
+    (setup : List ℕ) (clock : ℕ) (stream bytes : List ℕ) (h : List Entry) (stop : Stop) (calls : ℕ) : Type 0 where
+  pub turns : List Turn
+  pub more : List (List ℕ)
+  pub history : List Entry
+  pub sent : ℕ
+  pub fed : FeedsBehind setup clock stream bytes h history turns more
+  pub stands : StoreStands told may_leave faults nothing s' history
+  pub readable : IsReadable history
+  pub cause : HasShown told may_leave faults s' stop clock (IsOfFrame setup clock more)
+  pub sent_is : (sent ≡ length turns) ⊎ (sent ≡ suc (length turns))
+  pub count : calls ≡ sent + 1
+
+parted : (stream bytes : List ℕ) (whole more : List (List ℕ)) (turns : List Turn) → length (stream ++ bytes) < input_limit
+    → bodies (stream ++ in_limit stream bytes) ≡ bodies stream ++ whole → whole ≡ map (λ (t : Turn). t.body) turns ++ more
+    → bodies (stream ++ bytes) ≡ bodies stream ++ map (λ (t : Turn). t.body) turns ++ more
+parted stream bytes whole more turns short ended taken =
+    let fits : length bytes ≤ input_limit - length stream = (let long = length-append stream bytes in omega (arith, long, short)) in
+    let all : in_limit stream bytes ≡ bytes = all_in_limit stream bytes fits in
+    ap (λ l. bodies (stream ++ l)) (sym all) ∙ ended ∙ ap (λ l. bodies stream ++ l) taken
+    ∙ sym (append_assoc (bodies stream) (map (λ (t : Turn). t.body) turns) more)
+
+without_behind : (turns front behind : List Turn) → turns ≡ front ++ behind → behind ≡ [] → front ≡ turns
+without_behind turns front behind split none = sym (split ∙ ap (λ l. front ++ l) none ∙ append-nil front)
+
+-- a write failed within a reply
+pub cut_short : {D : Type 0} (told : D → Option Areas) (may_leave : D → Areas → Type 0) (faults : D → ℕ) (s s' : Stored D)
+    (setup : List ℕ) (clock : ℕ) (stream bytes : List ℕ) (h : List Entry) (p p' : PortSeen) → text_in s.state ≡ setup
+    → length (stream ++ bytes) < input_limit → (page : PageTells clock p p')
+    → ServesBytes (Err WriteFault) stream (in_limit stream bytes) nothing h (script_seen told may_leave faults s) (script_seen told may_leave faults s') p p'
+    → FedUpTo told may_leave faults s' setup clock stream bytes h Memory page.calls
+cut_short told may_leave faults s s' setup clock stream bytes h p p' same short page serves =
+    let session = serves.session in
+    let turns = session.turns in
+    let ended = session.ended in
+    let told_of = session.adds.told in
+    let all : ended.front ++ ended.last ∷ [] ≡ turns = sym (ended.split ∙ ap (λ l. ended.front ++ ended.last ∷ l) session.unanswered) in
+    let readings : Some (given_of page.list page.calls) ≡ append_known (Some (clock ∷ [])) (readings_of line_turns turns) =
+    page.readings ∙ ap (λ (q : PortSeen). q.readings) told_of ∙ ap (λ k. append_known k session.added.readings) page.first
+    ∙ ap (λ a. append_known (Some (clock ∷ [])) a.readings) ended.added in
+    let noise : Some (noise_given [] page.tens) ≡ append_known (Some []) (noise_of line_turns turns) =
+    page.noise ∙ ap (λ (q : PortSeen). q.noise) told_of ∙ ap (λ k. append_known k session.added.noise) page.none
+    ∙ ap (λ a. append_known (Some []) a.noise) ended.added ∙ ap (λ ts. append_known (Some []) (noise_of line_turns ts)) all in
+    let stands = still page.list page.calls clock (readings_of line_turns turns) page.one readings in
+    record {
+      turns = turns;
+      more = session.left;
+      history = session.history;
+      sent = length turns;
+      fed = record {
+        ended = parted stream bytes serves.whole session.left turns short serves.ended session.taken;
+        are = subst (λ (text : List ℕ). AreTurns nothing (meaning text) 0 h session.history turns) same session.each;
+        legal = session.legal;
+        readings = stands.same ∙ ap (λ n. replicate n clock) (readings_count turns);
+        noise = silent page.tens (noise_of line_turns turns) noise;
+        own = session.own;
+      };
+      stands = session.holds.0.stands;
+      readable = session.holds.1 refl;
+      cause = inl refl;
+      sent_is = inl refl;
+      count = stands.count ∙ ap (λ n. n + 1) (readings_count turns);
+    }
+
+-- the readings of the turns, and one more, were all at one moment
+record AllAt (clock reading : ℕ) (readings : List ℕ) : Type 0 where
+  last : reading ≡ clock
+  rest : readings ≡ replicate (length readings) clock
+
+all_at : (readings : List ℕ) (reading clock n : ℕ) → readings ++ reading ∷ [] ≡ replicate n clock → AllAt clock reading readings
+all_at [] reading clock zero is = absurd cc
+all_at [] reading clock (suc n) is = record { last = ap (λ (l : List ℕ). slice_index l 0) is; rest = refl }
+all_at (r ∷ rs) reading clock zero is = absurd cc
+all_at (r ∷ rs) reading clock (suc n) is =
+    let more = all_at rs reading clock n (ap (λ (l : List ℕ). drop 1 l) is) in
+    record { last = more.last; rest = ap (λ x. x ∷ rs) (ap (λ (l : List ℕ). slice_index l 0) is) ∙ ap (λ l. clock ∷ l) more.rest }
+
+caused : {D : Type 0} (told : D → Option Areas) (may_leave : D → Areas → Type 0) (faults : D → ℕ) (s s' : Stored D)
+    (setup : List ℕ) (clock reading : ℕ) (stop : Stop) (body : List ℕ) (more : List (List ℕ)) → text_in s.state ≡ setup → reading ≡ clock
+    → HasStopped (script_seen told may_leave faults s) (script_seen told may_leave faults s') stop body reading
+    → HasShown told may_leave faults s' stop clock (IsOfFrame setup clock (body ∷ more))
+caused told may_leave faults s s' setup clock reading stop body more same at (inl wanted) = inl wanted.0
+caused told may_leave faults s s' setup clock reading stop body more same at (inr w) = inr (
+  w.0,
+  sym (ap (λ (r : ℕ). event_of (verdict_of (meaning (text_in s.state)) r body)) at ∙ ap (λ (text : List ℕ). event_of (verdict_of (meaning text) clock body)) same)
+      ∙ w.1,
+  subst (λ (r : ℕ). Shows told may_leave faults s' stop w.0 r) at w.2,
+)
+
+-- the store stopped for a frame
+pub stopped_at : {D : Type 0} (told : D → Option Areas) (may_leave : D → Areas → Type 0) (faults : D → ℕ) (s s' : Stored D)
+    (setup : List ℕ) (clock : ℕ) (stream bytes : List ℕ) (h : List Entry) (p p' : PortSeen) (stop : Stop) → text_in s.state ≡ setup
+    → length (stream ++ bytes) < input_limit → (page : PageTells clock p p')
+    → ServesBytes (Err (Stopped stop)) stream (in_limit stream bytes) nothing h (script_seen told may_leave faults s)
+    (script_seen told may_leave faults s') p p'
+    → FedUpTo told may_leave faults s' setup clock stream bytes h stop page.calls
+stopped_at told may_leave faults s s' setup clock stream bytes h p p' stop same short page serves =
+    let session = serves.session in
+    let turns = session.turns in
+    let ended = session.ended in
+    let told_of = session.adds.told in
+    let all = without_behind turns ended.front session.behind ended.split session.unanswered in
+    let list = readings_of line_turns turns ++ ended.reading ∷ [] in
+    let readings : Some (given_of page.list page.calls) ≡ append_known (Some (clock ∷ [])) list =
+    page.readings ∙ ap (λ (q : PortSeen). q.readings) told_of ∙ ap (λ k. append_known k session.added.readings) page.first
+    ∙ ap (λ a. append_known (Some (clock ∷ [])) a.readings) ended.added in
+    let noise : Some (noise_given [] page.tens) ≡ append_known (Some []) (noise_of line_turns turns) =
+    page.noise ∙ ap (λ (q : PortSeen). q.noise) told_of ∙ ap (λ k. append_known k session.added.noise) page.none
+    ∙ ap (λ a. append_known (Some []) a.noise) ended.added ∙ ap (λ ts. append_known (Some []) (noise_of line_turns ts)) all in
+    let stands = still page.list page.calls clock list page.one readings in
+    let at = all_at (readings_of line_turns turns) ended.reading clock (length list) stands.same in
+    let size = length-append (readings_of line_turns turns) (ended.reading ∷ []) in
+    let count = readings_count turns in
+    record {
+      turns = turns;
+      more = ended.piece ∷ ended.more;
+      history = session.history;
+      sent = suc (length turns);
+      fed = record {
+        ended = parted stream bytes serves.whole (ended.piece ∷ ended.more) turns short serves.ended
+            (session.taken ∙ ap (λ l. map (λ (t : Turn). t.body) turns ++ l) ended.next);
+        are = subst (λ (text : List ℕ). AreTurns nothing (meaning text) 0 h session.history turns) same session.each;
+        legal = session.legal;
+        readings = at.rest ∙ ap (λ n. replicate n clock) count;
+        noise = silent page.tens (noise_of line_turns turns) noise;
+        own = session.own;
+      };
+      stands = session.holds.0.stands;
+      readable = session.holds.1 refl;
+      cause = caused told may_leave faults s s' setup clock ended.reading stop ended.piece ended.more same at.last ended.cause;
+      sent_is = inr refl;
+      count = omega (arith, stands.count, size, count);
+    }

@@ -1,0 +1,83 @@
+-- A script before its first line, over a store that was opened.
+use Rattle.std.proofs.Common.{◌≡◌, ◌≤◌, ◌∷◌, ℕ, zero, suc, List, [], Option, Some, None, IfSome, refl, sym, subst, ◌∙◌, arith}
+use Rattle.std.specs.Prelude.{All, slice_get}
+use Rattle.alarm_rules.specs.Setups.{meaning}
+use Rattle.arc_io.proofs.KnownMore.{known_none}
+use Rattle.centre_rules.specs.History.{IsMoment}
+use Rattle.centre_store.specs.Bodies.{bodies_of}
+use Rattle.centre_store.specs.Openings.{IsOpened}
+use Rattle.centre_store.specs.Pasts.{AreKept}
+use Rattle.centre_store.specs.Stores.{Stored}
+use Rattle.desk_session.specs.Desks as Desk
+use Rattle.disk_journal.specs.Journal.{Holds}
+use Rattle.line_session.specs.Lines as Line
+use Rattle.arc_script.specs.Between.{Begun, IsStoreSoFar, SoFar}
+use Rattle.arc_script.specs.Carrying.{HasRead, HaveTaken}
+use Rattle.arc_script.specs.Ends.{DiskWords, BeginsWith}
+use Rattle.arc_script.specs.Playing.{IsNewDesk}
+use Rattle.arc_script.specs.Standing.{is_told}
+use Rattle.arc_script.specs.declared.script.Script.{Script}
+use Rattle.arc_script.proofs.Reopening.{kept_recorded}
+
+all_at : {A : Type 0} (P : A → Type 0) (xs : List A) (i : ℕ) → All P xs → IfSome (slice_get xs i) P
+all_at P [] i all = tt
+all_at P (x ∷ xs) zero all = all 0 x (omega arith)
+all_at P (x ∷ xs) (suc i) all = all_at P xs i (λ k d inside. all (suc k) d (omega (arith, inside)))
+
+-- desks that were made anew read nothing
+new_read : (setup : List ℕ) (desk : Option Desk.DeskValue) (count : ℕ) → IfSome desk IsNewDesk → IfSome desk (HasRead (meaning setup) count [])
+new_read setup None count new = tt
+new_read setup (Some desk) count new = record { stream = []; took = new.took (meaning setup); ended = refl; none = refl; few = omega arith }
+
+-- lines and desks that were made anew
+pub taken_none : (setup : List ℕ) (lines : List Line.LineValue) (desks : List Desk.DeskValue) → All (Line.TookStream []) lines → All IsNewDesk desks
+    → HaveTaken (meaning setup) 0 [] lines desks
+taken_none setup lines desks new_lines new_desks = record {
+  fed = λ i. all_at (Line.TookStream []) lines i new_lines;
+  few = λ n. omega arith;
+  read = λ i. new_read setup (slice_get desks i) 0 (all_at IsNewDesk desks i new_desks);
+}
+
+-- what a store that was opened stands for
+pub store_opened : {D : Type 0} (w : DiskWords D) (b : Begun D) (s : Stored D) (o : IsOpened w.told w.may_leave w.faults b.disk s)
+    → is_told (w.told s.journal.disk) ≡ is_told (w.told b.disk) → s.journal.limits ≡ b.limits → w.faults b.disk ≤ s.at_open
+    → IsStoreSoFar w b o.past s
+store_opened w b s o tells limits later = record {
+  stands = o.stands;
+  readable = subst AreKept (sym (kept_recorded o.past o.is_past.kept)) o.is_past.kept;
+  tells = tells;
+  limits_are = limits;
+  later = later;
+}
+
+pub held_opened : {D : Type 0} (w : DiskWords D) (disk : D) (s : Stored D) (o : IsOpened w.told w.may_leave w.faults disk s)
+    → Holds w.told w.may_leave s.journal (bodies_of o.past)
+held_opened w disk s o = subst (λ (l : List (List ℕ)). Holds w.told w.may_leave s.journal l) o.is_past.is o.held
+
+pub begins_with : {D : Type 0} (w : DiskWords D) (disk : D) (s : Stored D) (o : IsOpened w.told w.may_leave w.faults disk s) → BeginsWith w disk o.past
+begins_with w disk s o = record { bodies = o.bodies; is_past = o.is_past; area = o.area }
+
+-- no line was carried out
+pub so_far_none : {D : Type 0} (w : DiskWords D) (b : Begun D) (script : Script) (s : Stored D) → script.setup ≡ b.setup → script.limits ≡ b.limits
+    → All (Line.TookStream []) script.lines.items → All IsNewDesk script.desks.items → script.clock ≡ None
+    → script.opened_before ≡ s.state.sum.opened → script.tally.sent ≡ 0 → script.tally.repeats ≡ 0 → script.tally.closed ≡ 0
+    → IsStoreSoFar w b b.past s → Holds w.told w.may_leave s.journal (bodies_of b.past) → SoFar w b [] script s b.port
+so_far_none w b script s setup limits new_lines new_desks none opened sent repeats closed store held = record {
+  steps = [];
+  history = b.past;
+  of = tt;
+  are = refl;
+  between = record {
+    setup = setup;
+    limits = limits;
+    clock = record { is = none; moment = subst (λ (c : Option ℕ). IfSome c IsMoment) (sym none) tt; once = tt };
+    set = subst (λ (c : Option ℕ). IfSome c (λ last. s.state.sum.text ≡ Some b.setup)) (sym none) tt;
+    taken = taken_none b.setup script.lines.items script.desks.items new_lines new_desks;
+    store = store;
+  };
+  held = held;
+  counts = record { sent = sent; repeats = repeats; closed = closed };
+  opened_before = opened ∙ store.stands.centre.same.opened;
+  written = sym (known_none b.port.written);
+  writes = omega arith;
+}

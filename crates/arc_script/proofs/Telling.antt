@@ -1,0 +1,54 @@
+-- A disk goes on telling what it holds, and what is recorded can be read again.
+use Rattle.std.proofs.Common.{◌≡◌, ◌∷◌, ℕ, List, [], Bool, true, false, cond, Option, Some, None, refl, sym, ap, subst, ◌∙◌, arith}
+use Rattle.arc_data.specs.WellFormed.{IsWellFormed}
+use Rattle.arc_io.specs.Areas.{Areas}
+use Rattle.arc_io.specs.Crashes.{Becomes}
+use Rattle.centre_rules.specs.Answers.{answer}
+use Rattle.centre_rules.specs.History.{Entry, IsMoment, is_recorded, last, moment_after, recorded}
+use Rattle.centre_rules.specs.Summary.{nothing}
+use Rattle.centre_store.proofs.Bodies.{kept_event}
+use Rattle.centre_store.specs.Pasts.{IsKept, AreKept}
+use Rattle.disk_journal.specs.OtherArea.{SparesB}
+use Rattle.arc_script.specs.Standing.{IsReadable, is_told}
+
+becomes_told : (x y : Option Areas) (R : Areas → Areas → Type 0) → Becomes x y R → is_told y ≡ is_told x
+becomes_told None None R is = refl
+becomes_told None (Some t) R is = absurd is
+becomes_told (Some s) None R is = absurd is
+becomes_told (Some s) (Some t) R is = refl
+
+pub spared_tells : {D : Type 0} {told : D → Option Areas} {may_leave : D → Areas → Type 0} {moment : D → ℕ} {left_since : D → ℕ → Areas → Type 0}
+    {old new : D} → SparesB told may_leave moment left_since old new → is_told (told new) ≡ is_told (told old)
+spared_tells {D} {told} {may_leave} {moment} {left_since} {old} {new} spared = becomes_told (told old) (told new) (λ s t. t.b ≡ s.b) spared.same
+
+last_step : (e : Entry) (h : List Entry) (t : Bool) → is_recorded e.reply ≡ t → AreKept (cond t (e ∷ recorded h) (recorded h))
+    → (AreKept (recorded h) → IsMoment (last nothing h)) → IsMoment (cond t e.at (last nothing h))
+last_step e h true is kept before = kept.0.spelled.moment
+last_step e h false is kept before = before kept
+
+-- the moment of the last recorded entry
+pub last_moment : (h : List Entry) → IsReadable h → IsMoment (last nothing h)
+last_moment [] kept = omega arith
+last_moment (e ∷ h) kept = last_step e h (is_recorded e.reply) refl kept (last_moment h)
+
+pub moment_fits : (h : List Entry) (clock : ℕ) → IsMoment clock → IsReadable h → IsMoment (moment_after nothing h clock)
+moment_fits h clock fits kept = let before = last_moment h kept in omega (arith, fits, before)
+
+readable_step : (e : Entry) (h : List Entry) (t : Bool) → is_recorded e.reply ≡ t → (is_recorded e.reply ≡ true → IsKept e) → AreKept (recorded h)
+    → AreKept (cond t (e ∷ recorded h) (recorded h))
+readable_step e h true is one kept = (one is, kept)
+readable_step e h false is one kept = kept
+
+-- one entry more
+pub readable_more : (h : List Entry) (e : Entry) (clock : ℕ) → e.caller ≡ 0 → IsWellFormed e.event → IsMoment clock → e.at ≡ moment_after nothing h clock
+    → e.reply ≡ answer nothing h e.event e.at → IsReadable h → IsReadable (e ∷ h)
+readable_more h e clock caller formed fits at reply kept =
+    readable_step e h (is_recorded e.reply) refl (λ is. record {
+      caller = caller;
+      recorded = is;
+      spelled = record {
+        kept = kept_event nothing h e.event e.at (ap is_recorded (sym reply) ∙ is);
+        well_formed = formed;
+        moment = subst IsMoment (sym at) (moment_fits h clock fits kept);
+      };
+    }) kept

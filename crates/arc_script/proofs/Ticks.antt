@@ -1,0 +1,137 @@
+-- What a `T` leaves.
+use Rattle.std.proofs.Common.{◌≡◌, ◌⊎◌, ◌++◌, ℕ, List, ◌∷◌, Option, Some, None, Result, Ok, Err, OnOk, OnErr, IfErr, inl, inr, refl, ap, sym, subst, ◌∙◌}
+use Rattle.std.specs.Prelude.{codes}
+use Rattle.std.specs.Io.KnownBytes.{append_known}
+use Rattle.arc_data.specs.declared.event.Event.{Event}
+use Rattle.arc_data.specs.declared.event.Event.TheVariants.{Tick}
+use Rattle.arc_data.specs.declared.reply.Reply.{Reply}
+use Rattle.arc_io.specs.Areas.{Areas}
+use Rattle.arc_io.specs.Seen.{PortSeen}
+use Rattle.centre_core.specs.declared.hall.Stop.{Stop}
+use Rattle.centre_core.specs.declared.hall.Stop.TheVariants.{Memory}
+use Rattle.centre_rules.specs.Answers.{answer}
+use Rattle.centre_rules.specs.History.{Entry, moment_after}
+use Rattle.centre_rules.specs.Summary.{nothing}
+use Rattle.centre_store.specs.Begins.{adopted_after, begun_after}
+use Rattle.centre_store.specs.Stores.{Stored, StoreStands, Takes}
+use Rattle.desk_wire.specs.Replies.{line_of}
+use Rattle.arc_script.specs.Playing.{IsUntil, TickStops, Ticked, before_tick}
+use Rattle.arc_script.specs.Steps.{entry_after}
+use Rattle.arc_script.proofs.Stops.{of_each, of_memory}
+
+abbrev pub entry_with : Event → ℕ → Reply → Entry
+entry_with event at reply = record { caller = 0; event = event; at = at; reply = reply }
+
+entry_is : (h : List Entry) (event : Event) (clock at : ℕ) (reply : Reply) → at ≡ moment_after nothing h clock → reply ≡ answer nothing h event at
+    → entry_with event at reply ≡ entry_after h event clock
+entry_is h event clock at reply is answered =
+    ap (entry_with event at) answered ∙ ap (λ (t : ℕ). entry_with event t (answer nothing h event t)) is
+
+-- the history before the Tick is one that a `T` comes to
+pub until_before : (clock : Option ℕ) (setup : List ℕ) (moment : ℕ) (h : List Entry) → IsUntil clock setup moment h (before_tick clock setup moment h)
+until_before None setup moment h = inr (inr refl)
+until_before (Some last) setup moment h = refl
+
+-- the run did not begin
+first_until : {D : Type 0} {told : D → Option Areas} {may_leave : D → Areas → Type 0} {faults : D → ℕ} {s' : Stored D}
+    (clock : Option ℕ) (setup : List ℕ) (moment : ℕ) (h : List Entry) → clock ≡ None
+    → StoreStands told may_leave faults nothing s' h ⊎ StoreStands told may_leave faults nothing s' (adopted_after nothing h setup moment)
+    → (x : List Entry) × StoreStands told may_leave faults nothing s' x × IsUntil clock setup moment h x
+first_until clock setup moment h is (inl w) = (h, w, subst (λ (k : Option ℕ). IsUntil k setup moment h h) (sym is) (inl refl))
+first_until clock setup moment h is (inr w) = (
+  adopted_after nothing h setup moment,
+  w,
+  subst (λ (k : Option ℕ). IsUntil k setup moment h (adopted_after nothing h setup moment)) (sym is) (inr (inl refl)),
+)
+
+pub first_stops : {D : Type 0} (told : D → Option Areas) (may_leave : D → Areas → Type 0) (faults : D → ℕ) (s s' : Stored D)
+    {A : Type 0} (r : Result A Stop) (clock : Option ℕ) (setup : List ℕ) (moment : ℕ) → clock ≡ None
+    → OnErr r ((h : List Entry) → StoreStands told may_leave faults nothing s h
+    → StoreStands told may_leave faults nothing s' h ⊎ StoreStands told may_leave faults nothing s' (adopted_after nothing h setup moment))
+    → OnErr r ((h : List Entry) → StoreStands told may_leave faults nothing s h
+    → (x : List Entry) × StoreStands told may_leave faults nothing s' x × IsUntil clock setup moment h x)
+first_stops told may_leave faults s s' (Ok done) clock setup moment is w = tt
+first_stops told may_leave faults s s' (Err stop) clock setup moment is w = λ h over. first_until clock setup moment h is (w h over)
+
+ticked_by : {D : Type 0} {told : D → Option Areas} {may_leave : D → Areas → Type 0} {faults : D → ℕ} {s' : Stored D} {p p' : PortSeen}
+    (before : List Entry) (moment at : ℕ) (reply : Reply) → Takes told may_leave faults nothing s' before moment (entry_with Tick at reply)
+    → p'.written ≡ append_known p.written (codes "T " ++ line_of reply) → Ticked told may_leave faults before moment s' p p'
+ticked_by {D} {told} {may_leave} {faults} {s'} {p} {p'} before moment at reply takes put =
+    let is = entry_is before Tick moment at reply takes.at takes.reply in
+    record {
+      stands = subst (λ (e : Entry). StoreStands told may_leave faults nothing s' (e ∷ before)) is takes.stands;
+      text = put ∙ ap (λ (e : Entry). append_known p.written (codes "T " ++ line_of e.reply)) is;
+    }
+
+-- the Tick was taken, and its reply put
+pub ticks : {D : Type 0} (told : D → Option Areas) (may_leave : D → Areas → Type 0) (faults : D → ℕ) (s s' : Stored D) (p p' : PortSeen)
+    {A : Type 0} (r : Result A Stop) (before : List Entry → List Entry) (moment at : ℕ) (reply : Reply)
+    → ((h : List Entry) → StoreStands told may_leave faults nothing s h
+    → Takes told may_leave faults nothing s' (before h) moment (entry_with Tick at reply))
+    → OnOk r (p'.written ≡ append_known p.written (codes "T " ++ line_of reply))
+    → OnOk r ((h : List Entry) → StoreStands told may_leave faults nothing s h → Ticked told may_leave faults (before h) moment s' p p')
+ticks told may_leave faults s s' p p' (Ok done) before moment at reply takes put = λ h over. ticked_by (before h) moment at reply (takes h over) put
+ticks told may_leave faults s s' p p' (Err stop) before moment at reply takes put = tt
+
+-- the Tick was taken, and memory was wanted behind it
+unsaid : {D : Type 0} {told : D → Option Areas} {may_leave : D → Areas → Type 0} {faults : D → ℕ} {s' : Stored D}
+    (clock : Option ℕ) (setup : List ℕ) (moment at : ℕ) (reply : Reply) (h : List Entry)
+    → Takes told may_leave faults nothing s' (before_tick clock setup moment h) moment (entry_with Tick at reply)
+    → TickStops told may_leave faults clock setup moment h Memory s'
+unsaid {D} {told} {may_leave} {faults} {s'} clock setup moment at reply h takes =
+    let before = before_tick clock setup moment h in
+    let is = entry_is before Tick moment at reply takes.at takes.reply in
+    record {
+      history = entry_after before Tick moment ∷ before;
+      stands = subst (λ (e : Entry). StoreStands told may_leave faults nothing s' (e ∷ before)) is takes.stands;
+      came = inr (refl, refl);
+    }
+
+pub stops_unsaid : {D : Type 0} (told : D → Option Areas) (may_leave : D → Areas → Type 0) (faults : D → ℕ) (s s' : Stored D)
+    {A : Type 0} (r : Result A Stop) (clock : Option ℕ) (setup : List ℕ) (moment at : ℕ) (reply : Reply) → OnErr r (r ≡ Err Memory)
+    → ((h : List Entry) → StoreStands told may_leave faults nothing s h
+    → Takes told may_leave faults nothing s' (before_tick clock setup moment h) moment (entry_with Tick at reply))
+    → IfErr r (λ stop. (h : List Entry) → StoreStands told may_leave faults nothing s h
+    → TickStops told may_leave faults clock setup moment h stop s')
+stops_unsaid told may_leave faults s s' r clock setup moment at reply is takes =
+    of_memory r (λ stop. (h : List Entry) → StoreStands told may_leave faults nothing s h → TickStops told may_leave faults clock setup moment h stop s')
+    is (λ h over. unsaid clock setup moment at reply h (takes h over))
+
+-- the run stands begun, and the Tick was stopped
+until_stops : {D : Type 0} {told : D → Option Areas} {may_leave : D → Areas → Type 0} {faults : D → ℕ} {s' : Stored D}
+    (clock : Option ℕ) (setup : List ℕ) (moment : ℕ) (h : List Entry) (stop : Stop)
+    → StoreStands told may_leave faults nothing s' (before_tick clock setup moment h) → TickStops told may_leave faults clock setup moment h stop s'
+until_stops clock setup moment h stop stands = record {
+  history = before_tick clock setup moment h;
+  stands = stands;
+  came = inl (until_before clock setup moment h);
+}
+
+pub stops_before : {D : Type 0} (told : D → Option Areas) (may_leave : D → Areas → Type 0) (faults : D → ℕ) (s s' : Stored D)
+    {A : Type 0} (r : Result A Stop) (clock : Option ℕ) (setup : List ℕ) (moment : ℕ)
+    → ((h : List Entry) → StoreStands told may_leave faults nothing s h → StoreStands told may_leave faults nothing s' (before_tick clock setup moment h))
+    → IfErr r (λ stop. (h : List Entry) → StoreStands told may_leave faults nothing s h
+    → TickStops told may_leave faults clock setup moment h stop s')
+stops_before told may_leave faults s s' r clock setup moment stands =
+    of_each r (λ stop. (h : List Entry) → StoreStands told may_leave faults nothing s h → TickStops told may_leave faults clock setup moment h stop s')
+    (λ stop h over. until_stops clock setup moment h stop (stands h over))
+
+-- a run was to begin anew, and did not
+pub again_stops : {D : Type 0} (told : D → Option Areas) (may_leave : D → Areas → Type 0) (faults : D → ℕ) (s s' : Stored D)
+    {A : Type 0} (r : Result A Stop) (setup : List ℕ) (moment : ℕ)
+    → ((h : List Entry) → StoreStands told may_leave faults nothing s h
+    → StoreStands told may_leave faults nothing s' h ⊎ StoreStands told may_leave faults nothing s' (adopted_after nothing h setup moment))
+    → OnErr r ((h : List Entry) → StoreStands told may_leave faults nothing s h
+    → (x : List Entry) × StoreStands told may_leave faults nothing s' x × IsUntil None setup moment h x)
+again_stops told may_leave faults s s' (Ok done) setup moment stops = tt
+again_stops told may_leave faults s s' (Err stop) setup moment stops = λ h over. first_until None setup moment h refl (stops h over)
+
+-- it did, and memory was wanted behind it
+pub again_unsaid : {D : Type 0} (told : D → Option Areas) (may_leave : D → Areas → Type 0) (faults : D → ℕ) (s s' : Stored D)
+    {A : Type 0} (r : Result A Stop) (setup : List ℕ) (moment : ℕ)
+    → ((h : List Entry) → StoreStands told may_leave faults nothing s h → StoreStands told may_leave faults nothing s' (begun_after nothing h setup moment))
+    → OnErr r ((h : List Entry) → StoreStands told may_leave faults nothing s h
+    → (x : List Entry) × StoreStands told may_leave faults nothing s' x × IsUntil None setup moment h x)
+again_unsaid told may_leave faults s s' (Ok done) setup moment begun = tt
+again_unsaid told may_leave faults s s' (Err stop) setup moment begun =
+    λ h over. (begun_after nothing h setup moment, begun h over, inr (inr refl))

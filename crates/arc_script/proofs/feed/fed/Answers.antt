@@ -1,0 +1,148 @@
+use Rattle.std.proofs.Common.{◌≡◌, ◌-◌, ℕ, List, [], Option, Some, Err, ap, refl, sym, subst, ◌∙◌, arith}
+use Rattle.std.specs.Prelude.{unwrap_or}
+use Rattle.std.specs.List.{slice_get}
+use Rattle.std.proofs.lemmas.Option.{slice_get_read}
+use Rattle.arc_io.specs.Memory.{clock_calls}
+use Rattle.centre_core.specs.Setting.{IsSetting}
+use Rattle.arc_script.specs.declared.script_end.Tally.{Tally}
+use Rattle.arc_script.proofs.Carries.{set_other}
+use Rattle.arc_script.proofs.FedAnswers.{ended_fed, ended_otherwise, ended_stopped, still_set, tallied, took_all}
+use Rattle.arc_script.proofs.FedCounts.{none_fed, Tallied}
+use Rattle.arc_script.proofs.FedEnds.{IsTaking}
+use Rattle.arc_script.proofs.Rests.{rest_is}
+use Rattle.arc_script.proofs.feed.fed.Goals as goal
+
+pub take_line-end-requires : goal.take_line-end-requires
+take_line-end-requires g c = record { ready = subst IsSetting (sym c.requires.set) c.args.script.now.valid }
+
+pub returns-in_default-clause-stop : goal.returns-in_default-clause-stop
+returns-in_default-clause-stop g c =
+    λ stream h took short stands readable.
+    none_fed g.D.Disk.told g.D.Disk.may_leave g.D.Disk.fault_count c.args.store c.args.script.now.setup c.args.moment stream c.args.bytes.now h
+    c.args.script.now.tally stands readable
+
+pub returns-in-Ok-end-clause-fed : goal.returns-in-Ok-end-clause-fed
+returns-in-Ok-end-clause-fed g c =
+    let script = c.args.script.now in
+    let lines = script.lines.items in
+    let place = c.args.line - 1 in
+    let was = c.index_mut.result.now in
+    let there : slice_get lines place ≡ Some was =
+    slice_get_read lines 16 place was (omega (arith, script.sixteen, script.lines.ok.0)) (omega (arith, c.requires.line.low, c.requires.line.high)) c.index_mut.ensures.value in
+    let counted : Tally = record script.tally { sent = c.saturating_add-script.result; repeats = c.saturating_add-script-2.result } in
+    let sums : Tallied (clock_calls c.take_line-end.new.port.port.clock) c.args.store.state c.take_line-end.result.1.state script.tally counted =
+    tallied _ c.args.store.state c.take_line-end.result.1.state c.centre.result.now c.centre-2.result.now script.tally counted c.taken.result
+    c.quiet_of-quiet.result c.quiet_of.result c.saturating_sub-repeats.result c.centre.ensures c.centre-2.ensures c.taken.ensures
+    c.quiet_of-quiet.ensures c.quiet_of.ensures c.saturating_sub-repeats.ensures c.saturating_add-script.ensures c.saturating_add-script-2.ensures refl in
+    let taking : IsTaking g.D.Disk.told g.D.Disk.may_leave g.D.Disk.fault_count c.args.store c.take_line-end.result.1 script.setup c.args.moment place lines
+    was c.in-Ok.frames c.take_line-end.new.port c.args.bytes.now c.take_line-end.result.0 = record {
+      there = there;
+      set = c.requires.set;
+      setting = subst IsSetting (sym c.requires.set) script.valid;
+      empty = c.in-Ok.ensures.blank;
+      one = c.take_line-end.new.port.still;
+      silent = c.take_line-end.new.port.silent;
+      served = c.take_line-end.ensures.served;
+    } in
+    ended_fed g.D.Disk.told g.D.Disk.may_leave g.D.Disk.fault_count c.args.store c.take_line-end.result.1 script.setup c.args.moment place lines was
+    c.in-Ok.frames c.take_line-end.new.port c.args.bytes.now script.tally counted sums c.take_line-end.result.0 taking c.in-Ok-end.is
+
+pub returns-in-Ok-end-clause-took : goal.returns-in-Ok-end-clause-took
+returns-in-Ok-end-clause-took g c =
+    let script = c.args.script.now in
+    let lines = script.lines.items in
+    let place = c.args.line - 1 in
+    let was = c.index_mut.result.now in
+    let there : slice_get lines place ≡ Some was =
+    slice_get_read lines 16 place was (omega (arith, script.sixteen, script.lines.ok.0)) (omega (arith, c.requires.line.low, c.requires.line.high)) c.index_mut.ensures.value in
+    took_all place lines was c.take_line-end.new.line c.args.bytes.now c.take_line-end.result.0 there c.in-Ok-end.is c.take_line-end.ensures.taken
+
+pub returns-in-Ok-end-clause-set : goal.returns-in-Ok-end-clause-set
+returns-in-Ok-end-clause-set g c =
+    still_set c.take_line-end.result.1.state.sum.text c.args.script.now.setup c.take_line-end.ensures.ready
+    (c.take_line-end.ensures.text ∙ ap (λ (o : Option (List ℕ)). unwrap_or o []) c.requires.set)
+
+pub returns-in-Ok-end-clause-others : goal.returns-in-Ok-end-clause-others
+returns-in-Ok-end-clause-others g c =
+    λ i other. set_other c.args.script.now.lines.items (c.args.line - 1) i c.take_line-end.new.line other
+
+pub returns-in-Err-Stopped-clause-stop : goal.returns-in-Err-Stopped-clause-stop
+returns-in-Err-Stopped-clause-stop g c =
+    let script = c.args.script.now in
+    let lines = script.lines.items in
+    let place = c.args.line - 1 in
+    let was = c.index_mut.result.now in
+    let there : slice_get lines place ≡ Some was =
+    slice_get_read lines 16 place was (omega (arith, script.sixteen, script.lines.ok.0)) (omega (arith, c.requires.line.low, c.requires.line.high)) c.index_mut.ensures.value in
+    let counted : Tally = record script.tally { sent = c.saturating_add-script.result; repeats = c.saturating_add-script-2.result } in
+    let sums : Tallied (clock_calls c.take_line-end.new.port.port.clock) c.args.store.state c.take_line-end.result.1.state script.tally counted =
+    tallied _ c.args.store.state c.take_line-end.result.1.state c.centre.result.now c.centre-2.result.now script.tally counted c.taken.result
+    c.quiet_of-quiet.result c.quiet_of.result c.saturating_sub-repeats.result c.centre.ensures c.centre-2.ensures c.taken.ensures
+    c.quiet_of-quiet.ensures c.quiet_of.ensures c.saturating_sub-repeats.ensures c.saturating_add-script.ensures c.saturating_add-script-2.ensures refl in
+    let taking : IsTaking g.D.Disk.told g.D.Disk.may_leave g.D.Disk.fault_count c.args.store c.take_line-end.result.1 script.setup c.args.moment place lines
+    was c.in-Ok.frames c.take_line-end.new.port c.args.bytes.now c.take_line-end.result.0 = record {
+      there = there;
+      set = c.requires.set;
+      setting = subst IsSetting (sym c.requires.set) script.valid;
+      empty = c.in-Ok.ensures.blank;
+      one = c.take_line-end.new.port.still;
+      silent = c.take_line-end.new.port.silent;
+      served = c.take_line-end.ensures.served;
+    } in
+    ended_stopped g.D.Disk.told g.D.Disk.may_leave g.D.Disk.fault_count c.args.store c.take_line-end.result.1 script.setup c.args.moment place lines was
+    c.in-Ok.frames c.take_line-end.new.port c.args.bytes.now script.tally counted sums c.take_line-end.result.0 taking
+    c.in-Err-Stopped.stop (c.in-Err-Stopped.is ∙ ap Err (rw c.in-Err-Stopped.is at c.in-Err-Stopped.field-0-is))
+
+pub returns-in-Err-Stopped-clause-set : goal.returns-in-Err-Stopped-clause-set
+returns-in-Err-Stopped-clause-set g c =
+    still_set c.take_line-end.result.1.state.sum.text c.args.script.now.setup c.take_line-end.ensures.ready
+    (c.take_line-end.ensures.text ∙ ap (λ (o : Option (List ℕ)). unwrap_or o []) c.requires.set)
+
+pub returns-in-Err-Stopped-clause-others : goal.returns-in-Err-Stopped-clause-others
+returns-in-Err-Stopped-clause-others g c =
+    λ i other. set_other c.args.script.now.lines.items (c.args.line - 1) i c.take_line-end.new.line other
+
+pub returns-clause-stop : goal.returns-clause-stop
+returns-clause-stop g c =
+    let script = c.args.script.now in
+    let lines = script.lines.items in
+    let place = c.args.line - 1 in
+    let was = c.index_mut.result.now in
+    let there : slice_get lines place ≡ Some was =
+    slice_get_read lines 16 place was (omega (arith, script.sixteen, script.lines.ok.0)) (omega (arith, c.requires.line.low, c.requires.line.high)) c.index_mut.ensures.value in
+    let counted : Tally = record script.tally { sent = c.saturating_add-script.result; repeats = c.saturating_add-script-2.result } in
+    let sums : Tallied (clock_calls c.take_line-end.new.port.port.clock) c.args.store.state c.take_line-end.result.1.state script.tally counted =
+    tallied _ c.args.store.state c.take_line-end.result.1.state c.centre.result.now c.centre-2.result.now script.tally counted c.taken.result
+    c.quiet_of-quiet.result c.quiet_of.result c.saturating_sub-repeats.result c.centre.ensures c.centre-2.ensures c.taken.ensures
+    c.quiet_of-quiet.ensures c.quiet_of.ensures c.saturating_sub-repeats.ensures c.saturating_add-script.ensures c.saturating_add-script-2.ensures refl in
+    let taking : IsTaking g.D.Disk.told g.D.Disk.may_leave g.D.Disk.fault_count c.args.store c.take_line-end.result.1 script.setup c.args.moment place lines
+    was c.in-Ok.frames c.take_line-end.new.port c.args.bytes.now c.take_line-end.result.0 = record {
+      there = there;
+      set = c.requires.set;
+      setting = subst IsSetting (sym c.requires.set) script.valid;
+      empty = c.in-Ok.ensures.blank;
+      one = c.take_line-end.new.port.still;
+      silent = c.take_line-end.new.port.silent;
+      served = c.take_line-end.ensures.served;
+    } in
+    ended_otherwise g.D.Disk.told g.D.Disk.may_leave g.D.Disk.fault_count c.args.store c.take_line-end.result.1 script.setup c.args.moment place
+    lines was c.in-Ok.frames c.take_line-end.new.port c.args.bytes.now script.tally counted sums c.take_line-end.result.0 taking c.in-Err.field-0
+    c.take_line-end.new.line c.in-Err.is c.take_line-end.ensures.ends c.take_line-end.ensures.taken
+
+pub returns-clause-set : goal.returns-clause-set
+returns-clause-set g c =
+    still_set c.take_line-end.result.1.state.sum.text c.args.script.now.setup c.take_line-end.ensures.ready
+    (c.take_line-end.ensures.text ∙ ap (λ (o : Option (List ℕ)). unwrap_or o []) c.requires.set)
+
+pub returns-clause-others : goal.returns-clause-others
+returns-clause-others g c =
+    λ i other. set_other c.args.script.now.lines.items (c.args.line - 1) i c.take_line-end.new.line other
+
+pub returns-in-Ok-end-clause-rest : goal.returns-in-Ok-end-clause-rest
+returns-in-Ok-end-clause-rest g c = rest_is c.args.script.now _ refl refl refl refl refl refl
+
+pub returns-in-Err-Stopped-clause-rest : goal.returns-in-Err-Stopped-clause-rest
+returns-in-Err-Stopped-clause-rest g c = rest_is c.args.script.now _ refl refl refl refl refl refl
+
+pub returns-clause-rest : goal.returns-clause-rest
+returns-clause-rest g c = rest_is c.args.script.now _ refl refl refl refl refl refl

@@ -1,0 +1,79 @@
+use Rattle.std.proofs.Common.{◌≡◌, ◌≢◌, ◌≤◌, ◌-◌, ℕ, List, [], Result, Ok, Err, OnOk, ap, set, subst, sym, ◌∙◌, arith}
+use Rattle.std.specs.List.{slice_get}
+use Rattle.alarm_rules.specs.Setups.{meaning}
+use Rattle.centre_core.specs.declared.hall.Stop.{Stop}
+use Rattle.dc09_frame.specs.Frames.{frame_of}
+use Rattle.desk_session.specs.Desks as Desk
+use Rattle.line_session.specs.Lines as Line
+use Rattle.script_lines.specs.Lines.{Asked, Message}
+use Rattle.arc_script.specs.Carrying.{HaveTakenWith, IsNext}
+use Rattle.arc_script.specs.PageWords.{page_seen}
+use Rattle.arc_script.specs.declared.script.Script.{Script}
+use Rattle.arc_script.proofs.Carries.{message_short, message_taken, set_other, set_there}
+use Rattle.arc_script.proofs.Feedings.{fed_ok, fed_stops}
+use Rattle.arc_script.proofs.Rests.{rest_is}
+use Rattle.arc_script.proofs.feed.message.Goals as goal
+
+-- where all was put, the line was made anew
+took_anew : (setup : List ℕ) (moment line : ℕ) (body : List ℕ) (lines fed : List Line.LineValue) (new : Line.LineValue) (desks : List Desk.DeskValue)
+    (r : Result (Unit {0}) Stop) → 1 ≤ line → Line.TookStream [] new → ((k : ℕ) → k ≢ line - 1 → slice_get fed k ≡ slice_get lines k)
+    → OnOk r ((before : List Asked) (count : ℕ) → IsNext (meaning setup) moment count before (Message line body) lines desks
+    → HaveTakenWith (meaning setup) count before (Message line body) (set fed (line - 1) new) desks)
+took_anew setup moment line body lines fed new desks (Ok done) low fresh others =
+    λ before count next.
+    message_taken (meaning setup) moment count line before body lines (set fed (line - 1) new) desks low next
+    (set_there (Line.TookStream []) fed (line - 1) new fresh) (λ k other. set_other fed (line - 1) k new other ∙ others k other)
+took_anew setup moment line body lines fed new desks (Err stop) low fresh others = tt
+
+pub index_mut-requires : goal.index_mut-requires
+index_mut-requires g c = omega (arith, c.fed-store.new.script.sixteen, c.requires.line.low, c.requires.line.high)
+
+pub returns-clause-fed : goal.returns-clause-fed
+returns-clause-fed g c =
+    let script = c.args.script.now in
+    let line = c.args.line in
+    let body = c.args.body.now in
+    fed_ok g.D.Disk.told g.D.Disk.may_leave g.D.Disk.fault_count c.args.store c.fed-store.result.0 script.setup c.args.moment 77 line (Message line body)
+    c.bytes.result.now (frame_of body) script.lines.items script.desks.items script.tally c.fed-store.new.script.tally
+    (page_seen c.args.page.now) (page_seen c.put_fed.new.page) c.put_fed.result c.fed-store.result.1 (c.bytes.ensures.value ∙ c.write_frame.ensures)
+    (record {
+      at = c.requires.clock;
+      low = c.requires.line.low;
+      set = λ before count next. next.set;
+      short = λ before count next.
+          message_short (meaning script.setup) c.args.moment count line before body script.lines.items script.desks.items c.requires.body next;
+    }) c.put_fed.ensures.fed c.put_fed.ensures.put c.fed-store.ensures.fed
+
+pub returns-clause-took : goal.returns-clause-took
+returns-clause-took g c =
+    let script = c.args.script.now in
+    let line = c.args.line in
+    let body = c.args.body.now in
+    subst (λ (desks : List Desk.DeskValue). OnOk c.put_fed.result ((before : List Asked) (count : ℕ)
+    → IsNext (meaning script.setup) c.args.moment count before (Message line body) script.lines.items script.desks.items
+    → HaveTakenWith (meaning script.setup) count before (Message line body) (set c.fed-store.new.script.lines.items (line - 1) c.new.result) desks))
+    (sym (ap (λ (s : Script). s.desks.items) c.fed-store.ensures.rest))
+    (took_anew script.setup c.args.moment c.args.line c.args.body.now script.lines.items c.fed-store.new.script.lines.items c.new.result script.desks.items
+    c.put_fed.result c.requires.line.low c.new.ensures c.fed-store.ensures.others)
+
+pub returns-clause-stop : goal.returns-clause-stop
+returns-clause-stop g c =
+    let script = c.args.script.now in
+    let line = c.args.line in
+    let body = c.args.body.now in
+    fed_stops g.D.Disk.told g.D.Disk.may_leave g.D.Disk.fault_count c.args.store c.fed-store.result.0 script.setup c.args.moment 77 line (Message line body)
+    c.bytes.result.now (frame_of body) script.lines.items script.desks.items script.tally c.fed-store.new.script.tally c.put_fed.result
+    c.fed-store.result.1 (c.bytes.ensures.value ∙ c.write_frame.ensures)
+    (record {
+      at = c.requires.clock;
+      low = c.requires.line.low;
+      set = λ before count next. next.set;
+      short = λ before count next.
+          message_short (meaning script.setup) c.args.moment count line before body script.lines.items script.desks.items c.requires.body next;
+    }) c.put_fed.ensures.stop c.fed-store.ensures.fed c.fed-store.ensures.stop
+
+pub returns-clause-rest : goal.returns-clause-rest
+returns-clause-rest g c =
+    let is = c.fed-store.ensures.rest in
+    rest_is c.args.script.now _ (ap (λ (s : Script). s.setup) is) (ap (λ (s : Script). s.limits) is) (ap (λ (s : Script). s.desks) is)
+    (ap (λ (s : Script). s.clock) is) (ap (λ (s : Script). s.number) is) (ap (λ (s : Script). s.opened_before) is)

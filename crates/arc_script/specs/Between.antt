@@ -1,0 +1,148 @@
+-- What a script has done between two of its lines, and what one line more does.
+use Rattle.std.specs.Prelude.{◌≡◌, ◌≤◌, ◌⊎◌, ◌+◌, ℕ, List, [], ◌∷◌, false, Option, Some, IfSome, length}
+use Rattle.std.specs.Io.KnownBytes.{append_known}
+use Rattle.std.specs.List.{list_any}
+use Rattle.alarm_rules.specs.Setups.{meaning}
+use Rattle.arc_io.specs.Areas.{Areas}
+use Rattle.arc_io.specs.Seen.{PortSeen}
+use Rattle.arc_text.specs.Lines.{is_feed}
+use Rattle.centre_core.specs.declared.hall.Stop.{Stop}
+use Rattle.centre_core.specs.declared.hall.Stop.TheVariants.{Memory}
+use Rattle.centre_rules.specs.Cases.{opened}
+use Rattle.centre_rules.specs.History.{Entry, IsMoment, marks}
+use Rattle.centre_rules.specs.Summary.{nothing}
+use Rattle.centre_store.specs.Bodies.{bodies_of}
+use Rattle.centre_store.specs.Stores.{Stored, StoreStands}
+use Rattle.disk_journal.specs.Journal.{Holds}
+use Rattle.disk_journal.specs.declared.fault.OpenFault.{OpenFault}
+use Rattle.disk_journal.specs.declared.journal.Limits.{Limits}
+use Rattle.script_lines.specs.Lines.{Asked, spelling}
+use Rattle.session_rules.specs.Inputs.{input_limit}
+use Rattle.arc_script.specs.Carrying.{HaveTaken, GrowsBy}
+use Rattle.arc_script.specs.Causes.{HasShown, Submits}
+use Rattle.arc_script.specs.Ends.{DiskWords, Tells, HasRecorded, IsUnopened, CameTo}
+use Rattle.arc_script.specs.Fed.{clock_of}
+use Rattle.arc_script.specs.Standing.{IsReadable, is_told}
+use Rattle.arc_script.specs.Steps.{Step, IsStepOf, AreSteps, asked_after, output_of}
+use Rattle.arc_script.specs.Tallies.{count_of, entries_of, is_closed, is_repeat, sent_by, told}
+use Rattle.arc_script.specs.Texts.{AreOf, counted}
+use Rattle.arc_script.specs.declared.script.Script.{Script}
+use Rattle.arc_script.specs.declared.script_end.Tally.{Tally}
+
+-- the words of a disk
+abbrev pub words : {D : Type 0} → (D → Option Areas) → (D → Areas → Type 0) → (D → ℕ) → (D → ℕ → Areas → Type 0) → (D → ℕ) → DiskWords D
+words told may_leave moment left_since faults =
+    record { told = told; may_leave = may_leave; moment = moment; left_since = left_since; faults = faults }
+
+-- how a script began: over which disk, with which setup and limits, over which past, and what its port told
+pub record Begun (D : Type 0) : Type 0 where
+  pub disk : D
+  pub setup : List ℕ
+  pub limits : Limits
+  pub past : List Entry
+  pub port : PortSeen
+
+-- how many bytes lines have, without their ends
+abbrev pub size_of : List (List ℕ) → ℕ
+size_of [] = 0
+size_of (line ∷ lines) = length line + size_of lines
+
+-- a line that may stand behind these in a script: no line feed is in it, and all that was read is within the limit
+pub record MayComeNext (lines : List (List ℕ)) (line : List ℕ) : Type 0 where
+  pub within : length lines + size_of lines + length line ≤ input_limit
+  pub unbroken : list_any is_feed line ≡ false
+
+-- Once a clock was set it stays set.
+abbrev pub HasClock : List Asked → Type 0
+HasClock [] = Unit {0}
+HasClock (asked ∷ before) = (moment : ℕ) × (clock_of (asked ∷ before) ≡ Some moment)
+
+-- the clock is the one that was set last
+pub record IsClock (clock : Option ℕ) (before : List Asked) : Type 0 where
+  pub is : clock ≡ clock_of before
+  pub moment : IfSome clock IsMoment
+  pub once : HasClock before
+
+-- a run may go on: the clock is at a moment, and from the first `T` on the setup is in force
+pub record IsReady (clock : Option ℕ) (setup : List ℕ) (text : Option (List ℕ)) : Type 0 where
+  pub moment : IfSome clock IsMoment
+  pub set : IfSome clock (λ last. text ≡ Some setup)
+
+-- The store stands for the history. It was opened later, with these limits, over a disk that tells as much.
+pub record IsStoreSoFar {D : Type 0} (w : DiskWords D) (b : Begun D) (h : List Entry) (s : Stored D) : Type 0 where
+  pub stands : StoreStands w.told w.may_leave w.faults nothing s h
+  pub readable : IsReadable h
+  pub tells : is_told (w.told s.journal.disk) ≡ is_told (w.told b.disk)
+  pub limits_are : s.journal.limits ≡ b.limits
+  pub later : w.faults b.disk ≤ s.at_open
+
+-- behind what was asked so far, in so many bytes: lines, desks, the clock and the store
+pub record Between {D : Type 0} (w : DiskWords D) (b : Begun D) (before : List Asked) (count : ℕ) (h : List Entry) (script : Script)
+    (s : Stored D) : Type 0 where
+  pub setup : script.setup ≡ b.setup
+  pub limits : script.limits ≡ b.limits
+  pub clock : IsClock script.clock before
+  pub set : IfSome script.clock (λ last. s.state.sum.text ≡ Some b.setup)
+  pub taken : HaveTaken (meaning b.setup) count before script.lines.items script.desks.items
+  pub store : IsStoreSoFar w b h s
+
+-- what was counted over steps so far
+pub record CountsSteps (steps : List Step) (t : Tally) : Type 0 where
+  pub sent : t.sent ≡ told (sent_by steps)
+  pub repeats : t.repeats ≡ told (count_of is_repeat (entries_of steps))
+  pub closed : t.closed ≡ told (count_of is_closed (entries_of steps))
+
+-- one more step is counted
+pub record CountsMore (s : Step) (t t' : Tally) : Type 0 where
+  pub sent : GrowsBy s.sent t.sent t'.sent
+  pub repeats : GrowsBy (count_of is_repeat s.entries) t.repeats t'.repeats
+  pub closed : GrowsBy (count_of is_closed s.entries) t.closed t'.closed
+
+-- These lines were carried out, and no more: their steps, the history behind them, which the journal has, and their output.
+pub record SoFar {D : Type 0} (w : DiskWords D) (b : Begun D) (lines : List (List ℕ)) (script : Script) (s : Stored D) (p : PortSeen)
+    : Type 0 where
+  pub steps : List Step
+  pub history : List Entry
+  pub of : AreOf [] (counted lines) steps
+  pub are : AreSteps (Tells w b.disk) b.setup [] b.past history steps
+  pub between : Between w b (asked_after [] steps) (size_of lines) history script s
+  pub held : Holds w.told w.may_leave s.journal (bodies_of history)
+  pub counts : CountsSteps steps script.tally
+  pub opened_before : script.opened_before ≡ opened nothing (marks nothing b.past)
+  pub written : p.written ≡ append_known b.port.written (output_of steps)
+  pub writes : b.port.write_faults ≤ p.write_faults
+
+-- A line that asks for this was carried out: its step, and its output on a page.
+pub record CarriedOut {D : Type 0} (w : DiskWords D) (b : Begun D) (before : List Asked) (count number : ℕ) (h : List Entry) (asked : Asked)
+    (t : Tally) (script : Script) (s : Stored D) (p p' : PortSeen) : Type 0 where
+  pub step : Step
+  pub history : List Entry
+  pub number_is : step.number ≡ number
+  pub asked_is : step.asked ≡ asked
+  pub is : IsStepOf (Tells w b.disk) b.setup before h history step asked
+  pub text : p'.written ≡ append_known p.written step.text
+  pub counts : CountsMore step t script.tally
+  pub between : Between w b (asked ∷ before) (count + length (spelling asked)) history script s
+
+-- It was stopped: how far it came, which is counted, and what the store shows.
+pub record StoppedAt {D : Type 0} (w : DiskWords D) (b : Begun D) (before : List Asked) (h : List Entry) (asked : Asked) (stop : Stop)
+    (t t' : Tally) (s : Stored D) : Type 0 where
+  pub waiting : List (List ℕ)
+  pub partial : Step
+  pub history : List Entry
+  pub clock : ℕ
+  pub came : CameTo (Tells w b.disk) b.setup before waiting h history partial asked
+      ⊎ ((stop ≡ Memory) × IsStepOf (Tells w b.disk) b.setup before h history partial asked)
+  pub set : clock_of (asked ∷ before) ≡ Some clock
+  pub cause : HasShown w.told w.may_leave w.faults s stop clock (Submits b.setup before clock waiting asked)
+  pub stands : StoreStands w.told w.may_leave w.faults nothing s history
+  pub limits_are : s.journal.limits ≡ b.limits
+  pub later : w.faults b.disk ≤ s.at_open
+  pub counts : CountsMore partial t t'
+
+-- The journal was not opened again.
+pub record ShutAt {D : Type 0} (w : DiskWords D) (b : Begun D) (h : List Entry) (fault : OpenFault) (disk : D) : Type 0 where
+  pub closed : D
+  pub later : w.faults b.disk ≤ w.faults closed
+  pub area : HasRecorded w closed h
+  pub unopened : IsUnopened w fault closed disk

@@ -1,0 +1,54 @@
+-- For which event a line of a script was stopped.
+use Rattle.std.specs.Prelude.{◌≡◌, ◌⊎◌, ℕ, List, [], ◌∷◌, Option, Some, None}
+use Rattle.alarm_rules.specs.Setups.{meaning}
+use Rattle.arc_data.specs.declared.event.Event.{Event}
+use Rattle.arc_data.specs.declared.event.Event.TheVariants.{Tick}
+use Rattle.arc_io.specs.Areas.{Areas}
+use Rattle.centre_core.specs.declared.hall.Stop.{Stop}
+use Rattle.centre_core.specs.declared.hall.Stop.TheVariants.{Memory}
+use Rattle.centre_store.specs.Begins.{IsOfBegin}
+use Rattle.centre_store.specs.Stores.{Stored, Shows}
+use Rattle.dc09_message.specs.Verdicts.{verdict_of}
+use Rattle.desk_session.specs.Events as Desk
+use Rattle.desk_session.specs.declared.desk_end.DeskEnd.{DeskEnd}
+use Rattle.desk_session.specs.declared.desk_end.DeskEnd.TheVariants.{InputEnded, Quit, ReadFault, Spent, Stopped, WriteFault}
+use Rattle.line_session.specs.Turns as Line
+use Rattle.script_lines.specs.Lines.{Asked, Time, Feed, Message, Command, Reopen}
+use Rattle.arc_script.specs.Fed.{clock_of, desk_read}
+
+-- what a store shows of a stop at a moment, for an event that is one of these; unless memory was wanted
+abbrev pub HasShown : {D : Type 0} → (D → Option Areas) → (D → Areas → Type 0) → (D → ℕ) → Stored D → Stop → ℕ → (Event → Type 0) → Type 0
+HasShown told may_leave faults s stop moment IsOne =
+    (stop ≡ Memory) ⊎ ((event : Event) × IsOne event × Shows told may_leave faults s stop event moment)
+
+-- a `T`, by the moment that was set before: the first begins a run, and each ticks
+abbrev pub IsOfTime : Option ℕ → List ℕ → Event → Type 0
+IsOfTime None setup event = IsOfBegin setup event ⊎ (event ≡ Tick)
+IsOfTime (Some last) setup event = event ≡ Tick
+
+-- the first of the frames that have no turn: the event of its verdict at this moment
+abbrev pub IsOfFrame : List ℕ → ℕ → List (List ℕ) → Event → Type 0
+IsOfFrame setup clock [] event = ⊥
+IsOfFrame setup clock (body ∷ more) event = Line.event_of (verdict_of (meaning setup) clock body) ≡ Some event
+
+-- a command, for the operator who logged in last since the desk was made anew
+abbrev pub IsOfCommand : List ℕ → List Asked → ℕ → List ℕ → Event → Type 0
+IsOfCommand setup before desk text event =
+    Desk.event_of (Desk.acts_over (meaning setup) None (desk_read desk before)) (Desk.command_in text) ≡ Some event
+
+-- Behind what was asked before, the next line submits this event at this moment: of `L` and `M`, where these frames have no turn.
+abbrev pub Submits : List ℕ → List Asked → ℕ → List (List ℕ) → Asked → Event → Type 0
+Submits setup before clock waiting (Time moment) event = IsOfTime (clock_of before) setup event
+Submits setup before clock waiting (Feed line digits) event = IsOfFrame setup clock waiting event
+Submits setup before clock waiting (Message line body) event = IsOfFrame setup clock waiting event
+Submits setup before clock waiting (Command desk text) event = IsOfCommand setup before desk text event
+Submits setup before clock waiting Reopen event = IsOfBegin setup event
+
+-- the stop for which a desk ended; the other ends that it has on a page are for want of memory
+abbrev pub stop_in : DeskEnd → Stop
+stop_in Quit = Memory
+stop_in InputEnded = Memory
+stop_in ReadFault = Memory
+stop_in WriteFault = Memory
+stop_in Spent = Memory
+stop_in (Stopped stop) = stop

@@ -1,0 +1,142 @@
+-- The steps of a script: what each of its lines does to the history, and its line of output.
+use Rattle.std.specs.Prelude.{◌≡◌, ◌-◌, ℕ, List, [], ◌∷◌, ◌++◌, not, Some, None, IfSome}
+use Rattle.std.specs.Prelude.{map, filter, reverse, length, take, drop, replicate, codes, decimal}
+use Rattle.std.specs.List.{flat_map}
+use Rattle.std.specs.Option.{option_to_list}
+use Rattle.alarm_rules.specs.SetupLines.{is_nil}
+use Rattle.alarm_rules.specs.Setups.{meaning}
+use Rattle.arc_data.specs.Digits.{bytes_spelled}
+use Rattle.arc_data.specs.declared.event.Event.{Event}
+use Rattle.arc_data.specs.declared.event.Event.TheVariants.{Tick}
+use Rattle.centre_rules.specs.Answers.{IsLegal, answer}
+use Rattle.centre_rules.specs.History.{Entry, moment_after, recorded}
+use Rattle.centre_rules.specs.Summary.{nothing}
+use Rattle.centre_store.specs.Begins.{begun_after}
+use Rattle.centre_store.specs.Bodies.{bodies_of}
+use Rattle.centre_store.specs.Pasts.{IsPast}
+use Rattle.dc09_frame.specs.Frames.{bodies, frame_of}
+use Rattle.desk_session.specs.Events.{acts_over}
+use Rattle.desk_session.specs.Turns as Desk
+use Rattle.desk_wire.specs.Replies.{line_of}
+use Rattle.line_session.specs.Turns.{Turn, line_turns, AreTurns}
+use Rattle.script_lines.specs.Lines.{Asked, Time, Feed, Message, Command, Reopen}
+use Rattle.session_rules.specs.Turns.{entries_of, readings_of, noise_of}
+use Rattle.arc_script.specs.Fed.{clock_of, line_fed, desk_read}
+use Rattle.arc_script.specs.Pages.{head_of}
+
+-- A line that was carried out: its number, what it asks for, the entries that it added to the history (the oldest first), how many whole
+-- frames it fed to a line, and its line of output.
+pub record Step : Type 0 where
+  pub number : ℕ
+  pub asked : Asked
+  pub entries : List Entry
+  pub sent : ℕ
+  pub text : List ℕ
+
+-- the entry of an event that is submitted at a reading after a history: one caller, and the answer of one thread
+abbrev pub entry_after : List Entry → Event → ℕ → Entry
+entry_after h event clock = record {
+  caller = 0;
+  event = event;
+  at = moment_after nothing h clock;
+  reply = answer nothing h event (moment_after nothing h clock);
+}
+
+-- `T`: the first line begins the run, with the setup's text; then there is a Tick.
+abbrev pub begun_by : List Asked → List ℕ → ℕ → List Entry → List Entry
+begun_by [] setup moment h = begun_after nothing h setup moment
+begun_by (asked ∷ before) setup moment h = h
+
+pub record Ticks (setup : List ℕ) (before : List Asked) (moment : ℕ) (h x : List Entry) (s : Step) : Type 0 where
+  pub is : x ≡ entry_after (begun_by before setup moment h) Tick moment ∷ begun_by before setup moment h
+  pub added : x ≡ reverse s.entries ++ h
+  pub sent : s.sent ≡ 0
+  pub text : s.text ≡ codes "T " ++ line_of (entry_after (begun_by before setup moment h) Tick moment).reply
+
+-- The turns of a line that was fed bytes: one for each whole frame that ends in them, at the moment that was set last, with zeros for
+-- noise. They stand behind one another in the history, and nothing else does.
+pub record FeedsLine (setup : List ℕ) (before : List Asked) (line : ℕ) (bytes : List ℕ) (h x : List Entry) (turns : List Turn)
+    (more : List (List ℕ)) : Type 0 where
+  pub clock : ℕ
+  pub set : clock_of before ≡ Some clock
+  pub ended : bodies (line_fed line before ++ bytes) ≡ bodies (line_fed line before) ++ map (λ t. t.body) turns ++ more
+  pub are : AreTurns nothing (meaning setup) 0 h x turns
+  pub legal : IsLegal nothing x
+  pub readings : readings_of line_turns turns ≡ replicate (length turns) clock
+  pub noise : noise_of line_turns turns ≡ replicate (length (noise_of line_turns turns)) 0
+  pub own : x ≡ reverse (entries_of line_turns turns) ++ h
+
+-- a frame without its line feed and its carriage return
+abbrev pub bare : List ℕ → List ℕ
+bare frame = take (length frame - 2) (drop 1 frame)
+
+-- the replies of turns, without those of no bytes
+abbrev pub replies_of : List Turn → List (List ℕ)
+replies_of turns = filter (λ reply. not (is_nil reply)) (map (λ t. t.reply) turns)
+
+-- a space and each reply, or `-` where there is none
+abbrev pub listed : List (List ℕ) → List ℕ
+listed [] = codes " -"
+listed (reply ∷ replies) = flat_map (λ r. 32 ∷ bare r) (reply ∷ replies)
+
+-- `L` and `M`, with this letter: bytes are fed to a line, and its replies are the output.
+pub record Feeds (setup : List ℕ) (before : List Asked) (letter line : ℕ) (bytes : List ℕ) (h x : List Entry) (s : Step) : Type 0 where
+  pub turns : List Turn
+  pub fed : FeedsLine setup before line bytes h x turns []
+  pub entries : s.entries ≡ entries_of line_turns turns
+  pub sent : s.sent ≡ length turns
+  pub text : s.text ≡ head_of letter line ++ listed (replies_of turns) ++ 10 ∷ []
+
+-- `D`: a desk reads the text as one line, all of it, for the operator who logged in last since the desk was made anew, and its
+-- answer is the output.
+pub record Commands (setup : List ℕ) (before : List Asked) (desk : ℕ) (given : List ℕ) (h x : List Entry) (s : Step) : Type 0 where
+  pub turn : Desk.Turn
+  pub clock : ℕ
+  pub set : clock_of before ≡ Some clock
+  pub line : turn.line ≡ given
+  pub is : Desk.IsTurn nothing (meaning setup) 0 (acts_over (meaning setup) None (desk_read desk before)) h x turn
+  pub legal : IsLegal nothing x
+  pub reading : IfSome turn.reading (λ r. r ≡ clock)
+  pub entries : s.entries ≡ option_to_list turn.entry
+  pub added : x ≡ reverse s.entries ++ h
+  pub sent : s.sent ≡ 0
+  pub text : s.text ≡ head_of 68 desk ++ 32 ∷ turn.reply
+
+-- `X`: what the journal keeps of the history is its recorded entries. From these a run begins, with the same setup. Of a disk that does
+-- not tell what it holds no more is known than that it keeps a past.
+pub record Keeps (Told : Type 0) (h kept : List Entry) : Type 0 where
+  pub past : IsPast (bodies_of kept) kept
+  pub same : Told → kept ≡ recorded h
+
+pub record Reopens (Told : Type 0) (setup : List ℕ) (before : List Asked) (h x : List Entry) (s : Step) : Type 0 where
+  pub kept : List Entry
+  pub keeps : Keeps Told h kept
+  pub clock : ℕ
+  pub set : clock_of before ≡ Some clock
+  pub is : x ≡ begun_after nothing kept setup clock
+  pub added : x ≡ reverse s.entries ++ kept
+  pub sent : s.sent ≡ 0
+  pub text : s.text ≡ codes "X recorded " ++ decimal (length (recorded x)) ++ 10 ∷ []
+
+-- the step of a line that asks for this, behind what was asked before, from the history h on, to x
+abbrev pub IsStepOf : Type 0 → List ℕ → List Asked → List Entry → List Entry → Step → Asked → Type 0
+IsStepOf Told setup before h x s (Time moment) = Ticks setup before moment h x s
+IsStepOf Told setup before h x s (Feed line digits) = Feeds setup before 76 line (bytes_spelled digits) h x s
+IsStepOf Told setup before h x s (Message line body) = Feeds setup before 77 line (frame_of body) h x s
+IsStepOf Told setup before h x s (Command desk text) = Commands setup before desk text h x s
+IsStepOf Told setup before h x s Reopen = Reopens Told setup before h x s
+
+-- The steps stand behind one another, from h on, to x.
+abbrev pub AreSteps : Type 0 → List ℕ → List Asked → List Entry → List Entry → List Step → Type 0
+AreSteps Told setup before h x [] = x ≡ h
+AreSteps Told setup before h x (s ∷ steps) =
+    (mid : List Entry) × IsStepOf Told setup before h mid s s.asked × AreSteps Told setup (s.asked ∷ before) mid x steps
+
+-- what was asked in these steps and before them, the newest first
+abbrev pub asked_after : List Asked → List Step → List Asked
+asked_after before [] = before
+asked_after before (s ∷ steps) = asked_after (s.asked ∷ before) steps
+
+-- their output
+abbrev pub output_of : List Step → List ℕ
+output_of steps = flat_map (λ s. s.text) steps

@@ -1,0 +1,41 @@
+// How a run of a script begins.
+ghost use Rattle.std.specs.Prelude.{◌≡◌, ◌<◌, ◌≤◌, ◌⊎◌, List, Some, OnOk, OnErr, IfErr};
+ghost use Rattle.centre_rules.specs.History.{Entry};
+ghost use Rattle.centre_rules.specs.Summary.{nothing};
+ghost use Rattle.centre_store.specs.Begins.{adopted_after, begun_after, IsOfBegin};
+ghost use Rattle.centre_store.specs.Stores.{StoreStands};
+ghost use Rattle.arc_script.specs.Causes.{HasShown};
+ghost use Rattle.arc_script.specs.Standing.{is_told};
+
+use crate::script::Script;
+use arc_data::Memory;
+use arc_io::Disk;
+use centre_core::Stop;
+use centre_store::Store;
+use std::alloc::Global;
+
+/// Begins a run at a moment, with a copy of the setup.
+pub(crate) fn begin<D: Disk>(
+    alloc: Global,
+    store: &mut Store<D>,
+    script: &Script,
+    moment: u64,
+) -> Result<(), Stop>
+    requires { moment < 253_402_300_800 }
+    ensures begun { OnOk result ((h : List Entry) → StoreStands D.told D.may_leave D.fault_count nothing store.old h
+        → StoreStands D.told D.may_leave D.fault_count nothing store.new (begun_after nothing h script.now.setup moment)) }
+    ensures text { OnOk result (store.new.state.sum.text ≡ Some script.now.setup) }
+    ensures stop { OnErr result ((h : List Entry) → StoreStands D.told D.may_leave D.fault_count nothing store.old h
+        → StoreStands D.told D.may_leave D.fault_count nothing store.new h
+        ⊎ StoreStands D.told D.may_leave D.fault_count nothing store.new (adopted_after nothing h script.now.setup moment)) }
+    ensures cause { IfErr result (λ s. HasShown D.told D.may_leave D.fault_count store.new s moment (IsOfBegin script.now.setup)) }
+    ensures tells { is_told (D.told store.new.journal.disk) ≡ is_told (D.told store.old.journal.disk) }
+    ensures at_open { store.new.at_open ≡ store.old.at_open }
+    ensures limits { store.new.journal.limits ≡ store.old.journal.limits }
+    ensures later { D.fault_count store.old.journal.disk ≤ D.fault_count store.new.journal.disk }
+{
+    match script.setup.copy(alloc) {
+        Ok(setup) => store.begin(alloc, setup, moment),
+        Err(Memory) => Err(Stop::Memory),
+    }
+}

@@ -1,0 +1,198 @@
+// The lines `L` and `M`: bytes or a frame are fed to a line.
+ghost use Rattle.std.specs.Prelude.{◌≡◌, ◌≢◌, ◌⊎◌, ◌<◌, ◌≤◌, ◌-◌, ◌++◌, ◌∷◌, [], ℕ, List, Some, Err, IfErr, IfOk, IsOk, OnErr, OnOk, length, slice_get};
+ghost use Rattle.std.specs.Io.KnownBytes.{append_known};
+ghost use Rattle.alarm_rules.specs.Setups.{meaning};
+ghost use Rattle.arc_data.specs.Digits.{bytes_spelled};
+ghost use Rattle.arc_io.specs.Memory.{sink_bytes};
+ghost use Rattle.centre_rules.specs.History.{Entry};
+ghost use Rattle.centre_rules.specs.Summary.{nothing};
+ghost use Rattle.centre_store.specs.Stores.{StoreStands};
+ghost use Rattle.dc09_frame.specs.Frames.{IsBody, frame_of};
+ghost use Rattle.script_lines.specs.Lines.{Asked, AreDigits, IsNumber, Feed, Message};
+ghost use Rattle.session_rules.specs.Inputs.{input_limit};
+ghost use Rattle.arc_script.specs.Carrying.{IsNext, HaveTakenWith, Carried, Halted};
+ghost use Rattle.arc_script.specs.Causes.{HasShown, IsOfFrame};
+ghost use Rattle.arc_script.specs.Ends.{FedUntil};
+ghost use Rattle.arc_script.specs.Feeding.{TookAt, HasFed, FeedStops};
+ghost use Rattle.arc_script.specs.PageWords.{page_seen};
+ghost use Rattle.arc_script.specs.Pages.{head_of, replied};
+ghost use Rattle.arc_script.specs.Standing.{IsReadable, is_told};
+ghost use Rattle.arc_script.specs.Steps.{Feeds};
+
+use crate::line_take::take_line;
+use crate::page::Page;
+use crate::replies::{put_replies, said};
+use crate::script::Script;
+use arc_io::Disk;
+use centre_core::{Centre, Stop};
+use centre_store::Store;
+use dc09_frame::{FrameBuf, write_frame};
+use line_session::{LineEnd, LineState};
+use script_lines::{MOST_DIGITS, spelled};
+use std::alloc::Global;
+
+/// Feeds the bytes that digits spell.
+pub(crate) fn feed<D: Disk>(
+    alloc: Global,
+    store: Store<D>,
+    script: &mut Script,
+    moment: u64,
+    line: usize,
+    digits: &[u8],
+    page: &mut Page,
+) -> (Store<D>, Result<(), Stop>)
+    requires clock { moment < 253_402_300_800 }
+    requires line { IsNumber 16 line }
+    requires digits { AreDigits digits.now }
+    requires few { length digits.now ≤ 16_384 }
+    requires set { store.state.sum.text ≡ Some script.old.setup }
+    ensures fed { OnOk result.1 ((before : List Asked) (count number : ℕ) (h : List Entry)
+        → IsNext (meaning script.old.setup) moment count before (Feed line digits.now) script.old.lines.items script.old.desks.items
+        → StoreStands D.told D.may_leave D.fault_count nothing store h → IsReadable h
+        → Carried D.told D.may_leave D.fault_count (λ x s. Feeds script.old.setup before 76 line (bytes_spelled digits.now) h x s)
+        number (Feed line digits.now) script.old.tally script.new.tally (page_seen page.old) (page_seen page.new) result.0) }
+    ensures took { OnOk result.1 ((before : List Asked) (count : ℕ)
+        → IsNext (meaning script.old.setup) moment count before (Feed line digits.now) script.old.lines.items script.old.desks.items
+        → HaveTakenWith (meaning script.old.setup) count before (Feed line digits.now) script.new.lines.items script.new.desks.items) }
+    ensures stop { IfErr result.1 (λ stop. (before : List Asked) (count : ℕ) (h : List Entry)
+        → IsNext (meaning script.old.setup) moment count before (Feed line digits.now) script.old.lines.items script.old.desks.items
+        → StoreStands D.told D.may_leave D.fault_count nothing store h → IsReadable h
+        → Halted D.told D.may_leave D.fault_count (λ x s.
+        ((waiting : List (List ℕ)) × FedUntil script.old.setup before line (bytes_spelled digits.now) waiting h x s
+        × HasShown D.told D.may_leave D.fault_count result.0 stop moment (IsOfFrame script.old.setup moment waiting))
+        ⊎ ((stop ≡ Stop.Memory) × Feeds script.old.setup before 76 line (bytes_spelled digits.now) h x s))
+        script.old.tally script.new.tally result.0) }
+    ensures set { result.0.state.sum.text ≡ Some script.old.setup }
+    ensures rest { script.new ≡ record script.old {
+      lines = script.new.lines;
+      sixteen = script.new.sixteen;
+      tally = script.new.tally;
+    } }
+    ensures tells { is_told (D.told result.0.journal.disk) ≡ is_told (D.told store.journal.disk) }
+    ensures at_open { result.0.at_open ≡ store.at_open }
+    ensures limits { result.0.journal.limits ≡ store.journal.limits }
+{
+    let mut bytes = [0; MOST_DIGITS / 2];
+    let bytes = spelled(digits, &mut bytes);
+    let (store, frames) = fed(alloc, store, script, moment, line, bytes);
+    (store, put_fed(page, b'L', line as u64, frames))
+}
+
+/// Feeds the frame of a body, after which the line is made anew.
+pub(crate) fn message<D: Disk>(
+    alloc: Global,
+    store: Store<D>,
+    script: &mut Script,
+    moment: u64,
+    line: usize,
+    body: &[u8],
+    page: &mut Page,
+) -> (Store<D>, Result<(), Stop>)
+    requires clock { moment < 253_402_300_800 }
+    requires line { IsNumber 16 line }
+    requires body { IsBody body.now }
+    requires set { store.state.sum.text ≡ Some script.old.setup }
+    ensures fed { OnOk result.1 ((before : List Asked) (count number : ℕ) (h : List Entry)
+        → IsNext (meaning script.old.setup) moment count before (Message line body.now) script.old.lines.items script.old.desks.items
+        → StoreStands D.told D.may_leave D.fault_count nothing store h → IsReadable h
+        → Carried D.told D.may_leave D.fault_count (λ x s. Feeds script.old.setup before 77 line (frame_of body.now) h x s)
+        number (Message line body.now) script.old.tally script.new.tally (page_seen page.old) (page_seen page.new) result.0) }
+    ensures took { OnOk result.1 ((before : List Asked) (count : ℕ)
+        → IsNext (meaning script.old.setup) moment count before (Message line body.now) script.old.lines.items script.old.desks.items
+        → HaveTakenWith (meaning script.old.setup) count before (Message line body.now) script.new.lines.items script.new.desks.items) }
+    ensures stop { IfErr result.1 (λ stop. (before : List Asked) (count : ℕ) (h : List Entry)
+        → IsNext (meaning script.old.setup) moment count before (Message line body.now) script.old.lines.items script.old.desks.items
+        → StoreStands D.told D.may_leave D.fault_count nothing store h → IsReadable h
+        → Halted D.told D.may_leave D.fault_count (λ x s.
+        ((waiting : List (List ℕ)) × FedUntil script.old.setup before line (frame_of body.now) waiting h x s
+        × HasShown D.told D.may_leave D.fault_count result.0 stop moment (IsOfFrame script.old.setup moment waiting))
+        ⊎ ((stop ≡ Stop.Memory) × Feeds script.old.setup before 77 line (frame_of body.now) h x s))
+        script.old.tally script.new.tally result.0) }
+    ensures set { result.0.state.sum.text ≡ Some script.old.setup }
+    ensures rest { script.new ≡ record script.old {
+      lines = script.new.lines;
+      sixteen = script.new.sixteen;
+      tally = script.new.tally;
+    } }
+    ensures tells { is_told (D.told result.0.journal.disk) ≡ is_told (D.told store.journal.disk) }
+    ensures at_open { result.0.at_open ≡ store.at_open }
+    ensures limits { result.0.journal.limits ≡ store.journal.limits }
+{
+    let mut frame = FrameBuf::new();
+    write_frame(body, &mut frame);
+    let (store, frames) = fed(alloc, store, script, moment, line, frame.bytes());
+    script.lines[line - 1] = LineState::new();
+    (store, put_fed(page, b'M', line as u64, frames))
+}
+
+// Puts the replies of what was fed, unless the line was stopped.
+fn put_fed(page: &mut Page, letter: u8, number: u64, frames: Result<Page, Stop>) -> Result<(), Stop>
+    ensures put { OnOk result (IfOk frames (λ f. (page_seen page.new).written
+        ≡ append_known (page_seen page.old).written (head_of letter number ++ replied (sink_bytes f.port.sink) ++ 10 ∷ []))) }
+    ensures fed { OnOk result (IsOk frames) }
+    ensures stop { IfErr result (λ s. (s ≡ Stop.Memory) ⊎ (frames ≡ Err s)) }
+{
+    let frames = frames?;
+    said(put_replies(page, letter, number, frames.text()))
+}
+
+// Feeds bytes to a line, and gives what it wrote. It is counted whether the line was stopped or not.
+fn fed<D: Disk>(
+    alloc: Global,
+    store: Store<D>,
+    script: &mut Script,
+    moment: u64,
+    line: usize,
+    bytes: &[u8],
+) -> (Store<D>, Result<Page, Stop>)
+    requires clock { moment < 253_402_300_800 }
+    requires line { IsNumber 16 line }
+    requires set { store.state.sum.text ≡ Some script.old.setup }
+    ensures fed { IfOk result.1 (λ frames. (stream : List ℕ) (h : List Entry) → TookAt stream script.old.lines.items (line - 1)
+        → length (stream ++ bytes.now) < input_limit → StoreStands D.told D.may_leave D.fault_count nothing store h → IsReadable h
+        → HasFed D.told D.may_leave D.fault_count script.old.setup moment stream bytes.now h script.old.tally script.new.tally
+        (sink_bytes frames.port.sink) result.0) }
+    ensures took { OnOk result.1 ((stream : List ℕ) → TookAt stream script.old.lines.items (line - 1)
+        → length (stream ++ bytes.now) < input_limit → TookAt (stream ++ bytes.now) script.new.lines.items (line - 1)) }
+    ensures stop { IfErr result.1 (λ stop. (stream : List ℕ) (h : List Entry) → TookAt stream script.old.lines.items (line - 1)
+        → length (stream ++ bytes.now) < input_limit → StoreStands D.told D.may_leave D.fault_count nothing store h → IsReadable h
+        → FeedStops D.told D.may_leave D.fault_count script.old.setup moment stream bytes.now h script.old.tally script.new.tally stop result.0) }
+    ensures set { result.0.state.sum.text ≡ Some script.old.setup }
+    ensures others { (i : ℕ) → i ≢ line - 1 → slice_get script.new.lines.items i ≡ slice_get script.old.lines.items i }
+    ensures rest { script.new ≡ record script.old {
+      lines = script.new.lines;
+      sixteen = script.new.sixteen;
+      tally = script.new.tally;
+    } }
+    ensures tells { is_told (D.told result.0.journal.disk) ≡ is_told (D.told store.journal.disk) }
+    ensures at_open { result.0.at_open ≡ store.at_open }
+    ensures limits { result.0.journal.limits ≡ store.journal.limits }
+{
+    let Ok(mut frames) = Page::new(alloc, moment) else {
+        return (store, Err(Stop::Memory));
+    };
+    let quiet = quiet_of(store.centre());
+    let (end, store) = take_line(
+        alloc,
+        store,
+        &mut script.lines[line - 1],
+        &mut frames,
+        bytes,
+    );
+    let repeats = quiet_of(store.centre()).saturating_sub(quiet);
+    script.tally.sent = script.tally.sent.saturating_add(frames.taken());
+    script.tally.repeats = script.tally.repeats.saturating_add(repeats);
+    match end {
+        Ok(()) => (store, Ok(frames)),
+        Err(LineEnd::Stopped(stop)) => (store, Err(stop)),
+        // A page takes all that is written unless memory is wanted, and no line is fed as many bytes as a session may take.
+        Err(_) => (store, Err(Stop::Memory)),
+    }
+}
+
+// How many entries are not recorded. Of what a line reports these are the repeats.
+fn quiet_of(centre: &Centre) -> u64
+    ensures { result ≡ centre.now.entries - centre.now.sum.recorded }
+{
+    centre.entries().saturating_sub(centre.recorded())
+}

@@ -1,0 +1,88 @@
+// The line `X`: all is made anew over what the journal keeps.
+ghost use Rattle.std.specs.Prelude.{◌≡◌, ◌<◌, ℕ, List, None, Some, IfErr, IfOk, OnErr, OnOk};
+ghost use Rattle.std.specs.Io.KnownBytes.{append_known};
+ghost use Rattle.centre_rules.specs.History.{Entry};
+ghost use Rattle.centre_rules.specs.Summary.{nothing};
+ghost use Rattle.centre_store.specs.Begins.{begun_after, IsOfBegin};
+ghost use Rattle.centre_store.specs.Bodies.{bodies_of};
+ghost use Rattle.centre_store.specs.Stores.{StoreStands};
+ghost use Rattle.disk_journal.specs.Journal.{Holds};
+ghost use Rattle.script_lines.specs.Lines.{Asked, Reopen};
+ghost use Rattle.arc_script.specs.Between.{Begun, Between, CarriedOut, ShutAt, StoppedAt, words};
+ghost use Rattle.arc_script.specs.Causes.{HasShown};
+ghost use Rattle.arc_script.specs.Fed.{clock_of};
+ghost use Rattle.arc_script.specs.Halting.{closing};
+ghost use Rattle.arc_script.specs.PageWords.{page_seen};
+ghost use Rattle.arc_script.specs.Pages.{counted_line};
+ghost use Rattle.arc_script.specs.Playing.{IsUntil};
+ghost use Rattle.arc_script.specs.Standing.{is_told};
+
+use crate::begin::begin;
+use crate::page::Page;
+use crate::replies::{put_count, said};
+use crate::script::Script;
+use arc_io::Disk;
+use centre_core::Stop;
+use centre_store::Store;
+use disk_journal::OpenRefused;
+use std::alloc::Global;
+
+/// Closes the store and opens it again, makes all lines and desks anew, and begins a run at the moment that was set last.
+pub(crate) fn reopen<D: Disk>(
+    alloc: Global,
+    store: Store<D>,
+    script: &mut Script,
+    moment: u64,
+    page: &mut Page,
+) -> Result<(Store<D>, Result<(), Stop>), OpenRefused<D>>
+    requires clock { moment < 253_402_300_800 }
+    ensures carried { IfOk result (λ r. OnOk r.1 ((b : Begun D) (before : List Asked) (count number : ℕ) (h : List Entry)
+        → Between (words D.told D.may_leave D.moment D.left_since D.fault_count) b before count h script.old store
+        → Holds D.told D.may_leave store.journal (bodies_of h) → clock_of before ≡ Some moment
+        → CarriedOut (words D.told D.may_leave D.moment D.left_since D.fault_count) b before count number h Reopen
+        script.old.tally script.new r.0 (page_seen page.old) (page_seen page.new))) }
+    ensures stop { IfOk result (λ r. IfErr r.1 (λ stop. (b : Begun D) (before : List Asked) (count : ℕ) (h : List Entry)
+        → Between (words D.told D.may_leave D.moment D.left_since D.fault_count) b before count h script.old store
+        → Holds D.told D.may_leave store.journal (bodies_of h) → clock_of before ≡ Some moment
+        → StoppedAt (words D.told D.may_leave D.moment D.left_since D.fault_count) b before h Reopen stop script.old.tally script.new.tally r.0)) }
+    ensures shut { IfErr result (λ r. (b : Begun D) (before : List Asked) (count : ℕ) (h : List Entry)
+        → Between (words D.told D.may_leave D.moment D.left_since D.fault_count) b before count h script.old store
+        → Holds D.told D.may_leave store.journal (bodies_of h)
+        → ShutAt (words D.told D.may_leave D.moment D.left_since D.fault_count) b h r.fault r.disk) }
+    ensures closed { script.new.tally ≡ closing script.old.tally script.old.opened_before store.state.sum }
+    ensures rest { (script.new.setup ≡ script.old.setup) × (script.new.clock ≡ script.old.clock)
+        × (script.new.number ≡ script.old.number) × (script.new.opened_before ≡ script.old.opened_before) }
+    ensures set { IfOk result (λ r. OnOk r.1 (r.0.state.sum.text ≡ Some script.new.setup)) }
+{
+    let disk = script.close(store);
+    let mut store = Store::open(alloc, disk, script.limits)?;
+    script.renew();
+    let begun = begin_again(alloc, &mut store, script, moment, page);
+    Ok((store, begun))
+}
+
+// Begins a run, and tells how many entries are recorded.
+fn begin_again<D: Disk>(
+    alloc: Global,
+    store: &mut Store<D>,
+    script: &Script,
+    moment: u64,
+    page: &mut Page,
+) -> Result<(), Stop>
+    requires clock { moment < 253_402_300_800 }
+    ensures begun { OnOk result ((h : List Entry) → StoreStands D.told D.may_leave D.fault_count nothing store.old h
+        → StoreStands D.told D.may_leave D.fault_count nothing store.new (begun_after nothing h script.now.setup moment)) }
+    ensures set { OnOk result (store.new.state.sum.text ≡ Some script.now.setup) }
+    ensures text { OnOk result ((page_seen page.new).written
+        ≡ append_known (page_seen page.old).written (counted_line store.new.state.sum.recorded)) }
+    ensures stop { OnErr result ((h : List Entry) → StoreStands D.told D.may_leave D.fault_count nothing store.old h
+        → (x : List Entry) × StoreStands D.told D.may_leave D.fault_count nothing store.new x
+        × IsUntil None script.now.setup moment h x) }
+    ensures cause { IfErr result (λ s. HasShown D.told D.may_leave D.fault_count store.new s moment (IsOfBegin script.now.setup)) }
+    ensures tells { is_told (D.told store.new.journal.disk) ≡ is_told (D.told store.old.journal.disk) }
+    ensures at_open { store.new.at_open ≡ store.old.at_open }
+    ensures limits { store.new.journal.limits ≡ store.old.journal.limits }
+{
+    begin(alloc, store, script, moment)?;
+    said(put_count(page, store.centre().recorded()))
+}

@@ -1,0 +1,172 @@
+// One line of a script that asks for something.
+ghost use Rattle.std.specs.Prelude.{◌≡◌, ◌≢◌, ◌<◌, ◌≤◌, ◌⊎◌, ℕ, List, Ok, Err, Some, IfErr, IfOk, OnErr, OnOk, length};
+ghost use Rattle.centre_rules.specs.History.{Entry};
+ghost use Rattle.centre_store.specs.Bodies.{bodies_of};
+ghost use Rattle.centre_store.specs.Stores.{HasFailed};
+ghost use Rattle.disk_journal.specs.Journal.{Holds};
+ghost use Rattle.script_lines.specs.Lines.{Asked, IsAsked, Reopen, spelling};
+ghost use Rattle.script_lines.specs.Reading.{asked};
+ghost use Rattle.alarm_rules.specs.Setups.{meaning};
+ghost use Rattle.arc_script.specs.Between.{Begun, Between, CarriedOut, IsReady, ShutAt, StoppedAt, words};
+ghost use Rattle.arc_script.specs.Carrying.{IsNext};
+ghost use Rattle.arc_script.specs.Halting.{closing};
+ghost use Rattle.arc_script.specs.PageWords.{page_seen};
+ghost use Rattle.arc_script.specs.Pages.{blank};
+ghost use Rattle.arc_script.specs.Playing.{moment_at};
+ghost use Rattle.arc_script.specs.Texts.{line_limit};
+
+use crate::command::command;
+use crate::feed::{feed, message};
+use crate::page::Page;
+use crate::reopen::reopen;
+use crate::script::Script;
+use crate::tick::tick;
+use arc_io::Disk;
+use centre_core::Stop;
+use centre_store::Store;
+use disk_journal::OpenRefused;
+use script_lines::ScriptLine;
+use std::alloc::Global;
+
+/// Carries out what a line asks for at a moment, the one that the line itself sets or that was set last.
+pub(crate) fn carry_out<D: Disk>(
+    alloc: Global,
+    store: Store<D>,
+    script: &mut Script,
+    moment: u64,
+    wanted: ScriptLine,
+    page: &mut Page,
+) -> Result<(Store<D>, Result<(), Stop>), OpenRefused<D>>
+    requires moment { moment < 253_402_300_800 }
+    requires ready { IsReady script.old.clock script.old.setup store.state.sum.text }
+    requires ranges { IsAsked (asked wanted) }
+    requires short { length (spelling (asked wanted)) ≤ line_limit }
+    requires at { moment_at script.old.clock (asked wanted) ≡ Some moment }
+    requires blank { page_seen page.old ≡ blank moment }
+    ensures carried { IfOk result (λ r. OnOk r.1 ((b : Begun D) (before : List Asked) (count number : ℕ) (h : List Entry)
+        → Between (words D.told D.may_leave D.moment D.left_since D.fault_count) b before count h script.old store
+        → IsNext (meaning b.setup) moment count before (asked wanted.entry) script.old.lines.items script.old.desks.items
+        → Holds D.told D.may_leave store.journal (bodies_of h)
+        → CarriedOut (words D.told D.may_leave D.moment D.left_since D.fault_count) b before count number h (asked wanted.entry)
+        script.old.tally script.new r.0 (page_seen page.old) (page_seen page.new))) }
+    ensures stop { IfOk result (λ r. IfErr r.1 (λ stop. (b : Begun D) (before : List Asked) (count : ℕ) (h : List Entry)
+        → Between (words D.told D.may_leave D.moment D.left_since D.fault_count) b before count h script.old store
+        → IsNext (meaning b.setup) moment count before (asked wanted.entry) script.old.lines.items script.old.desks.items
+        → Holds D.told D.may_leave store.journal (bodies_of h)
+        → StoppedAt (words D.told D.may_leave D.moment D.left_since D.fault_count) b before h (asked wanted.entry) stop script.old.tally script.new.tally r.0)) }
+    ensures shut { IfErr result (λ r. (asked wanted.entry ≡ Reopen) × ((b : Begun D) (before : List Asked) (count : ℕ) (h : List Entry)
+        → Between (words D.told D.may_leave D.moment D.left_since D.fault_count) b before count h script.old store
+        → IsNext (meaning b.setup) moment count before (asked wanted.entry) script.old.lines.items script.old.desks.items
+        → Holds D.told D.may_leave store.journal (bodies_of h)
+        → ShutAt (words D.told D.may_leave D.moment D.left_since D.fault_count) b h r.fault r.disk)) }
+    ensures closed { OnErr result (script.new.tally ≡ closing script.old.tally script.old.opened_before store.state.sum) }
+    ensures up { IfOk result (λ r. OnOk r.1 (HasFailed D.fault_count r.0 → ⊥)) }
+    ensures ready { IfOk result (λ r. OnOk r.1 (IsReady script.new.clock script.new.setup r.0.state.sum.text)) }
+    ensures rest { (script.new.setup ≡ script.old.setup) × (script.new.number ≡ script.old.number)
+        × (script.new.opened_before ≡ script.old.opened_before) }
+{
+    let (store, done) = attempt(alloc, store, script, moment, wanted, page)?;
+    let done = unless_failed(&store, done);
+    Ok((store, done))
+}
+
+// The same, whether the disk failed or not.
+fn attempt<D: Disk>(
+    alloc: Global,
+    store: Store<D>,
+    script: &mut Script,
+    moment: u64,
+    wanted: ScriptLine,
+    page: &mut Page,
+) -> Result<(Store<D>, Result<(), Stop>), OpenRefused<D>>
+    requires moment { moment < 253_402_300_800 }
+    requires ready { IsReady script.old.clock script.old.setup store.state.sum.text }
+    requires ranges { IsAsked (asked wanted) }
+    requires short { length (spelling (asked wanted)) ≤ line_limit }
+    requires at { moment_at script.old.clock (asked wanted) ≡ Some moment }
+    requires blank { page_seen page.old ≡ blank moment }
+    ensures carried { IfOk result (λ r. OnOk r.1 ((b : Begun D) (before : List Asked) (count number : ℕ) (h : List Entry)
+        → Between (words D.told D.may_leave D.moment D.left_since D.fault_count) b before count h script.old store
+        → IsNext (meaning b.setup) moment count before (asked wanted.entry) script.old.lines.items script.old.desks.items
+        → Holds D.told D.may_leave store.journal (bodies_of h)
+        → CarriedOut (words D.told D.may_leave D.moment D.left_since D.fault_count) b before count number h (asked wanted.entry)
+        script.old.tally script.new r.0 (page_seen page.old) (page_seen page.new))) }
+    ensures stop { IfOk result (λ r. IfErr r.1 (λ stop. (b : Begun D) (before : List Asked) (count : ℕ) (h : List Entry)
+        → Between (words D.told D.may_leave D.moment D.left_since D.fault_count) b before count h script.old store
+        → IsNext (meaning b.setup) moment count before (asked wanted.entry) script.old.lines.items script.old.desks.items
+        → Holds D.told D.may_leave store.journal (bodies_of h)
+        → StoppedAt (words D.told D.may_leave D.moment D.left_since D.fault_count) b before h (asked wanted.entry) stop script.old.tally script.new.tally r.0)) }
+    ensures shut { IfErr result (λ r. (asked wanted.entry ≡ Reopen) × ((b : Begun D) (before : List Asked) (count : ℕ) (h : List Entry)
+        → Between (words D.told D.may_leave D.moment D.left_since D.fault_count) b before count h script.old store
+        → IsNext (meaning b.setup) moment count before (asked wanted.entry) script.old.lines.items script.old.desks.items
+        → Holds D.told D.may_leave store.journal (bodies_of h)
+        → ShutAt (words D.told D.may_leave D.moment D.left_since D.fault_count) b h r.fault r.disk)) }
+    ensures closed { OnErr result (script.new.tally ≡ closing script.old.tally script.old.opened_before store.state.sum) }
+    ensures ready { IfOk result (λ r. OnOk r.1 (IsReady script.new.clock script.new.setup r.0.state.sum.text)) }
+    ensures rest { (script.new.setup ≡ script.old.setup) × (script.new.number ≡ script.old.number)
+        × (script.new.opened_before ≡ script.old.opened_before) }
+{
+    if wanted == ScriptLine::Reopen {
+        return reopen(alloc, store, script, moment, page);
+    }
+    Ok(over_store(alloc, store, script, moment, wanted, page))
+}
+
+// What a line did, unless the disk failed though no event met that: nothing is known then of what it holds, and so the line has no output.
+fn unless_failed<D: Disk>(store: &Store<D>, done: Result<(), Stop>) -> Result<(), Stop>
+    ensures done { OnOk result (done ≡ Ok tt) }
+    ensures up { OnOk result (HasFailed D.fault_count store.now → ⊥) }
+    ensures stop { IfErr result (λ s. (done ≡ Err s) ⊎ ((done ≡ Ok tt) × (s ≡ Stop.Memory))) }
+{
+    done?;
+    if store.has_failed() {
+        return Err(Stop::Memory);
+    }
+    Ok(())
+}
+
+// All but `X`.
+fn over_store<D: Disk>(
+    alloc: Global,
+    store: Store<D>,
+    script: &mut Script,
+    moment: u64,
+    wanted: ScriptLine,
+    page: &mut Page,
+) -> (Store<D>, Result<(), Stop>)
+    requires moment { moment < 253_402_300_800 }
+    requires ready { IsReady script.old.clock script.old.setup store.state.sum.text }
+    requires ranges { IsAsked (asked wanted) }
+    requires short { length (spelling (asked wanted)) ≤ line_limit }
+    requires at { moment_at script.old.clock (asked wanted) ≡ Some moment }
+    requires blank { page_seen page.old ≡ blank moment }
+    requires other { asked wanted ≢ Reopen }
+    ensures carried { OnOk result.1 ((b : Begun D) (before : List Asked) (count number : ℕ) (h : List Entry)
+        → Between (words D.told D.may_leave D.moment D.left_since D.fault_count) b before count h script.old store
+        → IsNext (meaning b.setup) moment count before (asked wanted.entry) script.old.lines.items script.old.desks.items
+        → Holds D.told D.may_leave store.journal (bodies_of h)
+        → CarriedOut (words D.told D.may_leave D.moment D.left_since D.fault_count) b before count number h (asked wanted.entry)
+        script.old.tally script.new result.0 (page_seen page.old) (page_seen page.new)) }
+    ensures stop { IfErr result.1 (λ stop. (b : Begun D) (before : List Asked) (count : ℕ) (h : List Entry)
+        → Between (words D.told D.may_leave D.moment D.left_since D.fault_count) b before count h script.old store
+        → IsNext (meaning b.setup) moment count before (asked wanted.entry) script.old.lines.items script.old.desks.items
+        → Holds D.told D.may_leave store.journal (bodies_of h)
+        → StoppedAt (words D.told D.may_leave D.moment D.left_since D.fault_count) b before h (asked wanted.entry) stop script.old.tally script.new.tally result.0) }
+    ensures ready { OnOk result.1 (IsReady script.new.clock script.new.setup result.0.state.sum.text) }
+    ensures rest { (script.new.setup ≡ script.old.setup) × (script.new.number ≡ script.old.number)
+        × (script.new.opened_before ≡ script.old.opened_before) }
+{
+    match wanted {
+        ScriptLine::Time { moment } => {
+            let mut store = store;
+            let ticked = tick(alloc, &mut store, script, moment, page);
+            (store, ticked)
+        }
+        ScriptLine::Feed { line, digits } => feed(alloc, store, script, moment, line, digits, page),
+        ScriptLine::Message { line, body } => message(
+            alloc, store, script, moment, line, body, page,
+        ),
+        ScriptLine::Command { desk, text } => command(alloc, store, script, desk, text, page),
+        ScriptLine::Reopen => (store, Ok(())),
+    }
+}

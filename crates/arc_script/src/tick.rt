@@ -1,0 +1,93 @@
+// The line `T`: the clock is set, and ticks.
+ghost use Rattle.std.specs.Prelude.{◌≡◌, ◌<◌, ◌≤◌, ◌++◌, List, Some, Err, IfSome, OnOk, OnErr, IfErr, codes};
+ghost use Rattle.std.specs.Io.KnownBytes.{append_known};
+ghost use Rattle.centre_core.specs.Setting.{IsSetting};
+ghost use Rattle.centre_rules.specs.History.{Entry};
+ghost use Rattle.centre_rules.specs.Summary.{nothing};
+ghost use Rattle.centre_store.specs.Stores.{StoreStands};
+ghost use Rattle.desk_wire.specs.Replies.{line_of};
+ghost use Rattle.arc_script.specs.Causes.{HasShown, IsOfTime};
+ghost use Rattle.arc_script.specs.PageWords.{page_seen};
+ghost use Rattle.arc_script.specs.Playing.{Ticked, IsUntil, TickStops, before_tick};
+ghost use Rattle.arc_script.specs.Standing.{is_told};
+
+use crate::begin::begin;
+use crate::page::Page;
+use crate::replies::said;
+use crate::script::Script;
+use arc_data::{Event, Reply};
+use arc_io::{Disk, put};
+use centre_core::Stop;
+use centre_store::Store;
+use desk_wire::print;
+use std::alloc::Global;
+
+/// Sets the clock, and submits a Tick. The first time a run begins before.
+pub(crate) fn tick<D: Disk>(
+    alloc: Global,
+    store: &mut Store<D>,
+    script: &mut Script,
+    moment: u64,
+    page: &mut Page,
+) -> Result<(), Stop>
+    requires clock { moment < 253_402_300_800 }
+    requires set { IfSome script.old.clock (λ last. store.old.state.sum.text ≡ Some script.old.setup) }
+    ensures ticked { OnOk result ((h : List Entry) → StoreStands D.told D.may_leave D.fault_count nothing store.old h
+        → Ticked D.told D.may_leave D.fault_count (before_tick script.old.clock script.old.setup moment h) moment store.new
+        (page_seen page.old) (page_seen page.new)) }
+    ensures set { OnOk result (store.new.state.sum.text ≡ Some script.old.setup) }
+    ensures clock { OnOk result (script.new.clock ≡ Some moment) }
+    ensures rest { script.new ≡ record script.old { clock = script.new.clock } }
+    ensures stop { IfErr result (λ s. (h : List Entry) → StoreStands D.told D.may_leave D.fault_count nothing store.old h
+        → TickStops D.told D.may_leave D.fault_count script.old.clock script.old.setup moment h s store.new) }
+    ensures cause { IfErr result (λ s. HasShown D.told D.may_leave D.fault_count store.new s moment
+        (IsOfTime script.old.clock script.old.setup)) }
+    ensures tells { is_told (D.told store.new.journal.disk) ≡ is_told (D.told store.old.journal.disk) }
+    ensures at_open { store.new.at_open ≡ store.old.at_open }
+    ensures limits { store.new.journal.limits ≡ store.old.journal.limits }
+    ensures later { D.fault_count store.old.journal.disk ≤ D.fault_count store.new.journal.disk }
+{
+    begin_first(alloc, store, script, moment)?;
+    script.clock = Some(moment);
+    let done = store.submit(alloc, 0, Event::Tick, moment)?;
+    say_tick(&done.reply, page)
+}
+
+// Puts the letter and the reply.
+#[tactic(auto, using(arc_io::proofs::KnownMore::known_both))]
+fn say_tick(reply: &Reply, page: &mut Page) -> Result<(), Stop>
+    ensures text { OnOk result ((page_seen page.new).written ≡ append_known (page_seen page.old).written (codes "T " ++ line_of reply.now)) }
+    ensures stop { OnErr result (result ≡ Err Stop.Memory) }
+{
+    said(put(page, b"T "))?;
+    said(print(reply, page))
+}
+
+// Begins the run, where none has begun.
+fn begin_first<D: Disk>(
+    alloc: Global,
+    store: &mut Store<D>,
+    script: &Script,
+    moment: u64,
+) -> Result<(), Stop>
+    requires clock { moment < 253_402_300_800 }
+    requires set { IfSome script.now.clock (λ last. store.old.state.sum.text ≡ Some script.now.setup) }
+    ensures begun { OnOk result ((h : List Entry) → StoreStands D.told D.may_leave D.fault_count nothing store.old h
+        → StoreStands D.told D.may_leave D.fault_count nothing store.new (before_tick script.now.clock script.now.setup moment h)) }
+    ensures set { OnOk result (store.new.state.sum.text ≡ Some script.now.setup) }
+    ensures ready { OnOk result (IsSetting store.new.state.sum.text) }
+    ensures stop { OnErr result ((h : List Entry) → StoreStands D.told D.may_leave D.fault_count nothing store.old h
+        → (x : List Entry) × StoreStands D.told D.may_leave D.fault_count nothing store.new x
+        × IsUntil script.now.clock script.now.setup moment h x) }
+    ensures cause { IfErr result (λ s. HasShown D.told D.may_leave D.fault_count store.new s moment
+        (IsOfTime script.now.clock script.now.setup)) }
+    ensures tells { is_told (D.told store.new.journal.disk) ≡ is_told (D.told store.old.journal.disk) }
+    ensures at_open { store.new.at_open ≡ store.old.at_open }
+    ensures limits { store.new.journal.limits ≡ store.old.journal.limits }
+    ensures later { D.fault_count store.old.journal.disk ≤ D.fault_count store.new.journal.disk }
+{
+    match script.clock {
+        None => begin(alloc, store, script, moment),
+        Some(_) => Ok(()),
+    }
+}
