@@ -29,7 +29,7 @@ use Rattle.arc_server.specs.Areas.{EndsWith, HasRecorded, shipped}
 use Rattle.arc_server.specs.ServeRuns.{summary_line, line_after, WritesLine, ServesAll}
 use Rattle.arc_server.specs.Servings.{occurred, first_of, met_by, where_so}
 use Rattle.arc_server.specs.declared.status.Status.{Status}
-use Rattle.arc_server.specs.declared.status.Status.TheVariants.{Done, Usage, SetupBad, ReadFault, WriteFault, DiskFault, Journal, Full}
+use Rattle.arc_server.specs.declared.status.Status.TheVariants.{Done, Usage, SetupBad, ReadFault, WriteFault, DiskFault, Journal, Full, BadScript}
 use Rattle.arc_server.specs.declared.status.Status.TheVariants.{DoorFault, Memory as NoMemory, Spent, Worn}
 use Rattle.arc_server.proofs.Kept.{kept, kept_up}
 use Rattle.arc_server.proofs.Served.{up_to_end}
@@ -69,6 +69,7 @@ ends_recorded (ReadFault which before now) disk h has = has
 ends_recorded (WriteFault before now) disk h has = has
 ends_recorded (Journal fault) disk h has = has
 ends_recorded (Full used need records) disk h has = has
+ends_recorded (BadScript line) disk h has = has
 ends_recorded (DoorFault door before now) disk h has = has
 ends_recorded NoMemory disk h has = has
 ends_recorded Spent disk h has = has

@@ -9,7 +9,7 @@ use Rattle.centre_store.specs.Pasts.{IsPast}
 use Rattle.centre_store.specs.Stores.{IsTorn}
 use Rattle.arc_server.specs.declared.status.Status.{Status}
 use Rattle.arc_server.specs.declared.status.Status.TheVariants.{Done, Usage, SetupBad, ReadFault, WriteFault, DiskFault, Journal, Full}
-use Rattle.arc_server.specs.declared.status.Status.TheVariants.{DoorFault, Memory, Spent, Worn}
+use Rattle.arc_server.specs.declared.status.Status.TheVariants.{BadScript, DoorFault, Memory, Spent, Worn}
 
 -- how much a journal may hold as it is shipped
 abbrev pub shipped : Limits
@@ -37,6 +37,7 @@ EndsWith told may_leave (ReadFault which before now) disk h = HasRecorded told m
 EndsWith told may_leave (WriteFault before now) disk h = HasRecorded told may_leave disk h
 EndsWith told may_leave (Journal fault) disk h = HasRecorded told may_leave disk h
 EndsWith told may_leave (Full used need records) disk h = HasRecorded told may_leave disk h
+EndsWith told may_leave (BadScript line) disk h = HasRecorded told may_leave disk h
 EndsWith told may_leave (DoorFault door before now) disk h = HasRecorded told may_leave disk h
 EndsWith told may_leave Memory disk h = HasRecorded told may_leave disk h
 EndsWith told may_leave Spent disk h = HasRecorded told may_leave disk h

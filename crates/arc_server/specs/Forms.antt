@@ -5,14 +5,24 @@ use Rattle.alarm_rules.specs.SetupWords.{number_between}
 use Rattle.arc_serving.specs.declared.station.Crew.{Crew}
 use Rattle.arc_sessions.specs.declared.side.Side.TheVariants.{Lines, Desks}
 use Rattle.arc_server.specs.declared.form.Form.{Form}
-use Rattle.arc_server.specs.declared.form.Form.TheVariants.{Session, Report, Serve}
+use Rattle.arc_server.specs.declared.form.Form.TheVariants.{Session, Script, Report, Drill, Serve}
 
 abbrev pub form_named : List ℕ → Option Form
 form_named word =
     if bytes_eq word (codes "line") then Some (Session Lines)
     else if bytes_eq word (codes "desk") then Some (Session Desks)
+    else if bytes_eq word (codes "script") then Some Script
     else if bytes_eq word (codes "report") then Some Report
     else None
+
+-- of a number, where it is given
+abbrev pub drill_with : Option ℕ → Option Form
+drill_with (Some messages) = Some (Drill messages)
+drill_with None = None
+
+-- 1 to 100,000 messages, decimal without leading zeros
+abbrev pub drill_named : List ℕ → Option Form
+drill_named messages = drill_with (number_between 1 100_000 messages)
 
 -- of three numbers, where all of them are given
 abbrev pub crew_with : Option ℕ → Option ℕ → Option ℕ → Option Form
@@ -26,8 +36,9 @@ abbrev pub crew_named : List ℕ → List ℕ → List ℕ → Option Form
 crew_named lines desks sessions =
     crew_with (number_between 1 64 lines) (number_between 0 16 desks) (number_between 1 1_000_000 sessions)
 
--- the one word `line`, `desk` or `report`; or `serve` and three numbers
+-- the one word `line`, `desk`, `script` or `report`; `drill` and a number; or `serve` and three numbers
 abbrev pub form_of : List (List ℕ) → Option Form
 form_of (word ∷ []) = form_named word
+form_of (word ∷ messages ∷ []) = if bytes_eq word (codes "drill") then drill_named messages else None
 form_of (word ∷ lines ∷ desks ∷ sessions ∷ []) = if bytes_eq word (codes "serve") then crew_named lines desks sessions else None
 form_of words = None

@@ -6,6 +6,8 @@ pub use Rattle.centre_store.specs.StoreHalls
 pub use Rattle.arc_sessions.specs.Served
 pub use Rattle.centre_rules.specs.Sums
 pub use Rattle.arc_serving.specs.Serving
+pub use Rattle.arc_script.specs.Ends
+pub use Rattle.arc_drill.specs.Texts
 pub mod Forms
 pub mod Statuses
 pub mod Areas
@@ -15,6 +17,8 @@ pub mod SetupReads
 pub mod Unopened
 pub mod SessionRuns
 pub mod Reports
+pub mod ScriptRuns
+pub mod DrillRuns
 pub mod Servings
 pub mod ServeRuns
 pub mod WholeRuns

@@ -9,7 +9,8 @@ use Rattle.arc_sessions.specs.declared.session.SessionEnd.{SessionEnd}
 use Rattle.arc_sessions.specs.declared.session.SessionEnd.TheVariants.{Quit, InputEnded, ReadFault as NotRead, WriteFault as NotWritten}
 use Rattle.arc_sessions.specs.declared.session.SessionEnd.TheVariants.{Spent as InputSpent, Stopped}
 use Rattle.arc_server.specs.declared.status.Status.{Status}
-use Rattle.arc_server.specs.declared.status.Status.TheVariants.{Done, ReadFault, WriteFault, DiskFault, Journal, Full, Memory, Spent, Worn}
+use Rattle.arc_server.specs.declared.status.Status.TheVariants.{Done, ReadFault, WriteFault, DiskFault, Journal}
+use Rattle.arc_server.specs.declared.status.Status.TheVariants.{Full, Memory, Spent, Worn}
 use Rattle.arc_server.specs.declared.status.Which.TheVariants.{Input}
 
 abbrev pub made_of_fault : OpenFault → Status

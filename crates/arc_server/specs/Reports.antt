@@ -13,7 +13,7 @@ use Rattle.arc_server.specs.Counts.{HasRisen}
 use Rattle.arc_server.specs.Unopened.{StandsOn, IsUnopened}
 use Rattle.arc_server.specs.declared.status.Status.{Status}
 use Rattle.arc_server.specs.declared.status.Status.TheVariants.{Done, Usage, SetupBad, ReadFault, WriteFault, DiskFault, Journal, Full}
-use Rattle.arc_server.specs.declared.status.Status.TheVariants.{DoorFault, Memory, Spent, Worn}
+use Rattle.arc_server.specs.declared.status.Status.TheVariants.{BadScript, DoorFault, Memory, Spent, Worn}
 
 -- the report of a history: how much of it is recorded, and the incidents that are open after it
 abbrev pub report_after : List Entry → List ℕ
@@ -38,6 +38,7 @@ IsReported (SetupBad fault) past p p' entry end = ⊥
 IsReported (ReadFault which before now) past p p' entry end = ⊥
 IsReported (Journal fault) past p p' entry end = ⊥
 IsReported (Full used need records) past p p' entry end = ⊥
+IsReported (BadScript line) past p p' entry end = ⊥
 IsReported (DoorFault door before now) past p p' entry end = ⊥
 IsReported Memory past p p' entry end = ⊥
 IsReported Spent past p p' entry end = ⊥

@@ -17,7 +17,7 @@ use Rattle.centre_core.specs.declared.hall.Stop.TheVariants.{Memory as MemoryWan
 use Rattle.arc_server.specs.declared.status.Status.{Status}
 use Rattle.arc_server.specs.Counts.{HasRisen}
 use Rattle.arc_server.specs.declared.status.Status.TheVariants.{Done, Usage, SetupBad, ReadFault, WriteFault, DiskFault, Journal, Full}
-use Rattle.arc_server.specs.declared.status.Status.TheVariants.{DoorFault, Memory as NoMemory, Spent, Worn}
+use Rattle.arc_server.specs.declared.status.Status.TheVariants.{BadScript, DoorFault, Memory as NoMemory, Spent, Worn}
 use Rattle.arc_server.specs.declared.status.Which.{Which}
 
 -- the stop that ended a worker
@@ -126,4 +126,5 @@ IsShownBy Usage entry end p p' came = ⊥
 IsShownBy (SetupBad fault) entry end p p' came = ⊥
 IsShownBy (ReadFault which before now) entry end p p' came = ⊥
 IsShownBy (Journal fault) entry end p p' came = ⊥
+IsShownBy (BadScript line) entry end p p' came = ⊥
 IsShownBy Spent entry end p p' came = ⊥

@@ -24,7 +24,7 @@ use Rattle.arc_server.specs.SetupReads.{ReadsText, IsSetupEnd}
 use Rattle.arc_server.specs.Unopened.{IsUnopened}
 use Rattle.arc_server.specs.declared.status.Status.{Status}
 use Rattle.arc_server.specs.declared.status.Status.TheVariants.{Done, Usage, SetupBad, ReadFault, WriteFault, DiskFault, Journal, Full}
-use Rattle.arc_server.specs.declared.status.Status.TheVariants.{DoorFault, Memory, Spent, Worn}
+use Rattle.arc_server.specs.declared.status.Status.TheVariants.{BadScript, DoorFault, Memory, Spent, Worn}
 use Rattle.arc_server.specs.declared.status.Which.TheVariants.{Setup, Input}
 
 -- From the history h on, over a hall and a port as they were and as they are: a session of this kind read some bytes and answered them.
@@ -68,6 +68,7 @@ IsUnbegun told may_leave faults (SetupBad fault) past text clock entry disk' = �
 IsUnbegun told may_leave faults (ReadFault which before now) past text clock entry disk' = ⊥
 IsUnbegun told may_leave faults (WriteFault before now) past text clock entry disk' = ⊥
 IsUnbegun told may_leave faults (Journal fault) past text clock entry disk' = ⊥
+IsUnbegun told may_leave faults (BadScript line) past text clock entry disk' = ⊥
 IsUnbegun told may_leave faults (DoorFault door before now) past text clock entry disk' = ⊥
 IsUnbegun told may_leave faults Spent past text clock entry disk' = ⊥
 
@@ -125,6 +126,7 @@ IsServed {D} told may_leave faults side (Worn count) past text clock p p' entry 
 IsServed told may_leave faults side Usage past text clock p p' entry disk' = ⊥
 IsServed told may_leave faults side (SetupBad fault) past text clock p p' entry disk' = ⊥
 IsServed told may_leave faults side (ReadFault Setup before now) past text clock p p' entry disk' = ⊥
+IsServed told may_leave faults side (BadScript line) past text clock p p' entry disk' = ⊥
 IsServed told may_leave faults side (DoorFault door before now) past text clock p p' entry disk' = ⊥
 IsServed told may_leave faults side (Journal fault) past text clock p p' entry disk' = ⊥
 

@@ -7,7 +7,7 @@ use Rattle.alarm_rules.specs.Setups.{setup_of}
 use Rattle.arc_server.specs.Counts.{HasRisen}
 use Rattle.arc_server.specs.declared.status.Status.{Status}
 use Rattle.arc_server.specs.declared.status.Status.TheVariants.{Done, Usage, SetupBad, ReadFault, WriteFault, DiskFault, Journal, Full}
-use Rattle.arc_server.specs.declared.status.Status.TheVariants.{DoorFault, Memory, Spent, Worn}
+use Rattle.arc_server.specs.declared.status.Status.TheVariants.{BadScript, DoorFault, Memory, Spent, Worn}
 use Rattle.arc_server.specs.declared.status.Which.TheVariants.{Setup, Input}
 
 -- This text was read of the setup's source: all of it, or 4,194,305 bytes.
@@ -32,6 +32,7 @@ IsSetupEnd (WriteFault before now) q q' = ⊥
 IsSetupEnd (DiskFault before now) q q' = ⊥
 IsSetupEnd (Journal fault) q q' = ⊥
 IsSetupEnd (Full used need records) q q' = ⊥
+IsSetupEnd (BadScript line) q q' = ⊥
 IsSetupEnd (DoorFault door before now) q q' = ⊥
 IsSetupEnd Spent q q' = ⊥
 IsSetupEnd (Worn count) q q' = ⊥

@@ -9,7 +9,7 @@ use Rattle.arc_sessions.specs.declared.side.Side.{Side}
 use Rattle.arc_sessions.specs.declared.side.Side.TheVariants.{Lines, Desks}
 use Rattle.arc_server.specs.declared.status.Status.{Status}
 use Rattle.arc_server.specs.declared.status.Status.TheVariants.{Done, Usage, SetupBad, ReadFault, WriteFault, DiskFault, Journal, Full}
-use Rattle.arc_server.specs.declared.status.Status.TheVariants.{DoorFault, Memory, Spent, Worn}
+use Rattle.arc_server.specs.declared.status.Status.TheVariants.{BadScript, DoorFault, Memory, Spent, Worn}
 use Rattle.arc_server.specs.declared.status.Which.{Which}
 use Rattle.arc_server.specs.declared.status.Which.TheVariants.{Setup, Input}
 
@@ -23,6 +23,7 @@ number_of (WriteFault before now) = 4
 number_of (DiskFault before now) = 5
 number_of (Journal fault) = 6
 number_of (Full used need records) = 7
+number_of (BadScript line) = 8
 number_of (DoorFault door before now) = 9
 number_of Memory = 10
 number_of Spent = 11
@@ -78,6 +79,9 @@ abbrev pub full_text : ℕ → ℕ → ℕ → List ℕ
 full_text used need records =
     codes "journal full: " ++ counted used (codes " used, ") ++ counted need (codes " needed, ") ++ counted records (codes " records\n")
 
+abbrev pub bad_script_text : ℕ → List ℕ
+bad_script_text line = codes "script: line " ++ decimal line ++ codes "\n"
+
 -- the line that it writes on standard error, or nothing
 unfoldable pub text_of_status : Status → List ℕ
 text_of_status Done = []
@@ -88,6 +92,7 @@ text_of_status (WriteFault before now) = codes "write fault\n"
 text_of_status (DiskFault before now) = codes "disk fault\n"
 text_of_status (Journal fault) = journal_text fault
 text_of_status (Full used need records) = full_text used need records
+text_of_status (BadScript line) = bad_script_text line
 text_of_status (DoorFault door before now) = door_text door
 text_of_status Memory = codes "out of memory\n"
 text_of_status Spent = codes "input too long\n"

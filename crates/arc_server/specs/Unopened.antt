@@ -8,7 +8,7 @@ use Rattle.disk_journal.specs.Reading.{GoesOn}
 use Rattle.arc_server.specs.Counts.{HasRisen}
 use Rattle.arc_server.specs.declared.status.Status.{Status}
 use Rattle.arc_server.specs.declared.status.Status.TheVariants.{Done, Usage, SetupBad, ReadFault, WriteFault, DiskFault, Journal, Full}
-use Rattle.arc_server.specs.declared.status.Status.TheVariants.{DoorFault, Memory, Spent, Worn}
+use Rattle.arc_server.specs.declared.status.Status.TheVariants.{BadScript, DoorFault, Memory, Spent, Worn}
 
 -- Whatever the area stood for when it was to be opened, it stands for now, as reads give it; and so does all that a crash left of it at
 -- any moment between.
@@ -31,6 +31,7 @@ IsUnopened told may_leave moment left_since faults (SetupBad fault) disk disk' =
 IsUnopened told may_leave moment left_since faults (ReadFault which before now) disk disk' = ⊥
 IsUnopened told may_leave moment left_since faults (WriteFault before now) disk disk' = ⊥
 IsUnopened told may_leave moment left_since faults (Full used need records) disk disk' = ⊥
+IsUnopened told may_leave moment left_since faults (BadScript line) disk disk' = ⊥
 IsUnopened told may_leave moment left_since faults (DoorFault door before now) disk disk' = ⊥
 IsUnopened told may_leave moment left_since faults Spent disk disk' = ⊥
 IsUnopened told may_leave moment left_since faults (Worn count) disk disk' = ⊥

@@ -1,6 +1,7 @@
 //! The alarm receiving centre. `arc line` and `arc desk` read the setup from `setup.txt` in the working folder and serve one line,
 //! or one operator's desk, on their standard input and output. What they record stands in `journal.a`, beside `journal.b`, and
-//! `arc report` writes what stands there. `arc serve` serves many lines and desks at once, each on a connection.
+//! `arc report` writes what stands there. `arc serve` serves many lines and desks at once, each on a connection. `arc script` runs a
+//! script from standard input over the same journal, and `arc drill` one of its own over a journal in memory.
 #![tactic(auto)]
 
 ghost use Rattle.std.specs.Prelude.{◌≡◌, Some};
@@ -21,11 +22,13 @@ use std::thread::Threads;
 use std::{env, fs, io};
 
 mod came;
+mod drill;
 mod form;
 mod made;
 mod opened;
 mod report;
 mod run;
+mod script;
 mod serving;
 mod session;
 mod setup;

@@ -1,10 +1,12 @@
 // The top call.
 ghost use Rattle.std.specs.Prelude.{◌≡◌, ◌≢◌, ◌↔◌, Some, None, false, length, map};
 ghost use Rattle.arc_server.specs.Forms.{form_of as form_by};
-ghost use Rattle.arc_server.specs.WholeRuns.{IsRun, HasDoors};
+ghost use Rattle.arc_server.specs.WholeRuns.{IsRun, HasDoors, HasMessages, reads_setup};
 
+use crate::drill::run_drill;
 use crate::form::{Form, form_of};
 use crate::report::run_report;
+use crate::script::run_scripted;
 use crate::serving::{Served, run_serve};
 use crate::session::run_session;
 use crate::status::Status;
@@ -35,11 +37,13 @@ pub struct Ended<S, P, D, A, B, T> {
     pub outside: Outside<S, P, D, A, B, T>,
 }
 
-/// Does what the words say. Four forms of them are built. Of `line` and `desk` the setup is read, the journal is opened with the
+/// Does what the words say. Of `line` and `desk` the setup is read, the journal is opened with the
 /// limits that are shipped, a run begins at one reading of the clock, and one session is served on the port, of a line or of a desk.
 /// What it records stands in the journal before it is answered. Of `serve` a run begins in the same way, and then the first doors of each
 /// side have a worker each, all beside each other, and a ticker; when all have ended, a summary is written on the port. Of `report` the
-/// setup is not read: the journal is opened, and what it has is reported on the port.
+/// setup is not read: the journal is opened, and what it has is reported on the port. Of `script` the setup is read, and the script on the
+/// port is run over the journal: it sets the clock. Of `drill N` nothing but the port is touched: a script of so many messages is run over
+/// a disk in memory, and one line of what was counted is written.
 pub fn run<
     R: Threads + Wait + Sync,
     S: Source,
@@ -59,7 +63,7 @@ pub fn run<
     requires doors { (form : Form) → form_by words.now ≡ Some form → HasDoors form (length outside.lines.items) (length outside.desks.items) }
     ensures usage { (result.status ≡ Status.Usage) ↔ (form_by words.now ≡ None) }
     ensures untouched { result.status ≡ Status.Usage → result.outside ≡ outside }
-    ensures unread { form_by words.now ≡ Some Form.Report → result.outside.setup ≡ outside.setup }
+    ensures unread { (form : Form) → form_by words.now ≡ Some form → reads_setup form ≡ false → result.outside.setup ≡ outside.setup }
     ensures ran { (form : Form) → form_by words.now ≡ Some form →
         IsRun D.told D.may_leave D.moment D.left_since D.fault_count form result.status
         (S.seen outside.setup) (S.seen result.outside.setup) (P.seen outside.port) (P.seen result.outside.port)
@@ -139,15 +143,18 @@ fn run_form<
     requires setup { (S.seen setup.old).ended ≡ false }
     requires port { (P.seen port.old).ended ≡ false }
     requires doors { HasDoors form (length station.lines) (length station.desks) }
+    requires messages { HasMessages form }
     ensures usage { result.status ≢ Status.Usage }
-    ensures unread { form ≡ Form.Report → setup.new ≡ setup.old }
+    ensures unread { reads_setup form ≡ false → setup.new ≡ setup.old }
     ensures ran { IsRun D.told D.may_leave D.moment D.left_since D.fault_count form result.status
         (S.seen setup.old) (S.seen setup.new) (P.seen port.old) (P.seen port.new) station result.station disk result.disk }
 {
     let (status, disk) = match form {
         Form::Serve(crew) => return run_serve(rt, alloc, crew, setup, port, disk, station),
         Form::Session(side) => run_session(side, alloc, setup, port, disk),
+        Form::Script => run_scripted(alloc, setup, port, disk),
         Form::Report => run_report(alloc, port, disk),
+        Form::Drill(messages) => (run_drill(alloc, messages, port), disk),
     };
     Served {
         status,

@@ -2,7 +2,7 @@
 ghost use Rattle.std.specs.Prelude.{◌≡◌, OnOk, decimal};
 ghost use Rattle.std.specs.Io.KnownBytes.{append_known};
 ghost use Rattle.arc_io.specs.Causes.{HasCause};
-ghost use Rattle.arc_server.specs.Statuses.{number_of, text_of_status, setup_text, bad_line_text, no_account_text, two_same_text, too_many_text, at_line, at_place, counted, journal_text, full_text};
+ghost use Rattle.arc_server.specs.Statuses.{number_of, text_of_status, setup_text, bad_line_text, no_account_text, two_same_text, too_many_text, at_line, at_place, counted, journal_text, full_text, bad_script_text};
 
 use arc_data::{LineKind, SetupFault};
 use arc_io::{Failed, Sink, put};
@@ -15,7 +15,7 @@ use itoa::Buffer;
 pub enum Which {
     /// The setup text.
     Setup,
-    /// The bytes of the line or of the desk.
+    /// The bytes of the line, of the desk or of the script.
     Input,
 }
 
@@ -38,6 +38,8 @@ pub enum Status {
     Journal(OpenFault),
     /// The journal has no room for a record: the bytes that it has, those that the record needs, and its records.
     Full { used: u64, need: u64, records: u64 },
+    /// The line of this number, from 1, is none of a script, or comes before its first `T`.
+    BadScript { line: u64 },
     /// Taking a connection failed at a door of this side, with the door's counts at entry and at the end.
     DoorFault { door: Side, before: u64, now: u64 },
     /// Want of memory.
@@ -62,6 +64,7 @@ impl Status {
             Status::DiskFault { .. } => 5,
             Status::Journal(_) => 6,
             Status::Full { .. } => 7,
+            Status::BadScript { .. } => 8,
             Status::DoorFault { .. } => 9,
             Status::Memory => 10,
             Status::Spent => 11,
@@ -98,6 +101,7 @@ impl Status {
                 need,
                 records,
             } => put_full(out, *used, *need, *records),
+            Status::BadScript { line } => put_bad_script(out, *line),
             Status::DoorFault {
                 door: Side::Lines,
                 ..
@@ -186,6 +190,17 @@ fn put_line<K: Sink>(out: &mut K, line: u64) -> Result<(), Failed>
 {
     put(out, b"setup: line ")?;
     put_number(out, line)
+}
+
+// The text of a line that is none of a script.
+#[tactic(auto, using(arc_io::proofs::KnownMore::known_both))]
+fn put_bad_script<K: Sink>(out: &mut K, line: u64) -> Result<(), Failed>
+    ensures all { OnOk result ((K.seen out.new).written ≡ append_known (K.seen out.old).written (bad_script_text line)) }
+    ensures cause { HasCause (K.seen out.old).write_faults (K.seen out.new).write_faults result }
+{
+    put(out, b"script: line ")?;
+    put_number(out, line)?;
+    put(out, b"\n")
 }
 
 // The line that tells what is wrong with the journal's area.

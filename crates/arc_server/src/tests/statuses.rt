@@ -2,6 +2,7 @@
 use crate::status::{Status, Which};
 use arc_data::{LineKind, SetupFault};
 use arc_io::MemSink;
+use arc_sessions::Side;
 use disk_journal::OpenFault;
 use std::test::Fail;
 
@@ -34,6 +35,17 @@ fn status_named(name: &str) -> Option<Status> {
             used: 100,
             need: 38,
             records: 3,
+        }),
+        "script" => Some(Status::BadScript { line }),
+        "lines" => Some(Status::DoorFault {
+            door: Side::Lines,
+            before,
+            now,
+        }),
+        "desks" => Some(Status::DoorFault {
+            door: Side::Desks,
+            before,
+            now,
         }),
         "memory" => Some(Status::Memory),
         "spent" => Some(Status::Spent),
@@ -72,6 +84,9 @@ journal/6/journal: not a journal at byte 11
 version/6/journal: wrong version
 damaged/6/journal: damaged at 16
 full/7/journal full: 100 used, 38 needed, 3 records
+script/8/script: line 12
+lines/9/door fault on lines
+desks/9/door fault on desks
 memory/10/out of memory
 spent/11/input too long
 worn/12/count spent

@@ -1,0 +1,143 @@
+-- What a drill tells: the tally of its script, which was read to its end over an empty disk.
+use Rattle.std.proofs.Common.{◌≡◌, ◌++◌, ℕ, List, [], ◌∷◌, Bool, Option, Some, None, IfSome, Ok, Err, length}
+use Rattle.std.proofs.Common.{inl, inr, refl, ap, sym, subst, ◌∙◌, arith}
+use Rattle.std.proofs.lemmas.List.{append-nil}
+use Rattle.std.specs.Io.KnownBytes.{prepend_known, append_known, IsAtEnd}
+use Rattle.std.specs.Str.Lines.{lines}
+use Rattle.arc_drill.specs.Texts.{drill_text, drill_setup}
+use Rattle.arc_io.specs.Areas.{Areas}
+use Rattle.arc_io.specs.MemoryDisk.{bytes_of, faults_of, past_of, LeftAt, LeftSince}
+use Rattle.arc_io.specs.declared.memory.disk.MemDisk.{MemDisk}
+use Rattle.arc_io.specs.Causes.{Rose}
+use Rattle.arc_io.specs.Seen.{PortSeen, untold}
+use Rattle.arc_io.specs.Told.{Puts}
+use Rattle.arc_script.specs.Ends.{DiskWords, BeginsWith, IsScript, IsTranscript, Tells}
+use Rattle.arc_script.specs.Steps.{Step, Keeps, IsStepOf, AreSteps}
+use Rattle.arc_script.specs.Tallies.{IsTally}
+use Rattle.arc_script.specs.Texts.{AreOf, counted}
+use Rattle.arc_script.specs.declared.script_end.ScriptEnd.{ScriptEnd}
+use Rattle.arc_script.specs.declared.script_end.ScriptEnd.TheVariants.{Done}
+use Rattle.arc_script.specs.declared.script_end.Tally.{Tally}
+use Rattle.centre_rules.specs.History.{Entry}
+use Rattle.centre_store.proofs.OpeningOnce.{one_opening}
+use Rattle.centre_store.proofs.PastSteps.{no_past}
+use Rattle.desk_session.specs.Desks.{lines_read}
+use Rattle.disk_journal.specs.Records.{Stands}
+use Rattle.disk_journal.specs.declared.journal.Limits.{Limits}
+use Rattle.script_lines.specs.Lines.{Asked, Time, Feed, Message, Command, Reopen}
+use Rattle.arc_server.specs.DrillRuns.{IsDrilled, IsDrillRun, drill_line}
+use Rattle.arc_server.specs.declared.status.Status.TheVariants.{Done as StatusDone, WriteFault}
+
+-- steps over a disk that tells what it holds
+
+told_keeps : {Told : Type 0} {h kept : List Entry} → Told → Keeps Told h kept → Keeps (Unit {0}) h kept
+told_keeps known keeps = record { past = keeps.past; same = λ u. keeps.same known }
+
+told_step : {Told : Type 0} (setup : List ℕ) (before : List Asked) (h x : List Entry) (s : Step) (asked : Asked)
+    → Told → IsStepOf Told setup before h x s asked → IsStepOf (Unit {0}) setup before h x s asked
+told_step setup before h x s (Time moment) known step = step
+told_step setup before h x s (Feed line digits) known step = step
+told_step setup before h x s (Message line body) known step = step
+told_step setup before h x s (Command desk text) known step = step
+told_step setup before h x s Reopen known step = record {
+  kept = step.kept;
+  keeps = told_keeps known step.keeps;
+  clock = step.clock;
+  set = step.set;
+  is = step.is;
+  added = step.added;
+  sent = step.sent;
+  text = step.text;
+}
+
+told_steps : {Told : Type 0} (setup : List ℕ) (before : List Asked) (h x : List Entry) (steps : List Step)
+    → Told → AreSteps Told setup before h x steps → AreSteps (Unit {0}) setup before h x steps
+told_steps setup before h x [] known are = are
+told_steps setup before h x (s ∷ steps) known are = (
+  are.0,
+  told_step setup before h are.0 s s.asked known are.1,
+  told_steps setup (s.asked ∷ before) are.0 x steps known are.2,
+)
+
+-- all of a known input was read
+all_read : (text read : List ℕ) (left left' : Option (List ℕ)) → left ≡ Some text → left ≡ prepend_known read left' → IsAtEnd left' → text ≡ read
+all_read text read left None is taken end = let no : Some text ≡ None = sym is ∙ taken in cc
+all_read text read left (Some xs) is taken end =
+    let same : Some text ≡ Some (read ++ xs) = sym is ∙ taken in
+    ap (λ (o : Option (List ℕ)). elim o [ None ↦ text | Some l ↦ l ]) same ∙ ap (λ (l : List ℕ). read ++ l) end ∙ append-nil read
+
+-- an area without bytes has no past
+new_past : {D : Type 0} (w : DiskWords D) (disk : D) (past : List Entry) → w.told disk ≡ Some (record { a = []; b = [] })
+    → BeginsWith w disk past → past ≡ []
+new_past w disk past is begins =
+    let area : Stands [] begins.bodies = subst (λ (o : Option Areas). IfSome o (λ s. Stands s.a begins.bodies)) is begins.area in
+    (one_opening []).pasts begins.bodies [] past [] area (inl (omega arith, refl)) begins.is_past no_past
+
+drilled_by : {D : Type 0} (w : DiskWords D) (n : ℕ) (past : List Entry) (limits : Limits) (entry : ℕ) (p p' : PortSeen) (disk disk' : D)
+    (tally : Tally) → p.left ≡ Some (drill_text n) → w.told disk ≡ Some (record { a = []; b = [] }) → BeginsWith w disk past
+    → IsTranscript w (Tells w disk) drill_setup past limits entry Done p p' disk' tally → IsDrilled n tally
+drilled_by w n past limits entry p p' disk disk' tally left is begins t =
+    let steps = t.played.steps in
+    let history = t.played.history in
+    let whole = t.ends.2 in
+    let none : past ≡ [] = new_past w disk past is begins in
+    let read : drill_text n ≡ t.read = all_read (drill_text n) t.read p.left p'.left left t.taken t.ends.0.left in
+    let lines_are : counted (lines_read p'.ended t.read) ≡ counted (lines (drill_text n)) =
+    ap (λ (b : Bool). counted (lines_read b t.read)) t.ends.0.ended ∙ ap (λ (l : List ℕ). counted (lines l)) (sym read) in
+    let front : t.played.front ≡ counted (lines (drill_text n)) =
+    sym (append-nil t.played.front) ∙ ap (λ (l : List (ℕ × List ℕ)). t.played.front ++ l) (sym whole.none_behind) ∙ sym t.played.split ∙ lines_are in
+    record {
+      steps = steps;
+      history = history;
+      of = subst (λ (l : List (ℕ × List ℕ)). AreOf [] l steps) front t.played.of;
+      are = told_steps drill_setup [] [] history steps (record { a = []; b = [] }, is)
+          (subst (λ (h : List Entry). AreSteps (Tells w disk) drill_setup [] h history steps) none t.played.are);
+      counts = subst (λ (h : List Entry). IsTally h steps history tally) none whole.counts;
+    }
+
+drilled : {D : Type 0} (w : DiskWords D) (n : ℕ) (limits : Limits) (p p' : PortSeen) (disk disk' : D) (tally : Tally)
+    → p.left ≡ Some (drill_text n) → w.told disk ≡ Some (record { a = []; b = [] })
+    → IsScript w drill_setup limits Done p p' disk disk' tally → IsDrilled n tally
+drilled w n limits p p' disk disk' tally left is (inl refused) = let no = refused.1 in cc
+drilled w n limits p p' disk disk' tally left is (inr (past, begins, inl t)) =
+    drilled_by w n past limits (w.faults disk) p p' disk disk' tally left is begins t
+drilled w n limits p p' disk disk' tally left is (inr (past, begins, inr unread)) = let no = unread.0 in cc
+
+-- what a disk in memory tells
+abbrev pub memory_words : DiskWords MemDisk
+memory_words = record {
+  told = λ d. Some (bytes_of d);
+  may_leave = λ d c. LeftAt d (length (past_of d)) c;
+  moment = λ d. length (past_of d);
+  left_since = LeftSince;
+  faults = faults_of;
+}
+
+-- a script that was done, under the drill's setup and over the drill's port
+pub drilled_to_end : {D : Type 0} (w : DiskWords D) (n : ℕ) (setup : List ℕ) (limits : Limits) (end : ScriptEnd) (p p' : PortSeen)
+    (disk disk' : D) (tally : Tally) → setup ≡ drill_setup → end ≡ Done → p ≡ record untold { left = Some (drill_text n) }
+    → w.told disk ≡ Some (record { a = []; b = [] }) → IsScript w setup limits end p p' disk disk' tally → IsDrilled n tally
+drilled_to_end w n setup limits end p p' disk disk' tally under done told is script =
+    drilled w n limits p p' disk disk' tally (ap (λ (q : PortSeen). q.left) told) is
+    (subst (λ (e : ScriptEnd). IsScript w drill_setup limits e p p' disk disk' tally) done
+    (subst (λ (text : List ℕ). IsScript w text limits end p p' disk disk' tally) under script))
+
+-- the line was written whole
+pub told_whole : {T E : Type 0} {p p' : PortSeen} (x : T) (n : ℕ) (tally : Tally) (line : List ℕ) → IsDrilled n tally → line ≡ drill_line n tally
+    → Puts {E = E} p p' (Ok x) line → IsDrillRun n StatusDone p p'
+told_whole {T} {E} {p} {p'} x n tally line drilled is puts =
+    (tally, drilled, subst (λ (l : List ℕ). p'.written ≡ append_known p.written l) is puts.taken, puts.others)
+
+-- a front of it was, since the sink failed
+pub told_front : {T E : Type 0} {p p' : PortSeen} (fault : E) (n : ℕ) (tally : Tally) (line : List ℕ) (before now : ℕ) → IsDrilled n tally
+    → line ≡ drill_line n tally → Puts {T = T} p p' (Err fault) line → before ≡ p.write_faults → now ≡ p'.write_faults
+    → IsDrillRun n (WriteFault before now) p p'
+told_front {T} {E} {p} {p'} fault n tally line before now drilled is puts was late =
+    let cut : Puts {T = T} p p' (Err fault) (drill_line n tally) = subst (λ (l : List ℕ). Puts {T = T} p p' (Err fault) l) is puts in (
+      record {
+        before = was;
+        now = late;
+        rose = subst (λ (k : ℕ). Rose k now) (sym was) (subst (λ (k : ℕ). Rose p.write_faults k) (sym late) cut.cause.failed);
+      },
+      (tally, drilled, cut.taken, cut.others),
+    )
