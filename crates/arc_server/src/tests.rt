@@ -8,7 +8,6 @@ mod drills;
 mod lasting;
 mod links;
 mod plays;
-mod reports;
 mod scripts;
 mod serving;
 mod station;
@@ -18,7 +17,7 @@ mod watching;
 use crate::form::{Form, form_of};
 use crate::run::{Ended, Outside, run};
 use crate::status::{Status, Which};
-use arc_data::{LineKind, SetupFault, Txt};
+use arc_data::Txt;
 use arc_doors::{ListPulse, MemDoor, Pulse};
 use arc_io::{Area, ListClock, ListNoise, MemDisk, MemPort, MemSink, MemSource, Port};
 use disk_journal::{Journal, SHIPPED};
@@ -226,43 +225,4 @@ fn reads_that_fail(rt: HostRuntime) -> Result<(), Fail> {
     assert_eq!(rt; ended.status, Status::ReadFault { input, before, now });
     assert_eq!(rt; ended.outside.port.sink.bytes(), ACKNOWLEDGEMENT);
     Ok(())
-}
-
-#[test]
-fn a_setup_that_is_none(rt: HostRuntime) -> Result<(), Fail> {
-    let ended = ran_alarm(&rt, rt.alloc(), b"account 1234\naccount 1234\n", &NONE)?;
-    let fault = SetupFault::TwoSame { line: 2, first: 1 };
-    assert_eq!(rt; ended.status, Status::SetupBad(fault));
-    assert_eq!(rt; ended.outside.disk.calls(), 0);
-    let ended = ran_alarm(&rt, rt.alloc(), b"# one panel\n\naccount 1234 \n", &NONE)?;
-    let kind = LineKind::Form;
-    let fault = SetupFault::BadLine { line: 3, kind };
-    assert_eq!(rt; ended.status, Status::SetupBad(fault));
-    Ok(())
-}
-
-// A run of these words over one alarm: nothing is touched.
-fn refused(
-    rt: &(impl Abort + Threads + Wait + Sync),
-    alloc: Global,
-    words: &[Txt],
-) -> Result<(), Fail> {
-    let outside = outside_of(alloc, SETUP, ALARM, &[], &NONE, new_disk(alloc))?;
-    let ended = run(rt, alloc, words, outside);
-    assert_eq!(rt; ended.status, Status::Usage);
-    assert_eq!(rt; ended.outside.disk.calls(), 0);
-    Ok(())
-}
-
-#[test]
-fn other_words_are_refused(rt: HostRuntime) -> Result<(), Fail> {
-    let line = Txt::of(b"line").ok_or("a short word")?;
-    let drill = Txt::of(b"drill").ok_or("a short word")?;
-    let zero = Txt::of(b"0").ok_or("a short word")?;
-    refused(&rt, rt.alloc(), &[])?;
-    let script = Txt::of(b"script").ok_or("a short word")?;
-    refused(&rt, rt.alloc(), &[line, line])?;
-    refused(&rt, rt.alloc(), &[script, line])?;
-    refused(&rt, rt.alloc(), &[drill])?;
-    refused(&rt, rt.alloc(), &[drill, zero])
 }
