@@ -1,20 +1,18 @@
 // The answers to what operators order, and to a question for one incident.
 ghost use Rattle.std.specs.Prelude.{◌≡◌};
-ghost use Rattle.centre_rules.specs.Desks.{holds as holds_it, held_by as held_in};
 ghost use Rattle.centre_rules.specs.Desks.{claimed as claimed_one, on_claim, on_next, on_act, on_release, on_close, on_show, view_of};
-ghost use Rattle.incidents.specs.Tables.{number_of};
 ghost use Rattle.incident_marks.specs.Marked.{HaveActRoom};
 
 use action_plans::{expected_step, left};
 use arc_data::{Acted, Incident, Reply, Txt, View};
 use incidents::Table;
-use queued_incidents::QueuedTable;
+use queued_incidents::{QueuedTable, holds};
 
 /// The answer to a claim: another operator may hold the incident, or this one another incident.
-pub fn claim(table: &Table, operator: &Txt, number: u64) -> Reply
-    ensures { result ≡ on_claim operator.now number table.now.incidents }
+pub fn claim(queued: &QueuedTable, operator: &Txt, number: u64) -> Reply
+    ensures { result ≡ on_claim operator.now number queued.now.incidents }
 {
-    let Some(i) = table.get(number) else {
+    let Some(i) = queued.table().get(number) else {
         return Reply::NotOpen { number };
     };
     if let Some(holder) = i.holder {
@@ -22,8 +20,10 @@ pub fn claim(table: &Table, operator: &Txt, number: u64) -> Reply
             return Reply::HeldBy { operator: holder };
         }
     }
-    match held_by(table.items(), operator) {
-        Some(number) => Reply::BusyWith { number },
+    match queued.held_by(operator) {
+        Some(held) => Reply::BusyWith {
+            number: held.number,
+        },
         None => claimed(i),
     }
 }
@@ -32,8 +32,10 @@ pub fn claim(table: &Table, operator: &Txt, number: u64) -> Reply
 pub fn next(queued: &QueuedTable, operator: &Txt) -> Reply
     ensures { result ≡ on_next operator.now queued.now.incidents }
 {
-    if let Some(number) = held_by(queued.table().items(), operator) {
-        return Reply::BusyWith { number };
+    if let Some(held) = queued.held_by(operator) {
+        return Reply::BusyWith {
+            number: held.number,
+        };
     }
     match queued.first() {
         Some(i) => claimed(i),
@@ -132,24 +134,5 @@ fn claimed(i: &Incident) -> Reply
         number: i.number,
         class: i.class,
         account: i.account,
-    }
-}
-
-fn holds(i: &Incident, operator: &Txt) -> bool
-    ensures { result ≡ holds_it operator.now i.now }
-{
-    match &i.holder {
-        Some(holder) => holder == operator,
-        None => false,
-    }
-}
-
-// The number of the incident that an operator holds.
-fn held_by(items: &[Incident], operator: &Txt) -> Option<u64>
-    ensures { result ≡ number_of (held_in operator.now items.now) }
-{
-    match items.iter().find(|i| holds(i, operator)) {
-        Some(i) => Some(i.number),
-        None => None,
     }
 }

@@ -1,7 +1,7 @@
 -- Who waits after each mark.
 use Rattle.std.proofs.Common.{◌≡◌, ◌<◌, ◌≤◌, ◌+◌, ℕ, List, [], ◌∷◌, ◌++◌, map, length, Bool, true, false, cond, refl, sym, ap, ◌∙◌, arith, subst}
 use Rattle.std.proofs.Common.{length-append}
-use Rattle.std.specs.Prelude.{not, min, is_none, Some, None}
+use Rattle.std.specs.Prelude.{not, is_none, Some, None}
 use Rattle.std.specs.List.Sorted.{IsPermutation}
 use Rattle.std.proofs.lemmas.List.{length-map}
 use Rattle.std.proofs.lemmas.List.Sorted.{IsPermutation-push_more}
@@ -16,14 +16,9 @@ use Rattle.incident_marks.specs.Marked.{marked_table, IsFew}
 use Rattle.incident_marks.proofs.Pointwise.{releases_map, closes_map}
 use Rattle.incidents.specs.Tables.{TableValue, at_number, without, held}
 use Rattle.operator_queue.specs.Pairs.{PairsValue}
+use Rattle.queued_incidents.specs.Holding.{HeldValue}
 use Rattle.queued_incidents.specs.Waiting.{pair_of, waiting, with_queue}
 use Rattle.queued_incidents.proofs.Parts.{Pairs, waits_not, same_head, same_all, waiting_append}
-
--- a mark of the table whose queue keeps its memory
-pub seen_marked : (m : Mark) (t u : TableValue) (old new : PairsValue) → u ≡ marked_table m t → new.room ≡ old.room
-    → with_queue u new ≡ marked_table m (with_queue t old)
-seen_marked m t u old new is room =
-    ap (λ (x : TableValue). with_queue x new) is ∙ ap (λ (n : ℕ). record (marked_table m t) { room = min t.room n }) room
 
 -- Whether one was opened.
 
@@ -79,9 +74,9 @@ long_kept x t u e le =
 
 -- The bounds are those of the table.
 
-pub few_seen : (t old : TableValue) (queue : PairsValue) (n : ℕ) → with_queue t queue ≡ old → IsFew n old.opened old.incidents
-    → IsFew n t.opened t.incidents
-few_seen t old queue n is few = subst (λ (y : TableValue). IsFew n y.opened y.incidents) (sym is) few
+pub few_seen : (t old : TableValue) (queue : PairsValue) (list : HeldValue) (n : ℕ) → with_queue t queue list ≡ old
+    → IsFew n old.opened old.incidents → IsFew n t.opened t.incidents
+few_seen t old queue list n is few = subst (λ (y : TableValue). IsFew n y.opened y.incidents) (sym is) few
 
 -- after a Start all wait
 pub starts_waiting : (at : ℕ) (is : List Incident) → waiting (map (touched_by (Starts at)) is) ≡ map pair_of is

@@ -90,7 +90,7 @@ none_changed n f [] none = refl
 none_changed n f (j ∷ is) none =
     ap (λ (b : Bool). cond b (f j) j ∷ at_number n f is) none.0 ∙ ap (λ (l : List Incident). j ∷ l) (none_changed n f is none.1)
 
-none_past : (n low : ℕ) (is : List Incident) (high : ℕ) → n ≤ low → Ascends low is high → Each (λ j. has_number n j ≡ false) is
+pub none_past : (n low : ℕ) (is : List Incident) (high : ℕ) → n ≤ low → Ascends low is high → Each (λ j. has_number n j ≡ false) is
 none_past n low [] high le rise = tt
 none_past n low (j ∷ is) high le rise =
     (above_apart n j (omega (arith, rise.0, le)), none_past n j.number is high (omega (arith, rise.0, le)) rise.1)

@@ -1,14 +1,15 @@
-// The open incidents, in order of number, and those that wait, in order of priority. None of the calls that make a mark takes
-// memory.
+// The open incidents, in order of number, those that wait, in order of priority, and those that are held. None of the calls that
+// make a mark takes memory.
 ghost use Rattle.std.specs.Prelude.{◌≡◌, ◌<◌, ◌≤◌, ◌^◌, ◌+◌, ℕ, [], length, IsSome, OnOk};
 ghost use Rattle.std.specs.List.{find};
 ghost use Rattle.std.specs.Option.{option_map};
 ghost use Rattle.arc_data.specs.Incidents.{has_number};
-ghost use Rattle.centre_rules.specs.Desks.{best};
+ghost use Rattle.centre_rules.specs.Desks.{best, held_by};
 ghost use Rattle.centre_rules.specs.Marks.{Starts, Carries, Claims, Acts, Releases, Closes};
 ghost use Rattle.centre_rules.specs.History.{acted_by};
 ghost use Rattle.incident_marks.specs.Marked.{marked_table, HasFew, IsFew, HaveActRoom, FitsAct};
 
+use crate::held::{Held, find_held, hold};
 use crate::uncounted::insert;
 use crate::waiting::{put_back, put_held, take_out};
 use arc_data::{Carried, Incident, Memory, Outcome, Step, Txt};
@@ -17,23 +18,24 @@ use operator_queue::Queue;
 use std::alloc::Global;
 use std::marker::Model;
 
-/// The table of open incidents, and the queue of those that nobody holds. Contracts see the table; its room is for how many open
-/// incidents there is memory both in the table and in the queue.
+/// The table of open incidents, the queue of those that nobody holds, and the list of those that are held. Contracts see the
+/// table; its room is for how many open incidents there is memory in the table, in the queue and in the list.
 #[derive(Drop)]
 pub struct QueuedTable {
     table: Table,
     queue: Queue,
+    held: Held,
 }
 
 impl Model for QueuedTable {
     ghost use Rattle.incidents.specs.Tables.{TableValue};
-    ghost use Rattle.queued_incidents.specs.Waiting.{IsQueueOf, with_queue};
+    ghost use Rattle.queued_incidents.specs.Waiting.{IsParted, with_queue};
 
     ghost Value = { TableValue };
 
-    ghost view = { λ q. with_queue q.table q.queue };
+    ghost view = { λ q. with_queue q.table q.queue q.held };
 
-    ghost invariant = { λ q. IsQueueOf q.table.incidents q.queue };
+    ghost invariant = { λ q. IsParted q.table.incidents q.queue q.held };
 }
 
 impl QueuedTable {
@@ -44,10 +46,11 @@ impl QueuedTable {
         QueuedTable {
             table: Table::new(alloc),
             queue: Queue::new(alloc),
+            held: Held::new(alloc),
         }
     }
 
-    /// Takes memory for so many incidents more, and so that each open one can wait. The error is want of memory.
+    /// Takes memory for so many incidents more, and so that each open one can wait or be held. The error is want of memory.
     pub fn reserve(&mut self, more: usize) -> Result<(), Memory>
         ensures opened { self.new.opened ≡ self.old.opened }
         ensures incidents { self.new.incidents ≡ self.old.incidents }
@@ -55,11 +58,11 @@ impl QueuedTable {
         ensures kept { self.old.room ≤ self.new.room }
     {
         self.table.reserve(more)?;
-        let held = self.table.count() - self.queue.count();
-        let Some(more) = held.checked_add(more) else {
+        let Some(all) = self.table.count().checked_add(more) else {
             return Err(Memory);
         };
-        self.queue.reserve(more)
+        self.queue.reserve(all - self.queue.count())?;
+        self.held.reserve(all - self.held.numbers().len())
     }
 
     /// The table.
@@ -82,6 +85,13 @@ impl QueuedTable {
         }
     }
 
+    /// The incident that an operator holds. Only those that are held are looked at.
+    pub fn held_by(&self, operator: &Txt) -> Option<&Incident>
+        ensures { option_map (λ i. i.now) result ≡ held_by operator.now self.now.incidents }
+    {
+        find_held(&self.table, self.held.numbers(), operator)
+    }
+
     /// A run starts: nobody holds an incident any more, so each of them waits.
     pub fn start(&mut self)
         ensures marked { (at : ℕ) → self.new ≡ marked_table (Starts at) self.old }
@@ -89,16 +99,18 @@ impl QueuedTable {
         ensures room { HaveActRoom self.old.incidents → HaveActRoom self.new.incidents }
     {
         put_held(&mut self.queue, self.table.items());
+        self.held.clear();
         incident_marks::start(&mut self.table);
     }
 
-    /// An operator claims an incident, which then doesn't wait.
+    /// An operator claims an incident, which then is held and doesn't wait.
     pub fn claim(&mut self, operator: Txt, number: u64, at: u64)
         ensures marked { self.new ≡ marked_table (Claims operator number at) self.old }
         ensures few { (n : ℕ) → IsFew n self.old.opened self.old.incidents → IsFew n self.new.opened self.new.incidents }
         ensures room { HaveActRoom self.old.incidents → HaveActRoom self.new.incidents }
     {
         take_out(&mut self.queue, &self.table, number);
+        hold(&mut self.held, &self.table, number);
         incident_marks::claim(&mut self.table, operator, number, at);
     }
 
@@ -109,10 +121,11 @@ impl QueuedTable {
         ensures room { HaveActRoom self.old.incidents → HaveActRoom self.new.incidents }
     {
         put_back(&mut self.queue, &self.table, number);
+        self.held.remove(number);
         incident_marks::release(&mut self.table, number);
     }
 
-    /// An operator records a step of an incident that is held. Who waits stays.
+    /// An operator records a step of an incident that is held. Who waits and who is held stays.
     pub fn act(&mut self, number: u64, step: Step, outcome: Outcome, at: u64, operator: Txt)
         requires fits { FitsAct number (acted_by operator step outcome at) self.old.incidents }
         requires room { HaveActRoom self.old.incidents }
@@ -123,7 +136,7 @@ impl QueuedTable {
         incident_marks::act(&mut self.table, number, step, outcome, at, operator);
     }
 
-    /// An operator closes an open incident, which then waits no more.
+    /// An operator closes an open incident, which then neither waits nor is held.
     pub fn close(&mut self, number: u64)
         requires { IsSome (find (has_number number) self.old.incidents) }
         ensures opened { self.new.opened ≡ (marked_table (Closes number) self.old).opened }
@@ -132,6 +145,7 @@ impl QueuedTable {
         ensures room { HaveActRoom self.old.incidents → HaveActRoom self.new.incidents }
     {
         take_out(&mut self.queue, &self.table, number);
+        self.held.remove(number);
         incident_marks::close(&mut self.table, number);
     }
 
