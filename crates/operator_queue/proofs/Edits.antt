@@ -1,8 +1,9 @@
 -- Pairs in order stay so where one is put in at its place, and where one is taken out.
-use Rattle.std.proofs.Common.{◌≡◌, ℕ, zero, suc, List, [], ◌∷◌, take, drop, slice_get, if◌then◌else◌, Bool, true, false, Some, sym, ap, ◌∙◌, subst}
+use Rattle.std.proofs.Common.{◌≡◌, ℕ, zero, suc, List, [], ◌∷◌, take, drop, slice_get, false, Some, sym, ap, ◌∙◌, subst, arith}
 use Rattle.std.specs.List.{AllByRecursion, Contains, insert, remove}
 use Rattle.std.specs.List.Sorted.{IsPermutation}
 use Rattle.std.specs.Ordering.{is_gt}
+use Rattle.std.specs.Prelude.{◌<◌, ◌≤◌, ◌↔◌, length, Option, None, IsSome, OnSome, Result, Ok, Err, OnOk, OnErr}
 use Rattle.std.specs.declared.cmp.Ordering.TheVariants.{Less, Equal, Greater}
 use Rattle.std.specs.Cmp.{tied_itself}
 use Rattle.std.proofs.lemmas.List.Sorted.{IsPermutation-insert}
@@ -90,8 +91,17 @@ lacking k ps w apart there =
     (weaker (λ p. order_of p w ≡ Greater) (λ p. order_of p w ≡ Equal → ⊥) (drop k ps) (λ p greater equal. absurd (cc)) apart.above) in
     one_of (λ p. order_of p w ≡ Equal → ⊥) there.0 ps w all (slice_get-get_or ps there.0 w there.1 ∙ ap (λ p. Some p) there.2) level
 
--- an insertion that was made
-pub put_in : (ps now : List (ℕ × ℕ)) (k : ℕ) (w : ℕ × ℕ) (ok : Bool) → now ≡ (if ok then insert ps k w else ps) → ok ≡ true → IsPermutation (w ∷ ps) now
-put_in ps now k w ok is made =
-    let put : now ≡ insert ps k w = is ∙ ap (λ b. if b then insert ps k w else ps) made in
-    subst (IsPermutation (w ∷ ps)) (sym put) (IsPermutation-insert ps k w)
+-- a removal where a pair stood
+pub left : (r : Option (ℕ × ℕ)) (ps now : List (ℕ × ℕ)) (k count : ℕ) (w : ℕ × ℕ) → slice_get ps k ≡ Some w → count ≡ length ps → IsSome r ↔ (k < count)
+    → OnSome r (now ≡ remove ps k) → now ≡ remove ps k
+left (Some p) ps now k count w is long some taken = taken
+left None ps now k count w is long some taken =
+    let within = slice_get_within ps k w is in
+    let there = some.1 (omega (arith, within, long)) in
+    absurd (cc)
+
+-- an insertion that there was room for
+pub put_in : {A E : Type 0} (r : Result A E) (ps now : List (ℕ × ℕ)) (k : ℕ) (w : ℕ × ℕ) (count room : ℕ) → OnOk r (now ≡ insert ps k w)
+    → OnErr r (room ≤ count) → count < room → IsPermutation (w ∷ ps) now
+put_in (Ok a) ps now k w count room put full fits = subst (IsPermutation (w ∷ ps)) (sym put) (IsPermutation-insert ps k w)
+put_in (Err e) ps now k w count room put full fits = absurd (omega (arith, full, fits))

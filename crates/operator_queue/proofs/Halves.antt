@@ -3,7 +3,7 @@ use Rattle.std.proofs.Common.{◌≡◌, ◌≤◌, ◌<◌, ◌+◌, ◌-◌, �
 use Rattle.std.specs.List.{AllByRecursion}
 use Rattle.std.specs.Ordering.{is_gt}
 use Rattle.std.specs.declared.cmp.Ordering.TheVariants.{Less, Equal, Greater}
-use Rattle.std.proofs.lemmas.Option.{slice_get-get_or}
+use Rattle.std.proofs.lemmas.Option.{slice_get-get_or, get_or_from_slice_get}
 use Rattle.std.proofs.Math.Nat.{mul-le-mul_left, mul_assoc, mul_left_comm, pow-succ'}
 use Rattle.arc_text.specs.Comparisons.{order_of, TakesFew}
 use Rattle.operator_queue.specs.Pairs.{IsBeforeAll, IsOrdered}
@@ -71,6 +71,14 @@ step before now n wide narrow kept left some half =
 
 there : (ps : List (ℕ × ℕ)) (place : ℕ) → place < length ps → slice_get ps place ≡ Some (slice_index_or ps place (0, 0))
 there ps place within = slice_get-get_or ps place (0, 0) within
+
+-- the pair that was looked at is that of the middle
+pub looked_at : (w : ℕ × ℕ) (ps : List (ℕ × ℕ)) (low high before now : ℕ) (p : ℕ × ℕ) → Narrowed w ps low high before now → low < high
+    → p ≡ slice_index_or ps (low + (high - low) / 2) p → slice_index_or ps (low + (high - low) / 2) (0, 0) ≡ p
+looked_at w ps low high before now p is some same =
+    let mid = low + (high - low) / 2 in
+    let within : mid < length ps = omega (arith, some, is.within) in
+    get_or_from_slice_get ps mid p (0, 0) (slice_get-get_or ps mid p within ∙ ap (λ q. Some q) (sym same))
 
 -- the pair in the middle is less: what is left begins behind it
 pub on_less : (w : ℕ × ℕ) (ps : List (ℕ × ℕ)) (low high before now : ℕ) → Narrowed w ps low high before now → IsOrdered ps → low < high

@@ -1,5 +1,5 @@
 // Pairs of numbers, in order.
-ghost use Rattle.std.specs.Prelude.{◌≡◌, ◌≤◌, ◌<◌, ◌+◌, ◌↔◌, [], ◌∷◌, length, false, IsTrue, OnOk};
+ghost use Rattle.std.specs.Prelude.{◌≡◌, ◌≤◌, ◌<◌, ◌+◌, ◌↔◌, [], ◌∷◌, length, slice_get, false, Some, IsTrue, OnOk};
 ghost use Rattle.std.specs.List.{Contains, insert};
 ghost use Rattle.std.specs.List.Sorted.{IsPermutation};
 ghost use Rattle.arc_text.specs.Comparisons.{TakesFew};
@@ -9,25 +9,30 @@ use crate::search::search;
 use arc_data::Memory;
 use arc_text::Steps;
 use std::alloc::Global;
+use std::collections::VecDeque;
 use std::marker::Model;
 use std::sync::ledger::Ledger;
 
 /// Pairs of numbers in order: by the first number of each, and where those are equal, by the second. Contracts see the list of
 /// the pairs, and the room: for how many pairs there is memory, those that stand in it included.
+///
+/// They stand in a ring, so that of the pairs before and those behind a place only the fewer move.
 #[derive(Drop)]
 pub struct OrderedPairs {
-    pairs: Vec<(u64, u64)>,
+    pairs: VecDeque<(u64, u64)>,
+    room: usize,
 }
 
 impl Model for OrderedPairs {
-    ghost use Rattle.std.specs.Vec.{vec_capacity};
+    ghost use Rattle.std.specs.Prelude.{◌≤◌};
+    ghost use Rattle.std.specs.VecDeque.{deque_capacity};
     ghost use Rattle.operator_queue.specs.Pairs.{PairsValue, IsOrdered};
 
     ghost Value = { PairsValue };
 
-    ghost view = { λ p. record { pairs = p.pairs.items; room = vec_capacity p.pairs } };
+    ghost view = { λ p. record { pairs = p.pairs.items; room = p.room } };
 
-    ghost invariant = { λ p. IsOrdered p.pairs.items };
+    ghost invariant = { λ p. IsOrdered p.pairs.items × (p.room ≤ deque_capacity p.pairs) };
 }
 
 impl OrderedPairs {
@@ -36,7 +41,8 @@ impl OrderedPairs {
         ensures { result.pairs ≡ [] }
     {
         OrderedPairs {
-            pairs: Vec::new(alloc),
+            pairs: VecDeque::new(alloc),
+            room: 0,
         }
     }
 
@@ -46,18 +52,27 @@ impl OrderedPairs {
         ensures kept { self.old.room ≤ self.new.room }
         ensures enough { OnOk result (length self.new.pairs + more ≤ self.new.room) }
     {
-        match self.pairs.reserve(more) {
-            Ok(()) => Ok(()),
-            Err(_) => Err(Memory),
-        }
+        let Ok(()) = self.pairs.reserve(more) else {
+            return Err(Memory);
+        };
+        self.room = self.pairs.capacity();
+        Ok(())
     }
 
-    /// The pairs. It takes no comparison.
-    pub fn as_slice(&self) -> &[(u64, u64)]
-        ensures pairs { result.now ≡ self.now.pairs }
-        ensures ordered { IsOrdered result.now }
+    /// How many pairs there are. It takes no comparison.
+    pub fn count(&self) -> usize
+        ensures { result ≡ length self.now.pairs }
     {
-        self.pairs.as_slice()
+        self.pairs.len()
+    }
+
+    /// The pair that stands at a place below the count, behind those that come before it. It takes no comparison.
+    pub fn at(&self, place: usize) -> (u64, u64)
+        requires { place < length self.now.pairs }
+        ensures pair { slice_get self.now.pairs place ≡ Some result }
+        ensures ordered { IsOrdered self.now.pairs }
+    {
+        self.pairs[place]
     }
 
     /// Puts a pair in, also where an equal one stands already. Takes no memory.
@@ -90,11 +105,15 @@ impl OrderedPairs {
 }
 
 // A place before which no pair comes after this one, and from which on none comes before it.
-fn place_for<L: Ledger>(pairs: &[(u64, u64)], pair: (u64, u64), steps: &mut Steps<L>) -> usize
-    requires { IsOrdered pairs.now }
-    ensures within { result ≤ length pairs.now }
-    ensures fits { IsOrdered (insert pairs.now result pair) }
-    ensures cost { TakesFew (length pairs.now) steps.old steps.new }
+fn place_for<L: Ledger>(
+    pairs: &VecDeque<(u64, u64)>,
+    pair: (u64, u64),
+    steps: &mut Steps<L>,
+) -> usize
+    requires { IsOrdered pairs.now.items }
+    ensures within { result ≤ length pairs.now.items }
+    ensures fits { IsOrdered (insert pairs.now.items result pair) }
+    ensures cost { TakesFew (length pairs.now.items) steps.old steps.new }
 {
     match search(pairs, pair, steps) {
         Ok(place) => place,

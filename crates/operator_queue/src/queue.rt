@@ -52,7 +52,7 @@ impl Queue {
     pub fn count(&self) -> usize
         ensures { result ≡ length self.now.pairs }
     {
-        self.pairs.as_slice().len()
+        self.pairs.count()
     }
 
     /// The first pair, which no other comes before. It takes no comparison.
@@ -60,10 +60,11 @@ impl Queue {
         ensures first { result ≡ slice_get self.now.pairs 0 }
         ensures least { IsLeast result self.now.pairs }
     {
-        match self.pairs.as_slice().first() {
-            Some(pair) => Some((pair.0 as u8, pair.1)),
-            None => None,
+        if self.count() == 0 {
+            return None;
         }
+        let pair = self.pairs.at(0);
+        Some((pair.0 as u8, pair.1))
     }
 
     /// Puts a pair in, also where an equal one stands already. Takes no memory.

@@ -1,8 +1,9 @@
 // What no clause says: that memory for some pairs is found, and answers worked out by hand.
-ghost use Rattle.std.specs.Prelude.{◌≡◌, ◌<◌};
+ghost use Rattle.std.specs.Prelude.{◌≡◌, ◌<◌, ◌≤◌, ◌+◌, ℕ, length};
+ghost use Rattle.arc_text.specs.Comparisons.{TakesFew};
 
 use super::*;
-use arc_text::Steps;
+use arc_text::{Steps, law_steps_are_digits};
 use std::alloc::Global;
 use std::marker::Brand;
 use std::process::Abort;
@@ -88,6 +89,33 @@ fn pairs_come_out_in_order(rt: HostRuntime) -> Result<(), Fail> {
     play_rows::<Brand, _>(&rt, rt.alloc(), Blank::new(1))
 }
 
+// The most comparisons of `insert` and of `remove` among so many pairs; `first` is passed no count, so it makes none.
+fn bounds_of_a_search()
+    ensures none { (before now : ℕ) → TakesFew 0 before now → now ≤ before }
+    ensures one { (before now : ℕ) → TakesFew 1 before now → now ≤ before + 1 }
+    ensures two { (before now : ℕ) → TakesFew 2 before now → now ≤ before + 2 }
+    ensures three { (before now : ℕ) → TakesFew 3 before now → now ≤ before + 2 }
+    ensures four { (before now : ℕ) → TakesFew 4 before now → now ≤ before + 3 }
+    ensures thousand { (before now : ℕ) → TakesFew 1000 before now → now ≤ before + 10 }
+{
+    law_steps_are_digits();
+}
+
+#[test]
+fn comparisons_of_a_search(_rt: HostRuntime) {
+    bounds_of_a_search();
+}
+
+// Puts a pair among three, with at most two comparisons.
+fn put_among_three<L: Ledger>(queue: &mut Queue, steps: &mut Steps<L>)
+    requires three { length queue.old.pairs ≡ 3 }
+    requires room { 3 < queue.old.room }
+    ensures { steps.new ≤ steps.old + 2 }
+{
+    bounds_of_a_search();
+    queue.insert(2, 2, steps);
+}
+
 // What is not there stays out, and leaves the others.
 fn play_lacking<L: Ledger, R: Abort>(rt: &R, alloc: Global, blank: Blank) -> Result<(), Fail>
     requires name { blank.name ≡ L.name }
@@ -99,7 +127,9 @@ fn play_lacking<L: Ledger, R: Abort>(rt: &R, alloc: Global, blank: Blank) -> Res
     assert!(rt; !queue.remove(2, 9, &mut steps));
     put_all(&mut queue, "1:4 2:1 2:3", &mut steps)?;
     assert_eq!(rt; queue.first(), Some((1, 4)));
-    put(&mut queue, 2, 2, &mut steps)?;
+    queue.reserve(1)?;
+    assert!(rt; queue.count() == 3);
+    put_among_three(&mut queue, &mut steps);
     assert!(rt; !queue.remove(2, 9, &mut steps));
     assert!(rt; !queue.remove(1, 3, &mut steps));
     take_all(rt, &mut queue, "1:4 2:1 2:2 2:3", &mut steps)

@@ -9,7 +9,7 @@ use Rattle.std.specs.declared.cmp.Ordering.{Ordering}
 use Rattle.std.specs.declared.cmp.Ordering.TheVariants.{Less, Equal, Greater}
 use Rattle.std.specs.Cmp.{ranks}
 use Rattle.std.proofs.lemmas.Bool.{lt-ltb, le-ltb, ltb-false}
-use Rattle.std.proofs.lemmas.Option.{slice_get-get_or}
+use Rattle.std.proofs.lemmas.Option.{slice_get_within}
 use Rattle.std.proofs.lemmas.List.FromFn.{get_or-range_with_len, length-range_with_len}
 use Rattle.std.proofs.lemmas.List.Kept.{IsNonDecreasingBy-filter}
 use Rattle.std.proofs.lemmas.List.Sorted.{IsNonDecreasingBy-from_sort}
@@ -82,25 +82,22 @@ pub record Counted (at : ℕ) (pairs : List (ℕ × ℕ)) (count before now : �
 pub counted_none : (at : ℕ) (pairs : List (ℕ × ℕ)) (before : ℕ) → Counted at pairs 0 before before
 counted_none at pairs before = record { within = omega arith; kept = refl; cost = omega arith }
 
-pub counted_more : (at : ℕ) (pairs : List (ℕ × ℕ)) (count i before now after : ℕ) → Counted at pairs count before now → count ≡ i → i < length pairs
-    → is_lt (order_of (get_or pairs i (0, 0)) (at, 0)) ≡ true → after ≡ now + 1 → Counted at pairs (count + 1) before after
-counted_more at pairs count i before now after is here some less one =
-    let p = get_or pairs i (0, 0) in
-    let there : slice_get pairs count ≡ Some p = ap (slice_get pairs) here ∙ slice_get-get_or pairs i (0, 0) some in
+pub counted_more : (at : ℕ) (pairs : List (ℕ × ℕ)) (count before now after : ℕ) (p : ℕ × ℕ) → Counted at pairs count before now
+    → slice_get pairs count ≡ Some p → is_lt (order_of p (at, 0)) ≡ true → after ≡ now + 1 → Counted at pairs (count + 1) before after
+counted_more at pairs count before now after p is there less one =
+    let some = slice_get_within pairs count p there in
     let on : suc count ≡ count + 1 = omega arith in
     let cost = is.cost in
     record {
-      within = omega (arith, some, here);
+      within = omega (arith, some);
       kept = is.kept ∙ one_more at count pairs p there (sym (is_before at p) ∙ less)
           ∙ ap (λ k. take k pairs ++ filter (passed at) (drop k pairs)) on;
       cost = omega (arith, cost, one);
     }
 
-pub counted_stop : (at : ℕ) (pairs : List (ℕ × ℕ)) (count i before now : ℕ) → Counted at pairs count before now → count ≡ i → i < length pairs
-    → IsOrdered pairs → is_lt (order_of (get_or pairs i (0, 0)) (at, 0)) ≡ false → take count pairs ≡ filter (passed at) pairs
-counted_stop at pairs count i before now is here some ordered past =
-    let p = get_or pairs i (0, 0) in
-    let there : slice_get pairs count ≡ Some p = ap (slice_get pairs) here ∙ slice_get-get_or pairs i (0, 0) some in
+pub counted_stop : (at : ℕ) (pairs : List (ℕ × ℕ)) (count before now : ℕ) (p : ℕ × ℕ) → Counted at pairs count before now
+    → slice_get pairs count ≡ Some p → IsOrdered pairs → is_lt (order_of p (at, 0)) ≡ false → take count pairs ≡ filter (passed at) pairs
+counted_stop at pairs count before now p is there ordered past =
     sym (is.kept ∙ ap (λ l. take count pairs ++ l) (none_left at count pairs p ordered there (sym (is_before at p) ∙ past)) ∙ append-nil (take count pairs))
 
 drop_all : (k : ℕ) (ps : List (ℕ × ℕ)) → length ps ≤ k → drop k ps ≡ []
@@ -113,6 +110,12 @@ pub counted_all : (at : ℕ) (pairs : List (ℕ × ℕ)) (count before now : ℕ
     → take count pairs ≡ filter (passed at) pairs
 counted_all at pairs count before now is all =
     sym (is.kept ∙ ap (λ l. take count pairs ++ filter (passed at) l) (drop_all count pairs all) ∙ append-nil (take count pairs))
+
+-- one place more is that of the pair that comes next
+pub copied : (k : ℕ) (ps : List (ℕ × ℕ)) (p : ℕ × ℕ) → slice_get ps k ≡ Some p → map (λ q. q.1) (take k ps) ++ p.1 ∷ [] ≡ map (λ q. q.1) (take (suc k) ps)
+copied k [] p is = absurd (cc)
+copied zero (x ∷ ps) p is = let same : p ≡ x = cc in ap (λ q. q.1 ∷ []) same
+copied (suc k) (x ∷ ps) p is = ap (λ l. x.1 ∷ l) (copied k ps p is)
 
 range_rises : (a n : ℕ) → IsNonDecreasing (range_with_len a n)
 range_rises a n i j d le within =
@@ -172,10 +175,9 @@ shorter (suc k) [] within = absurd (omega (arith, within))
 shorter (suc k) (p ∷ ps) within = ap suc (shorter k ps (omega (arith, within)))
 
 -- one comparison more than there are places due
-pub cost_is : (at : ℕ) (inside deadlines : List (Option ℕ)) (sorted looked : List (ℕ × ℕ)) (count before now : ℕ) → inside ≡ deadlines
-    → IsPermutation (pairs_of inside) sorted → looked ≡ sorted → count ≤ length looked → take count looked ≡ filter (passed at) looked
+pub cost_is : (at : ℕ) (inside deadlines : List (Option ℕ)) (sorted : List (ℕ × ℕ)) (count before now : ℕ) → inside ≡ deadlines
+    → IsPermutation (pairs_of inside) sorted → count ≤ length sorted → take count sorted ≡ filter (passed at) sorted
     → TakesOneMore count before now → TakesOneMore (length (due_at at deadlines)) before now
-cost_is at inside deadlines sorted looked count before now view moved same within is cost =
-    let there : IsPermutation (pairs_of inside) looked = subst (λ l. IsPermutation (pairs_of inside) l) (sym same) moved in
-    let many : count ≡ length (due_at at inside) = sym (shorter count looked within) ∙ as_many at inside looked (take count looked) there is in
+cost_is at inside deadlines sorted count before now view moved within is cost =
+    let many : count ≡ length (due_at at inside) = sym (shorter count sorted within) ∙ as_many at inside sorted (take count sorted) moved is in
     subst (λ n. TakesOneMore n before now) (many ∙ ap (λ l. length (due_at at l)) view) cost

@@ -4,7 +4,6 @@ ghost use Rattle.std.specs.List.{cons_option, filter};
 ghost use Rattle.std.specs.List.Sorted.{IsPermutation, IsSorted};
 ghost use Rattle.std.specs.Ordering.{nat_cmp};
 ghost use Rattle.arc_text.specs.Comparisons.{TakesFew};
-ghost use Rattle.operator_queue.specs.Pairs.{IsOrdered};
 ghost use Rattle.supervision.specs.Deadlines.{pair_of, IsWithout, TakesOneMore};
 
 use arc_data::Memory;
@@ -46,41 +45,45 @@ pub(crate) fn put_in<L: Ledger>(
 }
 
 /// How many of the sorted pairs have a deadline less than the moment: these are the first so many.
-pub(crate) fn count_passed<L: Ledger>(pairs: &[(u64, u64)], at: u64, steps: &mut Steps<L>) -> usize
-    requires { IsOrdered pairs.now }
-    ensures within { result ≤ length pairs.now }
-    ensures passed { take result pairs.now ≡ filter (λ p. nat_lt p.0 at) pairs.now }
+pub(crate) fn count_passed<L: Ledger>(sorted: &OrderedPairs, at: u64, steps: &mut Steps<L>) -> usize
+    ensures within { result ≤ length sorted.now.pairs }
+    ensures passed { take result sorted.now.pairs ≡ filter (λ p. nat_lt p.0 at) sorted.now.pairs }
     ensures cost { TakesOneMore result steps.old steps.new }
 {
-    let mut count = 0;
-    for pair in pairs {
+    let count = sorted.count();
+    for place in 0..count {
         // No pair of this moment comes before that with the place 0.
-        if !order(*pair, (at, 0), steps).is_lt() {
-            return count;
+        if !order(sorted.at(place), (at, 0), steps).is_lt() {
+            return place;
         }
-        count += 1;
     }
     count
 }
 
-/// Makes the list that of the places of the pairs, ascending: they are sorted where they stand, without `order`. The error is want
-/// of memory.
-pub(crate) fn put_places(out: &mut Vec<usize>, pairs: &[(u64, u64)]) -> Result<(), Memory>
-    ensures places { OnOk result (IsPermutation (map (λ p. p.1) pairs.now) out.new.items) }
+/// Makes the list that of the places of the first so many pairs, ascending: they are sorted where they stand, without `order`. The
+/// error is want of memory.
+pub(crate) fn put_places(
+    out: &mut Vec<usize>,
+    sorted: &OrderedPairs,
+    count: usize,
+) -> Result<(), Memory>
+    requires { count ≤ length sorted.now.pairs }
+    ensures places { OnOk result (IsPermutation (map (λ p. p.1) (take count sorted.now.pairs)) out.new.items) }
     ensures ascending { OnOk result (IsSorted nat_cmp out.new.items) }
 {
-    copy_places(out, pairs)?;
+    copy_places(out, sorted, count)?;
     out.sort_unstable();
     Ok(())
 }
 
-// Makes the list that of the places of the pairs, in their order. The error is want of memory.
-fn copy_places(out: &mut Vec<usize>, pairs: &[(u64, u64)]) -> Result<(), Memory>
-    ensures { OnOk result (out.new.items ≡ map (λ p. p.1) pairs.now) }
+// Makes the list that of the places of the first so many pairs, in their order. The error is want of memory.
+fn copy_places(out: &mut Vec<usize>, sorted: &OrderedPairs, count: usize) -> Result<(), Memory>
+    requires { count ≤ length sorted.now.pairs }
+    ensures { OnOk result (out.new.items ≡ map (λ p. p.1) (take count sorted.now.pairs)) }
 {
     out.clear();
-    for pair in pairs {
-        let Ok(()) = out.push(pair.1 as usize) else {
+    for place in 0..count {
+        let Ok(()) = out.push(sorted.at(place).1 as usize) else {
             return Err(Memory);
         };
     }

@@ -51,7 +51,7 @@ impl Watch {
         if places <= self.deadlines.len() {
             return Ok(());
         }
-        let more = places.saturating_sub(self.sorted.as_slice().len());
+        let more = places.saturating_sub(self.sorted.count());
         let Ok(()) = self.sorted.reserve(more) else {
             return Err(Memory);
         };
@@ -61,13 +61,17 @@ impl Watch {
         Ok(())
     }
 
-    /// Gives a place that has room this deadline, or none, in place of its own. Takes no memory.
+    /// Gives a place that has room this deadline, or none, in place of its own. Takes no memory. Where it is its own already, nothing
+    /// is looked for.
     pub fn set<L: Ledger>(&mut self, place: usize, deadline: Option<u64>, steps: &mut Steps<L>)
         requires { place < length self.old }
         ensures set { self.new ≡ slice_set self.old place deadline }
         ensures cost { TakesTwice (length (pairs_of self.old)) steps.old steps.new }
     {
         let before = self.deadlines[place];
+        if before == deadline {
+            return;
+        }
         take_out(&mut self.sorted, place, before, steps);
         put_in(&mut self.sorted, place, deadline, steps);
         self.deadlines[place] = deadline;
@@ -86,9 +90,8 @@ impl Watch {
         ensures memory { OnErr result (out.new ≡ []) }
         ensures cost { TakesOneMore (length (due_at at self.now)) steps.old steps.new }
     {
-        let pairs = self.sorted.as_slice();
-        let count = count_passed(pairs, at, steps);
-        let Ok(()) = put_places(&mut out.items, &pairs[..count]) else {
+        let count = count_passed(&self.sorted, at, steps);
+        let Ok(()) = put_places(&mut out.items, &self.sorted, count) else {
             out.items.clear();
             return Err(Memory);
         };

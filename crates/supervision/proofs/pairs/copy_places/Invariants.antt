@@ -2,5 +2,5 @@
 use Rattle.std.proofs.Common.{◌≡◌, map, take}
 use Rattle.supervision.proofs.pairs.copy_places.Given as goal
 
-abbrev pub invariant-loop-pair : goal.invariant-loop-pair
-invariant-loop-pair l = l.out.items ≡ map (λ p. p.1) (take l.pair-index l.pairs)
+abbrev pub invariant-loop-place : goal.invariant-loop-place
+invariant-loop-place l = l.out.items ≡ map (λ p. p.1) (take l.place l.sorted.pairs)
