@@ -37,3 +37,48 @@ fn the_last_32_messages(rt: HostRuntime) -> Result<(), Fail> {
     assert_eq!(rt; window.holds(&fifth, 1301), Some(1001));
     Ok(())
 }
+
+fn push_all(
+    alloc: Global,
+    window: &mut Window,
+    first: u16,
+    last: u16,
+    at: u64,
+) -> Result<(), Fail> {
+    for seq in first..=last {
+        push(alloc, window, seq, at)?;
+    }
+    Ok(())
+}
+
+// Whether the first of so many messages, each of a sequence of its own, is still known.
+fn is_first_known(alloc: Global, count: u16) -> Result<bool, Fail> {
+    let mut window = Window::new(alloc)?;
+    push_all(alloc, &mut window, 1, count, 1000)?;
+    let first = message(alloc, 1)?;
+    Ok(window.holds(&first, 1000).is_some())
+}
+
+#[test]
+fn windows_of_31_32_and_33_messages(rt: HostRuntime) -> Result<(), Fail> {
+    assert!(rt; is_first_known(rt.alloc(), 31)?);
+    assert!(rt; is_first_known(rt.alloc(), 32)?);
+    assert!(rt; !is_first_known(rt.alloc(), 33)?);
+    Ok(())
+}
+
+// The window's oldest and its newest are equal: the newest is told, until 32 others came after it.
+#[test]
+fn equal_messages_at_both_ends(rt: HostRuntime) -> Result<(), Fail> {
+    let mut window = Window::new(rt.alloc())?;
+    let equal = message(rt.alloc(), 1)?;
+    push(rt.alloc(), &mut window, 1, 1000)?;
+    push_all(rt.alloc(), &mut window, 2, 31, 1001)?;
+    push(rt.alloc(), &mut window, 1, 1002)?;
+    assert_eq!(rt; window.holds(&equal, 1100), Some(1002));
+    push_all(rt.alloc(), &mut window, 32, 62, 1003)?;
+    assert_eq!(rt; window.holds(&equal, 1100), Some(1002));
+    push(rt.alloc(), &mut window, 63, 1003)?;
+    assert_eq!(rt; window.holds(&equal, 1100), None);
+    Ok(())
+}
