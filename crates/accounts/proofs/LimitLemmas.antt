@@ -16,7 +16,7 @@ use Rattle.accounts.specs.declared.entry.Entry.{Entry}
 use Rattle.accounts.specs.Standing.{entry_in}
 use Rattle.accounts.proofs.StandLemmas.{told-more}
 
-or-none : {A : Type 0} (first second : Option A) → option_or first second ≡ None → (first ≡ None) × (second ≡ None)
+pub or-none : {A : Type 0} (first second : Option A) → option_or first second ≡ None → (first ≡ None) × (second ≡ None)
 or-none None second none = (refl, none)
 or-none (Some fault) second none = cc
 

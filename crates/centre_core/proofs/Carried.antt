@@ -26,41 +26,11 @@ use Rattle.centre_rules.specs.Carrying.{carried, own_signal, raised_where}
 
 -- The first so many of a list, and one more.
 
-next_of : {A : Type 0} (xs : List A) (i : ℕ) (x : A) → slice_get xs i ≡ Some x → take (i + 1) xs ≡ take i xs ++ x ∷ []
+pub next_of : {A : Type 0} (xs : List A) (i : ℕ) (x : A) → slice_get xs i ≡ Some x → take (i + 1) xs ≡ take i xs ++ x ∷ []
 next_of xs i x e = take_more xs i x (slice_get_within xs i x e) ∙ ap (λ y. take i xs ++ y ∷ []) (get_or_from_slice_get xs i x x e)
 
 pub flat_next : {A B : Type 0} (f : A → List B) (xs : List A) (i : ℕ) (x : A) → slice_get xs i ≡ Some x → flat_map f (take (i + 1) xs) ≡ flat_map f (take i xs) ++ f x
 flat_next f xs i x e = ap (flat_map f) (next_of xs i x e) ∙ flat_map-append f (take i xs) (x ∷ []) ∙ ap (λ ys. flat_map f (take i xs) ++ ys) (append-nil (f x))
-
--- The signals of some accounts that pass a test.
-
-abbrev pub raised_of : (Account → Bool) → Class → ℕ → Setup → List Account → List Carried
-raised_of test class at setup xs = map (λ a. carried setup a.number at true (own_signal class)) (filter test xs)
-
-module _ (test : Account → Bool) (class : Class) (at : ℕ) (setup : Setup) where
-  raised_next : (xs : List Account) (i : ℕ) (x : Account) → slice_get xs i ≡ Some x
-      → raised_of test class at setup (take (i + 1) xs) ≡ raised_of test class at setup (take i xs) ++ raised_of test class at setup (x ∷ [])
-  raised_next xs i x e =
-      ap (raised_of test class at setup) (next_of xs i x e)
-      ∙ ap (map (λ a. carried setup a.number at true (own_signal class))) (filter-append test (take i xs) (x ∷ []))
-      ∙ map-append (λ a. carried setup a.number at true (own_signal class)) (filter test (take i xs)) (filter test (x ∷ []))
-
-  one_if : (b : Bool) (x : Account) → test x ≡ b → raised_of test class at setup (x ∷ []) ≡ cond b (carried setup x.number at true (own_signal class) ∷ []) []
-  one_if true x e = rw e refl
-  one_if false x e = rw e refl
-
-  pub raised_one : (xs : List Account) (i : ℕ) (x : Account) (before old new : List Carried) → slice_get xs i ≡ Some x → test x ≡ true
-      → old ≡ before ++ raised_of test class at setup (take i xs) → new ≡ old ++ carried setup x.number at true (own_signal class) ∷ []
-      → new ≡ before ++ raised_of test class at setup (take (i + 1) xs)
-  raised_one xs i x before old new e passes so_far pushed =
-      pushed ∙ ap (λ ys. ys ++ carried setup x.number at true (own_signal class) ∷ []) so_far
-      ∙ append_assoc before (raised_of test class at setup (take i xs)) (carried setup x.number at true (own_signal class) ∷ [])
-      ∙ ap (λ ys. before ++ ys) (ap (λ ys. raised_of test class at setup (take i xs) ++ ys) (sym (one_if true x passes)) ∙ sym (raised_next xs i x e))
-
-  pub raised_none : (xs : List Account) (i : ℕ) (x : Account) (before old : List Carried) → slice_get xs i ≡ Some x → test x ≡ false
-      → old ≡ before ++ raised_of test class at setup (take i xs) → old ≡ before ++ raised_of test class at setup (take (i + 1) xs)
-  raised_none xs i x before old e fails so_far =
-      so_far ∙ ap (λ ys. before ++ ys) (sym (append-nil (raised_of test class at setup (take i xs))) ∙ ap (λ ys. raised_of test class at setup (take i xs) ++ ys) (sym (one_if false x fails)) ∙ sym (raised_next xs i x e))
 
 -- An account that has no place is none.
 

@@ -24,6 +24,7 @@ use Rattle.incident_marks.specs.Marked.{IsFew, HaveActRoom}
 use Rattle.incidents.specs.Tables.{TableValue}
 use Rattle.centre_core.specs.Kept.{IsReady, IsAdopted, IsSetupOf, CarriesSetup, HasRoomFor, NoLess, IsWorked, MayRecord, Records, IsCentre}
 use Rattle.centre_core.proofs.Ordered.{fits_of}
+use Rattle.centre_core.proofs.Timely.{carried_timely}
 
 -- the marks of an event are those with the signals that it carries
 marks_are : (s : Summary) (e : Event) (at : ℕ) (r : Reply) → marks_of s [] e at r ≡ marks_with (carried_by s [] e at) e at r
@@ -84,11 +85,12 @@ no_adopt (Adopt text) other = other text refl
 no_adopt event other = tt
 
 pub may_take : (s : State) (e : Event) (at : ℕ) (r : Reply) (setup : Option (List ℕ)) (xs : List Carried) (v : RowsValue) (t : TableValue) (entries last recorded : ℕ) (text : Option (List ℕ))
-    → MayRecord s e at r setup xs → s.sum ≡ sum_of last recorded text v t → s.rooms ≡ record { incidents = t.room; accounts = v.room } → IsCentre entries recorded last text v t → MayTake e at r xs v t
+    → MayRecord s e at r setup xs → s.sum ≡ sum_of last recorded text v t → s.rooms ≡ record { incidents = t.room; accounts = v.room } → IsCentre entries recorded last text t → MayTake e at r xs v t
 may_take s e at r setup xs v t entries last recorded text may sum rooms kept = record {
   bound = few_more (recorded * 8192) (2 ^ 61) t.opened t.incidents (omega (arith, kept.few, kept.bound)) kept.counts;
   acts = kept.acts;
   few = may.worked.few;
+  moments = carried_timely s.sum e at xs may.moment (may.worked.carried may.recorded);
   accounts = omega (arith, may.room.accounts, ap (λ x. x.accounts) rooms);
   incidents = omega (arith, may.room.incidents, ap (λ x. x.incidents) rooms, ap (λ (x : Summary). length x.incidents) sum);
   fits = subst (λ (x : Summary). Fits e at r x.incidents) sum (fits_of s.sum e at r may.worked.answer);

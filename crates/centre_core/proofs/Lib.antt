@@ -1,8 +1,8 @@
 pub mod Applied
 pub mod Begun
 pub mod Carried
-pub mod Heard
 pub mod Kept
-pub mod Opened
+pub mod Timely
 pub mod Ordered
 pub mod Worked
+pub mod RaisedAt

@@ -13,19 +13,15 @@ use Rattle.centre_rules.specs.State.{State, Rooms, Same, Plan, IsSound}
 use Rattle.centre_marks.specs.Taken.{named_by}
 use Rattle.incident_marks.specs.Marked.{IsFew, HaveActRoom}
 use Rattle.incidents.specs.Tables.{TableValue}
-use Rattle.account_rows.specs.Rows.{RowsValue}
-use Rattle.centre_core.specs.Raised.{AreOpenedAtMoments}
 
--- a setup that is kept is the one that its text means, a recorded entry raises no count by more than 8,192, and each account
--- that is open was opened at a moment
-pub record IsCentre (entries recorded last : ℕ) (text : Option (List ℕ)) (v : RowsValue) (t : TableValue) : Type 0 where
+-- a setup that is kept is the one that its text means, and a recorded entry raises no count by more than 8,192
+pub record IsCentre (entries recorded last : ℕ) (text : Option (List ℕ)) (t : TableValue) : Type 0 where
   pub few : recorded ≤ entries
   pub bound : entries ≤ 2 ^ 48
   pub moment : IsMoment last
   pub valid : IfSome text (λ x. IsOk (setup_of x))
   pub counts : IsFew (recorded * 8192) t.opened t.incidents
   pub acts : HaveActRoom t.incidents
-  pub openings : AreOpenedAtMoments v
 
 -- Setups.
 

@@ -8,9 +8,9 @@ ghost use Rattle.centre_core.specs.Kept.{IsAdopted, IsWorked, IsPlain};
 use crate::carrying::{raise, signals_sent};
 use crate::centre::Centre;
 use crate::orders::on_adopt;
-use accounts::Setup;
 use arc_data::{Acted, Carried, Event, Memory, Message, Reply};
 use std::alloc::Global;
+use supervised_accounts::WatchedSetup;
 
 /// The reply to an event, and where it is recorded, the signals that it carries.
 #[derive(Drop)]
@@ -26,7 +26,7 @@ impl Centre {
         &self,
         alloc: Global,
         event: &Event,
-        setup: &Option<Setup>,
+        setup: &Option<WatchedSetup>,
         at: u64,
     ) -> Result<Worked, Memory>
         requires adopted { IsAdopted event.now setup.now }
@@ -48,7 +48,7 @@ impl Centre {
         requires { IsMoment at }
         ensures { IfOk result (λ w. IsWorked self.now.sum (Sent message.now) at w.reply w.carried.items) }
     {
-        let Some(setup) = &self.setup else {
+        let Some(setup) = self.accounts.setup() else {
             return Ok(alone(alloc, Reply::Unknown));
         };
         if !setup.knows(&message.account) {
@@ -58,7 +58,7 @@ impl Centre {
         let Some(signals) = alarm_data::signals(message.token, content) else {
             return Ok(alone(alloc, Reply::Unknown));
         };
-        if let Some(first) = self.rows.repeat(message, at) {
+        if let Some(first) = self.accounts.rows().repeat(message, at) {
             return Ok(alone(alloc, Reply::Repeat { first }));
         }
         let carried = signals_sent(alloc, setup, &message.account, at, &signals)?;
@@ -73,9 +73,9 @@ impl Centre {
         requires { IsMoment at }
         ensures { IfOk result (λ w. IsWorked self.now.sum Tick at w.reply w.carried.items) }
     {
-        let carried = match &self.setup {
+        let carried = match self.accounts.setup() {
             None => Vec::new(alloc),
-            Some(setup) => raise(alloc, setup, &self.rows, at)?,
+            Some(setup) => raise(alloc, setup, &self.accounts, at)?,
         };
         let count = carried.len() as u64;
         Ok(Worked {
@@ -89,7 +89,7 @@ impl Centre {
         &self,
         alloc: Global,
         event: &Event,
-        setup: &Option<Setup>,
+        setup: &Option<WatchedSetup>,
         at: u64,
     ) -> Result<Reply, Memory>
         requires adopted { IsAdopted event.now setup.now }

@@ -1,18 +1,18 @@
 // The signals that messages and Ticks carry, each with the steps of the incident that it would open.
-ghost use Rattle.std.specs.Prelude.{◌≡◌, ◌≤◌, ◌+◌, ◌++◌, ◌∷◌, [], length, IfOk, OnOk};
-ghost use Rattle.std.specs.List.{flat_map};
+ghost use Rattle.std.specs.Prelude.{◌≡◌, ◌<◌, ◌≤◌, ◌+◌, ◌++◌, ◌∷◌, [], List, Some, length, IfOk, OnOk};
+ghost use Rattle.std.specs.List.{flat_map, All};
 ghost use Rattle.arc_data.specs.declared.signal.Class.TheVariants.{CommFail, LateClose};
-ghost use Rattle.alarm_rules.specs.Setups.{account_of, meaning, steps_of};
+ghost use Rattle.alarm_rules.specs.Setups.{Account, account_of, meaning, steps_of};
 ghost use Rattle.centre_rules.specs.Carrying.{carried as carried_of, carried_sent, own_signal as plain_signal, is_irregular as irregular_at};
 ghost use Rattle.centre_rules.specs.Carrying.{raised_where, is_silent, is_late};
 ghost use Rattle.centre_rules.specs.History.{IsMoment};
-ghost use Rattle.centre_core.specs.Raised.{rows_sum, AreOpenedAtMoments};
+ghost use Rattle.supervised_accounts.specs.Supervised.{ArePlacesOf, rows_sum};
+ghost use Rattle.centre_core.specs.Raised.{raised_of};
 
-use crate::watch;
-use account_rows::AccountRows;
 use accounts::Setup;
 use arc_data::{Carried, Class, Kind, Memory, Signal, Signals, StepList, Txt};
 use std::alloc::Global;
+use supervised_accounts::{Places, SupervisedAccounts};
 
 /// The signals of a message of an account, in their order. An opening signal outside the account's windows is followed by an
 /// Irregular signal. The error is want of memory.
@@ -36,22 +36,26 @@ pub(crate) fn signals_sent(
 }
 
 /// The signals of a Tick: first of the accounts that are silent, and then of those that close late, in the setup's order. The
-/// error is want of memory.
+/// setup is that in force. The error is want of memory.
 pub(crate) fn raise(
     alloc: Global,
     setup: &Setup,
-    rows: &AccountRows,
+    accounts: &SupervisedAccounts,
     at: u64,
 ) -> Result<Vec<Carried>, Memory>
     requires moment { IsMoment at }
-    requires openings { AreOpenedAtMoments rows.now }
-    ensures raised { IfOk result (λ v. v.items ≡ raised_where (is_silent (rows_sum rows.now) [] at) CommFail at (meaning setup.now)
-        ++ raised_where (is_late (rows_sum rows.now) [] at) LateClose at (meaning setup.now)) }
+    requires setup { accounts.now.text ≡ Some setup.now }
+    ensures raised { IfOk result (λ v. v.items ≡ raised_where (is_silent (rows_sum accounts.now.rows) [] at) CommFail at (meaning setup.now)
+        ++ raised_where (is_late (rows_sum accounts.now.rows) [] at) LateClose at (meaning setup.now)) }
     ensures few { IfOk result (λ v. length v.items ≤ 4000) }
 {
+    // Its clause says that a setup has at most 2,000 accounts.
+    let _most = setup.count();
+    let silent = accounts.silent(alloc, at)?;
+    let late = accounts.late(alloc, at)?;
     let mut raised = Vec::new(alloc);
-    raise_silent(&mut raised, setup, rows, at)?;
-    raise_late(&mut raised, setup, rows, at)?;
+    raise_at(&mut raised, setup, &silent, Class::CommFail, at)?;
+    raise_at(&mut raised, setup, &late, Class::LateClose, at)?;
     Ok(raised)
 }
 
@@ -76,47 +80,24 @@ fn push_sent(
     Ok(())
 }
 
-// Puts a CommFail signal of each silent account last.
-fn raise_silent(
+// Puts a signal of this class last for the account at each of the places.
+fn raise_at(
     raised: &mut Vec<Carried>,
     setup: &Setup,
-    rows: &AccountRows,
-    at: u64,
-) -> Result<(), Memory>
-    requires { IsMoment at }
-    ensures raised { OnOk result (raised.new.items ≡ raised.old.items
-        ++ raised_where (is_silent (rows_sum rows.now) [] at) CommFail at (meaning setup.now)) }
-    ensures few { length raised.new.items ≤ length raised.old.items + 2000 }
-{
-    for place in 0..setup.count() {
-        let account = setup.account(place);
-        if watch::is_silent(account, rows, at) {
-            let fail = own_signal(Class::CommFail);
-            push(raised, carried(setup, &account.number, at, true, fail))?;
-        }
-    }
-    Ok(())
-}
-
-// Puts a LateClose signal of each account that closes late last.
-fn raise_late(
-    raised: &mut Vec<Carried>,
-    setup: &Setup,
-    rows: &AccountRows,
+    places: &Places,
+    class: Class,
     at: u64,
 ) -> Result<(), Memory>
     requires moment { IsMoment at }
-    requires openings { AreOpenedAtMoments rows.now }
-    ensures raised { OnOk result (raised.new.items ≡ raised.old.items
-        ++ raised_where (is_late (rows_sum rows.now) [] at) LateClose at (meaning setup.now)) }
-    ensures few { length raised.new.items ≤ length raised.old.items + 2000 }
+    requires within { All (λ place. place < length (meaning setup.now).accounts) places.now }
+    ensures raised { OnOk result ((found : List Account) → ArePlacesOf places.now (meaning setup.now).accounts found
+        → raised.new.items ≡ raised.old.items ++ raised_of found class at (meaning setup.now)) }
+    ensures few { length raised.new.items ≤ length raised.old.items + length places.now }
 {
-    for place in 0..setup.count() {
-        let account = setup.account(place);
-        if watch::is_late(account, rows, at) {
-            let late = own_signal(Class::LateClose);
-            push(raised, carried(setup, &account.number, at, true, late))?;
-        }
+    for i in 0..places.count() {
+        let account = setup.account(places.at(i));
+        let signal = own_signal(class);
+        push(raised, carried(setup, &account.number, at, true, signal))?;
     }
     Ok(())
 }

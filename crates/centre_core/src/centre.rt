@@ -9,7 +9,6 @@ ghost use Rattle.centre_rules.specs.State.{StandsFor, Grows, entry_of};
 ghost use Rattle.centre_core.specs.Kept.{MayRecord, Records, IsAdopted, NoLess};
 
 use crate::ready::{Done, Ready};
-use account_rows::AccountRows;
 use accounts::Setup;
 use arc_data::{Carried, Event, Memory, Reply, SetupFault};
 use centre_rules::is_recorded;
@@ -18,6 +17,7 @@ use queued_incidents::QueuedTable;
 use std::alloc::Global;
 use std::marker::Model;
 use std::snapshot::Snapshot;
+use supervised_accounts::{SupervisedAccounts, WatchedSetup};
 
 /// The centre: how many entries it was given, and what it keeps of them. Contracts see its state, and say for which
 /// histories it stands.
@@ -26,8 +26,7 @@ pub struct Centre {
     pub(crate) entries: u64,
     pub(crate) recorded: u64,
     pub(crate) last: u64,
-    pub(crate) setup: Option<Setup>,
-    pub(crate) rows: AccountRows,
+    pub(crate) accounts: SupervisedAccounts,
     pub(crate) queued: QueuedTable,
 }
 
@@ -39,9 +38,9 @@ impl Model for Centre {
     ghost use Rattle.centre_marks.specs.Taken.{sum_of};
     ghost use Rattle.centre_core.specs.Kept.{IsCentre};
 
-    ghost view = { λ c. record { entries = c.entries; sum = sum_of c.last c.recorded c.setup c.rows c.queued; rooms = record { incidents = c.queued.room; accounts = c.rows.room } } };
+    ghost view = { λ c. record { entries = c.entries; sum = sum_of c.last c.recorded c.accounts.text c.accounts.rows c.queued; rooms = record { incidents = c.queued.room; accounts = c.accounts.rows.room } } };
 
-    ghost invariant = { λ c. IsCentre c.entries c.recorded c.last c.setup c.rows c.queued };
+    ghost invariant = { λ c. IsCentre c.entries c.recorded c.last c.accounts.text c.queued };
 }
 
 impl Centre {
@@ -53,8 +52,7 @@ impl Centre {
             entries: 0,
             recorded: 0,
             last: 0,
-            setup: None,
-            rows: AccountRows::new(alloc),
+            accounts: SupervisedAccounts::new(alloc),
             queued: QueuedTable::new(alloc),
         }
     }
@@ -77,7 +75,7 @@ impl Centre {
     pub fn setup(&self) -> Option<&Setup>
         ensures { option_map (λ s. s.now) result ≡ self.now.sum.text }
     {
-        self.setup.as_ref()
+        self.accounts.setup()
     }
 
     /// The open incidents.
@@ -163,7 +161,7 @@ impl Centre {
         event: Event,
         at: u64,
         reply: &Reply,
-        setup: Option<Setup>,
+        setup: Option<WatchedSetup>,
         carried: &[Carried],
     )
         requires { MayRecord self.old event at reply.now setup carried.now }
@@ -172,22 +170,30 @@ impl Centre {
         self.recorded += 1;
         self.last = at;
         if let Event::Adopt { .. } = event {
-            self.setup = setup;
+            let Some(setup) = setup else { unreachable!() };
+            self.accounts.adopt(setup);
             return;
         }
-        centre_marks::mark(&mut self.rows, &mut self.queued, event, at, reply, carried);
+        centre_marks::mark(
+            &mut self.accounts,
+            &mut self.queued,
+            event,
+            at,
+            reply,
+            carried,
+        );
     }
 }
 
-// The setup of an Adopt's text, where the event is one and its text is a setup.
-fn adopted(alloc: Global, event: &Event) -> Result<Option<Setup>, Memory>
+// The setup of an Adopt's text, with memory for the deadlines of its accounts, where the event is one and its text is a setup.
+fn adopted(alloc: Global, event: &Event) -> Result<Option<WatchedSetup>, Memory>
     ensures { IfOk result (IsAdopted event.now) }
 {
     let Event::Adopt { text } = event else {
         return Ok(None);
     };
     match Setup::read(alloc, text.bytes()) {
-        Ok(setup) => Ok(Some(setup)),
+        Ok(setup) => Ok(Some(WatchedSetup::of(alloc, setup)?)),
         Err(SetupFault::Memory) => Err(Memory),
         Err(_) => Ok(None),
     }

@@ -9,7 +9,6 @@ mod hall;
 mod orders;
 mod ready;
 mod reserving;
-mod watch;
 
 pub use accounts::Setup;
 pub use arc_data::{Blob, Event, Memory, Message, Reply, Token};
@@ -17,6 +16,3 @@ pub use centre::Centre;
 pub use hall::{Hall, RamHall, Stop};
 pub use incidents::Table;
 pub use ready::{Done, Ready};
-
-#[cfg(test)]
-mod tests;

@@ -8,8 +8,8 @@ ghost use Rattle.centre_rules.specs.Summary.{Summary};
 ghost use Rattle.centre_core.specs.Kept.{IsSetupOf};
 
 use crate::centre::Centre;
-use accounts::Setup;
 use arc_data::{Acted, Reply, Txt};
+use supervised_accounts::WatchedSetup;
 
 impl Centre {
     /// The answer to a heartbeat.
@@ -23,7 +23,7 @@ impl Centre {
     pub(crate) fn on_claim(&self, operator: &Txt, number: u64) -> Reply
         ensures { (at : ℕ) → result ≡ answer_over self.now.sum [] (Claim operator.now number) at }
     {
-        let reply = desk_answers::claim(self.queued.table(), operator, number);
+        let reply = desk_answers::claim(&self.queued, operator, number);
         if_known(self.knows_operator(operator), reply)
     }
 
@@ -64,7 +64,7 @@ impl Centre {
     fn knows(&self, account: &Txt) -> bool
         ensures { result ≡ knows_account (force self.now.sum []) account.now }
     {
-        match &self.setup {
+        match self.accounts.setup() {
             None => false,
             Some(setup) => setup.knows(account),
         }
@@ -74,7 +74,7 @@ impl Centre {
     fn knows_operator(&self, name: &Txt) -> bool
         ensures { result ≡ knows_operator (force self.now.sum []) name.now }
     {
-        match &self.setup {
+        match self.accounts.setup() {
             None => false,
             Some(setup) => setup.operator(name).is_some(),
         }
@@ -82,7 +82,7 @@ impl Centre {
 }
 
 /// The answer to an Adopt, of whose text this is the setup, where it is one.
-pub(crate) fn on_adopt(setup: &Option<Setup>) -> Reply
+pub(crate) fn on_adopt(setup: &Option<WatchedSetup>) -> Reply
     ensures { (s : Summary) (text : List ℕ) (at : ℕ) → IsSetupOf text setup.now → result ≡ answer_over s [] (Adopt text) at }
 {
     if setup.is_some() {

@@ -3,19 +3,19 @@ ghost use Rattle.std.specs.Prelude.{◌≡◌, not};
 ghost use Rattle.centre_rules.specs.History.{is_recorded, IsMoment};
 
 use crate::centre::Centre;
-use accounts::Setup;
 use arc_data::{Carried, Event, Reply};
 use centre_rules::is_recorded;
 use std::marker::Model;
 use std::snapshot::Snapshot;
+use supervised_accounts::WatchedSetup;
 
 /// The answer to an event, worked out over one state of one centre. It must be spent: applied to that centre, or discarded.
 pub struct Ready {
     pub(crate) event: Event,
     pub(crate) at: u64,
     pub(crate) reply: Reply,
-    // The setup of an Adopt's text, read already.
-    pub(crate) setup: Option<Setup>,
+    // The setup of an Adopt's text, read already, with memory for the deadlines of its accounts.
+    pub(crate) setup: Option<WatchedSetup>,
     // The signals that the entry carries, where it is recorded, each with the steps of the incident that it would open.
     pub(crate) carried: Vec<Carried>,
     pub(crate) of: Snapshot<Centre>,

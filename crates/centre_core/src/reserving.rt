@@ -23,7 +23,7 @@ impl Centre {
         ensures incidents { OnOk result (length self.new.sum.incidents + carried ≤ self.new.rooms.incidents) }
     {
         self.queued.reserve(carried)?;
-        self.rows.reserve(alloc, named(event) + carried)
+        self.accounts.reserve(alloc, named(event) + carried)
     }
 }
 

@@ -1,6 +1,6 @@
 -- The marks of a recorded event, taken up by the rows of the accounts and the table of incidents.
 use Rattle.std.specs.Prelude.{◌≡◌, ◌≤◌, ◌^◌, ◌+◌, ℕ, List, [], ◌∷◌, map, length, Option, IsSome}
-use Rattle.std.specs.List.{find}
+use Rattle.std.specs.List.{find, All}
 use Rattle.arc_data.specs.Incidents.{has_number}
 use Rattle.arc_data.specs.declared.event.Event.{Event}
 use Rattle.arc_data.specs.declared.event.Event.TheVariants.{Adopt, Start, Message as Sent, Beat, Tick, Claim, Next, Act as Do}
@@ -11,7 +11,7 @@ use Rattle.arc_data.specs.declared.reply.Reply.TheVariants.{Recorded, Closed}
 use Rattle.account_rows.specs.Rows.{RowsValue}
 use Rattle.centre_rules.specs.Summary.{Summary}
 use Rattle.centre_rules.specs.Marks.{Mark, Adopts, Starts, Sends, Hears, Carries, Carried}
-use Rattle.centre_rules.specs.History.{onto, acted_by, claim_marks, act_marks, release_marks, close_marks}
+use Rattle.centre_rules.specs.History.{IsMoment, onto, acted_by, claim_marks, act_marks, release_marks, close_marks}
 use Rattle.centre_rules.specs.State.{Same}
 use Rattle.incident_marks.specs.Marked.{IsFew, HaveActRoom, FitsAct}
 use Rattle.incidents.specs.Tables.{TableValue}
@@ -67,11 +67,16 @@ Fits (Do operator number step outcome) at reply is =
 Fits (Close operator number code) at reply is = (n : ℕ) → reply ≡ Closed n → IsSome (find (has_number n) is)
 Fits event at reply is = Unit {0}
 
+-- each signal comes at a moment
+abbrev pub AreOfMoments : List Carried → Type 0
+AreOfMoments xs = All (λ (x : Carried). IsMoment x.at) xs
+
 -- the marks of the event can be taken up
 pub record MayTake (event : Event) (at : ℕ) (reply : Reply) (carried : List Carried) (v : RowsValue) (t : TableValue) : Type 0 where
   pub bound : IsFew (2 ^ 61) t.opened t.incidents
   pub acts : HaveActRoom t.incidents
   pub few : length carried ≤ 8000
+  pub moments : AreOfMoments carried
   pub accounts : named_by event + length carried ≤ v.room
   pub incidents : length t.incidents + length carried ≤ t.room
   pub fits : Fits event at reply t.incidents

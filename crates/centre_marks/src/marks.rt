@@ -8,15 +8,15 @@ ghost use Rattle.centre_rules.specs.Marks.{Starts, Hears, Sends, Carries};
 ghost use Rattle.centre_rules.specs.History.{acted_by, claim_marks, act_marks, release_marks, close_marks};
 ghost use Rattle.incident_marks.specs.Marked.{IsFew, HaveActRoom, FitsAct};
 ghost use Rattle.incidents.specs.Tables.{TableValue};
-ghost use Rattle.centre_marks.specs.Taken.{Takes, MayTake, IsNoAdopt, marks_with};
+ghost use Rattle.centre_marks.specs.Taken.{Takes, MayTake, AreOfMoments, IsNoAdopt, marks_with};
 
-use account_rows::AccountRows;
 use arc_data::{Carried, Event, Message, Outcome, Reply, Step, Txt};
 use queued_incidents::QueuedTable;
+use supervised_accounts::SupervisedAccounts;
 
 /// Takes up the marks of a recorded event that is no Adopt, with its reply and the signals that it carries.
 pub fn mark(
-    rows: &mut AccountRows,
+    accounts: &mut SupervisedAccounts,
     table: &mut QueuedTable,
     event: Event,
     at: u64,
@@ -24,14 +24,15 @@ pub fn mark(
     carried: &[Carried],
 )
     requires other { IsNoAdopt event }
-    requires may { MayTake event at reply.now carried.now rows.old table.old }
-    ensures { Takes (marks_with carried.now event at reply.now) rows.old rows.new table.old table.new }
+    requires may { MayTake event at reply.now carried.now accounts.old.rows table.old }
+    ensures text { accounts.new.text ≡ accounts.old.text }
+    ensures taken { Takes (marks_with carried.now event at reply.now) accounts.old.rows accounts.new.rows table.old table.new }
 {
     match event {
-        Event::Start => start(rows, table, at),
-        Event::Message(message) => send(rows, table, message, at, carried),
-        Event::Beat { account } => rows.hear(&account, at),
-        Event::Tick => carry_all(rows, table, carried),
+        Event::Start => start(accounts, table, at),
+        Event::Message(message) => send(accounts, table, message, at, carried),
+        Event::Beat { account } => accounts.hear(&account, at),
+        Event::Tick => carry_all(accounts, table, carried),
         Event::Claim { operator, .. } | Event::Next { operator } => {
             claim(table, operator, at, reply);
         }
@@ -49,16 +50,17 @@ pub fn mark(
 }
 
 // A run starts.
-fn start(rows: &mut AccountRows, table: &mut QueuedTable, at: u64)
-    ensures { Takes (Starts at ∷ []) rows.old rows.new table.old table.new }
+fn start(accounts: &mut SupervisedAccounts, table: &mut QueuedTable, at: u64)
+    ensures text { accounts.new.text ≡ accounts.old.text }
+    ensures taken { Takes (Starts at ∷ []) accounts.old.rows accounts.new.rows table.old table.new }
 {
-    rows.start(at);
+    accounts.start(at);
     table.start();
 }
 
 // A message is recorded, and its signals are taken up.
 fn send(
-    rows: &mut AccountRows,
+    accounts: &mut SupervisedAccounts,
     table: &mut QueuedTable,
     message: Message,
     at: u64,
@@ -66,24 +68,28 @@ fn send(
 )
     requires bound { IsFew (2 ^ 61) table.old.opened table.old.incidents }
     requires few { length carried.now ≤ 8000 }
-    requires accounts { 1 + length carried.now ≤ rows.old.room }
+    requires moments { AreOfMoments carried.now }
+    requires accounts { 1 + length carried.now ≤ accounts.old.rows.room }
     requires incidents { length table.old.incidents + length carried.now ≤ table.old.room }
-    ensures { Takes (Sends message at ∷ map Carries carried.now) rows.old rows.new table.old table.new }
+    ensures text { accounts.new.text ≡ accounts.old.text }
+    ensures taken { Takes (Sends message at ∷ map Carries carried.now) accounts.old.rows accounts.new.rows table.old table.new }
 {
-    rows.send(message, at);
-    carry_all(rows, table, carried);
+    accounts.send(message, at);
+    carry_all(accounts, table, carried);
 }
 
 // Takes up signals, one after another.
-fn carry_all(rows: &mut AccountRows, table: &mut QueuedTable, carried: &[Carried])
+fn carry_all(accounts: &mut SupervisedAccounts, table: &mut QueuedTable, carried: &[Carried])
     requires bound { IsFew (2 ^ 61) table.old.opened table.old.incidents }
     requires few { length carried.now ≤ 8000 }
-    requires accounts { length carried.now ≤ rows.old.room }
+    requires moments { AreOfMoments carried.now }
+    requires accounts { length carried.now ≤ accounts.old.rows.room }
     requires incidents { length table.old.incidents + length carried.now ≤ table.old.room }
-    ensures { Takes (map Carries carried.now) rows.old rows.new table.old table.new }
+    ensures text { accounts.new.text ≡ accounts.old.text }
+    ensures taken { Takes (map Carries carried.now) accounts.old.rows accounts.new.rows table.old table.new }
 {
     for x in carried {
-        rows.carry(x);
+        accounts.carry(x);
         table.carry(x);
     }
 }

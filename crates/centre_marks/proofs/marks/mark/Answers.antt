@@ -4,11 +4,11 @@ use Rattle.centre_rules.specs.Marks.{Hears}
 use Rattle.centre_marks.proofs.Taking.{one_taken, heard_same, none_by, asked_none}
 use Rattle.centre_marks.proofs.marks.mark.Goals as goal
 
-pub returns-in-Beat : goal.returns-in-Beat
-returns-in-Beat c =
+pub returns-in-Beat-clause-taken : goal.returns-in-Beat-clause-taken
+returns-in-Beat-clause-taken c =
     rw c.in-Beat.is
-    (one_taken (Hears c.in-Beat.account c.args.at) c.args.rows.now c.hear.new.self c.args.table.now c.args.table.now (λ text. refl) c.hear.ensures.marked refl
+    (one_taken (Hears c.in-Beat.account c.args.at) c.args.accounts.now.rows c.hear.new.self.rows c.args.table.now c.args.table.now (λ text. refl) c.hear.ensures.marked refl
     (sym (heard_same c.in-Beat.account c.args.at c.args.table.now.incidents)) (λ n w. w) (λ r. r))
 
-pub returns : goal.returns
-returns c = none_by _ c.args.rows.now c.args.table.now (asked_none c.args.carried.now c.args.event c.args.at c.args.reply.now c.in-Show.is)
+pub returns-clause-taken : goal.returns-clause-taken
+returns-clause-taken c = none_by _ c.args.accounts.now.rows c.args.table.now (asked_none c.args.carried.now c.args.event c.args.at c.args.reply.now c.in-Show.is)

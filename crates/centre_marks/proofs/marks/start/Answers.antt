@@ -5,7 +5,7 @@ use Rattle.incidents.specs.Tables.{TableValue}
 use Rattle.centre_marks.proofs.Taking.{one_taken}
 use Rattle.centre_marks.proofs.marks.start.Goals as goal
 
-pub returns : goal.returns
-returns c =
-    one_taken (Starts c.args.at) c.args.rows.now c.start.new.self c.args.table.now c.start-2.new.self (λ text. refl) c.start.ensures.marked
+pub returns-clause-taken : goal.returns-clause-taken
+returns-clause-taken c =
+    one_taken (Starts c.args.at) c.args.accounts.now.rows c.start.new.self.rows c.args.table.now c.start-2.new.self (λ text. refl) c.start.ensures.marked
     (ap (λ (y : TableValue). y.opened) (c.start-2.ensures.marked c.args.at)) (ap (λ (y : TableValue). y.incidents) (c.start-2.ensures.marked c.args.at)) c.start-2.ensures.few c.start-2.ensures.room

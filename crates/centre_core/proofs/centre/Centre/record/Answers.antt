@@ -1,4 +1,7 @@
-use Rattle.std.proofs.Common.{◌≡◌, ◌+◌, ℕ, List, refl, sym, ap, subst, arith}
+use Rattle.std.proofs.Common.{◌≡◌, ◌∙◌, ◌+◌, sym, ap, subst, arith}
+use Rattle.std.specs.Prelude.{IfSome, IsOk}
+use Rattle.alarm_rules.specs.Setups.{setup_of}
+use Rattle.centre_marks.specs.Taken.{sum_of}
 use Rattle.arc_data.specs.declared.event.Event.{Event}
 use Rattle.centre_rules.specs.History.{IsMoment}
 use Rattle.centre_rules.specs.Marks.{Carried}
@@ -6,40 +9,41 @@ use Rattle.centre_rules.specs.State.{State}
 use Rattle.centre_core.specs.Kept.{MayRecord, Records}
 use Rattle.centre_core.specs.contracts.centre.Centre.{the_view}
 use Rattle.centre_core.proofs.Kept.{may_take, no_adopt, records_adopted, records_taken, counts_taken}
-use Rattle.centre_core.proofs.Opened.{AllOf, openings_taken, marks_timely, carried_at}
 use Rattle.centre_core.proofs.centre.Centre.record.Goals as goal
 
 pub returns-in-Adopt : goal.returns-in-Adopt
 returns-in-Adopt c =
     let s = c.args.self.now in
     let may = subst (λ (e : Event). MayRecord s e c.args.at c.args.reply.now c.args.setup c.args.carried.now) c.in-Adopt.is c.requires in
-    let t : State = the_view (record c.self.inside { recorded = c.self.inside.recorded + 1; last = c.args.at; setup = c.args.setup }) in
+    let t : State = the_view (record c.self.inside { recorded = c.self.inside.recorded + 1; last = c.args.at; accounts = c.adopt.new.self }) in
+    let text = c.adopt.ensures.text ∙ sym c.in-Some.is in
+    let sum : sum_of c.args.at (c.self.inside.recorded + 1) c.adopt.new.self.text c.adopt.new.self.rows c.self.inside.queued
+    ≡ sum_of c.args.at (c.self.inside.recorded + 1) c.args.setup c.self.inside.accounts.rows c.self.inside.queued =
+    λ i. sum_of c.args.at (c.self.inside.recorded + 1) (text i) (c.adopt.ensures.rows i) c.self.inside.queued in
     subst (λ (e : Event). Records s t e c.args.at c.args.reply.now) (sym c.in-Adopt.is)
-    (records_adopted s t c.in-Adopt.text c.args.at c.args.reply.now c.args.setup c.args.carried.now c.self.inside.rows c.self.inside.queued c.self.inside.last c.self.inside.recorded c.self.inside.setup
-    may (ap (λ (x : State). x.sum) (sym c.self.view_is)) (ap (λ (x : State). x.entries) c.self.view_is) refl)
+    (records_adopted s t c.in-Adopt.text c.args.at c.args.reply.now c.args.setup c.args.carried.now c.self.inside.accounts.rows c.self.inside.queued c.self.inside.last c.self.inside.recorded c.self.inside.accounts.text
+    may (ap (λ (x : State). x.sum) (sym c.self.view_is)) (ap (λ (x : State). x.entries) c.self.view_is) sum)
 
 pub mark-requires : goal.mark-requires
 mark-requires c = record {
   other = no_adopt c.args.event c.in_default.not-Adopt;
-  may = may_take c.args.self.now c.args.event c.args.at c.args.reply.now c.args.setup c.args.carried.now c.self.inside.rows c.self.inside.queued c.self.inside.entries c.self.inside.last c.self.inside.recorded c.self.inside.setup
+  may = may_take c.args.self.now c.args.event c.args.at c.args.reply.now c.args.setup c.args.carried.now c.self.inside.accounts.rows c.self.inside.queued c.self.inside.entries c.self.inside.last c.self.inside.recorded c.self.inside.accounts.text
       c.requires (ap (λ (x : State). x.sum) (sym c.self.view_is)) (ap (λ (x : State). x.rooms) (sym c.self.view_is)) c.self.invariant;
 }
 
 pub invariant_of-self-2 : goal.invariant_of-self-2
 invariant_of-self-2 c =
-    let carried = subst (λ (xs : List Carried). AllOf (λ (x : Carried). IsMoment x.at) xs) (sym (c.requires.worked.carried c.requires.recorded)) (carried_at c.args.self.now.sum c.args.event c.args.at c.requires.moment) in
     record {
       few = omega (arith, c.requires.count, ap (λ (x : State). x.entries) c.self.view_is, ap (λ (x : State). x.sum.recorded) c.self.view_is);
       bound = c.self.invariant.bound;
       moment = c.requires.moment;
-      valid = c.self.invariant.valid;
-      counts = counts_taken c.self.inside.recorded c.mark.new.table.opened c.mark.new.table.incidents (c.mark.ensures.few _ c.self.invariant.counts);
-      acts = c.mark.ensures.acts c.self.invariant.acts;
-      openings = openings_taken _ c.self.inside.rows c.mark.new.rows c.self.inside.queued c.mark.new.table c.mark.ensures
-          (marks_timely c.args.carried.now c.args.event c.args.at c.args.reply.now carried) c.self.invariant.openings;
+      valid = subst (λ o. IfSome o (λ x. IsOk (setup_of x))) (sym c.mark.ensures.text) c.self.invariant.valid;
+      counts = counts_taken c.self.inside.recorded c.mark.new.table.opened c.mark.new.table.incidents (c.mark.ensures.taken.few _ c.self.invariant.counts);
+      acts = c.mark.ensures.taken.acts c.self.invariant.acts;
     }
 
 pub returns : goal.returns
 returns c =
-    records_taken c.args.self.now _ c.args.event c.args.at c.args.reply.now c.args.setup c.args.carried.now c.self.inside.rows c.mark.new.rows c.self.inside.queued c.mark.new.table c.self.inside.last c.self.inside.recorded c.self.inside.setup
-    c.requires (ap (λ (x : State). x.sum) (sym c.self.view_is)) (ap (λ (x : State). x.entries) c.self.view_is) refl c.mark.ensures
+    records_taken c.args.self.now _ c.args.event c.args.at c.args.reply.now c.args.setup c.args.carried.now c.self.inside.accounts.rows c.mark.new.accounts.rows c.self.inside.queued c.mark.new.table c.self.inside.last c.self.inside.recorded c.self.inside.accounts.text
+    c.requires (ap (λ (x : State). x.sum) (sym c.self.view_is)) (ap (λ (x : State). x.entries) c.self.view_is)
+    (ap (λ o. sum_of c.args.at (c.self.inside.recorded + 1) o c.mark.new.accounts.rows c.mark.new.table) c.mark.ensures.text) c.mark.ensures.taken
