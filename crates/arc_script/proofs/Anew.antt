@@ -1,19 +1,15 @@
 -- What the line `X` leaves: all was made anew over what the journal keeps of a history, and a run began again, or was stopped.
-use Rattle.std.proofs.Common.{◌≡◌, ◌≤◌, ◌+◌, ◌++◌, ◌∷◌, ℕ, List, [], Bool, true, false, Option, Some, None, Result, Ok, Err, OnOk, OnErr, IfErr, IfSome, length, reverse, inl, inr, refl, sym, ap, subst, ◌∙◌, arith}
-use Rattle.std.specs.Prelude.{if◌then◌else◌, All, slice_get}
+use Rattle.std.proofs.Common.{◌≡◌, ◌≤◌, ◌+◌, ◌∷◌, ℕ, List, [], Option, Some, None, Result, Ok, Err, OnOk, OnErr, IfErr, IfSome, length, inl, refl, sym, ap, subst, ◌∙◌, arith}
+use Rattle.std.specs.Prelude.{All, slice_get}
 use Rattle.std.specs.Io.KnownBytes.{append_known}
 use Rattle.alarm_rules.specs.Setups.{meaning}
-use Rattle.arc_data.specs.declared.event.Event.TheVariants.{Adopt, Start}
-use Rattle.arc_data.specs.declared.reply.Reply.TheVariants.{Adopted, Started}
 use Rattle.arc_io.specs.Areas.{Areas}
 use Rattle.arc_io.specs.Crashes.{Becomes, IsQuiet, LeavesOnly}
 use Rattle.arc_io.specs.Seen.{PortSeen}
 use Rattle.centre_core.specs.declared.hall.Stop.{Stop}
-use Rattle.centre_rules.specs.Answers.{IsLegal}
-use Rattle.centre_rules.specs.History.{Entry, IsMoment, marks, moment_after, recorded}
-use Rattle.centre_rules.specs.Marks.{text}
+use Rattle.centre_rules.specs.History.{Entry, IsMoment, recorded}
 use Rattle.centre_rules.specs.Summary.{nothing}
-use Rattle.centre_store.specs.Begins.{adopted_after, begun_after, is_in_force, IsOfBegin}
+use Rattle.centre_store.specs.Begins.{begun_after, IsOfBegin}
 use Rattle.centre_store.specs.Bodies.{bodies_of}
 use Rattle.centre_store.specs.Openings.{IsOpened, IsRefused}
 use Rattle.centre_store.specs.Pasts.{AreKept}
@@ -26,84 +22,25 @@ use Rattle.disk_journal.specs.Reading.{GoesOn}
 use Rattle.disk_journal.specs.declared.journal.OpenRefused.{OpenRefused}
 use Rattle.line_session.specs.Lines as Line
 use Rattle.script_lines.specs.Lines.{Asked, Reopen, spelling}
-use Rattle.arc_script.specs.Between.{Begun, Between, CarriedOut, CountsMore, ShutAt, StoppedAt}
-use Rattle.arc_script.specs.Carrying.{HasRead, HaveTaken}
+use Rattle.arc_script.specs.Between.{Begun, Between, CarriedOut, ShutAt, StoppedAt}
+use Rattle.arc_script.specs.Carrying.{CountsMore, HasRead, HaveTaken}
 use Rattle.arc_script.specs.Causes.{HasShown}
-use Rattle.arc_script.specs.Ends.{DiskWords, Tells}
+use Rattle.arc_script.specs.Ends.{DiskWords, BegunUntil, Tells}
 use Rattle.arc_script.specs.Fed.{clock_of}
 use Rattle.arc_script.specs.Halting.{closing}
 use Rattle.arc_script.specs.Pages.{counted_line}
-use Rattle.arc_script.specs.Playing.{IsNewDesk, IsUntil}
+use Rattle.arc_script.specs.Playing.{IsNewDesk}
 use Rattle.arc_script.specs.Standing.{IsReadable, is_told}
 use Rattle.arc_script.specs.Steps.{Keeps, Step}
 use Rattle.arc_script.specs.Tallies.{count_of, is_closed, is_repeat}
 use Rattle.arc_script.specs.declared.script.Script.{Script}
 use Rattle.arc_script.specs.declared.script_end.Tally.{Tally}
+use Rattle.arc_script.proofs.Begun.{Adds, adds_begun, adds_until, readable_begun}
 use Rattle.arc_script.proofs.Counts.{grows_none}
 use Rattle.arc_script.proofs.Ended.{recorded_in}
 use Rattle.arc_script.proofs.Opening.{taken_none}
 use Rattle.arc_script.proofs.Reopening.{keeps_recorded, kept_recorded}
-use Rattle.arc_script.proofs.Telling.{readable_more, spared_tells}
-
--- What the beginning of a run adds.
-
-abbrev adopted_at : List ℕ → ℕ → Entry
-adopted_at setup at = record { caller = 0; event = Adopt setup; at = at; reply = Adopted }
-
-abbrev started_at : ℕ → Entry
-started_at at = record { caller = 0; event = Start; at = at; reply = Started }
-
--- entries of which none is counted lead from one history to the other
-record Adds (h x : List Entry) : Type 0 where
-  entries : List Entry
-  added : x ≡ reverse entries ++ h
-  repeats : count_of is_repeat entries ≡ 0
-  closed : count_of is_closed entries ≡ 0
-
-none_adds : (h : List Entry) → Adds h h
-none_adds h = record { entries = []; added = refl; repeats = refl; closed = refl }
-
-adopted_adds : (h : List Entry) (setup : List ℕ) (at : ℕ) (same : Bool) → Adds h (if same then h else adopted_at setup at ∷ h)
-adopted_adds h setup at true = none_adds h
-adopted_adds h setup at false = record { entries = adopted_at setup at ∷ []; added = refl; repeats = refl; closed = refl }
-
-begun_adds : (h : List Entry) (setup : List ℕ) (at start : ℕ) (same : Bool)
-    → Adds h (started_at start ∷ (if same then h else adopted_at setup at ∷ h))
-begun_adds h setup at start true = record { entries = started_at start ∷ []; added = refl; repeats = refl; closed = refl }
-begun_adds h setup at start false = record {
-  entries = adopted_at setup at ∷ started_at start ∷ [];
-  added = refl;
-  repeats = refl;
-  closed = refl;
-}
-
-begun_after_adds : (h : List Entry) (setup : List ℕ) (moment : ℕ) → Adds h (begun_after nothing h setup moment)
-begun_after_adds h setup moment =
-    begun_adds h setup (moment_after nothing h moment) (moment_after nothing (adopted_after nothing h setup moment) moment)
-    (is_in_force (text nothing (marks nothing h)) setup)
-
-until_adds : (h x : List Entry) (setup : List ℕ) (moment : ℕ) → IsUntil None setup moment h x → Adds h x
-until_adds h x setup moment (inl is) = subst (λ (k : List Entry). Adds h k) (sym is) (none_adds h)
-until_adds h x setup moment (inr (inl is)) =
-    subst (λ (k : List Entry). Adds h k) (sym is)
-    (adopted_adds h setup (moment_after nothing h moment) (is_in_force (text nothing (marks nothing h)) setup))
-until_adds h x setup moment (inr (inr is)) = subst (λ (k : List Entry). Adds h k) (sym is) (begun_after_adds h setup moment)
-
--- It can be read again.
-
-adopted_readable : (h : List Entry) (setup : List ℕ) (moment : ℕ) (same : Bool) → IsMoment moment → IsReadable h
-    → IsLegal nothing (if same then h else adopted_at setup (moment_after nothing h moment) ∷ h)
-    → IsReadable (if same then h else adopted_at setup (moment_after nothing h moment) ∷ h)
-adopted_readable h setup moment true fits kept legal = kept
-adopted_readable h setup moment false fits kept legal =
-    readable_more h (adopted_at setup (moment_after nothing h moment)) moment refl legal.0.event fits refl legal.0.reply kept
-
-begun_readable : (h : List Entry) (setup : List ℕ) (moment : ℕ) → IsMoment moment → IsReadable h
-    → IsLegal nothing (begun_after nothing h setup moment) → IsReadable (begun_after nothing h setup moment)
-begun_readable h setup moment fits kept legal =
-    let x = adopted_after nothing h setup moment in
-    readable_more x (started_at (moment_after nothing x moment)) moment refl legal.0.event fits refl legal.0.reply
-    (adopted_readable h setup moment (is_in_force (text nothing (marks nothing h)) setup) fits kept legal.1)
+use Rattle.arc_script.proofs.Telling.{spared_tells}
 
 -- Lines and desks that were made anew, behind more of the script.
 
@@ -208,7 +145,7 @@ module _ {D : Type 0} (w : DiskWords D) (script script' : Script) (s mid s' : St
       → CarriedOut w b before count number h Reopen script.tally script' s' p p'
   carried number p p' fits stands text put =
       let x = begun_after nothing past b.setup moment in
-      let adds = begun_after_adds past b.setup moment in
+      let adds = adds_begun b.setup moment past in
       let count_is : s'.state.sum.recorded ≡ length (recorded x) = (let e = stands.centre.recorded in omega (arith, e)) in
       let said = counted_line (length (recorded x)) in
       record {
@@ -222,7 +159,7 @@ module _ {D : Type 0} (w : DiskWords D) (script script' : Script) (s mid s' : St
           clock = moment;
           set = set;
           is = refl;
-          added = adds.added;
+          added = adds.is;
           sent = refl;
           text = refl;
         };
@@ -241,7 +178,7 @@ module _ {D : Type 0} (w : DiskWords D) (script script' : Script) (s mid s' : St
           taken = taken_anew b.setup (count + length (spelling Reopen)) before script'.lines.items script'.desks.items anew.lines anew.desks;
           store = record {
             stands = stands;
-            readable = begun_readable past b.setup moment fits readable_past stands.centre.legal;
+            readable = readable_begun b.setup moment past fits stands.centre.legal readable_past;
             tells = anew.tells ∙ between.store.tells;
             limits_are = limits_are;
             later = later;
@@ -249,24 +186,24 @@ module _ {D : Type 0} (w : DiskWords D) (script script' : Script) (s mid s' : St
         };
       }
 
-  stopped : (stop : Stop) (x : List Entry) → StoreStands w.told w.may_leave w.faults nothing s' x → IsUntil None b.setup moment past x
+  stopped : (stop : Stop) (x : List Entry) → StoreStands w.told w.may_leave w.faults nothing s' x → BegunUntil None b.setup moment past x
       → HasShown w.told w.may_leave w.faults s' stop moment (IsOfBegin b.setup)
       → StoppedAt w b before h Reopen stop script.tally script'.tally s'
   stopped stop x stands until cause =
-      let adds = until_adds past x b.setup moment until in
+      let adds = adds_until None b.setup moment past x until in
       record {
         waiting = [];
         partial = step_of 0 adds.entries [];
         history = x;
         clock = moment;
-        came = inl (inr (record {
+        came = inl (record {
           kept = past;
           keeps = keeps;
           clock = moment;
           set = set;
           until = until;
-          by = record { added = adds.added; sent = refl };
-        }));
+          by = record { added = adds.is; sent = refl };
+        });
         set = set;
         cause = cause;
         stands = stands;
@@ -295,7 +232,7 @@ module _ {D : Type 0} (w : DiskWords D) (script script' : Script) (s mid s' : St
 
   pub stopped_on : (r : Result (Unit {0}) Stop)
       → OnErr r ((k : List Entry) → StoreStands w.told w.may_leave w.faults nothing mid k
-      → (x : List Entry) × StoreStands w.told w.may_leave w.faults nothing s' x × IsUntil None script'.setup moment k x)
+      → (x : List Entry) × StoreStands w.told w.may_leave w.faults nothing s' x × BegunUntil None script'.setup moment k x)
       → IfErr r (λ stop. HasShown w.told w.may_leave w.faults s' stop moment (IsOfBegin script'.setup))
       → IfErr r (λ stop. (b : Begun D) (before : List Asked) (count : ℕ) (h : List Entry) → Between w b before count h script s
       → Holds w.told w.may_leave s.journal (bodies_of h) → clock_of before ≡ Some moment
@@ -305,7 +242,7 @@ module _ {D : Type 0} (w : DiskWords D) (script script' : Script) (s mid s' : St
       let same = anew.setup ∙ between.setup in
       let at = stops anew.opened.past anew.opened.stands in
       stopped w script script' s mid s' anew moment b before count h between held set stop at.0 at.1
-      (subst (λ (l : List ℕ). IsUntil None l moment anew.opened.past at.0) same at.2)
+      (subst (λ (l : List ℕ). BegunUntil None l moment anew.opened.past at.0) same at.2)
       (subst (λ (l : List ℕ). HasShown w.told w.may_leave w.faults s' stop moment (IsOfBegin l)) same cause)
 
 -- The journal was not opened again.

@@ -25,9 +25,9 @@ use Rattle.arc_script.specs.Carrying.{Carried, CountsStep, GrowsBy, Halted, Have
 use Rattle.arc_script.specs.Causes.{HasShown, IsOfFrame}
 use Rattle.arc_script.specs.Ends.{FedUntil}
 use Rattle.arc_script.specs.Fed.{clock_of, line_fed}
-use Rattle.arc_script.specs.Feeding.{CountsFed, FeedsBehind, FeedStops, HasFed, TookAt}
+use Rattle.arc_script.specs.Feeding.{CountsFed, FeedStops, HasFed, TookAt}
 use Rattle.arc_script.specs.Pages.{head_of, replied}
-use Rattle.arc_script.specs.Steps.{listed, replies_of, Feeds, FeedsLine, Step}
+use Rattle.arc_script.specs.Steps.{listed, replies_of, Feeds, FeedsBehind, Step}
 use Rattle.arc_script.specs.Tallies.{count_of, is_closed, is_repeat}
 use Rattle.arc_script.specs.declared.script_end.Tally.{Tally}
 use Rattle.arc_script.proofs.Answered.{are_replies, turns_lined}
@@ -46,20 +46,6 @@ step_of number asked letter line sent turns = record {
   text = head_of letter line ++ listed (replies_of turns) ++ 10 ∷ [];
 }
 
-line_of : (setup : List ℕ) (moment line : ℕ) (before : List Asked) (bytes : List ℕ) (h x : List Entry) (turns : List Turn) (more : List (List ℕ))
-    → clock_of before ≡ Some moment → FeedsBehind setup moment (line_fed line before) bytes h x turns more
-    → FeedsLine setup before line bytes h x turns more
-line_of setup moment line before bytes h x turns more set fed = record {
-  clock = moment;
-  set = set;
-  ended = fed.ended;
-  are = fed.are;
-  legal = fed.legal;
-  readings = fed.readings;
-  noise = fed.noise;
-  own = fed.own;
-}
-
 counts_step : (setup : List ℕ) (moment : ℕ) (stream bytes : List ℕ) (h x : List Entry) (turns : List Turn) (more : List (List ℕ))
     (sent : ℕ) (t t' : Tally) (s : Step) → FeedsBehind setup moment stream bytes h x turns more → CountsFed sent turns t t' → s.sent ≡ sent
     → s.entries ≡ entries_of line_turns turns → CountsStep s t t'
@@ -67,11 +53,13 @@ counts_step setup moment stream bytes h x turns more sent t t' s fed counts sent
     let same : t'.closed ≡ t.closed = ap (λ (k : Tally). k.closed) counts.rest in
     let none = closes_none h x (entries_of line_turns turns) fed.legal fed.own (turns_lined (meaning setup) h x turns fed.are) in
     record {
-      sent = subst (λ (n : ℕ). GrowsBy n t.sent t'.sent) (sym sent_is) counts.frames;
-      repeats = subst (λ (l : List Entry). GrowsBy (count_of is_repeat l) t.repeats t'.repeats) (sym entries_is)
-          counts.repeats;
-      closed = subst (λ (n : ℕ). GrowsBy (count_of is_closed s.entries) t.closed n) (sym same)
-          (grows_none (count_of is_closed s.entries) t.closed (ap (count_of is_closed) entries_is ∙ none));
+      more = record {
+        sent = subst (λ (n : ℕ). GrowsBy n t.sent t'.sent) (sym sent_is) counts.frames;
+        repeats = subst (λ (l : List Entry). GrowsBy (count_of is_repeat l) t.repeats t'.repeats) (sym entries_is)
+            counts.repeats;
+        closed = subst (λ (n : ℕ). GrowsBy (count_of is_closed s.entries) t.closed n) (sym same)
+            (grows_none (count_of is_closed s.entries) t.closed (ap (count_of is_closed) entries_is ∙ none));
+      };
       rest = counts.rest ∙ ap (λ (n : ℕ). record t { sent = t'.sent; repeats = t'.repeats; closed = n }) (sym same);
     }
 
@@ -80,7 +68,7 @@ feeds_of : (setup : List ℕ) (moment number letter line : ℕ) (asked : Asked) 
     → Feeds setup before letter line bytes h x (step_of number asked letter line (length turns) turns)
 unfolding step_of
 feeds_of setup moment number letter line asked before bytes h x turns set fed =
-    record { turns = turns; fed = line_of setup moment line before bytes h x turns [] set fed; entries = refl; sent = refl; text = refl }
+    record { turns = turns; fed = record { clock = moment; set = set; fed = fed }; entries = refl; sent = refl; text = refl }
 
 pub carried : {D : Type 0} (told_of : D → Option Areas) (may_leave : D → Areas → Type 0) (faults : D → ℕ) (s' : Stored D) (setup : List ℕ)
     (moment number letter line : ℕ) (asked : Asked) (before : List Asked) (bytes : List ℕ) (h : List Entry) (t t' : Tally) (p p' : PortSeen)
@@ -145,7 +133,7 @@ halted_at told_of may_leave faults s' setup moment letter line asked before byte
       history = w.history;
       came = inl (
         w.more,
-        record { turns = w.turns; fed = line_of setup moment line before bytes h w.history w.turns w.more set w.fed; entries = refl; sent = w.sent_is },
+        record { turns = w.turns; fed = record { clock = moment; set = set; fed = w.fed }; entries = refl; sent = w.sent_is },
         w.cause,
       );
       stands = w.stands;

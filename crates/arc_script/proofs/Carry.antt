@@ -7,20 +7,16 @@ use Rattle.centre_core.specs.declared.hall.Stop.TheVariants.{Memory}
 use Rattle.centre_rules.specs.History.{Entry, IsMoment}
 use Rattle.centre_store.specs.Stores.{Stored}
 use Rattle.script_lines.specs.Lines.{Asked}
-use Rattle.arc_script.specs.Between.{Begun, Between, CarriedOut, CountsMore, IsClock, StoppedAt}
-use Rattle.arc_script.specs.Carrying.{Carried, CountsStep, Halted, HaveTakenWith}
+use Rattle.arc_script.specs.Between.{Begun, Between, CarriedOut, IsClock, StoppedAt}
+use Rattle.arc_script.specs.Carrying.{Carried, Halted, HaveTakenWith}
 use Rattle.arc_script.specs.Causes.{HasShown, Submits}
 use Rattle.arc_script.specs.Ends.{DiskWords, Tells, CameTo}
 use Rattle.arc_script.specs.Fed.{clock_of}
 use Rattle.arc_script.specs.Playing.{moment_at}
 use Rattle.arc_script.specs.Standing.{is_told}
-use Rattle.arc_script.specs.Steps.{Step, IsStepOf}
+use Rattle.arc_script.specs.Steps.{IsStepOf}
 use Rattle.arc_script.specs.declared.script.Script.{Script}
-use Rattle.arc_script.specs.declared.script_end.Tally.{Tally}
 use Rattle.arc_script.proofs.Wanting.{clock_with}
-
-pub counts_more : {s : Step} {t t' : Tally} → CountsStep s t t' → CountsMore s t t'
-counts_more counts = record { sent = counts.sent; repeats = counts.repeats; closed = counts.closed }
 
 -- what a line over the store leaves alone
 pub record Stays {D : Type 0} (w : DiskWords D) (script script' : Script) (s s' : Stored D) : Type 0 where
@@ -55,7 +51,7 @@ module _ {D : Type 0} (w : DiskWords D) (b : Begun D) (before : List Asked) (cou
     asked_is = out.asked_is;
     is = out.is;
     text = out.text;
-    counts = counts_more out.counts;
+    counts = out.counts.more;
     between = record {
       setup = stays.setup ∙ between.setup;
       limits = stays.limits ∙ between.limits;
@@ -90,19 +86,19 @@ module _ {D : Type 0} (w : DiskWords D) (b : Begun D) (before : List Asked) (cou
           stands = out.stands;
           limits_are = stays.journal ∙ between.store.limits_are;
           later = subst (λ (n : ℕ). w.faults b.disk ≤ n) (sym stays.at_open) between.store.later;
-          counts = counts_more out.counts;
+          counts = out.counts.more;
         }
         | inr whole ↦ record {
           waiting = waiting;
           partial = out.partial;
           history = out.history;
           clock = moment;
-          came = inr whole;
+          came = inr (whole.0, inr whole.1);
           set = clock_with before asked moment set;
           cause = inl whole.0;
           stands = out.stands;
           limits_are = stays.journal ∙ between.store.limits_are;
           later = subst (λ (n : ℕ). w.faults b.disk ≤ n) (sym stays.at_open) between.store.later;
-          counts = counts_more out.counts;
+          counts = out.counts.more;
         }
       ]

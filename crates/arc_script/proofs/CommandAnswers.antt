@@ -60,9 +60,11 @@ halted_first told_of may_leave faults s setup clock desk before text h t stop r 
       stands = stands;
       readable = readable;
       counts = record {
-        sent = grows_none 0 t.sent refl;
-        repeats = grows_none 0 t.repeats refl;
-        closed = grows_none 0 t.closed refl;
+        more = record {
+          sent = grows_none 0 t.sent refl;
+          repeats = grows_none 0 t.repeats refl;
+          closed = grows_none 0 t.closed refl;
+        };
         rest = refl;
       };
     }

@@ -64,11 +64,13 @@ command_counts s s' t t' h x step entries before behind counted w entries_is sen
     let closed : t'.closed ≡ told (t.closed + count_of is_closed entries) =
     w.closed ∙ ap (λ (n : ℕ). told (t.closed + n)) (fewer s s' h x entries before behind counted) in
     record {
-      sent = subst (λ (n : ℕ). GrowsBy step.sent t.sent n) (sym sent) (grows_none step.sent t.sent sent_is);
-      repeats = subst (λ (n : ℕ). GrowsBy (count_of is_repeat step.entries) t.repeats n) (sym repeats)
-          (grows_none (count_of is_repeat step.entries) t.repeats (ap (count_of is_repeat) entries_is ∙ counted.repeats));
-      closed = subst (λ (l : List Entry). GrowsBy (count_of is_closed l) t.closed t'.closed) (sym entries_is)
-          (grows_told (count_of is_closed entries) t.closed t'.closed closed);
+      more = record {
+        sent = subst (λ (n : ℕ). GrowsBy step.sent t.sent n) (sym sent) (grows_none step.sent t.sent sent_is);
+        repeats = subst (λ (n : ℕ). GrowsBy (count_of is_repeat step.entries) t.repeats n) (sym repeats)
+            (grows_none (count_of is_repeat step.entries) t.repeats (ap (count_of is_repeat) entries_is ∙ counted.repeats));
+        closed = subst (λ (l : List Entry). GrowsBy (count_of is_closed l) t.closed t'.closed) (sym entries_is)
+            (grows_told (count_of is_closed entries) t.closed t'.closed closed);
+      };
       rest = w.rest ∙ ap (λ (n : ℕ). record t { sent = n; closed = t'.closed }) (sym sent)
           ∙ ap (λ (n : ℕ). record t { sent = t'.sent; repeats = n; closed = t'.closed }) (sym repeats);
     }

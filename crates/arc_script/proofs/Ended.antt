@@ -13,7 +13,8 @@ use Rattle.centre_store.specs.Stores.{Stored}
 use Rattle.disk_journal.specs.Journal.{Holds}
 use Rattle.disk_journal.specs.Records.{AtRest, Stands}
 use Rattle.script_lines.specs.Lines.{Asked, Time, Feed, Message, Command, Reopen, Asks}
-use Rattle.arc_script.specs.Between.{Begun, CountsSteps, CountsMore, IsClock, SoFar}
+use Rattle.arc_script.specs.Between.{Begun, CountsSteps, IsClock, SoFar}
+use Rattle.arc_script.specs.Carrying.{CountsMore}
 use Rattle.arc_script.specs.Ends.{DiskWords, Tells, HasRecorded, Played}
 use Rattle.arc_script.specs.Fed.{clock_of}
 use Rattle.arc_script.specs.Halting.{Halts, Whole, closing}

@@ -17,8 +17,8 @@ use Rattle.line_session.specs.Turns.{Turn, line_turns, AreTurns}
 use Rattle.session_rules.specs.Inputs.{in_limit, input_limit}
 use Rattle.session_rules.specs.Turns.{readings_of, noise_of, text_of}
 use Rattle.arc_script.proofs.Readings.{still, silent}
-use Rattle.arc_script.specs.Feeding.{FeedsBehind}
 use Rattle.arc_script.specs.Standing.{IsReadable, script_seen}
+use Rattle.arc_script.specs.Steps.{FeedsBehind}
 
 -- what a page tells of its clock and its noise before a line is fed, and after
 pub record PageTells (clock : ℕ) (p p' : PortSeen) : Type 0 where

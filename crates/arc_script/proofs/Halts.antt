@@ -25,8 +25,8 @@ use Rattle.session_rules.specs.Turns.{readings_of, noise_of}
 use Rattle.arc_script.proofs.Feeds.{PageTells, readings_count}
 use Rattle.arc_script.proofs.Readings.{still, silent}
 use Rattle.arc_script.specs.Causes.{HasShown, IsOfFrame}
-use Rattle.arc_script.specs.Feeding.{FeedsBehind}
 use Rattle.arc_script.specs.Standing.{IsReadable, script_seen}
+use Rattle.arc_script.specs.Steps.{FeedsBehind}
 
 -- the frames before the one that was stopped have their turns; that one may have taken its reading
 pub record FedUpTo {D : Type 0} (told : D → Option Areas) (may_leave : D → Areas → Type 0) (faults : D → ℕ) (s' : Stored D)

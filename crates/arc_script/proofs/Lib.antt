@@ -33,13 +33,13 @@ pub mod Halled
 pub mod Carry
 pub mod Opening
 pub mod Reopening
+pub mod Begun
 pub mod Anew
 pub mod Playing
 pub mod Pieces
 pub mod Finishing
 pub mod Beginning
 pub mod ToldShort
-pub mod Rests
 pub mod Timing
 pub mod Stepping
 pub mod AskedAt

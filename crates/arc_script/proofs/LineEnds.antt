@@ -10,7 +10,7 @@ use Rattle.centre_store.specs.Stores.{Stored, HasFailed}
 use Rattle.disk_journal.specs.declared.fault.OpenFault.{OpenFault}
 use Rattle.script_lines.specs.Lines.{Asked, Reopen, Asks, spelling}
 use Rattle.session_rules.specs.Inputs.{input_limit}
-use Rattle.arc_script.specs.Between.{Begun, CarriedOut, CountsSteps, IsClock, MayComeNext, SoFar, size_of}
+use Rattle.arc_script.specs.Between.{Begun, CarriedOut, Carries, CountsSteps, IsClock, MayComeNext, Shuts, SoFar, Stops, size_of}
 use Rattle.arc_script.specs.Carrying.{HaveTaken, IsNext}
 use Rattle.arc_script.specs.Ends.{DiskWords}
 use Rattle.arc_script.specs.Fed.{clock_of}
@@ -25,7 +25,6 @@ use Rattle.arc_script.specs.declared.script_end.Tally.{Tally}
 use Rattle.arc_script.proofs.Asking.{asks_played, next_line, playable}
 use Rattle.arc_script.proofs.Ended.{bad}
 use Rattle.arc_script.proofs.Further.{cut_off, further, shut, stopped}
-use Rattle.arc_script.proofs.Stepping.{Carries, Shuts, Stops}
 use Rattle.arc_script.proofs.Wanting.{nothing_done}
 
 -- behind all lines so far that ends the script

@@ -11,45 +11,20 @@ use Rattle.centre_rules.specs.Summary.{nothing}
 use Rattle.centre_store.specs.Bodies.{bodies_of}
 use Rattle.centre_store.specs.Stores.{Stored, StoreStands}
 use Rattle.disk_journal.specs.Journal.{Holds}
-use Rattle.disk_journal.specs.declared.fault.OpenFault.{OpenFault}
 use Rattle.script_lines.specs.Lines.{Asked, Time, Command, Reopen}
-use Rattle.arc_script.specs.Between.{Begun, Between, CarriedOut, ShutAt, StoppedAt}
+use Rattle.arc_script.specs.Between.{Begun, Between, CarriedOut, Carries, StoppedAt, Stops}
 use Rattle.arc_script.specs.Carrying.{Carried, Halted, HaveTakenWith, IsNext}
 use Rattle.arc_script.specs.Causes.{HasShown, IsOfCommand, IsOfTime, Submits}
 use Rattle.arc_script.specs.Ends.{DiskWords, Tells, AddedBy, CameTo}
 use Rattle.arc_script.specs.Fed.{clock_of}
-use Rattle.arc_script.specs.Playing.{TickStops, Ticked, before_tick, moment_at}
+use Rattle.arc_script.specs.Playing.{TickStops, Ticked, moment_at}
 use Rattle.arc_script.specs.Standing.{IsReadable}
-use Rattle.arc_script.specs.Steps.{Step, Commands, IsStepOf}
+use Rattle.arc_script.specs.Steps.{Step, Commands, IsStepOf, before_tick}
 use Rattle.arc_script.specs.declared.script.Script.{Script}
 use Rattle.arc_script.specs.declared.script_end.Tally.{Tally}
 use Rattle.arc_script.proofs.Carry.{Stays, carried_out, stopped_at}
 use Rattle.arc_script.proofs.Timing.{time_carried, time_stopped, time_taken}
 use Rattle.arc_script.proofs.Wanting.{clock_with}
-
--- behind each script that comes to this line it is carried out
-abbrev pub Carries : {D : Type 0} → DiskWords D → ℕ → Asked → Script → Script → Stored D → Stored D → PortSeen → PortSeen → Type 0
-Carries {D} w moment asked script script' s s' p p' =
-    (b : Begun D) (before : List Asked) (count number : ℕ) (h : List Entry) → Between w b before count h script s
-    → IsNext (meaning b.setup) moment count before asked script.lines.items script.desks.items
-    → Holds w.told w.may_leave s.journal (bodies_of h)
-    → CarriedOut w b before count number h asked script.tally script' s' p p'
-
--- or it is stopped
-abbrev pub Stops : {D : Type 0} → DiskWords D → ℕ → Asked → Script → Script → Stored D → Stored D → Stop → Type 0
-Stops {D} w moment asked script script' s s' stop =
-    (b : Begun D) (before : List Asked) (count : ℕ) (h : List Entry) → Between w b before count h script s
-    → IsNext (meaning b.setup) moment count before asked script.lines.items script.desks.items
-    → Holds w.told w.may_leave s.journal (bodies_of h)
-    → StoppedAt w b before h asked stop script.tally script'.tally s'
-
--- or the journal is not opened again
-abbrev pub Shuts : {D : Type 0} → DiskWords D → ℕ → Asked → Script → Stored D → OpenFault → D → Type 0
-Shuts {D} w moment asked script s fault disk =
-    (b : Begun D) (before : List Asked) (count : ℕ) (h : List Entry) → Between w b before count h script s
-    → IsNext (meaning b.setup) moment count before asked script.lines.items script.desks.items
-    → Holds w.told w.may_leave s.journal (bodies_of h)
-    → ShutAt w b h fault disk
 
 -- The clock.
 
@@ -178,7 +153,7 @@ failed_at w b before count number h a moment stop t script' s' p p' is set out =
   partial = out.step;
   history = out.history;
   clock = moment;
-  came = inr (is, out.is);
+  came = inr (is, inr out.is);
   set = clock_with before a moment set;
   cause = inl is;
   stands = out.between.store.stands;

@@ -15,8 +15,9 @@ use Rattle.centre_rules.specs.Summary.{nothing}
 use Rattle.centre_store.specs.Begins.{adopted_after, begun_after}
 use Rattle.centre_store.specs.Stores.{Stored, StoreStands, Takes}
 use Rattle.desk_wire.specs.Replies.{line_of}
-use Rattle.arc_script.specs.Playing.{IsUntil, TickStops, Ticked, before_tick}
-use Rattle.arc_script.specs.Steps.{entry_after}
+use Rattle.arc_script.specs.Ends.{BegunUntil}
+use Rattle.arc_script.specs.Playing.{TickStops, Ticked}
+use Rattle.arc_script.specs.Steps.{before_tick, entry_after}
 use Rattle.arc_script.proofs.Stops.{of_each, of_memory}
 
 abbrev pub entry_with : Event → ℕ → Reply → Entry
@@ -28,7 +29,7 @@ entry_is h event clock at reply is answered =
     ap (entry_with event at) answered ∙ ap (λ (t : ℕ). entry_with event t (answer nothing h event t)) is
 
 -- the history before the Tick is one that a `T` comes to
-pub until_before : (clock : Option ℕ) (setup : List ℕ) (moment : ℕ) (h : List Entry) → IsUntil clock setup moment h (before_tick clock setup moment h)
+pub until_before : (clock : Option ℕ) (setup : List ℕ) (moment : ℕ) (h : List Entry) → BegunUntil clock setup moment h (before_tick clock setup moment h)
 until_before None setup moment h = inr (inr refl)
 until_before (Some last) setup moment h = refl
 
@@ -36,12 +37,12 @@ until_before (Some last) setup moment h = refl
 first_until : {D : Type 0} {told : D → Option Areas} {may_leave : D → Areas → Type 0} {faults : D → ℕ} {s' : Stored D}
     (clock : Option ℕ) (setup : List ℕ) (moment : ℕ) (h : List Entry) → clock ≡ None
     → StoreStands told may_leave faults nothing s' h ⊎ StoreStands told may_leave faults nothing s' (adopted_after nothing h setup moment)
-    → (x : List Entry) × StoreStands told may_leave faults nothing s' x × IsUntil clock setup moment h x
-first_until clock setup moment h is (inl w) = (h, w, subst (λ (k : Option ℕ). IsUntil k setup moment h h) (sym is) (inl refl))
+    → (x : List Entry) × StoreStands told may_leave faults nothing s' x × BegunUntil clock setup moment h x
+first_until clock setup moment h is (inl w) = (h, w, subst (λ (k : Option ℕ). BegunUntil k setup moment h h) (sym is) (inl refl))
 first_until clock setup moment h is (inr w) = (
   adopted_after nothing h setup moment,
   w,
-  subst (λ (k : Option ℕ). IsUntil k setup moment h (adopted_after nothing h setup moment)) (sym is) (inr (inl refl)),
+  subst (λ (k : Option ℕ). BegunUntil k setup moment h (adopted_after nothing h setup moment)) (sym is) (inr (inl refl)),
 )
 
 pub first_stops : {D : Type 0} (told : D → Option Areas) (may_leave : D → Areas → Type 0) (faults : D → ℕ) (s s' : Stored D)
@@ -49,7 +50,7 @@ pub first_stops : {D : Type 0} (told : D → Option Areas) (may_leave : D → Ar
     → OnErr r ((h : List Entry) → StoreStands told may_leave faults nothing s h
     → StoreStands told may_leave faults nothing s' h ⊎ StoreStands told may_leave faults nothing s' (adopted_after nothing h setup moment))
     → OnErr r ((h : List Entry) → StoreStands told may_leave faults nothing s h
-    → (x : List Entry) × StoreStands told may_leave faults nothing s' x × IsUntil clock setup moment h x)
+    → (x : List Entry) × StoreStands told may_leave faults nothing s' x × BegunUntil clock setup moment h x)
 first_stops told may_leave faults s s' (Ok done) clock setup moment is w = tt
 first_stops told may_leave faults s s' (Err stop) clock setup moment is w = λ h over. first_until clock setup moment h is (w h over)
 
@@ -122,7 +123,7 @@ pub again_stops : {D : Type 0} (told : D → Option Areas) (may_leave : D → Ar
     → ((h : List Entry) → StoreStands told may_leave faults nothing s h
     → StoreStands told may_leave faults nothing s' h ⊎ StoreStands told may_leave faults nothing s' (adopted_after nothing h setup moment))
     → OnErr r ((h : List Entry) → StoreStands told may_leave faults nothing s h
-    → (x : List Entry) × StoreStands told may_leave faults nothing s' x × IsUntil None setup moment h x)
+    → (x : List Entry) × StoreStands told may_leave faults nothing s' x × BegunUntil None setup moment h x)
 again_stops told may_leave faults s s' (Ok done) setup moment stops = tt
 again_stops told may_leave faults s s' (Err stop) setup moment stops = λ h over. first_until None setup moment h refl (stops h over)
 
@@ -131,7 +132,7 @@ pub again_unsaid : {D : Type 0} (told : D → Option Areas) (may_leave : D → A
     {A : Type 0} (r : Result A Stop) (setup : List ℕ) (moment : ℕ)
     → ((h : List Entry) → StoreStands told may_leave faults nothing s h → StoreStands told may_leave faults nothing s' (begun_after nothing h setup moment))
     → OnErr r ((h : List Entry) → StoreStands told may_leave faults nothing s h
-    → (x : List Entry) × StoreStands told may_leave faults nothing s' x × IsUntil None setup moment h x)
+    → (x : List Entry) × StoreStands told may_leave faults nothing s' x × BegunUntil None setup moment h x)
 again_unsaid told may_leave faults s s' (Ok done) setup moment begun = tt
 again_unsaid told may_leave faults s s' (Err stop) setup moment begun =
     λ h over. (begun_after nothing h setup moment, begun h over, inr (inr refl))

@@ -1,5 +1,5 @@
 -- What a script has done between two of its lines, and what one line more does.
-use Rattle.std.specs.Prelude.{◌≡◌, ◌≤◌, ◌⊎◌, ◌+◌, ℕ, List, [], ◌∷◌, false, Option, Some, IfSome, length}
+use Rattle.std.specs.Prelude.{◌≡◌, ◌≤◌, ◌+◌, ℕ, List, [], ◌∷◌, false, Option, Some, IfSome, length}
 use Rattle.std.specs.Io.KnownBytes.{append_known}
 use Rattle.std.specs.List.{list_any}
 use Rattle.alarm_rules.specs.Setups.{meaning}
@@ -7,7 +7,6 @@ use Rattle.arc_io.specs.Areas.{Areas}
 use Rattle.arc_io.specs.Seen.{PortSeen}
 use Rattle.arc_text.specs.Lines.{is_feed}
 use Rattle.centre_core.specs.declared.hall.Stop.{Stop}
-use Rattle.centre_core.specs.declared.hall.Stop.TheVariants.{Memory}
 use Rattle.centre_rules.specs.Cases.{opened}
 use Rattle.centre_rules.specs.History.{Entry, IsMoment, marks}
 use Rattle.centre_rules.specs.Summary.{nothing}
@@ -18,9 +17,9 @@ use Rattle.disk_journal.specs.declared.fault.OpenFault.{OpenFault}
 use Rattle.disk_journal.specs.declared.journal.Limits.{Limits}
 use Rattle.script_lines.specs.Lines.{Asked, spelling}
 use Rattle.session_rules.specs.Inputs.{input_limit}
-use Rattle.arc_script.specs.Carrying.{HaveTaken, GrowsBy}
+use Rattle.arc_script.specs.Carrying.{CountsMore, HaveTaken, IsNext}
 use Rattle.arc_script.specs.Causes.{HasShown, Submits}
-use Rattle.arc_script.specs.Ends.{DiskWords, Tells, HasRecorded, IsUnopened, CameTo}
+use Rattle.arc_script.specs.Ends.{DiskWords, Tells, HasRecorded, IsUnopened, CameFor}
 use Rattle.arc_script.specs.Fed.{clock_of}
 use Rattle.arc_script.specs.Standing.{IsReadable, is_told}
 use Rattle.arc_script.specs.Steps.{Step, IsStepOf, AreSteps, asked_after, output_of}
@@ -92,12 +91,6 @@ pub record CountsSteps (steps : List Step) (t : Tally) : Type 0 where
   pub repeats : t.repeats ≡ told (count_of is_repeat (entries_of steps))
   pub closed : t.closed ≡ told (count_of is_closed (entries_of steps))
 
--- one more step is counted
-pub record CountsMore (s : Step) (t t' : Tally) : Type 0 where
-  pub sent : GrowsBy s.sent t.sent t'.sent
-  pub repeats : GrowsBy (count_of is_repeat s.entries) t.repeats t'.repeats
-  pub closed : GrowsBy (count_of is_closed s.entries) t.closed t'.closed
-
 -- These lines were carried out, and no more: their steps, the history behind them, which the journal has, and their output.
 pub record SoFar {D : Type 0} (w : DiskWords D) (b : Begun D) (lines : List (List ℕ)) (script : Script) (s : Stored D) (p : PortSeen)
     : Type 0 where
@@ -131,8 +124,7 @@ pub record StoppedAt {D : Type 0} (w : DiskWords D) (b : Begun D) (before : List
   pub partial : Step
   pub history : List Entry
   pub clock : ℕ
-  pub came : CameTo (Tells w b.disk) b.setup before waiting h history partial asked
-      ⊎ ((stop ≡ Memory) × IsStepOf (Tells w b.disk) b.setup before h history partial asked)
+  pub came : CameFor stop (Tells w b.disk) b.setup before waiting h history partial asked
   pub set : clock_of (asked ∷ before) ≡ Some clock
   pub cause : HasShown w.told w.may_leave w.faults s stop clock (Submits b.setup before clock waiting asked)
   pub stands : StoreStands w.told w.may_leave w.faults nothing s history
@@ -146,3 +138,27 @@ pub record ShutAt {D : Type 0} (w : DiskWords D) (b : Begun D) (h : List Entry) 
   pub later : w.faults b.disk ≤ w.faults closed
   pub area : HasRecorded w closed h
   pub unopened : IsUnopened w fault closed disk
+
+-- behind each script that comes to this line it is carried out
+abbrev pub Carries : {D : Type 0} → DiskWords D → ℕ → Asked → Script → Script → Stored D → Stored D → PortSeen → PortSeen → Type 0
+Carries {D} w moment asked script script' s s' p p' =
+    (b : Begun D) (before : List Asked) (count number : ℕ) (h : List Entry) → Between w b before count h script s
+    → IsNext (meaning b.setup) moment count before asked script.lines.items script.desks.items
+    → Holds w.told w.may_leave s.journal (bodies_of h)
+    → CarriedOut w b before count number h asked script.tally script' s' p p'
+
+-- or it is stopped
+abbrev pub Stops : {D : Type 0} → DiskWords D → ℕ → Asked → Script → Script → Stored D → Stored D → Stop → Type 0
+Stops {D} w moment asked script script' s s' stop =
+    (b : Begun D) (before : List Asked) (count : ℕ) (h : List Entry) → Between w b before count h script s
+    → IsNext (meaning b.setup) moment count before asked script.lines.items script.desks.items
+    → Holds w.told w.may_leave s.journal (bodies_of h)
+    → StoppedAt w b before h asked stop script.tally script'.tally s'
+
+-- or the journal is not opened again
+abbrev pub Shuts : {D : Type 0} → DiskWords D → ℕ → Asked → Script → Stored D → OpenFault → D → Type 0
+Shuts {D} w moment asked script s fault disk =
+    (b : Begun D) (before : List Asked) (count : ℕ) (h : List Entry) → Between w b before count h script s
+    → IsNext (meaning b.setup) moment count before asked script.lines.items script.desks.items
+    → Holds w.told w.may_leave s.journal (bodies_of h)
+    → ShutAt w b h fault disk

@@ -55,11 +55,15 @@ pub record IsNext (setup : Setup) (moment count : ℕ) (before : List Asked) (as
 abbrev pub HaveTakenWith : Setup → ℕ → List Asked → Asked → List Line.LineValue → List Desk.DeskValue → Type 0
 HaveTakenWith setup count before asked lines desks = HaveTaken setup (count + length (spelling asked)) (asked ∷ before) lines desks
 
--- a step is counted; what is told of the centre is taken at the end
-pub record CountsStep (s : Step) (t t' : Tally) : Type 0 where
+-- one more step is counted
+pub record CountsMore (s : Step) (t t' : Tally) : Type 0 where
   pub sent : GrowsBy s.sent t.sent t'.sent
   pub repeats : GrowsBy (count_of is_repeat s.entries) t.repeats t'.repeats
   pub closed : GrowsBy (count_of is_closed s.entries) t.closed t'.closed
+
+-- and no more; what is told of the centre is taken at the end
+pub record CountsStep (s : Step) (t t' : Tally) : Type 0 where
+  pub more : CountsMore s t t'
   pub rest : t' ≡ record t { sent = t'.sent; repeats = t'.repeats; closed = t'.closed }
 
 -- The line has its step: its output was put, it is counted, and the store stands for the history behind it.

@@ -1,5 +1,5 @@
 -- How a script ended, and what it did.
-use Rattle.std.specs.Prelude.{◌≡◌, ◌<◌, ◌≤◌, ◌⊎◌, ◌++◌, ℕ, List, [], ◌∷◌, true, Option, Some, IfSome, take, length, reverse, suc}
+use Rattle.std.specs.Prelude.{◌≡◌, ◌<◌, ◌≤◌, ◌⊎◌, ◌++◌, ℕ, List, [], ◌∷◌, true, Option, Some, None, IfSome, take, length, reverse, suc}
 use Rattle.std.specs.Io.KnownBytes.{prepend_known, append_known, IsAtEnd}
 use Rattle.arc_data.specs.Digits.{bytes_spelled}
 use Rattle.arc_io.specs.Areas.{Areas}
@@ -111,9 +111,9 @@ pub record IsCutOff {D : Type 0} (w : DiskWords D) (Told : Type 0) (setup : List
   pub area : HasRecorded w disk' played.history
   pub counts : IsTally past played.steps played.history tally
 
--- How far a line came that was stopped: the history that it left, from h on. It may have ended its work, where memory was wanted for its
--- output. A `T` may have begun the run, or adopted its setup, before; an `X` over what the journal keeps; of a line those frames have
--- their turns that came before the one that was stopped. That one is the first that waits.
+-- How far a line came that was stopped: the history that it left, from h on. A `T` may have begun the run, or adopted its setup, before; so
+-- may an `X`, but over what the journal keeps, for it has closed the store; of a line those frames have their turns that came before the
+-- one that was stopped. That one is the first that waits.
 pub record FedUntil (setup : List ℕ) (before : List Asked) (line : ℕ) (bytes : List ℕ)
     (waiting : List (List ℕ)) (h x : List Entry) (s : Step) : Type 0 where
   pub turns : List Turn
@@ -125,24 +125,32 @@ pub record AddedBy (h x : List Entry) (s : Step) : Type 0 where
   pub added : x ≡ reverse s.entries ++ h
   pub sent : s.sent ≡ 0
 
-abbrev pub BegunUntil : List Asked → List ℕ → ℕ → List Entry → List Entry → Type 0
-BegunUntil [] setup moment h x = (x ≡ h) ⊎ (x ≡ adopted_after nothing h setup moment) ⊎ (x ≡ begun_after nothing h setup moment)
-BegunUntil (first ∷ before) setup moment h x = x ≡ h
+-- how far the beginning of a run came, which may have adopted its setup, or ended; none begins where a clock was set before
+abbrev pub BegunUntil : Option ℕ → List ℕ → ℕ → List Entry → List Entry → Type 0
+BegunUntil None setup moment h x = (x ≡ h) ⊎ (x ≡ adopted_after nothing h setup moment) ⊎ (x ≡ begun_after nothing h setup moment)
+BegunUntil (Some last) setup moment h x = x ≡ h
 
 pub record ReopenedUntil (Told : Type 0) (setup : List ℕ) (before : List Asked) (h x : List Entry) (s : Step) : Type 0 where
   pub kept : List Entry
   pub keeps : Keeps Told h kept
   pub clock : ℕ
   pub set : clock_of before ≡ Some clock
-  pub until : (x ≡ kept) ⊎ (x ≡ adopted_after nothing kept setup clock) ⊎ (x ≡ begun_after nothing kept setup clock)
+  pub until : BegunUntil None setup clock kept x
   pub by : AddedBy kept x s
 
 abbrev pub CameTo : Type 0 → List ℕ → List Asked → List (List ℕ) → List Entry → List Entry → Step → Asked → Type 0
-CameTo Told setup before waiting h x s (Time moment) = BegunUntil before setup moment h x × AddedBy h x s
+CameTo Told setup before waiting h x s (Time moment) = BegunUntil (clock_of before) setup moment h x × AddedBy h x s
 CameTo Told setup before waiting h x s (Feed line digits) = FedUntil setup before line (bytes_spelled digits) waiting h x s
 CameTo Told setup before waiting h x s (Message line body) = FedUntil setup before line (frame_of body) waiting h x s
 CameTo Told setup before waiting h x s (Command desk text) = (x ≡ h) × AddedBy h x s
-CameTo Told setup before waiting h x s Reopen = ((x ≡ h) × AddedBy h x s) ⊎ ReopenedUntil Told setup before h x s
+CameTo Told setup before waiting h x s Reopen = ReopenedUntil Told setup before h x s
+
+-- How far it came that was stopped for this. Where memory was wanted it may have done nothing yet, as an `X` that has not closed the store,
+-- or all but its output.
+abbrev pub CameFor : Stop → Type 0 → List ℕ → List Asked → List (List ℕ) → List Entry → List Entry → Step → Asked → Type 0
+CameFor stop Told setup before waiting h x s asked =
+    CameTo Told setup before waiting h x s asked
+    ⊎ ((stop ≡ Memory) × (((x ≡ h) × AddedBy h x s) ⊎ IsStepOf Told setup before h x s asked))
 
 -- The next line was stopped. It has no output, and what it recorded before stands: the store that showed the stop, for an event of this
 -- line at the moment that is set, stands for it, and its disk is handed back. So the area stands for it, and after a fault of the disk for
@@ -161,8 +169,7 @@ pub record IsHalted {D : Type 0} (w : DiskWords D) (Told : Type 0) (setup : List
   pub last : Stored D
   pub next : played.behind ≡ (number, line) ∷ more
   pub asks : IsPlayable (asked_after [] played.steps) line asked
-  pub came : CameTo Told setup (asked_after [] played.steps) waiting played.history history partial asked
-      ⊎ ((stop ≡ Memory) × IsStepOf Told setup (asked_after [] played.steps) played.history history partial asked)
+  pub came : CameFor stop Told setup (asked_after [] played.steps) waiting played.history history partial asked
   pub set : clock_of (asked ∷ asked_after [] played.steps) ≡ Some clock
   pub cause : HasShown w.told w.may_leave w.faults last stop clock (Submits setup (asked_after [] played.steps) clock waiting asked)
   pub stands : StoreStands w.told w.may_leave w.faults nothing last history

@@ -1,36 +1,23 @@
 -- What feeding bytes to a line does.
-use Rattle.std.specs.Prelude.{◌≡◌, ◌⊎◌, ◌++◌, ℕ, List, [], Option, IfSome, map, reverse, length, replicate, suc}
+use Rattle.std.specs.Prelude.{◌≡◌, ◌⊎◌, ℕ, List, [], Option, IfSome, length, suc}
 use Rattle.std.specs.List.{slice_get}
-use Rattle.alarm_rules.specs.Setups.{meaning}
 use Rattle.arc_io.specs.Areas.{Areas}
 use Rattle.centre_core.specs.declared.hall.Stop.{Stop}
-use Rattle.centre_rules.specs.Answers.{IsLegal}
 use Rattle.centre_rules.specs.History.{Entry}
 use Rattle.centre_rules.specs.Summary.{nothing}
 use Rattle.centre_store.specs.Stores.{Stored, StoreStands}
-use Rattle.dc09_frame.specs.Frames.{bodies}
 use Rattle.line_session.specs.Lines.{LineValue, TookStream}
-use Rattle.line_session.specs.Turns.{Turn, line_turns, AreTurns}
-use Rattle.session_rules.specs.Turns.{entries_of, readings_of, noise_of, text_of}
+use Rattle.line_session.specs.Turns.{Turn, line_turns}
+use Rattle.session_rules.specs.Turns.{entries_of, text_of}
 use Rattle.arc_script.specs.Causes.{HasShown, IsOfFrame}
 use Rattle.arc_script.specs.Standing.{IsReadable}
+use Rattle.arc_script.specs.Steps.{FeedsBehind}
 use Rattle.arc_script.specs.Tallies.{is_repeat, count_of, GrowsBy}
 use Rattle.arc_script.specs.declared.script_end.Tally.{Tally}
 
 -- the line at this place took this stream
 abbrev pub TookAt : List ℕ → List LineValue → ℕ → Type 0
 TookAt stream lines place = IfSome (slice_get lines place) (TookStream stream)
-
--- The turns of a line that took a stream and was fed bytes: one for each whole frame that ends in them, at this moment, with zeros for
--- noise. They stand behind one another in the history, and nothing else does. More frames may have no turn.
-pub record FeedsBehind (setup : List ℕ) (clock : ℕ) (stream bytes : List ℕ) (h x : List Entry) (turns : List Turn)
-    (more : List (List ℕ)) : Type 0 where
-  pub ended : bodies (stream ++ bytes) ≡ bodies stream ++ map (λ t. t.body) turns ++ more
-  pub are : AreTurns nothing (meaning setup) 0 h x turns
-  pub legal : IsLegal nothing x
-  pub readings : readings_of line_turns turns ≡ replicate (length turns) clock
-  pub noise : noise_of line_turns turns ≡ replicate (length (noise_of line_turns turns)) 0
-  pub own : x ≡ reverse (entries_of line_turns turns) ++ h
 
 -- the frames that were fed and the repeats among their replies are counted
 pub record CountsFed (sent : ℕ) (turns : List Turn) (t t' : Tally) : Type 0 where

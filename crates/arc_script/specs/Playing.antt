@@ -8,7 +8,6 @@ use Rattle.centre_core.specs.declared.hall.Stop.{Stop}
 use Rattle.centre_core.specs.declared.hall.Stop.TheVariants.{Memory}
 use Rattle.centre_rules.specs.History.{Entry}
 use Rattle.centre_rules.specs.Summary.{nothing}
-use Rattle.centre_store.specs.Begins.{adopted_after, begun_after}
 use Rattle.centre_store.specs.Stores.{Stored, StoreStands}
 use Rattle.alarm_rules.specs.Setups.{Setup}
 use Rattle.desk_session.specs.Desks.{DeskValue, TookStream}
@@ -16,7 +15,8 @@ use Rattle.desk_wire.specs.Replies.{line_of}
 use Rattle.script_lines.specs.Lines.{Asked, Time, Feed, Message, Command, Reopen, Asks}
 use Rattle.script_lines.specs.Reading.{asked}
 use Rattle.script_lines.specs.declared.line.ScriptLine.{ScriptLine}
-use Rattle.arc_script.specs.Steps.{entry_after}
+use Rattle.arc_script.specs.Ends.{BegunUntil}
+use Rattle.arc_script.specs.Steps.{before_tick, entry_after}
 use Rattle.arc_script.specs.Texts.{line_limit}
 
 -- the moment of a line, by the one that was set before: its own, or that one
@@ -36,22 +36,12 @@ IsAskedAt line clock None = (a : Asked) (moment : ℕ) → length line ≤ line_
 pub record IsNewDesk (desk : DeskValue) : Type 0 where
   pub took : (setup : Setup) → TookStream setup [] desk
 
--- the history before the Tick of a line: a run begins with the first
-abbrev pub before_tick : Option ℕ → List ℕ → ℕ → List Entry → List Entry
-before_tick None setup moment h = begun_after nothing h setup moment
-before_tick (Some last) setup moment h = h
-
--- how far a `T` came that was stopped before its Tick: where no run has begun it may have adopted its setup, or begun
-abbrev pub IsUntil : Option ℕ → List ℕ → ℕ → List Entry → List Entry → Type 0
-IsUntil None setup moment h x = (x ≡ h) ⊎ (x ≡ adopted_after nothing h setup moment) ⊎ (x ≡ begun_after nothing h setup moment)
-IsUntil (Some last) setup moment h x = x ≡ h
-
 -- A `T` was stopped: before its Tick; or, where memory was wanted for its output, behind it. The store stands for what was recorded.
 pub record TickStops {D : Type 0} (told : D → Option Areas) (may_leave : D → Areas → Type 0) (faults : D → ℕ)
     (clock : Option ℕ) (setup : List ℕ) (moment : ℕ) (h : List Entry) (stop : Stop) (s : Stored D) : Type 0 where
   pub history : List Entry
   pub stands : StoreStands told may_leave faults nothing s history
-  pub came : IsUntil clock setup moment h history
+  pub came : BegunUntil clock setup moment h history
       ⊎ ((stop ≡ Memory) × (history ≡ entry_after (before_tick clock setup moment h) Tick moment ∷ before_tick clock setup moment h))
 
 -- the store stands for the history with the Tick, whose reply was put behind the letter

@@ -1,5 +1,5 @@
 -- The steps of a script: what each of its lines does to the history, and its line of output.
-use Rattle.std.specs.Prelude.{◌≡◌, ◌-◌, ℕ, List, [], ◌∷◌, ◌++◌, not, Some, None, IfSome}
+use Rattle.std.specs.Prelude.{◌≡◌, ◌-◌, ℕ, List, [], ◌∷◌, ◌++◌, not, Option, Some, None, IfSome}
 use Rattle.std.specs.Prelude.{map, filter, reverse, length, take, drop, replicate, codes, decimal}
 use Rattle.std.specs.List.{flat_map}
 use Rattle.std.specs.Option.{option_to_list}
@@ -42,29 +42,34 @@ entry_after h event clock = record {
   reply = answer nothing h event (moment_after nothing h clock);
 }
 
--- `T`: the first line begins the run, with the setup's text; then there is a Tick.
-abbrev pub begun_by : List Asked → List ℕ → ℕ → List Entry → List Entry
-begun_by [] setup moment h = begun_after nothing h setup moment
-begun_by (asked ∷ before) setup moment h = h
+-- `T`: where no clock was set before, the run begins, with the setup's text; then there is a Tick.
+abbrev pub before_tick : Option ℕ → List ℕ → ℕ → List Entry → List Entry
+before_tick None setup moment h = begun_after nothing h setup moment
+before_tick (Some last) setup moment h = h
 
 pub record Ticks (setup : List ℕ) (before : List Asked) (moment : ℕ) (h x : List Entry) (s : Step) : Type 0 where
-  pub is : x ≡ entry_after (begun_by before setup moment h) Tick moment ∷ begun_by before setup moment h
+  pub is : x ≡ entry_after (before_tick (clock_of before) setup moment h) Tick moment ∷ before_tick (clock_of before) setup moment h
   pub added : x ≡ reverse s.entries ++ h
   pub sent : s.sent ≡ 0
-  pub text : s.text ≡ codes "T " ++ line_of (entry_after (begun_by before setup moment h) Tick moment).reply
+  pub text : s.text ≡ codes "T " ++ line_of (entry_after (before_tick (clock_of before) setup moment h) Tick moment).reply
 
--- The turns of a line that was fed bytes: one for each whole frame that ends in them, at the moment that was set last, with zeros for
--- noise. They stand behind one another in the history, and nothing else does.
-pub record FeedsLine (setup : List ℕ) (before : List Asked) (line : ℕ) (bytes : List ℕ) (h x : List Entry) (turns : List Turn)
+-- The turns of a line that took a stream and was fed bytes: one for each whole frame that ends in them, at this moment, with zeros for
+-- noise. They stand behind one another in the history, and nothing else does. More frames may have no turn.
+pub record FeedsBehind (setup : List ℕ) (clock : ℕ) (stream bytes : List ℕ) (h x : List Entry) (turns : List Turn)
     (more : List (List ℕ)) : Type 0 where
-  pub clock : ℕ
-  pub set : clock_of before ≡ Some clock
-  pub ended : bodies (line_fed line before ++ bytes) ≡ bodies (line_fed line before) ++ map (λ t. t.body) turns ++ more
+  pub ended : bodies (stream ++ bytes) ≡ bodies stream ++ map (λ t. t.body) turns ++ more
   pub are : AreTurns nothing (meaning setup) 0 h x turns
   pub legal : IsLegal nothing x
   pub readings : readings_of line_turns turns ≡ replicate (length turns) clock
   pub noise : noise_of line_turns turns ≡ replicate (length (noise_of line_turns turns)) 0
   pub own : x ≡ reverse (entries_of line_turns turns) ++ h
+
+-- the same of a line that took what it was fed before, at the moment that was set last
+pub record FeedsLine (setup : List ℕ) (before : List Asked) (line : ℕ) (bytes : List ℕ) (h x : List Entry) (turns : List Turn)
+    (more : List (List ℕ)) : Type 0 where
+  pub clock : ℕ
+  pub set : clock_of before ≡ Some clock
+  pub fed : FeedsBehind setup clock (line_fed line before) bytes h x turns more
 
 -- a frame without its line feed and its carriage return
 abbrev pub bare : List ℕ → List ℕ

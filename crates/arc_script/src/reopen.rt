@@ -10,11 +10,11 @@ ghost use Rattle.disk_journal.specs.Journal.{Holds};
 ghost use Rattle.script_lines.specs.Lines.{Asked, Reopen};
 ghost use Rattle.arc_script.specs.Between.{Begun, Between, CarriedOut, ShutAt, StoppedAt, words};
 ghost use Rattle.arc_script.specs.Causes.{HasShown};
+ghost use Rattle.arc_script.specs.Ends.{BegunUntil};
 ghost use Rattle.arc_script.specs.Fed.{clock_of};
 ghost use Rattle.arc_script.specs.Halting.{closing};
 ghost use Rattle.arc_script.specs.PageWords.{page_seen};
 ghost use Rattle.arc_script.specs.Pages.{counted_line};
-ghost use Rattle.arc_script.specs.Playing.{IsUntil};
 ghost use Rattle.arc_script.specs.Standing.{is_told};
 
 use crate::begin::begin;
@@ -77,7 +77,7 @@ fn begin_again<D: Disk>(
         ≡ append_known (page_seen page.old).written (counted_line store.new.state.sum.recorded)) }
     ensures stop { OnErr result ((h : List Entry) → StoreStands D.told D.may_leave D.fault_count nothing store.old h
         → (x : List Entry) × StoreStands D.told D.may_leave D.fault_count nothing store.new x
-        × IsUntil None script.now.setup moment h x) }
+        × BegunUntil None script.now.setup moment h x) }
     ensures cause { IfErr result (λ s. HasShown D.told D.may_leave D.fault_count store.new s moment (IsOfBegin script.now.setup)) }
     ensures tells { is_told (D.told store.new.journal.disk) ≡ is_told (D.told store.old.journal.disk) }
     ensures at_open { store.new.at_open ≡ store.old.at_open }

@@ -1,14 +1,9 @@
 // One line of a script that asks for something.
-ghost use Rattle.std.specs.Prelude.{◌≡◌, ◌≢◌, ◌<◌, ◌≤◌, ◌⊎◌, ℕ, List, Ok, Err, Some, IfErr, IfOk, OnErr, OnOk, length};
-ghost use Rattle.centre_rules.specs.History.{Entry};
-ghost use Rattle.centre_store.specs.Bodies.{bodies_of};
+ghost use Rattle.std.specs.Prelude.{◌≡◌, ◌≢◌, ◌<◌, ◌≤◌, ◌⊎◌, Ok, Err, Some, IfErr, IfOk, OnErr, OnOk, length};
 ghost use Rattle.centre_store.specs.Stores.{HasFailed};
-ghost use Rattle.disk_journal.specs.Journal.{Holds};
-ghost use Rattle.script_lines.specs.Lines.{Asked, IsAsked, Reopen, spelling};
+ghost use Rattle.script_lines.specs.Lines.{IsAsked, Reopen, spelling};
 ghost use Rattle.script_lines.specs.Reading.{asked};
-ghost use Rattle.alarm_rules.specs.Setups.{meaning};
-ghost use Rattle.arc_script.specs.Between.{Begun, Between, CarriedOut, IsReady, ShutAt, StoppedAt, words};
-ghost use Rattle.arc_script.specs.Carrying.{IsNext};
+ghost use Rattle.arc_script.specs.Between.{Carries, IsReady, Shuts, Stops, words};
 ghost use Rattle.arc_script.specs.Halting.{closing};
 ghost use Rattle.arc_script.specs.PageWords.{page_seen};
 ghost use Rattle.arc_script.specs.Pages.{blank};
@@ -43,22 +38,12 @@ pub(crate) fn carry_out<D: Disk>(
     requires short { length (spelling (asked wanted)) ≤ line_limit }
     requires at { moment_at script.old.clock (asked wanted) ≡ Some moment }
     requires blank { page_seen page.old ≡ blank moment }
-    ensures carried { IfOk result (λ r. OnOk r.1 ((b : Begun D) (before : List Asked) (count number : ℕ) (h : List Entry)
-        → Between (words D.told D.may_leave D.moment D.left_since D.fault_count) b before count h script.old store
-        → IsNext (meaning b.setup) moment count before (asked wanted.entry) script.old.lines.items script.old.desks.items
-        → Holds D.told D.may_leave store.journal (bodies_of h)
-        → CarriedOut (words D.told D.may_leave D.moment D.left_since D.fault_count) b before count number h (asked wanted.entry)
-        script.old.tally script.new r.0 (page_seen page.old) (page_seen page.new))) }
-    ensures stop { IfOk result (λ r. IfErr r.1 (λ stop. (b : Begun D) (before : List Asked) (count : ℕ) (h : List Entry)
-        → Between (words D.told D.may_leave D.moment D.left_since D.fault_count) b before count h script.old store
-        → IsNext (meaning b.setup) moment count before (asked wanted.entry) script.old.lines.items script.old.desks.items
-        → Holds D.told D.may_leave store.journal (bodies_of h)
-        → StoppedAt (words D.told D.may_leave D.moment D.left_since D.fault_count) b before h (asked wanted.entry) stop script.old.tally script.new.tally r.0)) }
-    ensures shut { IfErr result (λ r. (asked wanted.entry ≡ Reopen) × ((b : Begun D) (before : List Asked) (count : ℕ) (h : List Entry)
-        → Between (words D.told D.may_leave D.moment D.left_since D.fault_count) b before count h script.old store
-        → IsNext (meaning b.setup) moment count before (asked wanted.entry) script.old.lines.items script.old.desks.items
-        → Holds D.told D.may_leave store.journal (bodies_of h)
-        → ShutAt (words D.told D.may_leave D.moment D.left_since D.fault_count) b h r.fault r.disk)) }
+    ensures carried { IfOk result (λ r. OnOk r.1 (Carries (words D.told D.may_leave D.moment D.left_since D.fault_count) moment (asked wanted.entry)
+        script.old script.new store r.0 (page_seen page.old) (page_seen page.new))) }
+    ensures stop { IfOk result (λ r. IfErr r.1 (λ stop. Stops (words D.told D.may_leave D.moment D.left_since D.fault_count) moment (asked wanted.entry)
+        script.old script.new store r.0 stop)) }
+    ensures shut { IfErr result (λ r. (asked wanted.entry ≡ Reopen) × Shuts (words D.told D.may_leave D.moment D.left_since D.fault_count)
+        moment (asked wanted.entry) script.old store r.fault r.disk) }
     ensures closed { OnErr result (script.new.tally ≡ closing script.old.tally script.old.opened_before store.state.sum) }
     ensures up { IfOk result (λ r. OnOk r.1 (HasFailed D.fault_count r.0 → ⊥)) }
     ensures ready { IfOk result (λ r. OnOk r.1 (IsReady script.new.clock script.new.setup r.0.state.sum.text)) }
@@ -85,22 +70,12 @@ fn attempt<D: Disk>(
     requires short { length (spelling (asked wanted)) ≤ line_limit }
     requires at { moment_at script.old.clock (asked wanted) ≡ Some moment }
     requires blank { page_seen page.old ≡ blank moment }
-    ensures carried { IfOk result (λ r. OnOk r.1 ((b : Begun D) (before : List Asked) (count number : ℕ) (h : List Entry)
-        → Between (words D.told D.may_leave D.moment D.left_since D.fault_count) b before count h script.old store
-        → IsNext (meaning b.setup) moment count before (asked wanted.entry) script.old.lines.items script.old.desks.items
-        → Holds D.told D.may_leave store.journal (bodies_of h)
-        → CarriedOut (words D.told D.may_leave D.moment D.left_since D.fault_count) b before count number h (asked wanted.entry)
-        script.old.tally script.new r.0 (page_seen page.old) (page_seen page.new))) }
-    ensures stop { IfOk result (λ r. IfErr r.1 (λ stop. (b : Begun D) (before : List Asked) (count : ℕ) (h : List Entry)
-        → Between (words D.told D.may_leave D.moment D.left_since D.fault_count) b before count h script.old store
-        → IsNext (meaning b.setup) moment count before (asked wanted.entry) script.old.lines.items script.old.desks.items
-        → Holds D.told D.may_leave store.journal (bodies_of h)
-        → StoppedAt (words D.told D.may_leave D.moment D.left_since D.fault_count) b before h (asked wanted.entry) stop script.old.tally script.new.tally r.0)) }
-    ensures shut { IfErr result (λ r. (asked wanted.entry ≡ Reopen) × ((b : Begun D) (before : List Asked) (count : ℕ) (h : List Entry)
-        → Between (words D.told D.may_leave D.moment D.left_since D.fault_count) b before count h script.old store
-        → IsNext (meaning b.setup) moment count before (asked wanted.entry) script.old.lines.items script.old.desks.items
-        → Holds D.told D.may_leave store.journal (bodies_of h)
-        → ShutAt (words D.told D.may_leave D.moment D.left_since D.fault_count) b h r.fault r.disk)) }
+    ensures carried { IfOk result (λ r. OnOk r.1 (Carries (words D.told D.may_leave D.moment D.left_since D.fault_count) moment (asked wanted.entry)
+        script.old script.new store r.0 (page_seen page.old) (page_seen page.new))) }
+    ensures stop { IfOk result (λ r. IfErr r.1 (λ stop. Stops (words D.told D.may_leave D.moment D.left_since D.fault_count) moment (asked wanted.entry)
+        script.old script.new store r.0 stop)) }
+    ensures shut { IfErr result (λ r. (asked wanted.entry ≡ Reopen) × Shuts (words D.told D.may_leave D.moment D.left_since D.fault_count)
+        moment (asked wanted.entry) script.old store r.fault r.disk) }
     ensures closed { OnErr result (script.new.tally ≡ closing script.old.tally script.old.opened_before store.state.sum) }
     ensures ready { IfOk result (λ r. OnOk r.1 (IsReady script.new.clock script.new.setup r.0.state.sum.text)) }
     ensures rest { (script.new.setup ≡ script.old.setup) × (script.new.number ≡ script.old.number)
@@ -141,17 +116,10 @@ fn over_store<D: Disk>(
     requires at { moment_at script.old.clock (asked wanted) ≡ Some moment }
     requires blank { page_seen page.old ≡ blank moment }
     requires other { asked wanted ≢ Reopen }
-    ensures carried { OnOk result.1 ((b : Begun D) (before : List Asked) (count number : ℕ) (h : List Entry)
-        → Between (words D.told D.may_leave D.moment D.left_since D.fault_count) b before count h script.old store
-        → IsNext (meaning b.setup) moment count before (asked wanted.entry) script.old.lines.items script.old.desks.items
-        → Holds D.told D.may_leave store.journal (bodies_of h)
-        → CarriedOut (words D.told D.may_leave D.moment D.left_since D.fault_count) b before count number h (asked wanted.entry)
-        script.old.tally script.new result.0 (page_seen page.old) (page_seen page.new)) }
-    ensures stop { IfErr result.1 (λ stop. (b : Begun D) (before : List Asked) (count : ℕ) (h : List Entry)
-        → Between (words D.told D.may_leave D.moment D.left_since D.fault_count) b before count h script.old store
-        → IsNext (meaning b.setup) moment count before (asked wanted.entry) script.old.lines.items script.old.desks.items
-        → Holds D.told D.may_leave store.journal (bodies_of h)
-        → StoppedAt (words D.told D.may_leave D.moment D.left_since D.fault_count) b before h (asked wanted.entry) stop script.old.tally script.new.tally result.0) }
+    ensures carried { OnOk result.1 (Carries (words D.told D.may_leave D.moment D.left_since D.fault_count) moment (asked wanted.entry)
+        script.old script.new store result.0 (page_seen page.old) (page_seen page.new)) }
+    ensures stop { IfErr result.1 (λ stop. Stops (words D.told D.may_leave D.moment D.left_since D.fault_count) moment (asked wanted.entry)
+        script.old script.new store result.0 stop) }
     ensures ready { OnOk result.1 (IsReady script.new.clock script.new.setup result.0.state.sum.text) }
     ensures rest { (script.new.setup ≡ script.old.setup) × (script.new.number ≡ script.old.number)
         × (script.new.opened_before ≡ script.old.opened_before) }

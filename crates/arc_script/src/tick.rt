@@ -7,9 +7,11 @@ ghost use Rattle.centre_rules.specs.Summary.{nothing};
 ghost use Rattle.centre_store.specs.Stores.{StoreStands};
 ghost use Rattle.desk_wire.specs.Replies.{line_of};
 ghost use Rattle.arc_script.specs.Causes.{HasShown, IsOfTime};
+ghost use Rattle.arc_script.specs.Ends.{BegunUntil};
 ghost use Rattle.arc_script.specs.PageWords.{page_seen};
-ghost use Rattle.arc_script.specs.Playing.{Ticked, IsUntil, TickStops, before_tick};
+ghost use Rattle.arc_script.specs.Playing.{Ticked, TickStops};
 ghost use Rattle.arc_script.specs.Standing.{is_told};
+ghost use Rattle.arc_script.specs.Steps.{before_tick};
 
 use crate::begin::begin;
 use crate::page::Page;
@@ -78,7 +80,7 @@ fn begin_first<D: Disk>(
     ensures ready { OnOk result (IsSetting store.new.state.sum.text) }
     ensures stop { OnErr result ((h : List Entry) → StoreStands D.told D.may_leave D.fault_count nothing store.old h
         → (x : List Entry) × StoreStands D.told D.may_leave D.fault_count nothing store.new x
-        × IsUntil script.now.clock script.now.setup moment h x) }
+        × BegunUntil script.now.clock script.now.setup moment h x) }
     ensures cause { IfErr result (λ s. HasShown D.told D.may_leave D.fault_count store.new s moment
         (IsOfTime script.now.clock script.now.setup)) }
     ensures tells { is_told (D.told store.new.journal.disk) ≡ is_told (D.told store.old.journal.disk) }

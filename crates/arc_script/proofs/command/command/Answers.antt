@@ -233,14 +233,14 @@ returns-in-Err-end g c =
           c.take_desk-end.ensures.ends sums;
       set = still_set c.take_desk-end.result.1.state.sum.text script.setup c.take_desk-end.ensures.ready
           (c.take_desk-end.ensures.text ∙ ap (λ (o : Option (List ℕ)). unwrap_or o []) c.requires.set);
-      rest = desks_kept c.args.script.now _ _ _ _ _ _;
+      rest = desks_kept c.args.script.now _ refl refl refl refl refl refl;
       tells = c.take_desk-end.ensures.tells;
       at_open = c.take_desk-end.ensures.at_open;
       limits = c.take_desk-end.ensures.limits;
     }
 
 pub returns-in-Ok-clause-rest : goal.returns-in-Ok-clause-rest
-returns-in-Ok-clause-rest g c = desks_kept c.args.script.now _ _ _ _ _ _
+returns-in-Ok-clause-rest g c = desks_kept c.args.script.now _ refl refl refl refl refl refl
 
 pub returns-in-Err-Quit-clause-rest : goal.returns-in-Err-Quit-clause-rest
-returns-in-Err-Quit-clause-rest g c = desks_kept c.args.script.now _ _ _ _ _ _
+returns-in-Err-Quit-clause-rest g c = desks_kept c.args.script.now _ refl refl refl refl refl refl

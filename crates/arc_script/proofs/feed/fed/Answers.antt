@@ -9,7 +9,7 @@ use Rattle.arc_script.proofs.Carries.{set_other}
 use Rattle.arc_script.proofs.FedAnswers.{ended_fed, ended_otherwise, ended_stopped, still_set, tallied, took_all}
 use Rattle.arc_script.proofs.FedCounts.{none_fed, Tallied}
 use Rattle.arc_script.proofs.FedEnds.{IsTaking}
-use Rattle.arc_script.proofs.Rests.{rest_is}
+use Rattle.arc_script.proofs.Kept.{lines_kept}
 use Rattle.arc_script.proofs.feed.fed.Goals as goal
 
 pub take_line-end-requires : goal.take_line-end-requires
@@ -139,10 +139,10 @@ returns-clause-others g c =
     λ i other. set_other c.args.script.now.lines.items (c.args.line - 1) i c.take_line-end.new.line other
 
 pub returns-in-Ok-end-clause-rest : goal.returns-in-Ok-end-clause-rest
-returns-in-Ok-end-clause-rest g c = rest_is c.args.script.now _ refl refl refl refl refl refl
+returns-in-Ok-end-clause-rest g c = lines_kept c.args.script.now _ refl refl refl refl refl refl
 
 pub returns-in-Err-Stopped-clause-rest : goal.returns-in-Err-Stopped-clause-rest
-returns-in-Err-Stopped-clause-rest g c = rest_is c.args.script.now _ refl refl refl refl refl refl
+returns-in-Err-Stopped-clause-rest g c = lines_kept c.args.script.now _ refl refl refl refl refl refl
 
 pub returns-clause-rest : goal.returns-clause-rest
-returns-clause-rest g c = rest_is c.args.script.now _ refl refl refl refl refl refl
+returns-clause-rest g c = lines_kept c.args.script.now _ refl refl refl refl refl refl

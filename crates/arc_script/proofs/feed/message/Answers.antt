@@ -11,7 +11,7 @@ use Rattle.arc_script.specs.PageWords.{page_seen}
 use Rattle.arc_script.specs.declared.script.Script.{Script}
 use Rattle.arc_script.proofs.Carries.{message_short, message_taken, set_other, set_there}
 use Rattle.arc_script.proofs.Feedings.{fed_ok, fed_stops}
-use Rattle.arc_script.proofs.Rests.{rest_is}
+use Rattle.arc_script.proofs.Kept.{lines_kept}
 use Rattle.arc_script.proofs.feed.message.Goals as goal
 
 -- where all was put, the line was made anew
@@ -75,5 +75,5 @@ returns-clause-stop g c =
 pub returns-clause-rest : goal.returns-clause-rest
 returns-clause-rest g c =
     let is = c.fed-store.ensures.rest in
-    rest_is c.args.script.now _ (ap (λ (s : Script). s.setup) is) (ap (λ (s : Script). s.limits) is) (ap (λ (s : Script). s.desks) is)
+    lines_kept c.args.script.now _ (ap (λ (s : Script). s.setup) is) (ap (λ (s : Script). s.limits) is) (ap (λ (s : Script). s.desks) is)
     (ap (λ (s : Script). s.clock) is) (ap (λ (s : Script). s.number) is) (ap (λ (s : Script). s.opened_before) is)

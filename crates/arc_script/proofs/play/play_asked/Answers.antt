@@ -4,12 +4,11 @@ use Rattle.arc_io.specs.Seen.{PortSeen}
 use Rattle.centre_core.specs.declared.hall.Stop.{Stop}
 use Rattle.centre_store.specs.Stores.{HasFailed}
 use Rattle.script_lines.specs.Reading.{asked}
-use Rattle.arc_script.specs.Between.{words}
+use Rattle.arc_script.specs.Between.{Carries, Stops, words}
 use Rattle.arc_script.specs.PageWords.{page_seen}
 use Rattle.arc_script.specs.declared.script.Script.{Script}
 use Rattle.arc_script.specs.declared.script_end.ScriptEnd.{ScriptEnd}
 use Rattle.arc_script.proofs.LineEnds.{HaltsHere, cut_halts, goes_further, shut_halts, stop_halts, wanted_halts}
-use Rattle.arc_script.proofs.Stepping.{Carries, Stops}
 use Rattle.arc_script.proofs.play.play_asked.Goals as goal
 
 pub returns-in_default-clause-halted : goal.returns-in_default-clause-halted

@@ -2,12 +2,12 @@ use Rattle.std.proofs.Common.{◌≡◌, Some, OnOk, IfErr, ap, sym, subst, ◌�
 use Rattle.std.proofs.lemmas.Result.{on_ok_weaker, IfErr-weaker}
 use Rattle.script_lines.specs.Lines.{Asked, Feed, Message, Command}
 use Rattle.script_lines.specs.Reading.{asked}
-use Rattle.arc_script.specs.Between.{words}
+use Rattle.arc_script.specs.Between.{Carries, Stops, words}
 use Rattle.arc_script.specs.PageWords.{page_seen}
 use Rattle.arc_script.specs.Playing.{moment_at}
 use Rattle.arc_script.specs.declared.script.Script.{Script}
 use Rattle.arc_script.proofs.Carry.{Stays}
-use Rattle.arc_script.proofs.Stepping.{Carries, Stops, command_came, line_carries, line_stops, own_moment, time_carries, time_stops}
+use Rattle.arc_script.proofs.Stepping.{command_came, line_carries, line_stops, own_moment, time_carries, time_stops}
 use Rattle.arc_script.proofs.step.over_store.Goals as goal
 
 pub returns-in-Time-clause-carried : goal.returns-in-Time-clause-carried

@@ -1,6 +1,6 @@
 use Rattle.centre_rules.specs.Summary.{nothing}
 use Rattle.arc_script.specs.PageWords.{page_seen}
-use Rattle.arc_script.specs.Playing.{before_tick}
+use Rattle.arc_script.specs.Steps.{before_tick}
 use Rattle.arc_script.proofs.Ticks.{ticks, stops_before, stops_unsaid}
 use Rattle.arc_script.proofs.tick.tick.Goals as goal
 

@@ -1,11 +1,25 @@
-use Rattle.std.proofs.Common.{◌≡◌, ◌≤◌, inl, sym, subst, ◌∙◌}
+use Rattle.std.proofs.Common.{◌≡◌, ◌≤◌, [], inl, inr, sym, subst, ap, ◌∙◌}
+use Rattle.std.specs.Option.{unwrap_or}
 use Rattle.arc_server.specs.SessionRuns.{GoesOnFrom}
 use Rattle.arc_server.specs.declared.status.Status.{Status}
+use Rattle.centre_core.specs.Setting.{IsSetting}
 use Rattle.centre_core.specs.declared.hall.Stop.TheVariants.{Down}
 use Rattle.centre_rules.specs.Summary.{nothing}
 use Rattle.centre_store.specs.Stores.{HasFailed}
 use Rattle.arc_server.proofs.Over.{unbegun}
 use Rattle.arc_server.proofs.session.run_store.Goals as goal
+
+pub returns-in-Ok-clause-ran : goal.returns-in-Ok-clause-ran
+returns-in-Ok-clause-ran g c past stands =
+    let e = c.in-Ok.ensures in (
+      c.now-clock.result,
+      inr (
+          rw (sym c.now-clock.ensures.told)
+          (c.serve_store.ensures.served past c.args.setup c.now-clock.result
+          (record { stands = e.begun nothing past stands; setting = subst (λ t. IsSetting t) (sym e.text) c.requires.setting })
+          (ap (λ t. unwrap_or t []) e.text))
+          ),
+    )
 
 pub returns-in-Err-clause-ran : goal.returns-in-Err-clause-ran
 returns-in-Err-clause-ran g c past stands =

@@ -1,0 +1,98 @@
+-- What the beginning of a run adds to a history: nothing of it is counted, and it can be read again.
+use Rattle.std.proofs.Common.{◌≡◌, ◌++◌, ◌∷◌, ℕ, List, [], Bool, true, false, cond, Option, Some, None, filter, length, reverse, inl, inr, refl, sym, ap, subst, ◌∙◌, length-append, arith}
+use Rattle.std.proofs.lemmas.List.{reverse-append}
+use Rattle.std.proofs.lemmas.List.Elements.{filter-append}
+use Rattle.arc_data.specs.declared.event.Event.TheVariants.{Adopt, Start}
+use Rattle.arc_data.specs.declared.reply.Reply.{Reply}
+use Rattle.arc_data.specs.declared.reply.Reply.TheVariants.{Adopted, Started}
+use Rattle.centre_rules.specs.Answers.{IsLegal}
+use Rattle.centre_rules.specs.History.{Entry, IsMoment, marks, moment_after}
+use Rattle.centre_rules.specs.Marks.{text}
+use Rattle.centre_rules.specs.Summary.{nothing}
+use Rattle.centre_store.specs.Begins.{adopted_after, begun_after, is_in_force}
+use Rattle.arc_script.specs.Ends.{BegunUntil}
+use Rattle.arc_script.specs.Standing.{IsReadable}
+use Rattle.arc_script.specs.Steps.{before_tick}
+use Rattle.arc_script.specs.Tallies.{count_of, is_closed, is_repeat}
+use Rattle.arc_script.proofs.Telling.{readable_more}
+
+-- Entries that were added to a history, of which none is a repeat and none closes an incident.
+
+pub record Adds (h x : List Entry) : Type 0 where
+  pub entries : List Entry
+  pub is : x ≡ reverse entries ++ h
+  pub repeats : count_of is_repeat entries ≡ 0
+  pub closed : count_of is_closed entries ≡ 0
+
+pub adds_none : (h : List Entry) → Adds h h
+adds_none h = record { entries = []; is = refl; repeats = refl; closed = refl }
+
+count_last : (test : Reply → Bool) (es : List Entry) (e : Entry) → test e.reply ≡ false → count_of test es ≡ 0 → count_of test (es ++ e ∷ []) ≡ 0
+count_last test es e other none =
+    let p : Entry → Bool = λ d. test d.reply in
+    let one : length (filter p (e ∷ [])) ≡ 0 = ap (λ (b : Bool). length (cond b (e ∷ []) [])) other in
+    let both = ap length (filter-append p es (e ∷ [])) ∙ length-append (filter p es) (filter p (e ∷ [])) in
+    omega (arith, one, both, none)
+
+pub adds_more : (h x : List Entry) (e : Entry) → is_repeat e.reply ≡ false → is_closed e.reply ≡ false → Adds h x → Adds h (e ∷ x)
+adds_more h x e repeats closed adds = record {
+  entries = adds.entries ++ e ∷ [];
+  is = ap (λ (l : List Entry). e ∷ l) adds.is ∙ ap (λ (l : List Entry). l ++ h) (sym (reverse-append adds.entries (e ∷ [])));
+  repeats = count_last is_repeat adds.entries e repeats adds.repeats;
+  closed = count_last is_closed adds.entries e closed adds.closed;
+}
+
+-- the Adopt of a setup, where there is one
+abbrev adopt_of : List ℕ → ℕ → List Entry → Entry
+adopt_of setup moment h = record { caller = 0; event = Adopt setup; at = moment_after nothing h moment; reply = Adopted }
+
+abbrev start_of : List ℕ → ℕ → List Entry → Entry
+start_of setup moment h = record {
+  caller = 0;
+  event = Start;
+  at = moment_after nothing (adopted_after nothing h setup moment) moment;
+  reply = Started;
+}
+
+adopts_if : (b : Bool) (h : List Entry) (e : Entry) → is_repeat e.reply ≡ false → is_closed e.reply ≡ false → Adds h (cond b h (e ∷ h))
+adopts_if true h e repeats closed = adds_none h
+adopts_if false h e repeats closed = adds_more h h e repeats closed (adds_none h)
+
+adds_adopted : (setup : List ℕ) (moment : ℕ) (h : List Entry) → Adds h (adopted_after nothing h setup moment)
+adds_adopted setup moment h = adopts_if (is_in_force (text nothing (marks nothing h)) setup) h (adopt_of setup moment h) refl refl
+
+pub adds_begun : (setup : List ℕ) (moment : ℕ) (h : List Entry) → Adds h (begun_after nothing h setup moment)
+adds_begun setup moment h =
+    adds_more h (adopted_after nothing h setup moment) (start_of setup moment h) refl refl (adds_adopted setup moment h)
+
+pub adds_first : (clock : Option ℕ) (setup : List ℕ) (moment : ℕ) (h : List Entry) → Adds h (before_tick clock setup moment h)
+adds_first None setup moment h = adds_begun setup moment h
+adds_first (Some last) setup moment h = adds_none h
+
+pub adds_until : (clock : Option ℕ) (setup : List ℕ) (moment : ℕ) (h x : List Entry) → BegunUntil clock setup moment h x → Adds h x
+adds_until None setup moment h x (inl is) = subst (Adds h) (sym is) (adds_none h)
+adds_until None setup moment h x (inr (inl is)) = subst (Adds h) (sym is) (adds_adopted setup moment h)
+adds_until None setup moment h x (inr (inr is)) = subst (Adds h) (sym is) (adds_begun setup moment h)
+adds_until (Some last) setup moment h x is = subst (Adds h) (sym is) (adds_none h)
+
+-- They can be read again: what a store stands for is legal.
+
+pub readable_next : (h : List Entry) (e : Entry) (clock : ℕ) → e.caller ≡ 0 → IsMoment clock → e.at ≡ moment_after nothing h clock
+    → IsLegal nothing (e ∷ h) → IsReadable h → IsReadable (e ∷ h)
+readable_next h e clock caller fits at legal kept = readable_more h e clock caller legal.0.event fits at legal.0.reply kept
+
+readable_if : (b : Bool) (h : List Entry) (e : Entry) (clock : ℕ) → e.caller ≡ 0 → IsMoment clock → e.at ≡ moment_after nothing h clock
+    → IsLegal nothing (cond b h (e ∷ h)) → IsReadable h → IsReadable (cond b h (e ∷ h))
+readable_if true h e clock caller fits at legal kept = kept
+readable_if false h e clock caller fits at legal kept = readable_next h e clock caller fits at legal kept
+
+pub readable_begun : (setup : List ℕ) (moment : ℕ) (h : List Entry) → IsMoment moment → IsLegal nothing (begun_after nothing h setup moment)
+    → IsReadable h → IsReadable (begun_after nothing h setup moment)
+readable_begun setup moment h fits legal kept =
+    let adopted = readable_if (is_in_force (text nothing (marks nothing h)) setup) h (adopt_of setup moment h) moment refl fits refl legal.1 kept in
+    readable_next (adopted_after nothing h setup moment) (start_of setup moment h) moment refl fits refl legal adopted
+
+pub readable_first : (clock : Option ℕ) (setup : List ℕ) (moment : ℕ) (h : List Entry) → IsMoment moment
+    → IsLegal nothing (before_tick clock setup moment h) → IsReadable h → IsReadable (before_tick clock setup moment h)
+readable_first None setup moment h fits legal kept = readable_begun setup moment h fits legal kept
+readable_first (Some last) setup moment h fits legal kept = kept
