@@ -20,6 +20,3 @@ mod tick;
 
 pub use run::run_script;
 pub use script_end::{ScriptEnd, ScriptEnded, Tally};
-
-#[cfg(test)]
-mod tests;

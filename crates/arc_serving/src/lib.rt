@@ -10,6 +10,3 @@ mod station;
 
 pub use serving::serve_store;
 pub use station::{Came, Crew, ServedStore, Station};
-
-#[cfg(test)]
-mod tests;

@@ -6,6 +6,3 @@ mod side;
 
 pub use session::{SessionEnd, serve};
 pub use side::Side;
-
-#[cfg(test)]
-mod tests;

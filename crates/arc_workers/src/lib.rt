@@ -2,8 +2,6 @@
 #![tactic(auto)]
 
 mod link;
-#[cfg(test)]
-mod tests;
 mod ticking;
 mod working;
 

@@ -9,6 +9,3 @@ mod submit;
 
 pub use laws::law_one_opening;
 pub use store::Store;
-
-#[cfg(test)]
-mod tests;

@@ -16,6 +16,3 @@ pub use desk::serve_desk;
 pub use desk_end::DeskEnd;
 pub use desk_state::DeskState;
 pub use laws::law_sessions_join;
-
-#[cfg(test)]
-mod tests;

@@ -9,8 +9,6 @@ mod locked_store;
 mod name;
 mod pass;
 mod steps;
-#[cfg(test)]
-mod tests;
 mod view;
 
 pub use at_gate::AtGate;

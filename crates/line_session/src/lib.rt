@@ -16,6 +16,3 @@ pub use laws::law_sessions_join;
 pub use line::serve_line;
 pub use line_end::LineEnd;
 pub use line_state::LineState;
-
-#[cfg(test)]
-mod tests;

@@ -1,6 +1,0 @@
-use Rattle.line_gate.specs.Blanks.{terms_of}
-use Rattle.arc_workers.proofs.tests.work.Given as goal
-
--- the gate is the one that the blank will be
-abbrev pub ghosts-work_at : goal.ghosts-work_at
-ghosts-work_at g a = record { terms = terms_of g.D.Disk.told g.D.Disk.may_leave g.D.Disk.fault_count a.blank }

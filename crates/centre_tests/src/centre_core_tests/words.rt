@@ -1,0 +1,93 @@
+// Events and answers in words.
+ghost use Rattle.std.specs.Prelude.{◌≡◌, ◌≤◌, true, length, IfOk};
+ghost use Rattle.arc_data.specs.Digits.{is_name};
+ghost use Rattle.arc_data.specs.WellFormed.{IsWellFormed};
+
+use arc_data::{Blob, CloseCode, Event, Outcome, Reply, Step, Txt};
+use std::alloc::Global;
+use std::test::Fail;
+use test_stations::messages::{account, burglary};
+
+/// The event of a word: `adopt` of a setup whose account 1234 has no interval, one of 60 seconds, or is lacking; a message or a heartbeat
+/// of that account; an order of the operator ann on incident 1; `start`, `tick` and `list`.
+pub(super) fn event_of(alloc: Global, word: &str) -> Result<Event, Fail>
+    ensures { IfOk result IsWellFormed }
+{
+    match word {
+        "adopt" => adopt(alloc, b"account 1234\noperator ann 1234\n"),
+        "adopt beat" => adopt(alloc, b"account 1234 beat 60\noperator ann 1234\n"),
+        "adopt other" => adopt(alloc, b"account 5678\noperator ann 1234\n"),
+        "message" => Ok(burglary(alloc, account(), 1)?),
+        "beat" => Ok(Event::Beat { account: account() }),
+        "start" => Ok(Event::Start),
+        "tick" => Ok(Event::Tick),
+        "list" => Ok(Event::List),
+        _ => order(word),
+    }
+}
+
+fn order(word: &str) -> Result<Event, Fail>
+    ensures { IfOk result IsWellFormed }
+{
+    let (operator, number) = (operator(), 1);
+    match word {
+        "next" => Ok(Event::Next { operator }),
+        "claim" => Ok(Event::Claim { operator, number }),
+        "note" => Ok(Event::Act {
+            operator,
+            number,
+            step: Step::Note,
+            outcome: Outcome::Done,
+        }),
+        "release" => Ok(Event::Release { operator, number }),
+        "close" => Ok(Event::Close {
+            operator,
+            number,
+            code: CloseCode::Real,
+        }),
+        "show" => Ok(Event::Show { number }),
+        _ => Err("no such event")?,
+    }
+}
+
+fn adopt(alloc: Global, text: &[u8]) -> Result<Event, Fail>
+    requires size { length text.now ≤ 4194304 }
+    ensures { IfOk result IsWellFormed }
+{
+    let text = Blob::of(alloc, text)?;
+    Ok(Event::Adopt { text })
+}
+
+fn operator() -> Txt
+    ensures { is_name result ≡ true }
+{
+    Txt::of(b"ann").unwrap()
+}
+
+/// The answer's name, and of a Tick also how many signals it raised.
+pub(super) fn answer_of(reply: &Reply) -> &'static str {
+    match reply {
+        Reply::Adopted => "adopted",
+        Reply::Started => "started",
+        Reply::Taken => "taken",
+        Reply::Repeat { .. } => "repeat",
+        Reply::Heard => "heard",
+        Reply::Raised { count: 0 } => "raised 0",
+        Reply::Raised { count: 1 } => "raised 1",
+        Reply::Unknown => "unknown",
+        _ => answer_to_order(reply),
+    }
+}
+
+fn answer_to_order(reply: &Reply) -> &'static str {
+    match reply {
+        Reply::Claimed { .. } => "claimed",
+        Reply::Recorded { .. } => "recorded",
+        Reply::Released { .. } => "released",
+        Reply::Closed { .. } => "closed",
+        Reply::NotOpen { .. } => "not open",
+        Reply::Shown(_) => "shown",
+        Reply::Listed(_) => "listed",
+        _ => "another reply",
+    }
+}

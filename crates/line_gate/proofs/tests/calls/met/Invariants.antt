@@ -1,6 +1,0 @@
-use Rattle.line_gate.specs.Blanks.{terms_of}
-use Rattle.line_gate.proofs.tests.calls.met.Given as goal
-
--- the gate is the one that the blank will be
-abbrev pub ghosts-meet_another : goal.ghosts-meet_another
-ghosts-meet_another g a = record { terms = terms_of g.D.Disk.told g.D.Disk.may_leave g.D.Disk.fault_count a.blank }

@@ -1,0 +1,266 @@
+// What no clause says: that sessions and Ticks succeed, byte for byte.
+ghost use Rattle.line_gate.specs.Blanks.{Names};
+
+use crate::doors;
+use crate::stores::blank_of;
+use arc_doors::{ListPulse, MemDoor, Pulse};
+use arc_io::{Disk, MemDisk, MemPort, Port};
+use arc_workers::{Side, Ticked, Worked, WorkerEnd, desk_worker, line_worker, ticker};
+use centre_core::Stop;
+use disk_journal::Limits;
+use line_gate::{Blank, Gate, GateName};
+use std::alloc::Global;
+use std::marker::Brand;
+use std::process::Abort;
+use std::sync::Wait;
+use std::sync::atomic::AtomicBool;
+use std::test::Fail;
+use test_stations::moments::BEGIN;
+use test_stations::ports::port_of;
+
+// Its Adopt takes 57 bytes of a journal, and a Start takes 14.
+const SETUP: &[u8] = b"account 8080 beat 60\noperator ann 1234\n";
+
+const BEAT: &[u8] = b"\nA2C80013\"NULL\"0000L0#8080[]\r";
+
+const ACKNOWLEDGEMENT: &[u8] = b"\n62AA0012\"ACK\"0000L0#8080[]\r";
+
+// A gate before a store in memory on which a run has begun. Its journal takes so many records.
+fn blank(alloc: Global, records: u64) -> Result<Blank<MemDisk>, Fail> {
+    let limits = Limits {
+        bytes: 1_000,
+        records,
+    };
+    let disk = MemDisk::new(alloc, Vec::new(alloc));
+    blank_of(alloc, disk, limits, SETUP)
+}
+
+// A worker's three links, which have one input, the calls of its door that fail, how many links it is to serve, and how many records
+// the journal takes.
+#[derive(Clone, Copy)]
+struct Case<'a> {
+    side: Side,
+    input: &'a [u8],
+    failing: &'a [u64],
+    sessions: u32,
+    records: u64,
+}
+
+fn door_of(alloc: Global, case: &Case) -> Result<MemDoor<MemPort>, Fail> {
+    let (one, two, three) = (
+        port_of(alloc, case.input)?,
+        port_of(alloc, case.input)?,
+        port_of(alloc, case.input)?,
+    );
+    let ports = Vec::from_array(alloc, [one, two, three])?;
+    doors::door_of(alloc, ports, case.failing.to_vec(alloc)?)
+}
+
+// A worker at a gate of its name. What came of it, and how many entries the store has then.
+fn work_at<P: Port + Send + Drop, R: Wait, D: Disk + Drop, N: GateName>(
+    rt: &R,
+    alloc: Global,
+    blank: Blank<D>,
+    door: &mut MemDoor<P>,
+    case: &Case,
+) -> (Worked, u64)
+    requires { Names D.told D.may_leave D.fault_count N.terms blank }
+{
+    let (gate, pass) = Gate::<D, N>::new(blank);
+    let (pass, worked) = match case.side {
+        Side::Lines => line_worker(rt, alloc, &gate, pass, door, case.sessions),
+        Side::Desks => desk_worker(rt, alloc, &gate, pass, door, case.sessions),
+    };
+    let store = gate.close(pass);
+    let entries = store.centre().entries();
+    // Given to `drop`, since its parts needn't be looked at here.
+    drop(store);
+    (worked, entries)
+}
+
+fn work<P: Port + Send + Drop, R: Wait, D: Disk + Drop>(
+    rt: &R,
+    alloc: Global,
+    blank: Blank<D>,
+    door: &mut MemDoor<P>,
+    case: &Case,
+) -> (Worked, u64) {
+    work_at::<P, R, D, Brand>(rt, alloc, blank, door, case)
+}
+
+// How the worker ends, how many entries the store has then, and what was written to each of so many links that were got back.
+fn check<R: Abort + Wait>(
+    rt: &R,
+    alloc: Global,
+    case: &Case,
+    wanted: (WorkerEnd, u64, usize),
+    answer: &[u8],
+) -> Result<(), Fail> {
+    let (end, entries, count) = wanted;
+    let mut door = door_of(alloc, case)?;
+    let told = work_on(rt, alloc, &mut door, case);
+    compare_links(rt, door, count, answer);
+    assert_eq!(rt; told?, (Worked { end, refused: 0 }, entries));
+    Ok(())
+}
+
+// A worker at a gate before a store of its own.
+fn work_on<R: Wait>(
+    rt: &R,
+    alloc: Global,
+    door: &mut MemDoor<MemPort>,
+    case: &Case,
+) -> Result<(Worked, u64), Fail> {
+    let blank = blank(alloc, case.records)?;
+    Ok(work(rt, alloc, blank, door, case))
+}
+
+// So many links were got back, and this was written to each.
+fn compare_links(rt: &impl Abort, door: MemDoor<MemPort>, count: usize, answer: &[u8]) {
+    let links = door.into_back();
+    assert_eq!(rt; links.len(), count);
+    for link in &links {
+        assert_eq!(rt; link.sink.bytes(), answer);
+    }
+    drop(links);
+}
+
+#[test]
+fn a_line_worker_serves_as_many_as_are_asked(rt: HostRuntime) -> Result<(), Fail> {
+    let case = Case {
+        side: Side::Lines,
+        input: BEAT,
+        failing: &[],
+        sessions: 2,
+        records: 9,
+    };
+    check(
+        &rt,
+        rt.alloc(),
+        &case,
+        (WorkerEnd::Quota, 4, 2),
+        ACKNOWLEDGEMENT,
+    )
+}
+
+#[test]
+fn a_desk_worker_serves_until_its_door_ends(rt: HostRuntime) -> Result<(), Fail> {
+    let case = Case {
+        side: Side::Desks,
+        input: b"login ann 1234\nnext\nquit\n",
+        failing: &[],
+        sessions: 4,
+        records: 9,
+    };
+    check(
+        &rt,
+        rt.alloc(),
+        &case,
+        (WorkerEnd::DoorEnded, 5, 3),
+        b"ok ann\nnone waiting\nbye\n",
+    )
+}
+
+#[test]
+fn a_door_that_fails_ends_its_worker(rt: HostRuntime) -> Result<(), Fail> {
+    let case = Case {
+        side: Side::Lines,
+        input: BEAT,
+        failing: &[3],
+        sessions: 9,
+        records: 9,
+    };
+    let end = WorkerEnd::DoorFault { before: 0, now: 1 };
+    check(&rt, rt.alloc(), &case, (end, 4, 2), ACKNOWLEDGEMENT)
+}
+
+// The journal has its first 17 bytes, an Adopt and a Start. A heartbeat would take 19 bytes.
+#[test]
+fn a_full_journal_stops_a_worker(rt: HostRuntime) -> Result<(), Fail> {
+    let case = Case {
+        side: Side::Lines,
+        input: BEAT,
+        failing: &[],
+        sessions: 9,
+        records: 2,
+    };
+    let full = Stop::Full {
+        used: 88,
+        need: 19,
+        records: 2,
+    };
+    check(
+        &rt,
+        rt.alloc(),
+        &case,
+        (WorkerEnd::Stopped(full), 2, 1),
+        b"",
+    )
+}
+
+// A ticker at a gate of its name. What came of it, and how many entries the store has then.
+fn tick_at<R: Wait, D: Disk + Drop, N: GateName>(
+    rt: &R,
+    alloc: Global,
+    blank: Blank<D>,
+    pulse: &mut ListPulse,
+) -> (Ticked, u64)
+    requires { Names D.told D.may_leave D.fault_count N.terms blank }
+{
+    let (gate, pass) = Gate::<D, N>::new(blank);
+    let stop = AtomicBool::new(false);
+    let (pass, ticked) = ticker(rt, alloc, &gate, pass, pulse, &stop);
+    let store = gate.close(pass);
+    let entries = store.centre().entries();
+    drop(store);
+    (ticked, entries)
+}
+
+fn tick<R: Wait, D: Disk + Drop>(
+    rt: &R,
+    alloc: Global,
+    blank: Blank<D>,
+    pulse: &mut ListPulse,
+) -> (Ticked, u64) {
+    tick_at::<R, D, Brand>(rt, alloc, blank, pulse)
+}
+
+// A ticker at a gate before a store whose journal takes so many records.
+fn tick_on<R: Wait>(
+    rt: &R,
+    alloc: Global,
+    records: u64,
+    pulse: &mut ListPulse,
+) -> Result<(Ticked, u64), Fail> {
+    let blank = blank(alloc, records)?;
+    Ok(tick(rt, alloc, blank, pulse))
+}
+
+#[test]
+fn a_ticker_ticks_until_its_pulse_ends(rt: HostRuntime) -> Result<(), Fail> {
+    let alloc = rt.alloc();
+    let mut pulse = ListPulse::new([BEGIN + 1, BEGIN + 2].to_vec(alloc)?);
+    let (ticked, entries) = tick_on(&rt, alloc, 9, &mut pulse)?;
+    let Ticked { stop, refused } = ticked;
+    assert_eq!(rt; (stop, refused, entries), (None, 0, 4));
+    Ok(())
+}
+
+// The journal has its first 17 bytes, an Adopt and a Start. The first Tick raises nothing, and the second one, which would raise an
+// incident, would take 14 bytes.
+#[test]
+fn a_full_journal_stops_the_ticker(rt: HostRuntime) -> Result<(), Fail> {
+    let alloc = rt.alloc();
+    let mut pulse = ListPulse::new([BEGIN + 1, BEGIN + 61, BEGIN + 62].to_vec(alloc)?);
+    let (ticked, entries) = tick_on(&rt, alloc, 2, &mut pulse)?;
+    let Ticked { stop, refused } = ticked;
+    let full = Stop::Full {
+        used: 88,
+        need: 14,
+        records: 2,
+    };
+    assert_eq!(rt; (stop, refused, entries), (Some(full), 0, 3));
+    let flag = AtomicBool::new(false);
+    assert_eq!(rt; pulse.next(&rt, &flag), Some(BEGIN + 62));
+    Ok(())
+}

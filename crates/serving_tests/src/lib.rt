@@ -1,0 +1,12 @@
+//! Tests of the gate, of workers and of all of them beside each other by their public calls, each in a module of its own. Only the tests
+//! are proved here, over the proved libraries.
+#![tactic(auto)]
+
+#[cfg(test)]
+mod arc_serving_tests;
+#[cfg(test)]
+mod arc_workers_tests;
+pub mod doors;
+#[cfg(test)]
+mod line_gate_tests;
+pub mod stores;

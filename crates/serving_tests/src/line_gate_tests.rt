@@ -1,0 +1,18 @@
+// What no clause says: that calls succeed, and that what threads are told is what one thread is told.
+
+mod calls;
+mod events;
+mod replay;
+mod threads;
+
+use crate::stores::blank_of;
+use arc_io::MemDisk;
+use disk_journal::SHIPPED;
+use line_gate::Blank;
+use std::alloc::Global;
+use std::test::Fail;
+
+// A gate before a store in memory on which a run has begun. The disk's calls of these numbers fail.
+fn blank(alloc: Global, setup: &[u8], failing: Vec<u64>) -> Result<Blank<MemDisk>, Fail> {
+    blank_of(alloc, MemDisk::new(alloc, failing), SHIPPED, setup)
+}

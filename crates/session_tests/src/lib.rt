@@ -1,0 +1,13 @@
+//! Tests of sessions of lines, of desks, of both kinds and of scripts by their public calls, each in a module of its own. Only the tests
+//! are proved here, over the proved libraries.
+#![tactic(auto)]
+
+#[cfg(test)]
+mod arc_script_tests;
+#[cfg(test)]
+mod arc_sessions_tests;
+#[cfg(test)]
+mod desk_session_tests;
+#[cfg(test)]
+mod line_session_tests;
+pub mod told;

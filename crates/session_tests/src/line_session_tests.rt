@@ -1,0 +1,74 @@
+// What no clause says: that whole sessions succeed, byte for byte.
+ghost use Rattle.std.specs.Prelude.{◌≡◌, false};
+
+mod ends;
+mod panel;
+mod pieces;
+mod replies;
+mod sealed;
+
+use arc_io::Port;
+use centre_core::RamHall;
+use line_session::{LineEnd, serve_line};
+use std::alloc::Global;
+use std::test::Fail;
+use test_stations::halls::ram_hall;
+
+const SETUP: &[u8] = b"account 7777\n";
+
+const ALARM: &[u8] = b"\nDEFF0027\"ADM-CID\"0001L0#7777[#7777|1131 01 001]\r";
+
+const ALARM_REPLY: &[u8] = b"\n4DFC0012\"ACK\"0001L0#7777[]\r";
+
+const BEAT: &[u8] = b"\n48CF0013\"NULL\"0000L0#7777[]\r";
+
+const BEAT_REPLY: &[u8] = b"\n88AD0012\"ACK\"0000L0#7777[]\r";
+
+const DUH: &[u8] = b"\n73220012\"DUH\"0001L0#7777[]\r";
+
+// How a session ended, and how many entries its hall has recorded then: two of its beginning, and those of the session.
+type Came = (LineEnd, u64);
+
+// A session over a port, under this setup.
+fn session<P: Port>(alloc: Global, setup: &[u8], port: &mut P) -> Result<Came, Fail>
+    requires { (P.seen port.old).ended ≡ false }
+{
+    let mut hall = ram_hall(alloc, setup)?;
+    let end = serve_line(alloc, &mut hall, port);
+    Ok((end, recorded_of(hall)))
+}
+
+// How many entries a hall has recorded. Its centre is given to `drop`, since its parts needn't be looked at here.
+fn recorded_of(hall: RamHall) -> u64 {
+    let centre = hall.into_centre();
+    let recorded = centre.recorded();
+    drop(centre);
+    recorded
+}
+
+// These parts, one behind the other.
+fn joined(alloc: Global, parts: &[&[u8]]) -> Result<Vec<u8>, Fail> {
+    let mut all = Vec::new(alloc);
+    for part in parts {
+        all.extend_from_slice(part)?;
+    }
+    Ok(all)
+}
+
+// The three parts of a row.
+fn row_of(row: &str) -> Option<(&str, &str, &str)> {
+    let (first, rest) = row.split_once(';')?;
+    let (second, third) = rest.split_once(';')?;
+    Some((first, second, third))
+}
+
+// The frames of a row, as they go over a line.
+fn framed(alloc: Global, frames: &str) -> Result<Vec<u8>, Fail> {
+    let mut all = Vec::new(alloc);
+    for frame in frames.split('~') {
+        all.push(b'\n')?;
+        all.extend_from_slice(frame.as_bytes())?;
+        all.push(b'\r')?;
+    }
+    Ok(all)
+}

@@ -1,0 +1,110 @@
+// One stream, fed in pieces of any size.
+ghost use Rattle.std.specs.Prelude.{◌<◌};
+
+use super::panel::Panel;
+use super::{ALARM, ALARM_REPLY, BEAT, BEAT_REPLY, Came, DUH, SETUP, joined, recorded_of, session};
+use arc_io::MemPort;
+use centre_core::RamHall;
+use line_session::{LineEnd, LineState};
+use std::alloc::Global;
+use std::process::Abort;
+use std::test::Fail;
+use test_stations::halls::ram_hall;
+use test_stations::ports::port_of;
+
+// Whole, damaged, cut-off and too long frames.
+fn stream(alloc: Global) -> Result<Vec<u8>, Fail> {
+    let long = vec![in alloc; b'x'; 4_104]?;
+    joined(
+        alloc,
+        &[
+            b"xyz\n1BC",
+            ALARM,
+            // Check and length.
+            b"\nDF000027\"ADM-CID\"0001L0#7777[#7777|1131 01 001]\r",
+            b"\nDEFF0028\"ADM-CID\"0001L0#7777[#7777|1131 01 001]\r",
+            b"\nDEFF0027\"ADM-CID\"0001L0#7777",
+            BEAT,
+            b"\n",
+            BEAT,
+            b"\r\r",
+            b"\n",
+            &long,
+            b"\r",
+            b"\nDB350012\"ABC\"0001L0#7777[]\r",
+            b"\n",
+            &long,
+            ALARM,
+            // Without a carriage return.
+            b"\n48CF0013\"NULL\"0000L0#7777[]",
+        ],
+    )
+}
+
+// The session over these bytes, handed to a line's state in pieces of a size.
+fn taken(alloc: Global, input: &[u8], size: usize, port: &mut MemPort) -> Result<Came, Fail>
+    requires { 0 < size }
+{
+    let mut hall = ram_hall(alloc, SETUP)?;
+    let end = fed(alloc, &mut hall, port, input, size);
+    Ok((end, recorded_of(hall)))
+}
+
+// How a line ends that is fed these bytes in pieces of a size.
+fn fed(alloc: Global, hall: &mut RamHall, port: &mut MemPort, input: &[u8], size: usize) -> LineEnd
+    requires { 0 < size }
+{
+    let mut state = LineState::new();
+    for piece in input.chunks(size) {
+        if let Err(early) = state.take(alloc, hall, port, piece) {
+            return early;
+        }
+    }
+    LineEnd::InputEnded
+}
+
+#[test]
+fn pieces_of_any_size_have_the_same_replies(rt: HostRuntime) -> Result<(), Fail> {
+    let alloc = rt.alloc();
+    let input = stream(alloc)?;
+    let replies = [ALARM_REPLY, BEAT_REPLY, BEAT_REPLY, DUH, ALARM_REPLY];
+    let output = joined(alloc, &replies)?;
+    for size in [1, 2, 3, 7, 4_095, 4_096, 4_097, 1_000_000] {
+        compare_pieces(&rt, alloc, &input, size, &output)?;
+        compare_reads(&rt, alloc, &input, size, &output)?;
+    }
+    Ok(())
+}
+
+fn compare_pieces(
+    rt: &impl Abort,
+    alloc: Global,
+    input: &[u8],
+    size: usize,
+    output: &[u8],
+) -> Result<(), Fail>
+    requires { 0 < size }
+{
+    let mut port = port_of(alloc, b"")?;
+    let came = taken(alloc, input, size, &mut port);
+    assert_eq!(rt; port.sink.bytes(), output, "pieces of {size}");
+    drop(port);
+    assert_eq!(rt; came?, (LineEnd::InputEnded, 5), "pieces of {size}");
+    Ok(())
+}
+
+// The session with a panel that sends so many bytes at a time.
+fn compare_reads(
+    rt: &impl Abort,
+    alloc: Global,
+    input: &[u8],
+    size: usize,
+    output: &[u8],
+) -> Result<(), Fail> {
+    let mut panel = Panel::new(input.to_vec(alloc)?, size, Vec::new(alloc));
+    let came = session(alloc, SETUP, &mut panel);
+    assert_eq!(rt; panel.written.as_slice(), output, "reads of {size}");
+    drop(panel);
+    assert_eq!(rt; came?, (LineEnd::InputEnded, 5), "reads of {size}");
+    Ok(())
+}
