@@ -1,8 +1,10 @@
 //! The adapters over sockets and the machine's clock. They tell nothing of content, and are trusted beyond their counts.
+mod peers;
 mod second_pulse;
 mod tcp_door;
 mod tcp_port;
 
+pub use peers::Peers;
 pub use second_pulse::SecondPulse;
 pub use tcp_door::TcpDoor;
 pub use tcp_port::TcpPort;

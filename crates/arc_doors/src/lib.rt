@@ -3,10 +3,8 @@
 
 mod adapters;
 mod memory;
-#[cfg(test)]
-mod tests;
 mod traits;
 
-pub use adapters::{SecondPulse, TcpDoor, TcpPort};
+pub use adapters::{Peers, SecondPulse, TcpDoor, TcpPort};
 pub use memory::{ListPulse, MemDoor};
 pub use traits::{Door, Pulse};

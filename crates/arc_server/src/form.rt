@@ -9,7 +9,7 @@ use arc_serving::Crew;
 use arc_sessions::Side;
 
 /// What the words ask for.
-#[derive(Clone, Copy, Debug, PartialEq, Eq)]
+#[derive(Clone, Copy)]
 pub enum Form {
     /// `line` or `desk`: one session of a line, or of a desk, on the port.
     Session(Side),

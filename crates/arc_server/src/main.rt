@@ -9,7 +9,7 @@ ghost use Rattle.arc_server.specs.Forms.{form_of as form_by};
 ghost use Rattle.arc_server.specs.WholeRuns.{HasDoors};
 
 use arc_data::Txt;
-use arc_doors::{SecondPulse, TcpDoor};
+use arc_doors::{Peers, SecondPulse, TcpDoor};
 use arc_io::{FileDisk, FileSource, RealClock, RealNoise, StdPort};
 use form::{Form, form_of};
 use run::{Outside, run};
@@ -20,6 +20,7 @@ use std::process::ExitCode;
 use std::sync::Wait;
 use std::thread::Threads;
 use std::{env, fs, io};
+use threads::can_make;
 
 mod came;
 mod drill;
@@ -34,8 +35,7 @@ mod session;
 mod setup;
 mod status;
 mod summary;
-#[cfg(test)]
-mod tests;
+mod threads;
 
 // The arguments as short texts. One that is longer than 32 bytes stands as `?`, which no form has.
 fn words<R: Env + AllocGlobal>(rt: &R) -> io::Result<Vec<Txt>> {
@@ -80,12 +80,27 @@ fn doors_for(words: &[Txt]) -> (usize, usize)
     }
 }
 
+// How many threads beside the first one these words want. The first one serves a line, and the clock has one of its own; where there are no
+// desks, one is begun for them all the same.
+fn threads_for(words: &[Txt]) -> usize {
+    match form_of(words) {
+        Some(Form::Serve(crew)) => crew.lines.saturating_add(crew.desks.max(1)),
+        _ => 0,
+    }
+}
+
 // Runs over the real setup file, the real standard streams, and the journal in the working folder.
 fn run_over_machine<W: Threads + Wait + Sync>(
     threads: &W,
     rt: &HostRuntime,
     words: &[Txt],
 ) -> Status {
+    // A worker without a thread would wait until others have served all their sessions.
+    let wanted = threads_for(words);
+    if !can_make(threads, *rt, rt.alloc(), wanted) {
+        let _ = eprintln!(rt; "the system refuses one of {wanted} threads");
+        return Status::Memory;
+    }
     let port = StdPort::new(
         rt.reader(),
         io::writer(rt),
@@ -98,8 +113,8 @@ fn run_over_machine<W: Threads + Wait + Sync>(
     };
     let (lines, desks) = doors_for(words);
     let (Ok(lines), Ok(desks)) = (
-        TcpDoor::shared(*rt, rt.alloc(), 9009, lines),
-        TcpDoor::shared(*rt, rt.alloc(), 9010, desks),
+        TcpDoor::shared(*rt, rt.alloc(), Peers::Panels, 9009, lines),
+        TcpDoor::shared(*rt, rt.alloc(), Peers::Operators, 9010, desks),
     ) else {
         return Status::Memory;
     };

@@ -11,7 +11,7 @@ use disk_journal::OpenFault;
 use itoa::Buffer;
 
 /// The input of a run that could not be read.
-#[derive(Clone, Copy, Debug, PartialEq, Eq)]
+#[derive(Clone, Copy)]
 pub enum Which {
     /// The setup text.
     Setup,
@@ -20,7 +20,7 @@ pub enum Which {
 }
 
 /// How a run ended, with the numbers that show its cause. Counts are those of faults at the run's entry and at its end.
-#[derive(Clone, Copy, Debug, PartialEq, Eq)]
+#[derive(Clone, Copy)]
 pub enum Status {
     /// The input was read to its end, and all of it answered.
     Done,

@@ -56,18 +56,21 @@ pub(crate) fn serve_beside<
 {
     let stop = AtomicBool::new(false);
     let flag = &stop;
-    join(
+    // Where no thread can be made, the first one is called last: the ticker then finds the flag set, and ends.
+    let (ticked, workers) = join(
         rt,
+        move || -> (Ticking<T, N>, Ticked)
+            requires { IsSync R.row }
+            ensures { IsPass N.terms result.0.pass
+                × WorksTicks N.terms ticking.pass result.0.pass (T.moments ticking.pulse) (T.moments result.0.pulse) result.1 }
+        { tick(rt, alloc, gate, flag, ticking) },
         move || -> Workers<A, B, N>
             requires { IsSync R.row }
             ensures { AllZip (IsJobDone Lines N.terms sessions) workers.lines.items result.lines.items
                 × AllZip (IsJobDone Desks N.terms sessions) workers.desks.items result.desks.items }
         { work_then_stop(rt, alloc, gate, sessions, flag, workers) },
-        move || -> (Ticking<T, N>, Ticked)
-            ensures { IsPass N.terms result.0.pass
-                × WorksTicks N.terms ticking.pass result.0.pass (T.moments ticking.pulse) (T.moments result.0.pulse) result.1 }
-        { tick(rt, alloc, gate, flag, ticking) },
-    )
+    );
+    (workers, ticked)
 }
 
 // Runs the workers of both sides, and then sets the flag.
@@ -111,16 +114,17 @@ fn work_beside<
     ensures desks { AllZip (IsJobDone Desks N.terms sessions) workers.desks.items result.desks.items }
 {
     let Workers { lines, desks } = workers;
-    let (lines, desks) = join(
+    // Where no thread can be made, the first one is called last: lines go before desks.
+    let (desks, lines) = join(
         rt,
-        move || -> Vec<Job<A, N>>
-            requires { IsSync R.row }
-            ensures { AllZip (IsJobDone Lines N.terms sessions) lines.items result.items }
-        { work_side(Side::Lines, rt, alloc, gate, sessions, lines) },
         move || -> Vec<Job<B, N>>
             requires { IsSync R.row }
             ensures { AllZip (IsJobDone Desks N.terms sessions) desks.items result.items }
         { work_side(Side::Desks, rt, alloc, gate, sessions, desks) },
+        move || -> Vec<Job<A, N>>
+            requires { IsSync R.row }
+            ensures { AllZip (IsJobDone Lines N.terms sessions) lines.items result.items }
+        { work_side(Side::Lines, rt, alloc, gate, sessions, lines) },
     );
     Workers { lines, desks }
 }

@@ -3,15 +3,13 @@ ghost use Rattle.std.specs.Prelude.{◌≡◌, [], false, IfOk};
 ghost use Rattle.std.specs.Io.{ReadsAtMost, WritesAtMost};
 ghost use Rattle.arc_io.specs.Seen.{untold};
 
+use super::peers::{Patience, Peers};
 use arc_io::{Clock, Ends, Failed, Noise, Port, RealClock, RealNoise, Sink, Source};
 use std::io::{ErrorKind, Read, Write};
 use std::net::OpenStream;
 use std::random::RandomSource;
 use std::time::Duration;
 use std::{io, time};
-
-// For how many seconds a peer may send nothing.
-const SILENCE: u64 = 3_600;
 
 // For how many seconds a peer may take nothing.
 const STALL: u64 = 60;
@@ -21,11 +19,12 @@ const STALL: u64 = 60;
 const INTERRUPTIONS: u32 = 1_000;
 
 /// A port over a connection, with the machine's clock and random source. What is written is sent at once.
-/// An error of the connection is a fault, and so is a read to which nothing came for an hour, a write of which nothing was taken
-/// for a minute, and a piece of which nothing is taken.
+/// An error of the connection is a fault, and so is a read for which it was silent for longer than its peers may be, a write of which
+/// nothing was taken for a minute, and a piece of which nothing is taken.
 #[derive(Drop)]
 pub struct TcpPort<S: Read + Write, R: time::Clock + RandomSource> {
     stream: S,
+    patience: Patience<R>,
     clock: RealClock<R>,
     noise: RealNoise<R>,
     ended: bool,
@@ -34,17 +33,19 @@ pub struct TcpPort<S: Read + Write, R: time::Clock + RandomSource> {
 }
 
 impl<S: Read + Write + OpenStream + Drop, R: time::Clock + RandomSource + Copy> TcpPort<S, R> {
-    /// A port over this connection and this runtime. The error is the connection's, where its limits can't be set.
-    pub fn new(stream: S, rt: R) -> io::Result<Self>
+    /// A port over this connection of such a peer, and this runtime. The error is the connection's, where its limits can't be set, or the
+    /// clock's.
+    pub fn new(stream: S, rt: R, peers: Peers) -> io::Result<Self>
         ensures not_ended { IfOk result (λ port. (⟦<TcpPort<S, R> as Ends>⟧.seen port).ended ≡ false) }
         ensures read_faults { IfOk result (λ port. (⟦<TcpPort<S, R> as Ends>⟧.seen port).read_faults ≡ 0) }
         ensures write_faults { IfOk result (λ port. (⟦<TcpPort<S, R> as Ends>⟧.seen port).write_faults ≡ 0) }
     {
         stream.set_nodelay(true)?;
-        stream.set_read_timeout(Some(Duration::from_secs(SILENCE)))?;
         stream.set_write_timeout(Some(Duration::from_secs(STALL)))?;
+        let patience = Patience::new(rt, peers)?;
         Ok(TcpPort {
             stream,
+            patience,
             clock: RealClock::new(rt),
             noise: RealNoise::new(rt),
             ended: false,
@@ -58,9 +59,9 @@ impl<S: Read + Write, R: time::Clock + RandomSource> Ends for TcpPort<S, R> {
     ghost seen = { λ p. record untold { ended = p.ended; read_faults = p.read_faults; write_faults = p.write_faults } };
 }
 
-impl<S: Read + Write, R: time::Clock + RandomSource> Source for TcpPort<S, R> {
+impl<S: Read + Write + OpenStream, R: time::Clock + RandomSource> Source for TcpPort<S, R> {
     fn read(&mut self, buf: &mut [u8]) -> Result<usize, Failed> {
-        match receive(&mut self.stream, buf) {
+        match receive_in_time(&mut self.stream, &mut self.patience, buf) {
             Ok(count) => {
                 self.ended = count == 0 && !buf.is_empty();
                 Ok(count)
@@ -105,7 +106,21 @@ impl<S: Read + Write, R: time::Clock + RandomSource> Noise for TcpPort<S, R> {
     }
 }
 
-impl<S: Read + Write, R: time::Clock + RandomSource> Port for TcpPort<S, R> {}
+impl<S: Read + Write + OpenStream, R: time::Clock + RandomSource> Port for TcpPort<S, R> {}
+
+// Reads the next bytes, where they come in time.
+fn receive_in_time<S: Read + OpenStream, R: time::Clock>(
+    stream: &mut S,
+    patience: &mut Patience<R>,
+    buf: &mut [u8],
+) -> io::Result<usize>
+    ensures { ReadsAtMost result buf.new }
+{
+    patience.allow(stream)?;
+    let count = receive(stream, buf)?;
+    patience.note(stream, &buf[..count])?;
+    Ok(count)
+}
 
 // Reads the next bytes.
 fn receive(stream: &mut impl Read, buf: &mut [u8]) -> io::Result<usize>
