@@ -9,7 +9,7 @@ use std::alloc::Global;
 use std::fs::{File, OpenOptions};
 use std::io::{self, ErrorKind};
 use std::os::fd::AsRawFd;
-use std::os::unix::fs::FileExt;
+use std::os::unix::fs::{FileExt, OpenOptionsExt};
 use std::rt::Files;
 
 /// Two files of a folder, `journal.a` and `journal.b`.
@@ -17,8 +17,8 @@ use std::rt::Files;
 /// A file that is missing is an empty area, and the first write makes it. A file is opened and locked at
 /// its first use, and kept until the disk is let go: a call on a file that another process, or another
 /// disk of this one, has locked fails. So do calls on a file that can't be read or written, and on what is no file.
-#[derive(Drop)]
-pub struct FileDisk<R: Files<File = File>> {
+/// The cause of the first call that fails is said on standard error. A file that is made is its user's alone.
+pub struct FileDisk<R: Files<File = File> + Eprint> {
     rt: R,
     folder: String,
     a: AreaFile,
@@ -26,7 +26,24 @@ pub struct FileDisk<R: Files<File = File>> {
     faults: u64,
 }
 
-impl<R: Files<File = File> + Drop> FileDisk<R> {
+// Written out: one call wherever one is dropped, where a derived drop is spelled out at each exit.
+impl<R: Files<File = File> + Eprint + Drop> Drop for FileDisk<R> {
+    fn drop(self) {
+        let FileDisk {
+            rt,
+            folder,
+            a,
+            b,
+            faults: _,
+        } = self;
+        drop(rt);
+        drop(folder);
+        drop(a);
+        drop(b);
+    }
+}
+
+impl<R: Files<File = File> + Eprint + Drop> FileDisk<R> {
     /// The disk of this folder. Nothing is opened yet.
     pub fn new(rt: R, alloc: Global, folder: &str) -> Result<FileDisk<R>, Memory> {
         let (Ok(of_folder), Ok(a), Ok(b)) = (
@@ -46,7 +63,7 @@ impl<R: Files<File = File> + Drop> FileDisk<R> {
     }
 }
 
-impl<R: Files<File = File>> Disk for FileDisk<R> {
+impl<R: Files<File = File> + Eprint> Disk for FileDisk<R> {
     ghost use Rattle.std.specs.Prelude.{None};
 
     ghost told = { λ _. None };
@@ -70,7 +87,7 @@ impl<R: Files<File = File>> Disk for FileDisk<R> {
             Area::A => self.a.length(&self.rt),
             Area::B => self.b.length(&self.rt),
         };
-        counted(&mut self.faults, answer)
+        counted(&self.rt, area, &mut self.faults, answer)
     }
 
     fn read_at(&mut self, area: Area, at: u64, buf: &mut [u8]) -> Result<usize, Failed> {
@@ -78,7 +95,7 @@ impl<R: Files<File = File>> Disk for FileDisk<R> {
             Area::A => self.a.read_at(&self.rt, at, buf),
             Area::B => self.b.read_at(&self.rt, at, buf),
         };
-        counted(&mut self.faults, answer)
+        counted(&self.rt, area, &mut self.faults, answer)
     }
 
     fn write_at(&mut self, area: Area, at: u64, bytes: &[u8]) -> Result<(), Failed> {
@@ -86,7 +103,7 @@ impl<R: Files<File = File>> Disk for FileDisk<R> {
             Area::A => self.a.write_at(&self.rt, at, bytes),
             Area::B => self.b.write_at(&self.rt, at, bytes),
         };
-        counted(&mut self.faults, answer)
+        counted(&self.rt, area, &mut self.faults, answer)
     }
 
     fn sync(&mut self, area: Area) -> Result<(), Failed> {
@@ -95,7 +112,7 @@ impl<R: Files<File = File>> Disk for FileDisk<R> {
             Area::A => self.a.sync(&self.rt, folder),
             Area::B => self.b.sync(&self.rt, folder),
         };
-        counted(&mut self.faults, answer)
+        counted(&self.rt, area, &mut self.faults, answer)
     }
 
     fn faults(&self) -> u64 {
@@ -103,22 +120,44 @@ impl<R: Files<File = File>> Disk for FileDisk<R> {
     }
 }
 
-// An error is a fault.
-fn counted<T: Drop>(faults: &mut u64, answer: io::Result<T>) -> Result<T, Failed>
+// An error is a fault. The first one is told.
+fn counted<R: Eprint, T: Drop>(
+    rt: &R,
+    area: Area,
+    faults: &mut u64,
+    answer: io::Result<T>,
+) -> Result<T, Failed>
     ensures same { MatchResult answer (λ x. result ≡ Ok x) (λ _. IsErr result) }
     ensures cause { HasCause faults.old faults.new result }
 {
     match answer {
         Ok(found) => Ok(found),
-        Err(_) => {
+        Err(error) => {
+            if *faults == 0 {
+                tell(rt, area, error);
+            }
             *faults = faults.saturating_add(1);
             Err(Failed)
         }
     }
 }
 
+// Says on standard error why a call on an area failed: another run, no permission, or an error of the disk.
+fn tell<R: Eprint>(rt: &R, area: Area, error: io::Error) {
+    let name = match area {
+        Area::A => "journal.a",
+        Area::B => "journal.b",
+    };
+    let _ = match error.kind() {
+        ErrorKind::WouldBlock | ErrorKind::AlreadyExists => {
+            eprintln!(rt; "{name}: another run works in this folder")
+        }
+        ErrorKind::PermissionDenied => eprintln!(rt; "{name}: not permitted: {error}"),
+        _ => eprintln!(rt; "{name}: the disk failed: {error}"),
+    };
+}
+
 // The file of an area.
-#[derive(Drop)]
 struct AreaFile {
     path: String,
 
@@ -133,6 +172,21 @@ struct AreaFile {
 
     // A sync failed: the system may have dropped what it was to put on the disk.
     is_lost: bool,
+}
+
+// Written out: one call wherever one is dropped, where a derived drop is spelled out at each exit.
+impl Drop for AreaFile {
+    fn drop(self) {
+        let AreaFile {
+            path,
+            file,
+            is_sought: _,
+            is_settled: _,
+            is_lost: _,
+        } = self;
+        drop(path);
+        drop(file);
+    }
 }
 
 impl AreaFile {
@@ -182,6 +236,7 @@ impl AreaFile {
                 .read(true)
                 .write(true)
                 .create_new(true)
+                .mode(0o600)
                 .open(rt, self.path.as_str())?;
             self.file = Some(locked(made)?);
         }
