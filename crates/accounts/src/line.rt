@@ -90,19 +90,17 @@ fn declared(line: &[u8]) -> Option<Line>
     ensures valid { IfSome result IsValid }
 {
     let mut words = Words::of(line);
-    let kind = words.next()?;
-    if kind == b"account".as_slice() {
-        Some(Line::Account(account_line(&mut words)?))
-    } else if kind == b"hours".as_slice() {
-        Some(Line::Hours(hours_line(&mut words)?))
-    } else if kind == b"keyholder".as_slice() {
-        Some(Line::Keyholder(keyholder_line(&mut words)?))
-    } else if kind == b"plan".as_slice() {
-        Some(Line::Plan(plan_line(&mut words)?))
-    } else if kind == b"operator".as_slice() {
-        Some(Line::Operator(operator_line(&mut words)?))
-    } else {
-        None
+    match words.next() {
+        Some(kind) if kind == b"account".as_slice() => account_line(&mut words).map(Line::Account),
+        Some(kind) if kind == b"hours".as_slice() => hours_line(&mut words).map(Line::Hours),
+        Some(kind) if kind == b"keyholder".as_slice() => keyholder_line(&mut words).map(
+            Line::Keyholder,
+        ),
+        Some(kind) if kind == b"plan".as_slice() => plan_line(&mut words).map(Line::Plan),
+        Some(kind) if kind == b"operator".as_slice() => operator_line(&mut words).map(
+            Line::Operator,
+        ),
+        _ => None,
     }
 }
 
@@ -111,13 +109,18 @@ fn account_line(words: &mut Words) -> Option<AccountLine>
     ensures value { option_map said_account result ≡ account_line words.old }
     ensures offset { IfSome result (λ line. IsWithin 840 line.offset) }
 {
-    let number = account(words.next()?)?;
-    let key = key_option(words)?;
-    let beat = beat_option(words)?;
-    let offset = offset_option(words)?;
-    if !words.is_empty() {
+    let Some(word) = words.next() else {
         return None;
-    }
+    };
+    let (Some(number), Some(key), Some(beat), Some(offset), true) = (
+        account(word),
+        key_option(words),
+        beat_option(words),
+        offset_option(words),
+        words.is_empty(),
+    ) else {
+        return None;
+    };
     Some(AccountLine {
         number,
         key,
@@ -162,15 +165,23 @@ fn hours_line(words: &mut Words) -> Option<HoursLine>
     ensures value { option_map said_hours result ≡ hours_line words.old }
     ensures window { IfSome result (λ line. IsValidWindow line.window) }
 {
-    let (number, day_name) = (words.next()?, words.next()?);
-    let (first, second) = (words.next()?, words.next()?);
-    if !words.is_empty() {
+    let (Some(number), Some(day_name), Some(first), Some(second), true) = (
+        words.next(),
+        words.next(),
+        words.next(),
+        words.next(),
+        words.is_empty(),
+    ) else {
         return None;
-    }
-    let account = account(number)?;
-    let weekday = day(day_name)?;
-    let from = minute(1439, first)?;
-    let to = minute(1440, second)?;
+    };
+    let (Some(account), Some(weekday), Some(from), Some(to)) = (
+        account(number),
+        day(day_name),
+        minute(1439, first),
+        minute(1440, second),
+    ) else {
+        return None;
+    };
     if to <= from {
         return None;
     }
@@ -182,16 +193,17 @@ fn hours_line(words: &mut Words) -> Option<HoursLine>
 fn keyholder_line(words: &mut Words) -> Option<KeyholderLine>
     ensures { option_map said_keyholder result ≡ keyholder_line words.old }
 {
-    let (number, holder, phone) = (words.next()?, words.next()?, words.next()?);
-    if !words.is_empty() {
+    let (Some(number), Some(holder), Some(phone), true) = (
+        words.next(),
+        words.next(),
+        words.next(),
+        words.is_empty(),
+    ) else {
         return None;
-    }
-    let account = account(number)?;
-    let name = name(holder)?;
-    if is_phone(phone) {
-        Some(KeyholderLine { account, name })
-    } else {
-        None
+    };
+    match (account(number), name(holder), is_phone(phone)) {
+        (Some(account), Some(name), true) => Some(KeyholderLine { account, name }),
+        _ => None,
     }
 }
 
@@ -199,15 +211,17 @@ fn keyholder_line(words: &mut Words) -> Option<KeyholderLine>
 fn plan_line(words: &mut Words) -> Option<PlanLine>
     ensures { option_map said_plan result ≡ plan_line words.old }
 {
-    let (whose, class_name) = (words.next()?, words.next()?);
-    let account = target(whose)?;
-    let class = class(class_name)?;
-    let plan = plan_words(words)?;
-    Some(PlanLine {
-        account,
-        class,
-        plan,
-    })
+    let (Some(whose), Some(class_name)) = (words.next(), words.next()) else {
+        return None;
+    };
+    match (target(whose), class(class_name), plan_words(words)) {
+        (Some(account), Some(class), Some(plan)) => Some(PlanLine {
+            account,
+            class,
+            plan,
+        }),
+        _ => None,
+    }
 }
 
 /// Whose plan it is: that of an account, or with `*` that of all accounts.
@@ -242,11 +256,12 @@ fn plan_words(words: &mut Words) -> Option<Plan>
 fn operator_line(words: &mut Words) -> Option<Operator>
     ensures { option_map said_operator result ≡ operator_line words.old }
 {
-    let (name_word, digits) = (words.next()?, words.next()?);
-    if !words.is_empty() {
+    let (Some(name_word), Some(digits), true) = (words.next(), words.next(), words.is_empty())
+    else {
         return None;
+    };
+    match (name(name_word), pin(digits)) {
+        (Some(name), Some(pin)) => Some(Operator { name, pin }),
+        _ => None,
     }
-    let name = name(name_word)?;
-    let pin = pin(digits)?;
-    Some(Operator { name, pin })
 }

@@ -2,7 +2,7 @@
 ghost use Rattle.std.specs.Prelude.{◌≡◌};
 ghost use Rattle.desk_wire.specs.Commands.{command_of};
 
-use crate::forms::{act, alone, close, login, one_number};
+use crate::forms::{act, alone, claim, close, login, release, show};
 use alarm_rules::Words;
 use arc_data::{CloseCode, Outcome, Step, Txt};
 
@@ -53,7 +53,9 @@ impl Command {
         ensures { result ≡ command_of line.now }
     {
         let mut words = Words::of(line);
-        let first = words.next()?;
+        let Some(first) = words.next() else {
+            return None;
+        };
         if first == b"login".as_slice() {
             login(&mut words)
         } else if first == b"quit".as_slice() {
@@ -61,18 +63,15 @@ impl Command {
         } else if first == b"next".as_slice() {
             alone(Command::Next, &mut words)
         } else if first == b"claim".as_slice() {
-            let number = one_number(&mut words)?;
-            Some(Command::Claim { number })
+            claim(&mut words)
         } else if first == b"act".as_slice() {
             act(&mut words)
         } else if first == b"release".as_slice() {
-            let number = one_number(&mut words)?;
-            Some(Command::Release { number })
+            release(&mut words)
         } else if first == b"close".as_slice() {
             close(&mut words)
         } else if first == b"show".as_slice() {
-            let number = one_number(&mut words)?;
-            Some(Command::Show { number })
+            show(&mut words)
         } else if first == b"list".as_slice() {
             alone(Command::List, &mut words)
         } else {
