@@ -17,12 +17,24 @@ use std::marker::Model;
 
 /// What is known of each account: of one that has no row, only the last Start, at which each account is heard. Contracts see
 /// the last Start, the rows, and for how many further accounts there is memory.
-#[derive(Drop)]
 pub struct AccountRows {
     start: Option<u64>,
     by_account: IndexMap<Txt, Row>,
     // Empty windows, for accounts that get a row later.
     windows: Vec<Window>,
+}
+
+// Written out: one call wherever one is dropped, where a derived drop is spelled out at each exit.
+impl Drop for AccountRows {
+    fn drop(self) {
+        let AccountRows {
+            start: _,
+            by_account,
+            windows,
+        } = self;
+        drop(by_account);
+        drop(windows);
+    }
 }
 
 impl Model for AccountRows {

@@ -15,17 +15,22 @@ use arc_data::{Blob, Class, Memory, PlanWord, SetupFault, Txt};
 use std::alloc::Global;
 use std::marker::Model;
 
-#[cfg(test)]
-mod tests;
-
 /// The most bytes of a setup text.
 const TEXT_LIMIT: usize = 4_194_304;
 
 /// The setup of a station. Contracts see it as its text, which is a setup text of at most 4,194,304 bytes.
-#[derive(Drop)]
 pub struct Setup {
     text: Blob,
     table: Table,
+}
+
+// Written out: one call wherever one is dropped, where a derived drop is spelled out at each exit.
+impl Drop for Setup {
+    fn drop(self) {
+        let Setup { text, table } = self;
+        drop(text);
+        drop(table);
+    }
 }
 
 impl Model for Setup {

@@ -25,11 +25,24 @@ const KEYHOLDER_LIMIT: u64 = 4;
 const WINDOW_LIMIT: u64 = 28;
 
 /// What the lines of a text declare. The plans are those of all accounts that have none of their own.
-#[derive(Drop)]
 pub(crate) struct Table {
     pub accounts: AccountTable,
     pub plans: PlanList,
     pub operators: OperatorTable,
+}
+
+// Written out: one call wherever one is dropped, where a derived drop is spelled out at each exit.
+impl Drop for Table {
+    fn drop(self) {
+        let Table {
+            accounts,
+            plans,
+            operators,
+        } = self;
+        drop(accounts);
+        drop(plans);
+        drop(operators);
+    }
 }
 
 impl Table {

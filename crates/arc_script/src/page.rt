@@ -11,7 +11,6 @@ use arc_io::{
 use std::alloc::Global;
 
 /// What one line of a script writes. A write fails for want of memory alone. There is nothing to be read.
-#[derive(Drop)]
 pub(crate) struct Page {
     port: MemPort,
     // How many readings were taken behind the first, which is taken at once: so all that the page tells of its clock is that moment.
@@ -20,6 +19,14 @@ pub(crate) struct Page {
     ghost silent: { noise_list port.noise ≡ [] },
     ghost begun: { 1 ≤ clock_calls port.clock },
     ghost counted: { taken ≡ min (clock_calls port.clock - 1) (2 ^ 64 - 1) },
+}
+
+// Written out: one call wherever one is dropped, where a derived drop is spelled out at each exit.
+impl Drop for Page {
+    fn drop(self) {
+        let Page { port, taken: _ } = self;
+        drop(port);
+    }
 }
 
 impl Page {

@@ -16,7 +16,6 @@ use line_session::LineState;
 use std::alloc::Global;
 
 /// The receiver's lines and desks, the moment that was set last, and what is counted.
-#[derive(Drop)]
 pub(crate) struct Script {
     pub(crate) setup: Setup,
     pub(crate) limits: Limits,
@@ -34,6 +33,25 @@ pub(crate) struct Script {
     ghost few: { limits.bytes < 2 ^ 32 },
     ghost sixteen: { vec_len lines ≡ 16 },
     ghost eight: { vec_len desks ≡ 8 },
+}
+
+// Written out: one call wherever one is dropped, where a derived drop is spelled out at each exit.
+impl Drop for Script {
+    fn drop(self) {
+        let Script {
+            setup,
+            limits: _,
+            lines,
+            desks,
+            clock: _,
+            number: _,
+            opened_before: _,
+            tally: _,
+        } = self;
+        drop(setup);
+        drop(lines);
+        drop(desks);
+    }
 }
 
 impl Script {

@@ -21,13 +21,27 @@ use supervised_accounts::{SupervisedAccounts, WatchedSetup};
 
 /// The centre: how many entries it was given, and what it keeps of them. Contracts see its state, and say for which
 /// histories it stands.
-#[derive(Drop)]
 pub struct Centre {
     pub(crate) entries: u64,
     pub(crate) recorded: u64,
     pub(crate) last: u64,
     pub(crate) accounts: SupervisedAccounts,
     pub(crate) queued: QueuedTable,
+}
+
+// Written out: one call wherever one is dropped, where a derived drop is spelled out at each exit.
+impl Drop for Centre {
+    fn drop(self) {
+        let Centre {
+            entries: _,
+            recorded: _,
+            last: _,
+            accounts,
+            queued,
+        } = self;
+        drop(accounts);
+        drop(queued);
+    }
 }
 
 impl Model for Centre {

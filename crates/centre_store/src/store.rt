@@ -10,13 +10,27 @@ use std::marker::Model;
 
 /// A centre, and the journal that has its recorded events. Contracts see the centre's state, the journal, and the count of the disk's
 /// faults at opening, and say for which histories the store stands.
-#[derive(Drop)]
 pub struct Store<D: Disk> {
     pub(crate) centre: Centre,
     pub(crate) journal: Journal<D>,
     pub(crate) at_open: u64,
     // The bytes of the body that was written last: their room is used again.
     pub(crate) body: Vec<u8>,
+}
+
+// Written out: one call wherever one is dropped, where a derived drop is spelled out at each exit.
+impl<D: Disk + Drop> Drop for Store<D> {
+    fn drop(self) {
+        let Store {
+            centre,
+            journal,
+            at_open: _,
+            body,
+        } = self;
+        drop(centre);
+        drop(journal);
+        drop(body);
+    }
 }
 
 impl<D: Disk> Model for Store<D> {
@@ -56,6 +70,14 @@ impl<D: Disk> Store<D> {
     pub fn close(self) -> D
         ensures { result ≡ self.journal.disk }
     {
-        self.journal.close()
+        let Store {
+            centre,
+            journal,
+            at_open: _,
+            body,
+        } = self;
+        drop(centre);
+        drop(body);
+        journal.close()
     }
 }

@@ -30,7 +30,6 @@ pub const SHIPPED: Limits = Limits {
 };
 
 /// Records in area A of a disk.
-#[derive(Drop)]
 pub struct Journal<D: Disk> {
     disk: D,
     used: u64,
@@ -38,6 +37,22 @@ pub struct Journal<D: Disk> {
     limits: Limits,
     alloc: Global,
     room: Vec<u8>,
+}
+
+// Written out: one call wherever one is dropped, where a derived drop is spelled out at each exit.
+impl<D: Disk + Drop> Drop for Journal<D> {
+    fn drop(self) {
+        let Journal {
+            disk,
+            used: _,
+            records: _,
+            limits: _,
+            alloc: _,
+            room,
+        } = self;
+        drop(disk);
+        drop(room);
+    }
 }
 
 /// Why an area was not opened, and its disk.
@@ -198,6 +213,15 @@ impl<D: Disk> Journal<D> {
     pub fn close(self) -> D
         ensures { result ≡ self.disk }
     {
-        self.disk
+        let Journal {
+            disk,
+            used: _,
+            records: _,
+            limits: _,
+            alloc: _,
+            room,
+        } = self;
+        drop(room);
+        disk
     }
 }

@@ -15,12 +15,25 @@ use std::marker::Model;
 /// The open incidents, and how many were opened so far. Numbers begin with 1 and rise; at most one incident of an account and
 /// a class is open. Contracts see the number opened, the list of the open incidents in order of number, and the room: for how
 /// many open incidents there is memory, those that are open included.
-#[derive(Drop)]
 pub struct Table {
     opened: u64,
     room: usize,
     items: Vec<Incident>,
     index: Index,
+}
+
+// Written out: one call wherever one is dropped, where a derived drop is spelled out at each exit.
+impl Drop for Table {
+    fn drop(self) {
+        let Table {
+            opened: _,
+            room: _,
+            items,
+            index,
+        } = self;
+        drop(items);
+        drop(index);
+    }
 }
 
 impl Model for Table {

@@ -25,7 +25,6 @@ use std::sync::{Mutex, Wait};
 
 /// A store under a lock, which many callers share, each with a pass of its own. The lock is held within `submit` and `split` alone, for one
 /// call of the store at most.
-#[derive(Drop)]
 pub struct Gate<D: Disk, N: GateName> {
     locked: Mutex<LockedStore<D, N>>,
     table: GateTable,
@@ -33,6 +32,20 @@ pub struct Gate<D: Disk, N: GateName> {
     ghost words: { N.terms.table.words ≡ 2 },
     ghost named: { table.shared.table_id ≡ N.terms.table },
     ghost text: { setup ≡ N.terms.text },
+}
+
+// Written out: one call wherever one is dropped, where a derived drop is spelled out at each exit.
+impl<D: Disk + Drop, N: GateName> Drop for Gate<D, N> {
+    fn drop(self) {
+        let Gate {
+            locked,
+            table,
+            setup,
+        } = self;
+        drop(locked);
+        drop(table);
+        drop(setup);
+    }
 }
 
 impl<D: Disk, N: GateName> Gate<D, N> {

@@ -20,11 +20,20 @@ use std::marker::Model;
 
 /// The table of open incidents, the queue of those that nobody holds, and the list of those that are held. Contracts see the
 /// table; its room is for how many open incidents there is memory in the table, in the queue and in the list.
-#[derive(Drop)]
 pub struct QueuedTable {
     table: Table,
     queue: Queue,
     held: Held,
+}
+
+// Written out: one call wherever one is dropped, where a derived drop is spelled out at each exit.
+impl Drop for QueuedTable {
+    fn drop(self) {
+        let QueuedTable { table, queue, held } = self;
+        drop(table);
+        drop(queue);
+        drop(held);
+    }
 }
 
 impl Model for QueuedTable {

@@ -14,10 +14,18 @@ use std::alloc::Global;
 use supervision::Watch;
 
 /// One deadline of silence and one of lateness, or none, for each account of a setup.
-#[derive(Drop)]
 pub(crate) struct Deadlines {
     pub silence: Watch,
     pub lateness: Watch,
+}
+
+// Written out: one call wherever one is dropped, where a derived drop is spelled out at each exit.
+impl Drop for Deadlines {
+    fn drop(self) {
+        let Deadlines { silence, lateness } = self;
+        drop(silence);
+        drop(lateness);
+    }
 }
 
 impl Deadlines {

@@ -21,11 +21,24 @@ use supervision::Places;
 
 /// What is known of each account, the setup in force, and for each of its accounts the deadlines of its silence and of its late
 /// closing. Contracts see the setup's text, and the rows.
-#[derive(Drop)]
 pub struct SupervisedAccounts {
     setup: Option<Setup>,
     rows: AccountRows,
     deadlines: Deadlines,
+}
+
+// Written out: one call wherever one is dropped, where a derived drop is spelled out at each exit.
+impl Drop for SupervisedAccounts {
+    fn drop(self) {
+        let SupervisedAccounts {
+            setup,
+            rows,
+            deadlines,
+        } = self;
+        drop(setup);
+        drop(rows);
+        drop(deadlines);
+    }
 }
 
 impl Model for SupervisedAccounts {

@@ -13,10 +13,18 @@ use std::sync::ledger::Ledger;
 
 /// One deadline or none for each place that has room: the places from 0 up to a number. Contracts see them as a list, in the
 /// order of the places. Deadlines are seconds since 1970, GMT.
-#[derive(Drop)]
 pub struct Watch {
     deadlines: Vec<Option<u64>>,
     sorted: OrderedPairs,
+}
+
+// Written out: one call wherever one is dropped, where a derived drop is spelled out at each exit.
+impl Drop for Watch {
+    fn drop(self) {
+        let Watch { deadlines, sorted } = self;
+        drop(deadlines);
+        drop(sorted);
+    }
 }
 
 impl Model for Watch {

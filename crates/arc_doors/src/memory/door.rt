@@ -10,7 +10,6 @@ use std::sync::Wait;
 
 /// A door in memory: it gives the ports of a list, one after the other, and then no more. The calls of `next` are numbered from 1,
 /// those that fail included; a number stays at the last value of `u64`.
-#[derive(Drop)]
 pub struct MemDoor<P: Port + Drop> {
     // The last one comes next.
     left: Vec<P>,
@@ -24,6 +23,24 @@ pub struct MemDoor<P: Port + Drop> {
     ghost room_to_give: { vec_len given + vec_len left ≤ vec_capacity given },
     ghost room_to_get: { vec_len given + vec_len left ≤ vec_capacity back },
     ghost within: { length back.items ≤ length given.items },
+}
+
+// Written out: one call wherever one is dropped, where a derived drop is spelled out at each exit.
+impl<P: Port + Drop> Drop for MemDoor<P> {
+    fn drop(self) {
+        let MemDoor {
+            left,
+            given,
+            back,
+            failing,
+            calls: _,
+            faults: _,
+        } = self;
+        drop(left);
+        drop(given);
+        drop(back);
+        drop(failing);
+    }
 }
 
 impl<P: Port + Drop> MemDoor<P> {
@@ -61,7 +78,18 @@ impl<P: Port + Drop> MemDoor<P> {
     pub fn into_back(self) -> Vec<P>
         ensures { result.items ≡ door_back self }
     {
-        self.back
+        let MemDoor {
+            left,
+            given,
+            back,
+            failing,
+            calls: _,
+            faults: _,
+        } = self;
+        drop(left);
+        drop(given);
+        drop(failing);
+        back
     }
 }
 

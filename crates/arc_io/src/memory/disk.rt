@@ -16,7 +16,6 @@ use std::alloc::{AllocError, Global};
 /// A disk in memory. Its calls are numbered from 1, those that fail included; a number stays at the last value of
 /// `u64`. A call whose number is listed fails, and so does one whose memory is refused; it changes nothing but the
 /// counts of calls and of faults.
-#[derive(Drop)]
 pub struct MemDisk {
     alloc: Global,
     first_a: Vec<u8>,
@@ -29,6 +28,29 @@ pub struct MemDisk {
     faults: u64,
     ghost a_is: { a.items ≡ content_after A first_a.items past.items },
     ghost b_is: { b.items ≡ content_after B first_b.items past.items },
+}
+
+// Written out: one call wherever one is dropped, where a derived drop is spelled out at each exit.
+impl Drop for MemDisk {
+    fn drop(self) {
+        let MemDisk {
+            alloc: _,
+            first_a,
+            first_b,
+            a,
+            b,
+            past,
+            failing,
+            calls: _,
+            faults: _,
+        } = self;
+        drop(first_a);
+        drop(first_b);
+        drop(a);
+        drop(b);
+        drop(past);
+        drop(failing);
+    }
 }
 
 impl MemDisk {

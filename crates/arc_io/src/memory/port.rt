@@ -3,12 +3,27 @@ use super::{ListClock, ListNoise, MemSink, MemSource};
 use crate::{Clock, Ends, Failed, Noise, Port, Sink, Source};
 
 /// A port in memory: a source, a sink, a clock and a noise together.
-#[derive(Drop)]
 pub struct MemPort {
     pub source: MemSource,
     pub sink: MemSink,
     pub clock: ListClock,
     pub noise: ListNoise,
+}
+
+// Written out: one call wherever one is dropped, where a derived drop is spelled out at each exit.
+impl Drop for MemPort {
+    fn drop(self) {
+        let MemPort {
+            source,
+            sink,
+            clock,
+            noise,
+        } = self;
+        drop(source);
+        drop(sink);
+        drop(clock);
+        drop(noise);
+    }
 }
 
 impl Ends for MemPort {

@@ -7,12 +7,25 @@ use std::alloc::Global;
 
 /// A sink in memory. The calls of `write` are numbered from 1, those that fail included; a number stays
 /// at the last value of `u64`. A call whose number is listed fails, and so does one whose memory is refused.
-#[derive(Drop)]
 pub struct MemSink {
     bytes: Vec<u8>,
     failing: Vec<u64>,
     calls: u64,
     faults: u64,
+}
+
+// Written out: one call wherever one is dropped, where a derived drop is spelled out at each exit.
+impl Drop for MemSink {
+    fn drop(self) {
+        let MemSink {
+            bytes,
+            failing,
+            calls: _,
+            faults: _,
+        } = self;
+        drop(bytes);
+        drop(failing);
+    }
 }
 
 impl MemSink {
