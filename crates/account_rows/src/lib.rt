@@ -5,6 +5,3 @@ mod account_rows;
 mod row;
 
 pub use account_rows::AccountRows;
-
-#[cfg(test)]
-mod tests;

@@ -7,6 +7,3 @@ mod plan;
 pub use arc_data::{Acted, Acts, Outcome, PlanWord, Planned, Step, StepList, Txt};
 pub use met::{expected_step, fits, left, remaining};
 pub use plan::Plan;
-
-#[cfg(test)]
-mod tests;

@@ -161,36 +161,3 @@ fn inverse_keys(words: &[u32; WORDS], rounds: usize) -> [u32; WORDS]
     }
     inverse
 }
-
-#[cfg(test)]
-mod tests {
-    use super::Key;
-
-    // The last words of the key expansions of FIPS 197, appendix A.
-    #[test]
-    fn last_words(rt: HostRuntime) {
-        let short: u128 = 0x2b7e1516_28aed2a6_abf71588_09cf4f3c;
-        let long: [u128; 2] = [
-            0x603deb10_15ca71be_2b73aef0_857d7781,
-            0x1f352c07_3b6108d7_2d9810a3_0914dff4,
-        ];
-        let middle: [u64; 3] = [
-            0x8e73b0f7_da0e6452,
-            0xc810f32b_809079e5,
-            0x62f8ead2_522c6b7b,
-        ];
-        let mut bytes = [0; 32];
-        bytes[..16].copy_from_slice(&short.to_be_bytes());
-        let key = Key::new(&bytes[..16]).expect(&rt, "a key");
-        assert_eq!(rt; key.words[43].to_le_bytes(), [0xb6, 0x63, 0x0c, 0xa6]);
-        bytes[..8].copy_from_slice(&middle[0].to_be_bytes());
-        bytes[8..16].copy_from_slice(&middle[1].to_be_bytes());
-        bytes[16..24].copy_from_slice(&middle[2].to_be_bytes());
-        let key = Key::new(&bytes[..24]).expect(&rt, "a key");
-        assert_eq!(rt; key.words[51].to_le_bytes(), [0x01, 0x00, 0x22, 0x02]);
-        bytes[..16].copy_from_slice(&long[0].to_be_bytes());
-        bytes[16..].copy_from_slice(&long[1].to_be_bytes());
-        let key = Key::new(&bytes).expect(&rt, "a key");
-        assert_eq!(rt; key.words[59].to_le_bytes(), [0x70, 0x6c, 0x63, 0x1e]);
-    }
-}

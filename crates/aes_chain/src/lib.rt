@@ -14,8 +14,6 @@ mod cipher;
 mod key;
 mod laws;
 mod tables;
-#[cfg(test)]
-mod tests;
 
 pub use crate::cipher::{chain_decrypt, chain_encrypt, decrypt_block, encrypt_block};
 pub use crate::key::Key;

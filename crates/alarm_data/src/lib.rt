@@ -6,9 +6,6 @@ ghost use Rattle.alarm_rules.specs.Signals.{signals};
 
 use arc_data::{Signal, Token};
 
-#[cfg(test)]
-mod tests;
-
 /// The signals of a message's content, in order: one of Contact ID data, 1 to 8 of SIA data. None exactly where the data,
 /// which ends before the content's first `]`, is outside the grammar of its token. Takes no memory.
 pub fn signals(token: Token, content: &[u8]) -> Option<arc_data::Signals>

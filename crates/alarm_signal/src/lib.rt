@@ -5,6 +5,3 @@ mod content;
 
 pub use arc_data::{Blob, Class, Kind, Message, Signal, Signals, Token, Txt};
 pub use content::data_of;
-
-#[cfg(test)]
-mod tests;

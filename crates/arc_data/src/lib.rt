@@ -29,6 +29,3 @@ pub use step::{Acted, Outcome, Step};
 pub use step_list::StepList;
 pub use txt::Txt;
 pub use window::Window;
-
-#[cfg(test)]
-mod tests;

@@ -7,6 +7,3 @@ mod place;
 mod texts;
 
 pub use drill::Drill;
-
-#[cfg(test)]
-mod tests;

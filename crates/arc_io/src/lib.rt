@@ -6,8 +6,6 @@ mod count;
 mod disk;
 mod disk_synced;
 mod memory;
-#[cfg(test)]
-mod tests;
 mod traits;
 mod whole;
 

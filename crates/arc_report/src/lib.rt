@@ -4,6 +4,3 @@
 mod writing;
 
 pub use writing::report;
-
-#[cfg(test)]
-mod tests;

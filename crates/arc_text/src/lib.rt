@@ -17,6 +17,3 @@ pub use line_cutter::LineCutter;
 pub use number::dec;
 pub use pairs::order;
 pub use steps::Steps;
-
-#[cfg(test)]
-mod tests;

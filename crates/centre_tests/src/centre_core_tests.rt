@@ -1,6 +1,6 @@
 // What no clause says: that calls succeed, and answers of the centre worked out by hand. A row is a moment in seconds from the
 // beginning of a run, an event in words, and the answer's name, with a `;` between.
-ghost use Rattle.std.specs.Prelude.{◌≡◌, ◌<◌, ◌≤◌, ◌^◌, ℕ, List, true, IfOk, length};
+ghost use Rattle.std.specs.Prelude.{◌≡◌, ◌<◌, ◌≤◌, ◌^◌, ℕ, List, true, IfOk};
 ghost use Rattle.arc_data.specs.Digits.{is_run, is_capital_hex};
 ghost use Rattle.arc_data.specs.WellFormed.{IsWellFormed};
 ghost use Rattle.centre_rules.specs.Summary.{Summary};
@@ -10,11 +10,12 @@ ghost use Rattle.centre_rules.specs.Answers.{if_known};
 mod storm;
 mod words;
 
+use crate::account_numbers::account_of;
+use crate::same::{holds, same};
 use arc_data::Txt;
 use centre_core::{Centre, Done, Event, Hall, Memory, RamHall, Ready, Reply, Stop};
 use std::alloc::Global;
 use std::process::Abort;
-use std::test::Fail;
 use test_stations::halls::ram_hall;
 use test_stations::moments::BEGIN;
 use words::{answer_of, event_of};
@@ -22,45 +23,38 @@ use words::{answer_of, event_of};
 const SETUP: &[u8] = b"account 1234\noperator ann 1234\n";
 
 // Works out the answer to an event at a clock in seconds from the beginning of the run.
-fn ready(
-    rt: &impl Abort,
-    alloc: Global,
-    centre: &mut Centre,
-    event: Event,
-    clock: u64,
-) -> Result<Ready, Fail>
+fn ready(rt: &impl Abort, alloc: Global, centre: &mut Centre, event: Event, clock: u64) -> Ready
     requires { IsWellFormed event }
-    ensures of { IfOk result (λ r. r.of ≡ centre.new) }
-    ensures few { IfOk result (λ r. centre.new.entries < 2 ^ 48) }
+    ensures of { result.of ≡ centre.new }
+    ensures few { centre.new.entries < 2 ^ 48 }
 {
     assert!(rt; centre.entries() < 1 << 48);
     let clock = BEGIN.saturating_add(clock);
     assert!(rt; clock < 253_402_300_800);
-    Ok(centre.prepare(alloc, event, clock)?)
+    centre.prepare(alloc, event, clock).expect(rt, "memory")
 }
 
 // Tells the centre an event, and gives what it answers.
-fn tell(
-    rt: &impl Abort,
-    alloc: Global,
-    centre: &mut Centre,
-    event: Event,
-    clock: u64,
-) -> Result<Reply, Fail>
+fn tell(rt: &impl Abort, alloc: Global, centre: &mut Centre, event: Event, clock: u64) -> Reply
     requires { IsWellFormed event }
 {
-    let ready = ready(rt, alloc, centre, event, clock)?;
-    Ok(centre.apply(ready).reply)
+    let ready = ready(rt, alloc, centre, event, clock);
+    centre.apply(ready).reply
+}
+
+// How many entries a centre has, and how many of them are recorded.
+fn compare_entries(rt: &impl Abort, centre: &Centre, want: (u64, u64)) {
+    same(rt, (centre.entries(), centre.recorded()), want, "entries");
 }
 
 // Tells the centre the event of a row, and compares the answer.
-fn play_row(rt: &impl Abort, alloc: Global, centre: &mut Centre, row: &str) -> Result<(), Fail> {
-    let (clock, rest) = row.split_once(';').ok_or("no row")?;
-    let (event, want) = rest.split_once(';').ok_or("no row")?;
-    let event = event_of(alloc, event)?;
-    let reply = tell(rt, alloc, centre, event, clock.parse()?)?;
-    assert_eq!(rt; answer_of(&reply), want, "{row}");
-    Ok(())
+fn play_row(rt: &impl Abort, alloc: Global, centre: &mut Centre, row: &str) {
+    let (clock, rest) = row.split_once(';').expect(rt, "a row");
+    let (word, want) = rest.split_once(';').expect(rt, "a row");
+    let clock = clock.parse().expect(rt, "seconds");
+    let event = event_of(rt, alloc, word);
+    let reply = tell(rt, alloc, centre, event, clock);
+    same(rt, answer_of(&reply), want, row);
 }
 
 // Each event once with ample memory. What they do in a station's day is played by scripts over the built program.
@@ -93,20 +87,18 @@ const EVENTS: &str = "\
 311;tick;raised 1";
 
 #[test]
-fn each_event_and_an_interval_that_goes_and_comes_back(rt: HostRuntime) -> Result<(), Fail> {
+fn each_event_and_an_interval_that_goes_and_comes_back(rt: HostRuntime) {
     let mut centre = Centre::empty(rt.alloc());
-    let end = play_events(&rt, rt.alloc(), &mut centre);
+    play_events(&rt, rt.alloc(), &mut centre);
+    compare_entries(&rt, &centre, (26, 15));
+    same(&rt, centre.table().opened(), 2, "opened");
     drop(centre);
-    end
 }
 
-fn play_events(rt: &impl Abort, alloc: Global, centre: &mut Centre) -> Result<(), Fail> {
+fn play_events(rt: &impl Abort, alloc: Global, centre: &mut Centre) {
     for row in EVENTS.lines() {
-        play_row(rt, alloc, centre, row)?;
+        play_row(rt, alloc, centre, row);
     }
-    assert_eq!(rt; (centre.entries(), centre.recorded()), (26, 15));
-    assert_eq!(rt; centre.table().opened(), 2);
-    Ok(())
 }
 
 // Works out the answer to a Start, and gives it up. Gives whether there was memory.
@@ -136,43 +128,44 @@ fn applied_later(alloc: Global, centre: &mut Centre, ready: Ready) -> (bool, Don
 }
 
 fn see_ready(rt: &impl Abort, ready: &Ready) {
-    assert!(rt; ready.at() == BEGIN && !ready.quiet());
-    assert!(rt; matches!(ready.event(), Event::Message(_)));
+    same(rt, (ready.at(), ready.quiet()), (BEGIN, false), "ready");
+    let is_message = matches!(ready.event(), Event::Message(_));
+    holds(rt, is_message, "a message");
 }
 
-fn apply_later(rt: &impl Abort, alloc: Global, centre: &mut Centre) -> Result<(), Fail> {
-    let event = event_of(alloc, "message")?;
-    let ready = ready(rt, alloc, centre, event, 0)?;
+fn apply_later(rt: &impl Abort, alloc: Global, centre: &mut Centre) {
+    let event = event_of(rt, alloc, "message");
+    let ready = ready(rt, alloc, centre, event, 0);
     see_ready(rt, &ready);
     let (meanwhile, done) = applied_later(alloc, centre, ready);
-    assert!(rt; meanwhile && done.caller == 0 && matches!(done.reply, Reply::Taken));
-    Ok(())
+    let is_taken = matches!(done.reply, Reply::Taken);
+    same(
+        rt,
+        (meanwhile, done.caller, is_taken),
+        (true, 0, true),
+        "done",
+    );
 }
 
 #[test]
-fn an_answer_that_is_given_up(rt: HostRuntime) -> Result<(), Fail> {
-    let mut centre = ram_hall(rt.alloc(), SETUP)?.into_centre();
-    let end = apply_later(&rt, rt.alloc(), &mut centre);
-    assert_eq!(rt; (centre.entries(), centre.recorded()), (3, 3));
-    assert_eq!(rt; centre.table().count(), 1);
+fn an_answer_that_is_given_up(rt: HostRuntime) {
+    let hall = ram_hall(rt.alloc(), SETUP).expect(&rt, "a hall");
+    let mut centre = hall.into_centre();
+    apply_later(&rt, rt.alloc(), &mut centre);
+    compare_entries(&rt, &centre, (3, 3));
+    same(&rt, centre.table().count(), 1, "open");
     drop(centre);
-    end
 }
 
 #[test]
-fn a_centre_that_was_told_nothing(rt: HostRuntime) -> Result<(), Fail> {
+fn a_centre_that_was_told_nothing(rt: HostRuntime) {
     let mut centre = Centre::empty(rt.alloc());
-    let end = tell_first(&rt, rt.alloc(), &mut centre);
+    holds(&rt, centre.setup().is_none(), "no setup yet");
+    let event = event_of(&rt, rt.alloc(), "message");
+    let reply = tell(&rt, rt.alloc(), &mut centre, event, 0);
+    holds(&rt, matches!(reply, Reply::Unknown), "unknown");
+    compare_entries(&rt, &centre, (1, 0));
     drop(centre);
-    end
-}
-
-fn tell_first(rt: &impl Abort, alloc: Global, centre: &mut Centre) -> Result<(), Fail> {
-    assert!(rt; centre.setup().is_none());
-    let event = event_of(alloc, "message")?;
-    let reply = tell(rt, alloc, centre, event, 0)?;
-    assert_eq!(rt; (reply, centre.recorded()), (Reply::Unknown, 0));
-    Ok(())
 }
 
 // Tells a hall a heartbeat. Gives whether the setup in force has the account, and what the hall answers.
@@ -192,23 +185,27 @@ fn tell_hall<H: Hall>(
     Ok((known, done.reply))
 }
 
-#[test]
-fn heartbeats_of_a_hall(rt: HostRuntime) -> Result<(), Fail> {
-    let mut hall = ram_hall(rt.alloc(), SETUP)?;
-    let end = tell_both(&rt, rt.alloc(), &mut hall);
-    let centre = hall.into_centre();
-    assert_eq!(rt; (centre.entries(), centre.recorded()), (4, 3));
-    drop(centre);
-    end
+// A heartbeat of an account, which the setup has or not, is heard where it has it.
+fn compare_beat(rt: &impl Abort, alloc: Global, hall: &mut RamHall, account: Txt, want: bool)
+    requires { is_run is_capital_hex 3 16 account ≡ true }
+{
+    let (known, reply) = tell_hall(alloc, hall, account, 10).expect(rt, "an answer");
+    same(rt, known, want, "known");
+    let word = if want { "heard" } else { "unknown" };
+    same(rt, answer_of(&reply), word, "heard");
 }
 
 // Heartbeats of an account that the setup has, and of one that it lacks.
-fn tell_both(rt: &impl Abort, alloc: Global, hall: &mut RamHall) -> Result<(), Fail> {
-    let known = Txt::of(b"1234").unwrap();
-    let told = tell_hall(alloc, hall, known, 10)?;
-    assert_eq!(rt; told, (true, Reply::Heard));
-    let lacking = Txt::of(b"9999").unwrap();
-    let told = tell_hall(alloc, hall, lacking, 10)?;
-    assert_eq!(rt; told, (false, Reply::Unknown));
-    Ok(())
+#[test]
+fn heartbeats_of_a_hall(rt: HostRuntime) {
+    let mut hall = ram_hall(rt.alloc(), SETUP).expect(&rt, "a hall");
+    tell_both(&rt, rt.alloc(), &mut hall);
+    let centre = hall.into_centre();
+    compare_entries(&rt, &centre, (4, 3));
+    drop(centre);
+}
+
+fn tell_both(rt: &impl Abort, alloc: Global, hall: &mut RamHall) {
+    compare_beat(rt, alloc, hall, account_of(rt, b"1234"), true);
+    compare_beat(rt, alloc, hall, account_of(rt, b"9999"), false);
 }

@@ -3,6 +3,10 @@
 mod opening;
 mod submitting;
 
+use arc_io::MemDisk;
+use std::alloc::Global;
+use std::process::Abort;
+
 // What a new area is given.
 const FRESH: &[u8] = b"ARC JOURNAL 0001\0";
 
@@ -11,3 +15,9 @@ const AREA: &[u8] = b"ARC JOURNAL 0001\
     \x01\0\0\0\x1a\x01\0\0\0\0\x3b\x9a\xca\0\0\0\0\x0daccount 1234\n\
     \x01\0\0\0\x09\x02\0\0\0\0\x3b\x9a\xca\0\
     \x01\0\0\0\x21\x03\0\0\0\0\x3b\x9a\xca\0\x041234\0\x010\0\x01\x02\0\x0b1131 01 001\0";
+
+// A new disk, whose call of this number fails.
+fn failing_disk(rt: &impl Abort, alloc: Global, call: u64) -> MemDisk {
+    let failing = [call].to_vec(alloc).expect(rt, "memory");
+    MemDisk::new(alloc, failing)
+}

@@ -2,8 +2,11 @@
 //! proved libraries.
 #![tactic(auto)]
 
-pub mod account_numbers;
+#[cfg(test)]
+mod account_numbers;
 #[cfg(test)]
 mod centre_core_tests;
 #[cfg(test)]
 mod centre_store_tests;
+#[cfg(test)]
+mod same;

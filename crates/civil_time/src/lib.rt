@@ -7,8 +7,6 @@
 pub mod laws;
 mod place;
 mod stamp;
-#[cfg(test)]
-mod tests;
 mod zoned;
 
 pub use place::Local;

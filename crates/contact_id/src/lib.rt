@@ -5,6 +5,3 @@ mod class;
 mod reading;
 
 pub use reading::read;
-
-#[cfg(test)]
-mod tests;

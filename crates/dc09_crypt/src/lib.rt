@@ -10,6 +10,3 @@ pub use ack::seal_ack;
 pub use body::open_body;
 pub use laws::law_acks_open_again;
 pub use opening::Opening;
-
-#[cfg(test)]
-mod tests;

@@ -23,6 +23,3 @@ pub use laws::{
 };
 pub use limits::{BODY_LIMIT, FRAME_LIMIT, PIECE_LIMIT};
 pub use reading::{Alphabet, after_byte, run_at};
-
-#[cfg(test)]
-mod tests;

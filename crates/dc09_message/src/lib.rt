@@ -16,6 +16,3 @@ pub use laws::{
 };
 pub use outcome::{Verdict, Why};
 pub use verdicts::verdict;
-
-#[cfg(test)]
-mod tests;

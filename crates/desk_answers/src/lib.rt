@@ -9,6 +9,3 @@ pub use incidents::Table;
 pub use listing::list;
 pub use orders::{act, claim, close, next, release, show, view};
 pub use queued_incidents::QueuedTable;
-
-#[cfg(test)]
-mod tests;

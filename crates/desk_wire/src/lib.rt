@@ -12,6 +12,3 @@ mod texts;
 pub use command::Command;
 pub use laws::{law_read_is_spelled, law_spelled_is_read};
 pub use printing::{print, print_welcome};
-
-#[cfg(test)]
-mod tests;

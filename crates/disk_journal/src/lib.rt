@@ -8,8 +8,6 @@ mod journal;
 mod laws;
 mod open;
 mod record;
-#[cfg(test)]
-mod tests;
 mod window;
 
 pub use bodies::Bodies;

@@ -6,6 +6,3 @@ mod writing;
 
 pub use reading::decode;
 pub use writing::encode;
-
-#[cfg(test)]
-mod tests;

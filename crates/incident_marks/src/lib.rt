@@ -6,6 +6,3 @@ mod marks;
 pub use arc_data::{Carried, Class, Incident, Kind, Outcome, Step, Txt};
 pub use incidents::Table;
 pub use marks::{act, carry, claim, close, release, start};
-
-#[cfg(test)]
-mod tests;

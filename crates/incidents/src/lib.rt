@@ -6,6 +6,3 @@ mod table;
 
 pub use arc_data::{Acted, Acts, Class, Incident, Memory, Outcome, Step, StepList, Txt};
 pub use table::Table;
-
-#[cfg(test)]
-mod tests;

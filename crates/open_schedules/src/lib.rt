@@ -6,8 +6,6 @@
 mod clock;
 mod closing;
 pub mod laws;
-#[cfg(test)]
-mod tests;
 mod week;
 
 pub use arc_data::Window;

@@ -8,6 +8,3 @@ mod search;
 pub use arc_data::Memory;
 pub use ordered::OrderedPairs;
 pub use queue::Queue;
-
-#[cfg(test)]
-mod tests;

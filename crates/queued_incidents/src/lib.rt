@@ -11,6 +11,3 @@ pub use arc_data::{Carried, Class, Incident, Kind, Memory, Outcome, Step, Txt};
 pub use held::holds;
 pub use incidents::Table;
 pub use queued_table::QueuedTable;
-
-#[cfg(test)]
-mod tests;

@@ -5,6 +5,3 @@ mod window;
 
 pub use arc_data::{Memory, Message, Past as Seen};
 pub use window::Window;
-
-#[cfg(test)]
-mod tests;

@@ -9,6 +9,3 @@ mod parts;
 pub use digits::{MOST_DIGITS, spelled};
 pub use laws::law_one_meaning;
 pub use line::{ScriptLine, is_skipped};
-
-#[cfg(test)]
-mod tests;

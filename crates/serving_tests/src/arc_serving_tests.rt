@@ -1,5 +1,5 @@
 // What no clause says: that calls succeed, and that callers go on beside each other.
-ghost use Rattle.std.specs.Prelude.{◌≤◌, length, IfOk};
+ghost use Rattle.std.specs.Prelude.{◌≤◌, length};
 ghost use Rattle.centre_core.specs.Setting.{IsSetting};
 
 mod links;
@@ -7,15 +7,14 @@ mod memory;
 mod turns;
 
 use crate::stores;
-use arc_data::Memory;
 use arc_doors::{MemDoor, Pulse};
 use arc_io::{Disk, MemDisk, Port};
 use arc_serving::{Came, Crew, ServedStore, Station, serve_store};
 use centre_store::Store;
 use disk_journal::SHIPPED;
 use std::alloc::Global;
+use std::process::Abort;
 use std::sync::Wait;
-use std::test::Fail;
 use std::thread::Threads;
 
 const SETUP: &[u8] = b"account 5150\noperator ann 1234\n";
@@ -23,31 +22,24 @@ const SETUP: &[u8] = b"account 5150\noperator ann 1234\n";
 const BEAT: &[u8] = b"\nD3F60013\"NULL\"0000L0#5150[]\r";
 
 // A store in memory on which a run has begun.
-fn begun(alloc: Global) -> Result<Store<MemDisk>, Fail>
-    ensures { IfOk result (λ store. IsSetting store.state.sum.text) }
+fn begun(rt: &impl Abort, alloc: Global) -> Store<MemDisk>
+    ensures { IsSetting result.state.sum.text }
 {
     let disk = MemDisk::new(alloc, Vec::new(alloc));
-    stores::begun(alloc, disk, SHIPPED, SETUP)
+    stores::begun(rt, alloc, disk, SHIPPED, SETUP)
 }
 
 // What serving came to, for a store on which a run has begun: how many entries it has, and what else was given back.
-fn served<P: Port + Send + Drop, T: Pulse + Send + Drop, R: Threads + Wait + Sync>(
+fn served<P: Port + Send + Drop, T: Pulse + Send + Drop, R: Abort + Threads + Wait + Sync>(
     rt: &R,
     alloc: Global,
     station: Station<MemDoor<P>, MemDoor<P>, T>,
     crew: Crew,
-) -> Result<
-    (
-        u64,
-        Station<MemDoor<P>, MemDoor<P>, T>,
-        Result<Came, Memory>,
-    ),
-    Fail,
->
+) -> (u64, Station<MemDoor<P>, MemDoor<P>, T>, Came)
     requires lines { crew.lines ≤ length station.lines }
     requires desks { crew.desks ≤ length station.desks }
 {
-    let store = begun(alloc)?;
+    let store = begun(rt, alloc);
     let ServedStore {
         store,
         station,
@@ -56,7 +48,7 @@ fn served<P: Port + Send + Drop, T: Pulse + Send + Drop, R: Threads + Wait + Syn
     let entries = store.centre().entries();
     // Given to `drop`, since its parts needn't be looked at here.
     drop(store);
-    Ok((entries, station, came))
+    (entries, station, came.expect(rt, "memory"))
 }
 
 // Serves doors in memory. That they may go to a thread is found for ports of any type, and not for each.

@@ -1,7 +1,10 @@
 // What no clause says: that sessions and Ticks succeed, byte for byte.
+ghost use Rattle.std.specs.Prelude.{◌≡◌, false};
+ghost use Rattle.arc_io.specs.Memory.{port_seen};
 ghost use Rattle.line_gate.specs.Blanks.{Names};
 
 use crate::doors;
+use crate::same::same;
 use crate::stores::blank_of;
 use arc_doors::{ListPulse, MemDoor, Pulse};
 use arc_io::{Disk, MemDisk, MemPort, Port};
@@ -14,7 +17,6 @@ use std::marker::Brand;
 use std::process::Abort;
 use std::sync::Wait;
 use std::sync::atomic::AtomicBool;
-use std::test::Fail;
 use test_stations::moments::BEGIN;
 use test_stations::ports::port_of;
 
@@ -26,13 +28,13 @@ const BEAT: &[u8] = b"\nA2C80013\"NULL\"0000L0#8080[]\r";
 const ACKNOWLEDGEMENT: &[u8] = b"\n62AA0012\"ACK\"0000L0#8080[]\r";
 
 // A gate before a store in memory on which a run has begun. Its journal takes so many records.
-fn blank(alloc: Global, records: u64) -> Result<Blank<MemDisk>, Fail> {
+fn blank(rt: &impl Abort, alloc: Global, records: u64) -> Blank<MemDisk> {
     let limits = Limits {
         bytes: 1_000,
         records,
     };
     let disk = MemDisk::new(alloc, Vec::new(alloc));
-    blank_of(alloc, disk, limits, SETUP)
+    blank_of(rt, alloc, disk, limits, SETUP)
 }
 
 // A worker's three links, which have one input, the calls of its door that fail, how many links it is to serve, and how many records
@@ -46,14 +48,21 @@ struct Case<'a> {
     records: u64,
 }
 
-fn door_of(alloc: Global, case: &Case) -> Result<MemDoor<MemPort>, Fail> {
-    let (one, two, three) = (
-        port_of(alloc, case.input)?,
-        port_of(alloc, case.input)?,
-        port_of(alloc, case.input)?,
-    );
-    let ports = Vec::from_array(alloc, [one, two, three])?;
-    doors::door_of(alloc, ports, case.failing.to_vec(alloc)?)
+fn port(rt: &impl Abort, alloc: Global, case: &Case) -> MemPort
+    ensures { (port_seen result).ended ≡ false }
+{
+    port_of(alloc, case.input).expect(rt, "memory")
+}
+
+fn door_of(rt: &impl Abort, alloc: Global, case: &Case) -> MemDoor<MemPort> {
+    let three = [
+        port(rt, alloc, case),
+        port(rt, alloc, case),
+        port(rt, alloc, case),
+    ];
+    let ports = Vec::from_array(alloc, three).expect(rt, "memory");
+    let failing = case.failing.to_vec(alloc).expect(rt, "memory");
+    doors::door_of(rt, alloc, ports, failing)
 }
 
 // A worker at a gate of its name. What came of it, and how many entries the store has then.
@@ -88,45 +97,35 @@ fn work<P: Port + Send + Drop, R: Wait, D: Disk + Drop>(
     work_at::<P, R, D, Brand>(rt, alloc, blank, door, case)
 }
 
-// How the worker ends, how many entries the store has then, and what was written to each of so many links that were got back.
+// How the worker ends at a gate before a store of its own, how many entries the store has then, and what was written to each of so many
+// links that were got back.
 fn check<R: Abort + Wait>(
     rt: &R,
     alloc: Global,
     case: &Case,
     wanted: (WorkerEnd, u64, usize),
     answer: &[u8],
-) -> Result<(), Fail> {
+) {
     let (end, entries, count) = wanted;
-    let mut door = door_of(alloc, case)?;
-    let told = work_on(rt, alloc, &mut door, case);
+    let mut door = door_of(rt, alloc, case);
+    let blank = blank(rt, alloc, case.records);
+    let told = work(rt, alloc, blank, &mut door, case);
     compare_links(rt, door, count, answer);
-    assert_eq!(rt; told?, (Worked { end, refused: 0 }, entries));
-    Ok(())
-}
-
-// A worker at a gate before a store of its own.
-fn work_on<R: Wait>(
-    rt: &R,
-    alloc: Global,
-    door: &mut MemDoor<MemPort>,
-    case: &Case,
-) -> Result<(Worked, u64), Fail> {
-    let blank = blank(alloc, case.records)?;
-    Ok(work(rt, alloc, blank, door, case))
+    same(rt, told, (Worked { end, refused: 0 }, entries), "the end");
 }
 
 // So many links were got back, and this was written to each.
 fn compare_links(rt: &impl Abort, door: MemDoor<MemPort>, count: usize, answer: &[u8]) {
     let links = door.into_back();
-    assert_eq!(rt; links.len(), count);
+    same(rt, links.len(), count, "links");
     for link in &links {
-        assert_eq!(rt; link.sink.bytes(), answer);
+        same(rt, link.sink.bytes(), answer, "written");
     }
     drop(links);
 }
 
 #[test]
-fn a_line_worker_serves_as_many_as_are_asked(rt: HostRuntime) -> Result<(), Fail> {
+fn a_line_worker_serves_as_many_as_are_asked(rt: HostRuntime) {
     let case = Case {
         side: Side::Lines,
         input: BEAT,
@@ -134,17 +133,12 @@ fn a_line_worker_serves_as_many_as_are_asked(rt: HostRuntime) -> Result<(), Fail
         sessions: 2,
         records: 9,
     };
-    check(
-        &rt,
-        rt.alloc(),
-        &case,
-        (WorkerEnd::Quota, 4, 2),
-        ACKNOWLEDGEMENT,
-    )
+    let wanted = (WorkerEnd::Quota, 4, 2);
+    check(&rt, rt.alloc(), &case, wanted, ACKNOWLEDGEMENT);
 }
 
 #[test]
-fn a_desk_worker_serves_until_its_door_ends(rt: HostRuntime) -> Result<(), Fail> {
+fn a_desk_worker_serves_until_its_door_ends(rt: HostRuntime) {
     let case = Case {
         side: Side::Desks,
         input: b"login ann 1234\nnext\nquit\n",
@@ -152,17 +146,13 @@ fn a_desk_worker_serves_until_its_door_ends(rt: HostRuntime) -> Result<(), Fail>
         sessions: 4,
         records: 9,
     };
-    check(
-        &rt,
-        rt.alloc(),
-        &case,
-        (WorkerEnd::DoorEnded, 5, 3),
-        b"ok ann\nnone waiting\nbye\n",
-    )
+    let wanted = (WorkerEnd::DoorEnded, 5, 3);
+    let answers = b"ok ann\nnone waiting\nbye\n";
+    check(&rt, rt.alloc(), &case, wanted, answers);
 }
 
 #[test]
-fn a_door_that_fails_ends_its_worker(rt: HostRuntime) -> Result<(), Fail> {
+fn a_door_that_fails_ends_its_worker(rt: HostRuntime) {
     let case = Case {
         side: Side::Lines,
         input: BEAT,
@@ -171,12 +161,12 @@ fn a_door_that_fails_ends_its_worker(rt: HostRuntime) -> Result<(), Fail> {
         records: 9,
     };
     let end = WorkerEnd::DoorFault { before: 0, now: 1 };
-    check(&rt, rt.alloc(), &case, (end, 4, 2), ACKNOWLEDGEMENT)
+    check(&rt, rt.alloc(), &case, (end, 4, 2), ACKNOWLEDGEMENT);
 }
 
 // The journal has its first 17 bytes, an Adopt and a Start. A heartbeat would take 19 bytes.
 #[test]
-fn a_full_journal_stops_a_worker(rt: HostRuntime) -> Result<(), Fail> {
+fn a_full_journal_stops_a_worker(rt: HostRuntime) {
     let case = Case {
         side: Side::Lines,
         input: BEAT,
@@ -189,13 +179,8 @@ fn a_full_journal_stops_a_worker(rt: HostRuntime) -> Result<(), Fail> {
         need: 19,
         records: 2,
     };
-    check(
-        &rt,
-        rt.alloc(),
-        &case,
-        (WorkerEnd::Stopped(full), 2, 1),
-        b"",
-    )
+    let wanted = (WorkerEnd::Stopped(full), 2, 1);
+    check(&rt, rt.alloc(), &case, wanted, b"");
 }
 
 // A ticker at a gate of its name. What came of it, and how many entries the store has then.
@@ -225,42 +210,42 @@ fn tick<R: Wait, D: Disk + Drop>(
     tick_at::<R, D, Brand>(rt, alloc, blank, pulse)
 }
 
-// A ticker at a gate before a store whose journal takes so many records.
-fn tick_on<R: Wait>(
+// A ticker at a gate before a store whose journal takes so many records: why it stopped, and how many entries the store has then. None of
+// its Ticks was refused.
+fn compare_ticks<R: Abort + Wait>(
     rt: &R,
     alloc: Global,
     records: u64,
     pulse: &mut ListPulse,
-) -> Result<(Ticked, u64), Fail> {
-    let blank = blank(alloc, records)?;
-    Ok(tick(rt, alloc, blank, pulse))
+    wanted: (Option<Stop>, u64),
+) {
+    let blank = blank(rt, alloc, records);
+    let (ticked, entries) = tick(rt, alloc, blank, pulse);
+    let Ticked { stop, refused } = ticked;
+    same(rt, (stop, entries), wanted, "the end");
+    same(rt, refused, 0, "refused");
 }
 
 #[test]
-fn a_ticker_ticks_until_its_pulse_ends(rt: HostRuntime) -> Result<(), Fail> {
-    let alloc = rt.alloc();
-    let mut pulse = ListPulse::new([BEGIN + 1, BEGIN + 2].to_vec(alloc)?);
-    let (ticked, entries) = tick_on(&rt, alloc, 9, &mut pulse)?;
-    let Ticked { stop, refused } = ticked;
-    assert_eq!(rt; (stop, refused, entries), (None, 0, 4));
-    Ok(())
+fn a_ticker_ticks_until_its_pulse_ends(rt: HostRuntime) {
+    let moments = [BEGIN + 1, BEGIN + 2].to_vec(rt.alloc());
+    let mut pulse = ListPulse::new(moments.expect(&rt, "memory"));
+    compare_ticks(&rt, rt.alloc(), 9, &mut pulse, (None, 4));
 }
 
 // The journal has its first 17 bytes, an Adopt and a Start. The first Tick raises nothing, and the second one, which would raise an
 // incident, would take 14 bytes.
 #[test]
-fn a_full_journal_stops_the_ticker(rt: HostRuntime) -> Result<(), Fail> {
-    let alloc = rt.alloc();
-    let mut pulse = ListPulse::new([BEGIN + 1, BEGIN + 61, BEGIN + 62].to_vec(alloc)?);
-    let (ticked, entries) = tick_on(&rt, alloc, 2, &mut pulse)?;
-    let Ticked { stop, refused } = ticked;
+fn a_full_journal_stops_the_ticker(rt: HostRuntime) {
+    let moments = [BEGIN + 1, BEGIN + 61, BEGIN + 62].to_vec(rt.alloc());
+    let mut pulse = ListPulse::new(moments.expect(&rt, "memory"));
     let full = Stop::Full {
         used: 88,
         need: 14,
         records: 2,
     };
-    assert_eq!(rt; (stop, refused, entries), (Some(full), 0, 3));
+    compare_ticks(&rt, rt.alloc(), 2, &mut pulse, (Some(full), 3));
     let flag = AtomicBool::new(false);
-    assert_eq!(rt; pulse.next(&rt, &flag), Some(BEGIN + 62));
-    Ok(())
+    let next = pulse.next(&rt, &flag);
+    same(&rt, next, Some(BEGIN + 62), "left in the pulse");
 }

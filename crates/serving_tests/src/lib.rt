@@ -3,10 +3,16 @@
 #![tactic(auto)]
 
 #[cfg(test)]
+mod arc_server_tests;
+#[cfg(test)]
 mod arc_serving_tests;
 #[cfg(test)]
 mod arc_workers_tests;
-pub mod doors;
+#[cfg(test)]
+mod doors;
 #[cfg(test)]
 mod line_gate_tests;
-pub mod stores;
+#[cfg(test)]
+mod same;
+#[cfg(test)]
+mod stores;

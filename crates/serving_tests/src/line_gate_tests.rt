@@ -10,9 +10,10 @@ use arc_io::MemDisk;
 use disk_journal::SHIPPED;
 use line_gate::Blank;
 use std::alloc::Global;
-use std::test::Fail;
+use std::process::Abort;
 
 // A gate before a store in memory on which a run has begun. The disk's calls of these numbers fail.
-fn blank(alloc: Global, setup: &[u8], failing: Vec<u64>) -> Result<Blank<MemDisk>, Fail> {
-    blank_of(alloc, MemDisk::new(alloc, failing), SHIPPED, setup)
+fn blank(rt: &impl Abort, alloc: Global, setup: &[u8], failing: Vec<u64>) -> Blank<MemDisk> {
+    let disk = MemDisk::new(alloc, failing);
+    blank_of(rt, alloc, disk, SHIPPED, setup)
 }

@@ -1,5 +1,5 @@
 // Stores over disks in memory on which runs have begun, and gates before them.
-ghost use Rattle.std.specs.Prelude.{◌<◌, ◌^◌, IfOk, OnOk};
+ghost use Rattle.std.specs.Prelude.{◌<◌, ◌^◌};
 ghost use Rattle.centre_core.specs.Setting.{IsSetting};
 
 use arc_io::MemDisk;
@@ -8,54 +8,40 @@ use centre_store::Store;
 use disk_journal::Limits;
 use line_gate::Blank;
 use std::alloc::Global;
-use std::test::Fail;
+use std::process::Abort;
 use test_stations::moments::BEGIN;
 use test_stations::stores::opened;
 
 /// The store that a disk is opened as, on which a run has begun.
-pub fn begun(
+pub(crate) fn begun(
+    rt: &impl Abort,
     alloc: Global,
     disk: MemDisk,
     limits: Limits,
     setup: &[u8],
-) -> Result<Store<MemDisk>, Fail>
+) -> Store<MemDisk>
     requires { limits.bytes < 2 ^ 32 }
-    ensures { IfOk result (λ store. IsSetting store.state.sum.text) }
+    ensures { IsSetting result.state.sum.text }
 {
-    let mut store = opened(alloc, disk, limits)?;
-    match begin(alloc, &mut store, setup) {
-        Ok(()) => Ok(store),
-        Err(fail) => {
-            // Given to `drop`, since its parts needn't be looked at here.
-            drop(store);
-            Err(fail)
-        }
-    }
-}
-
-fn begin(alloc: Global, store: &mut Store<MemDisk>, setup: &[u8]) -> Result<(), Fail>
-    ensures { OnOk result (IsSetting store.new.state.sum.text) }
-{
-    let setup = Setup::read(alloc, setup)?;
-    store.begin(alloc, setup, BEGIN)?;
-    Ok(())
+    let mut store = opened(alloc, disk, limits).expect(rt, "opened");
+    let setup = Setup::read(alloc, setup).expect(rt, "a setup");
+    store.begin(alloc, setup, BEGIN).expect(rt, "begun");
+    store
 }
 
 /// A gate before such a store.
-pub fn blank_of(
+pub(crate) fn blank_of(
+    rt: &impl Abort,
     alloc: Global,
     disk: MemDisk,
     limits: Limits,
     setup: &[u8],
-) -> Result<Blank<MemDisk>, Fail>
+) -> Blank<MemDisk>
     requires { limits.bytes < 2 ^ 32 }
 {
-    let store = begun(alloc, disk, limits, setup)?;
+    let store = begun(rt, alloc, disk, limits, setup);
     match Blank::new(alloc, store) {
-        Ok(blank) => Ok(blank),
-        Err(refused) => {
-            drop(refused);
-            Err("no memory")?
-        }
+        Ok(blank) => blank,
+        Err(_) => panic!(rt; "no memory"),
     }
 }

@@ -3,7 +3,5 @@
 #![tactic(auto)]
 
 mod input;
-#[cfg(test)]
-mod tests;
 
 pub use input::{PIECE, read_piece, room_behind, up_to};

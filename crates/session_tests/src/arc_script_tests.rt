@@ -1,6 +1,7 @@
 // Whole scripts over a disk and a port in memory, byte for byte. Many more are played over the program, by tools/check/script.
 ghost use Rattle.std.specs.Prelude.{◌≡◌, false};
 
+use crate::same::same;
 use accounts::Setup;
 use arc_io::{Disk, ListClock, MemDisk, MemPort, Port};
 use arc_script::{ScriptEnd, ScriptEnded, Tally, run_script};
@@ -8,7 +9,6 @@ use centre_core::Stop;
 use disk_journal::{Limits, OpenFault};
 use std::alloc::Global;
 use std::process::Abort;
-use std::test::Fail;
 use test_stations::ports::failing_port;
 use test_stations::stores::recorded;
 
@@ -45,72 +45,73 @@ struct Played {
     port: MemPort,
 }
 
-fn play_over(alloc: Global, script: &[u8], outside: Outside) -> Result<Played, Fail> {
-    let disk = disk_of(alloc, outside)?;
-    let mut port = failing_port(alloc, script, outside.reads, outside.writes)?;
+fn play_over(rt: &impl Abort, alloc: Global, script: &[u8], outside: Outside) -> Played {
+    let disk = disk_of(rt, alloc, outside);
+    let port = failing_port(alloc, script, outside.reads, outside.writes);
+    let mut port = port.expect(rt, "memory");
     // A script has its own clock, and reads none of the port's.
     port.clock = ListClock::new(Vec::new(alloc));
-    let ended = run_over(alloc, disk, &mut port, outside.records)?;
-    Ok(Played { ended, port })
+    let ended = run_over(rt, alloc, disk, &mut port, outside.records);
+    Played { ended, port }
 }
 
 // The disk of the outside.
-fn disk_of(alloc: Global, outside: Outside) -> Result<MemDisk, Fail> {
-    let area = outside.area.to_vec(alloc)?;
-    let failing = outside.disk.to_vec(alloc)?;
-    Ok(MemDisk::of(alloc, area, Vec::new(alloc), failing)?)
+fn disk_of(rt: &impl Abort, alloc: Global, outside: Outside) -> MemDisk {
+    let area = outside.area.to_vec(alloc).expect(rt, "memory");
+    let failing = outside.disk.to_vec(alloc).expect(rt, "memory");
+    MemDisk::of(alloc, area, Vec::new(alloc), failing).expect(rt, "memory")
 }
 
 // Runs the script that a port gives over a disk, with room for so many records.
 fn run_over<D: Disk + Drop, P: Port>(
+    rt: &impl Abort,
     alloc: Global,
     disk: D,
     port: &mut P,
     records: u64,
-) -> Result<ScriptEnded<D>, Fail>
+) -> ScriptEnded<D>
     requires { (P.seen port.old).ended ≡ false }
 {
-    let Ok(setup) = Setup::read(alloc, SETUP) else {
-        return Err("no setup")?;
-    };
+    let setup = Setup::read(alloc, SETUP).expect(rt, "a setup");
     let limits = Limits {
         bytes: 1_048_576,
         records,
     };
-    Ok(run_script(alloc, disk, setup, port, limits))
+    run_script(alloc, disk, setup, port, limits)
+}
+
+fn append(rt: &impl Abort, all: &mut Vec<u8>, line: &str) {
+    all.extend_from_slice(line.as_bytes()).expect(rt, "memory");
+    all.push(b'\n').expect(rt, "memory");
 }
 
 // The script of rows and its output. A row is a line of the script, ` > `, and its line of output.
-fn parts_of(alloc: Global, rows: &str) -> Result<(Vec<u8>, Vec<u8>), Fail> {
+fn parts_of(rt: &impl Abort, alloc: Global, rows: &str) -> (Vec<u8>, Vec<u8>) {
     let mut script = Vec::new(alloc);
     let mut output = Vec::new(alloc);
     for row in rows.lines() {
-        let (line, answer) = row.split_once(" > ").ok_or("no row")?;
-        script.extend_from_slice(line.as_bytes())?;
-        script.push(b'\n')?;
-        output.extend_from_slice(answer.as_bytes())?;
-        output.push(b'\n')?;
+        let (line, answer) = row.split_once(" > ").expect(rt, "a row");
+        append(rt, &mut script, line);
+        append(rt, &mut output, answer);
     }
-    Ok((script, output))
+    (script, output)
 }
 
 // Plays the rows, and a remark of so many bytes behind them, to the end.
-fn play(
-    rt: &impl Abort,
-    alloc: Global,
-    rows: &str,
-    remark: usize,
-    tally: Tally,
-) -> Result<(), Fail> {
-    let (mut script, output) = parts_of(alloc, rows)?;
+fn play(rt: &impl Abort, alloc: Global, rows: &str, remark: usize, tally: Tally) {
+    let (mut script, output) = parts_of(rt, alloc, rows);
     let size = script.len().saturating_add(remark);
-    script.resize(size, b'#')?;
-    let ran = play_over(alloc, &script, NOTHING_FAILS)?;
-    assert_eq!(rt; ran.ended.end, ScriptEnd::Done);
-    assert_eq!(rt; ran.port.sink.bytes(), output.as_slice());
-    assert_eq!(rt; ran.ended.tally, tally);
+    script.resize(size, b'#').expect(rt, "memory");
+    let ran = play_over(rt, alloc, &script, NOTHING_FAILS);
+    compare(rt, &ran, ScriptEnd::Done, &output);
+    same(rt, ran.ended.tally, tally, "the tally");
     drop(ran);
-    Ok(())
+}
+
+// How a script ended, and what it wrote.
+fn compare(rt: &impl Abort, ran: &Played, end: ScriptEnd, output: &[u8]) {
+    same(rt, ran.ended.end, end, "the end");
+    same(rt, ran.port.sink.bytes(), output, "the output");
 }
 
 // An alarm that comes twice, is worked and closed; a frame in two parts, and one whose second part comes behind an `X`; a panel that falls
@@ -143,21 +144,16 @@ D 8 list > D 8 denied
 ";
 
 #[test]
-fn a_day_is_played(rt: HostRuntime) -> Result<(), Fail> {
-    play(
-        &rt,
-        rt.alloc(),
-        A_DAY,
-        0,
-        Tally {
-            sent: 6,
-            repeats: 2,
-            recorded: 11,
-            opened: 3,
-            closed: 1,
-            total: 2,
-        },
-    )
+fn a_day_is_played(rt: HostRuntime) {
+    let tally = Tally {
+        sent: 6,
+        repeats: 2,
+        recorded: 11,
+        opened: 3,
+        closed: 1,
+        total: 2,
+    };
+    play(&rt, rt.alloc(), A_DAY, 0, tally);
 }
 
 const SIXTEEN_LINES_AND_EIGHT_DESKS: &str = "\
@@ -190,104 +186,87 @@ D 8 hello > D 8 what
 
 // The remark behind them is as long as a line may be.
 #[test]
-fn sixteen_lines_and_eight_desks_are_played(rt: HostRuntime) -> Result<(), Fail> {
-    play(
-        &rt,
-        rt.alloc(),
-        SIXTEEN_LINES_AND_EIGHT_DESKS,
-        16_384,
-        Tally {
-            sent: 16,
-            repeats: 0,
-            recorded: 18,
-            opened: 0,
-            closed: 0,
-            total: 0,
-        },
-    )
+fn sixteen_lines_and_eight_desks_are_played(rt: HostRuntime) {
+    let tally = Tally {
+        sent: 16,
+        repeats: 0,
+        recorded: 18,
+        opened: 0,
+        closed: 0,
+        total: 0,
+    };
+    let rows = SIXTEEN_LINES_AND_EIGHT_DESKS;
+    play(&rt, rt.alloc(), rows, 16_384, tally);
 }
 
-// A script that something cuts short: what the outside does, how the script ends, and how many bytes of its output were written.
-#[derive(Clone, Copy)]
-struct CutShort {
-    outside: Outside<'static>,
-    script: &'static [u8],
+// A script that something cuts short: what the outside does, how the script ends, and what it wrote until then.
+fn cut(
+    rt: &impl Abort,
+    alloc: Global,
+    outside: Outside,
+    script: &[u8],
     end: ScriptEnd,
-    output: &'static [u8],
+    output: &[u8],
+) {
+    let ran = play_over(rt, alloc, script, outside);
+    compare(rt, &ran, end, output);
+    drop(ran);
 }
 
-const CUT_SHORT: [CutShort; 6] = [
-    CutShort {
-        outside: NOTHING_FAILS,
-        script: b"#\nT 1\r\n\nT 2\nY\nT 3\n",
-        end: ScriptEnd::BadScript { line: 5 },
-        output: b"T raised 0\nT raised 0\n",
-    },
-    CutShort {
-        outside: Outside {
-            reads: &[2],
-            ..NOTHING_FAILS
-        },
-        script: b"T 1\nX\nT 2",
-        end: ScriptEnd::ReadFault,
-        output: b"T raised 0\nX recorded 3\n",
-    },
-    CutShort {
-        outside: Outside {
-            writes: &[2],
-            ..NOTHING_FAILS
-        },
-        script: b"T 1\nX\nT 2\n",
-        end: ScriptEnd::WriteFault,
-        output: b"T raised 0\n",
-    },
-    CutShort {
-        outside: Outside {
-            records: 2,
-            ..NOTHING_FAILS
-        },
-        script: b"T 1\nX\nT 2\n",
-        end: ScriptEnd::Stopped(Stop::Full {
-            used: 121,
-            need: 14,
-            records: 2,
-        }),
-        output: b"T raised 0\n",
-    },
-    CutShort {
-        outside: Outside {
-            disk: &[18],
-            ..NOTHING_FAILS
-        },
-        script: b"T 1\nX\nT 2\n",
-        end: ScriptEnd::Stopped(Stop::Down { at_open: 0, now: 1 }),
-        output: b"T raised 0\n",
-    },
-    CutShort {
-        outside: Outside {
-            area: b"XXXXXXXXXXXXXXXXXX",
-            ..NOTHING_FAILS
-        },
-        script: b"T 1\n",
-        end: ScriptEnd::Refused(OpenFault::NotJournal { byte: 0 }),
-        output: b"",
-    },
-];
+const THREE: &[u8] = b"T 1\nX\nT 2\n";
 
 #[test]
-fn scripts_are_cut_short(rt: HostRuntime) -> Result<(), Fail> {
-    for cut in CUT_SHORT {
-        compare_cut(&rt, rt.alloc(), &cut)?;
-    }
-    Ok(())
+fn scripts_are_cut_short(rt: HostRuntime) {
+    let alloc = rt.alloc();
+    cut_by_the_port(&rt, alloc);
+    cut_by_the_journal(&rt, alloc);
 }
 
-fn compare_cut(rt: &impl Abort, alloc: Global, cut: &CutShort) -> Result<(), Fail> {
-    let ran = play_over(alloc, cut.script, cut.outside)?;
-    assert_eq!(rt; ran.ended.end, cut.end);
-    assert_eq!(rt; ran.port.sink.bytes(), cut.output);
-    drop(ran);
-    Ok(())
+fn cut_by_the_port(rt: &impl Abort, alloc: Global) {
+    let script = b"#\nT 1\r\n\nT 2\nY\nT 3\n";
+    let (end, output) = (
+        ScriptEnd::BadScript { line: 5 },
+        b"T raised 0\nT raised 0\n",
+    );
+    cut(rt, alloc, NOTHING_FAILS, script, end, output);
+    let failing = Outside {
+        reads: &[2],
+        ..NOTHING_FAILS
+    };
+    let (end, output) = (ScriptEnd::ReadFault, b"T raised 0\nX recorded 3\n");
+    cut(rt, alloc, failing, b"T 1\nX\nT 2", end, output);
+    let failing = Outside {
+        writes: &[2],
+        ..NOTHING_FAILS
+    };
+    let end = ScriptEnd::WriteFault;
+    cut(rt, alloc, failing, THREE, end, b"T raised 0\n");
+}
+
+fn cut_by_the_journal(rt: &impl Abort, alloc: Global) {
+    let full = Outside {
+        records: 2,
+        ..NOTHING_FAILS
+    };
+    let stop = Stop::Full {
+        used: 121,
+        need: 14,
+        records: 2,
+    };
+    let end = ScriptEnd::Stopped(stop);
+    cut(rt, alloc, full, THREE, end, b"T raised 0\n");
+    let failing = Outside {
+        disk: &[18],
+        ..NOTHING_FAILS
+    };
+    let end = ScriptEnd::Stopped(Stop::Down { at_open: 0, now: 1 });
+    cut(rt, alloc, failing, THREE, end, b"T raised 0\n");
+    let foreign = Outside {
+        area: b"XXXXXXXXXXXXXXXXXX",
+        ..NOTHING_FAILS
+    };
+    let end = ScriptEnd::Refused(OpenFault::NotJournal { byte: 0 });
+    cut(rt, alloc, foreign, b"T 1\n", end, b"");
 }
 
 const WORKED: &[u8] = b"\
@@ -311,24 +290,22 @@ const RECORDED: &str = "\
 7 7";
 
 #[test]
-fn a_line_whose_output_fails_stands_recorded(rt: HostRuntime) -> Result<(), Fail> {
+fn a_line_whose_output_fails_stands_recorded(rt: HostRuntime) {
     for row in RECORDED.lines() {
-        compare_failing(&rt, rt.alloc(), row)?;
+        compare_failing(&rt, rt.alloc(), row);
     }
-    Ok(())
 }
 
-fn compare_failing(rt: &impl Abort, alloc: Global, row: &str) -> Result<(), Fail> {
-    let (line, want) = row.split_once(' ').ok_or("no row")?;
-    let writes = [line.parse()?];
+fn compare_failing(rt: &impl Abort, alloc: Global, row: &str) {
+    let (line, want) = row.split_once(' ').expect(rt, "a row");
+    let writes = [line.parse().expect(rt, "a line")];
+    let want = want.parse().expect(rt, "a count");
     let outside = Outside {
         writes: &writes,
         ..NOTHING_FAILS
     };
-    let want: u64 = want.parse()?;
-    let Played { ended, port } = play_over(alloc, WORKED, outside)?;
+    let Played { ended, port } = play_over(rt, alloc, WORKED, outside);
     drop(port);
-    assert_eq!(rt; ended.end, ScriptEnd::WriteFault, "{row}");
-    assert_eq!(rt; recorded(alloc, ended.disk)?, want, "{row}");
-    Ok(())
+    same(rt, ended.end, ScriptEnd::WriteFault, row);
+    same(rt, recorded(alloc, ended.disk), Some(want), row);
 }

@@ -2,19 +2,27 @@
 mod ends;
 mod lines;
 
+use crate::same::same;
+use arc_io::MemPort;
 use desk_session::DeskEnd;
 use std::alloc::Global;
-use std::test::Fail;
+use std::process::Abort;
 
 const SETUP: &[u8] = b"account 1234\noperator ann 1234\noperator bob 5678\n";
 
 // The bytes of a row's lines, between each two of which a bar stands for a line feed.
-fn bytes_of(alloc: Global, row: &str) -> Result<Vec<u8>, Fail> {
+fn bytes_of(rt: &impl Abort, alloc: Global, row: &str) -> Vec<u8> {
     let mut bytes = Vec::new(alloc);
     for byte in row.bytes() {
-        bytes.push(if byte == b'|' { b'\n' } else { byte })?;
+        let byte = if byte == b'|' { b'\n' } else { byte };
+        bytes.push(byte).expect(rt, "memory");
     }
-    Ok(bytes)
+    bytes
+}
+
+// What was written to a port.
+fn compare_written(rt: &impl Abort, port: &MemPort, want: &[u8], what: &str) {
+    same(rt, port.sink.bytes(), want, what);
 }
 
 // An end in a word.

@@ -10,4 +10,7 @@ mod arc_sessions_tests;
 mod desk_session_tests;
 #[cfg(test)]
 mod line_session_tests;
-pub mod told;
+#[cfg(test)]
+mod same;
+#[cfg(test)]
+mod told;

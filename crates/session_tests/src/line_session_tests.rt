@@ -11,7 +11,7 @@ use arc_io::Port;
 use centre_core::RamHall;
 use line_session::{LineEnd, serve_line};
 use std::alloc::Global;
-use std::test::Fail;
+use std::process::Abort;
 use test_stations::halls::ram_hall;
 
 const SETUP: &[u8] = b"account 7777\n";
@@ -30,12 +30,12 @@ const DUH: &[u8] = b"\n73220012\"DUH\"0001L0#7777[]\r";
 type Came = (LineEnd, u64);
 
 // A session over a port, under this setup.
-fn session<P: Port>(alloc: Global, setup: &[u8], port: &mut P) -> Result<Came, Fail>
+fn session<P: Port>(rt: &impl Abort, alloc: Global, setup: &[u8], port: &mut P) -> Came
     requires { (P.seen port.old).ended ≡ false }
 {
-    let mut hall = ram_hall(alloc, setup)?;
+    let mut hall = ram_hall(alloc, setup).expect(rt, "a hall");
     let end = serve_line(alloc, &mut hall, port);
-    Ok((end, recorded_of(hall)))
+    (end, recorded_of(hall))
 }
 
 // How many entries a hall has recorded. Its centre is given to `drop`, since its parts needn't be looked at here.
@@ -46,13 +46,17 @@ fn recorded_of(hall: RamHall) -> u64 {
     recorded
 }
 
+fn append(rt: &impl Abort, all: &mut Vec<u8>, bytes: &[u8]) {
+    all.extend_from_slice(bytes).expect(rt, "memory");
+}
+
 // These parts, one behind the other.
-fn joined(alloc: Global, parts: &[&[u8]]) -> Result<Vec<u8>, Fail> {
+fn joined(rt: &impl Abort, alloc: Global, parts: &[&[u8]]) -> Vec<u8> {
     let mut all = Vec::new(alloc);
     for part in parts {
-        all.extend_from_slice(part)?;
+        append(rt, &mut all, part);
     }
-    Ok(all)
+    all
 }
 
 // The three parts of a row.
@@ -63,12 +67,12 @@ fn row_of(row: &str) -> Option<(&str, &str, &str)> {
 }
 
 // The frames of a row, as they go over a line.
-fn framed(alloc: Global, frames: &str) -> Result<Vec<u8>, Fail> {
+fn framed(rt: &impl Abort, alloc: Global, frames: &str) -> Vec<u8> {
     let mut all = Vec::new(alloc);
     for frame in frames.split('~') {
-        all.push(b'\n')?;
-        all.extend_from_slice(frame.as_bytes())?;
-        all.push(b'\r')?;
+        append(rt, &mut all, b"\n");
+        append(rt, &mut all, frame.as_bytes());
+        append(rt, &mut all, b"\r");
     }
-    Ok(all)
+    all
 }

@@ -2,25 +2,25 @@
 use arc_data::{Class, Event, Listing, Reply, Txt};
 use centre_core::{Done, Hall, Setup, Stop};
 use std::alloc::Global;
-use std::test::Fail;
+use std::process::Abort;
 
 /// A hall that answers each event by what it is, or stops, and counts them. Contracts see it stand for no history.
 #[derive(Drop)]
-pub struct Told {
+pub(crate) struct Told {
     setup: Setup,
     stop: Option<Stop>,
     /// How many events it was asked.
-    pub calls: u64,
+    pub(crate) calls: u64,
 }
 
 impl Told {
     /// A hall under this setup, which was not asked yet, and stops so each time where a stop is given.
-    pub fn new(alloc: Global, setup: &[u8], stop: Option<Stop>) -> Result<Told, Fail> {
-        Ok(Told {
-            setup: Setup::read(alloc, setup)?,
+    pub(crate) fn new(rt: &impl Abort, alloc: Global, setup: &[u8], stop: Option<Stop>) -> Told {
+        Told {
+            setup: Setup::read(alloc, setup).expect(rt, "a setup"),
             stop,
             calls: 0,
-        })
+        }
     }
 }
 

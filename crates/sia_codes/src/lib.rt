@@ -8,6 +8,3 @@ mod reading;
 
 pub use laws::{law_read_is_spelled, law_spelled_is_read};
 pub use reading::read;
-
-#[cfg(test)]
-mod tests;

@@ -14,6 +14,3 @@ pub use arc_data::{Carried, Memory, Message, Txt};
 pub use supervised_accounts::SupervisedAccounts;
 pub use supervision::Places;
 pub use watched_setup::WatchedSetup;
-
-#[cfg(test)]
-mod tests;

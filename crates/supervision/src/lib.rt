@@ -10,6 +10,3 @@ pub use arc_data::Memory;
 pub use laws::law_steps_are_twice_digits;
 pub use places::Places;
 pub use watch::Watch;
-
-#[cfg(test)]
-mod tests;

@@ -1,61 +1,61 @@
 // Events and answers in words.
-ghost use Rattle.std.specs.Prelude.{◌≡◌, ◌≤◌, true, length, IfOk};
+ghost use Rattle.std.specs.Prelude.{◌≡◌, ◌≤◌, true, length};
 ghost use Rattle.arc_data.specs.Digits.{is_name};
 ghost use Rattle.arc_data.specs.WellFormed.{IsWellFormed};
 
 use arc_data::{Blob, CloseCode, Event, Outcome, Reply, Step, Txt};
 use std::alloc::Global;
-use std::test::Fail;
+use std::process::Abort;
 use test_stations::messages::{account, burglary};
 
 /// The event of a word: `adopt` of a setup whose account 1234 has no interval, one of 60 seconds, or is lacking; a message or a heartbeat
 /// of that account; an order of the operator ann on incident 1; `start`, `tick` and `list`.
-pub(super) fn event_of(alloc: Global, word: &str) -> Result<Event, Fail>
-    ensures { IfOk result IsWellFormed }
+pub(super) fn event_of(rt: &impl Abort, alloc: Global, word: &str) -> Event
+    ensures { IsWellFormed result }
 {
     match word {
-        "adopt" => adopt(alloc, b"account 1234\noperator ann 1234\n"),
-        "adopt beat" => adopt(alloc, b"account 1234 beat 60\noperator ann 1234\n"),
-        "adopt other" => adopt(alloc, b"account 5678\noperator ann 1234\n"),
-        "message" => Ok(burglary(alloc, account(), 1)?),
-        "beat" => Ok(Event::Beat { account: account() }),
-        "start" => Ok(Event::Start),
-        "tick" => Ok(Event::Tick),
-        "list" => Ok(Event::List),
-        _ => order(word),
+        "adopt" => adopt(rt, alloc, b"account 1234\noperator ann 1234\n"),
+        "adopt beat" => adopt(rt, alloc, b"account 1234 beat 60\noperator ann 1234\n"),
+        "adopt other" => adopt(rt, alloc, b"account 5678\noperator ann 1234\n"),
+        "message" => burglary(alloc, account(), 1).expect(rt, "memory"),
+        "beat" => Event::Beat { account: account() },
+        "start" => Event::Start,
+        "tick" => Event::Tick,
+        "list" => Event::List,
+        _ => order(rt, word),
     }
 }
 
-fn order(word: &str) -> Result<Event, Fail>
-    ensures { IfOk result IsWellFormed }
+fn order(rt: &impl Abort, word: &str) -> Event
+    ensures { IsWellFormed result }
 {
     let (operator, number) = (operator(), 1);
     match word {
-        "next" => Ok(Event::Next { operator }),
-        "claim" => Ok(Event::Claim { operator, number }),
-        "note" => Ok(Event::Act {
+        "next" => Event::Next { operator },
+        "claim" => Event::Claim { operator, number },
+        "note" => Event::Act {
             operator,
             number,
             step: Step::Note,
             outcome: Outcome::Done,
-        }),
-        "release" => Ok(Event::Release { operator, number }),
-        "close" => Ok(Event::Close {
+        },
+        "release" => Event::Release { operator, number },
+        "close" => Event::Close {
             operator,
             number,
             code: CloseCode::Real,
-        }),
-        "show" => Ok(Event::Show { number }),
-        _ => Err("no such event")?,
+        },
+        "show" => Event::Show { number },
+        _ => panic!(rt; "no such event"),
     }
 }
 
-fn adopt(alloc: Global, text: &[u8]) -> Result<Event, Fail>
+fn adopt(rt: &impl Abort, alloc: Global, text: &[u8]) -> Event
     requires size { length text.now ≤ 4194304 }
-    ensures { IfOk result IsWellFormed }
+    ensures { IsWellFormed result }
 {
-    let text = Blob::of(alloc, text)?;
-    Ok(Event::Adopt { text })
+    let text = Blob::of(alloc, text).expect(rt, "memory");
+    Event::Adopt { text }
 }
 
 fn operator() -> Txt

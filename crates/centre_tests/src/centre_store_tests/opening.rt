@@ -1,45 +1,46 @@
 // Opening: new and worked areas, bodies that break the past, each at its place, and a disk that fails.
 
-use super::FRESH;
+use super::{FRESH, failing_disk};
+use crate::same::same;
 use arc_io::{Area, MemDisk};
 use centre_store::Store;
 use disk_journal::{OpenFault, SHIPPED};
 use std::alloc::Global;
 use std::process::Abort;
-use std::test::Fail;
 use test_stations::stores::{opened, recorded};
 
-fn disk_of(alloc: Global, bytes: &[u8]) -> Result<MemDisk, Fail> {
-    let (a, b) = (bytes.to_vec(alloc)?, Vec::new(alloc));
-    Ok(MemDisk::of(alloc, a, b, Vec::new(alloc))?)
+fn disk_of(rt: &impl Abort, alloc: Global, bytes: &[u8]) -> MemDisk {
+    let bytes = bytes.to_vec(alloc).expect(rt, "memory");
+    let (b, failing) = (Vec::new(alloc), Vec::new(alloc));
+    MemDisk::of(alloc, bytes, b, failing).expect(rt, "memory")
 }
 
 // What opening the area tells: how many entries are recorded, or why it was refused.
-fn told(alloc: Global, disk: MemDisk) -> Result<String, Fail> {
+fn told(rt: &impl Abort, alloc: Global, disk: MemDisk) -> String {
     match Store::open(alloc, disk, SHIPPED) {
         Ok(store) => {
             let count = store.centre().recorded();
             drop(store);
-            Ok(format!(in alloc; "{count}")?)
+            format!(in alloc; "{count}").expect(rt, "memory")
         }
-        Err(refused) => Ok(format!(in alloc; "{:?}", refused.fault)?),
+        Err(refused) => format!(in alloc; "{:?}", refused.fault).expect(rt, "memory"),
     }
 }
 
 #[test]
-fn an_empty_area_is_begun(rt: HostRuntime) -> Result<(), Fail> {
+fn an_empty_area_is_begun(rt: HostRuntime) {
     let alloc = rt.alloc();
-    let disk = closed(&rt, alloc, MemDisk::new(alloc, Vec::new(alloc)))?;
-    assert_eq!(rt; disk.bytes(Area::A), FRESH);
-    assert_eq!(rt; disk.bytes(Area::B), b"".as_slice());
-    Ok(())
+    let disk = closed(&rt, alloc, MemDisk::new(alloc, Vec::new(alloc)));
+    same(&rt, disk.bytes(Area::A), FRESH, "the first area");
+    same(&rt, disk.bytes(Area::B), b"", "the second area");
+    drop(disk);
 }
 
 // The disk of a store that was opened and has no entry.
-fn closed(rt: &impl Abort, alloc: Global, disk: MemDisk) -> Result<MemDisk, Fail> {
-    let store = opened(alloc, disk, SHIPPED)?;
-    assert_eq!(rt; store.centre().recorded(), 0);
-    Ok(store.close())
+fn closed(rt: &impl Abort, alloc: Global, disk: MemDisk) -> MemDisk {
+    let store = opened(alloc, disk, SHIPPED).expect(rt, "opened");
+    same(rt, store.centre().recorded(), 0, "no entry");
+    store.close()
 }
 
 // Records, by a letter: the gate, the length, and the body.
@@ -93,43 +94,50 @@ ax.;Damaged { at: 62 }
 asmm.;Damaged { at: 137 }";
 
 #[test]
-fn a_body_that_breaks_the_past_is_damage_at_its_gate(rt: HostRuntime) -> Result<(), Fail> {
+fn a_body_that_breaks_the_past_is_damage_at_its_gate(rt: HostRuntime) {
     for row in AREAS.lines() {
-        compare_area(&rt, rt.alloc(), row)?;
+        compare_area(&rt, rt.alloc(), row);
     }
-    Ok(())
 }
 
-fn compare_area(rt: &impl Abort, alloc: Global, row: &str) -> Result<(), Fail> {
-    let (letters, want) = row.split_once(';').ok_or("no row")?;
-    let told = told(alloc, area_of(alloc, letters)?)?;
-    assert_eq!(rt; told.as_str(), want, "{row}");
-    Ok(())
+fn compare_area(rt: &impl Abort, alloc: Global, row: &str) {
+    let (letters, want) = row.split_once(';').expect(rt, "a row");
+    let area = area_of(rt, alloc, letters);
+    let told = told(rt, alloc, disk_of(rt, alloc, &area));
+    same(rt, told.as_str(), want, row);
 }
 
-// A disk that has these records and a closed gate.
-fn area_of(alloc: Global, letters: &str) -> Result<MemDisk, Fail> {
-    let mut area = b"ARC JOURNAL 0001".to_vec(alloc)?;
+fn append(rt: &impl Abort, area: &mut Vec<u8>, bytes: &[u8]) {
+    area.extend_from_slice(bytes).expect(rt, "memory");
+}
+
+// An area that has these records and a closed gate.
+fn area_of(rt: &impl Abort, alloc: Global, letters: &str) -> Vec<u8> {
+    let mut area = Vec::new(alloc);
+    append(rt, &mut area, b"ARC JOURNAL 0001");
     for letter in letters.chars() {
-        area.extend_from_slice(record_of(letter))?;
+        append(rt, &mut area, record_of(letter));
     }
-    area.extend_from_slice(b"\0\0")?;
-    disk_of(alloc, &area)
+    append(rt, &mut area, b"\0\0");
+    area
 }
 
 #[test]
-fn a_disk_that_fails_comes_back_with_both_counts(rt: HostRuntime) -> Result<(), Fail> {
+fn a_disk_that_fails_comes_back_with_both_counts(rt: HostRuntime) {
     for call in 1..5u64 {
-        compare_fault(&rt, rt.alloc(), call)?;
+        compare_fault(&rt, rt.alloc(), call);
     }
-    Ok(())
 }
 
 // A call of the opening of a new area fails, and what is left opens.
-fn compare_fault(rt: &impl Abort, alloc: Global, call: u64) -> Result<(), Fail> {
-    let disk = MemDisk::new(alloc, [call].to_vec(alloc)?);
-    let refused = Store::open(alloc, disk, SHIPPED).err().ok_or("opened")?;
-    assert_eq!(rt; refused.fault, OpenFault::DiskFault { before: 0, now: 1 });
-    assert_eq!(rt; recorded(alloc, refused.disk)?, 0);
-    Ok(())
+fn compare_fault(rt: &impl Abort, alloc: Global, call: u64) {
+    let disk = failing_disk(rt, alloc, call);
+    match Store::open(alloc, disk, SHIPPED) {
+        Ok(_) => panic!(rt; "opened"),
+        Err(refused) => {
+            let fault = OpenFault::DiskFault { before: 0, now: 1 };
+            same(rt, refused.fault, fault, "the fault");
+            same(rt, recorded(alloc, refused.disk), Some(0), "opened again");
+        }
+    }
 }

@@ -1,105 +1,99 @@
 // Beginning and submitting: the bytes of the journal, its limits, further runs, stops and faults.
-ghost use Rattle.std.specs.Prelude.{◌<◌, ◌^◌, IfOk, IsTrue};
+ghost use Rattle.std.specs.Prelude.{◌<◌, ◌^◌, IsTrue};
 ghost use Rattle.arc_data.specs.WellFormed.{IsWellFormed};
 ghost use Rattle.centre_core.specs.Runs.{IsSubmitted};
 ghost use Rattle.centre_core.specs.Setting.{IsSetting};
 
-use super::AREA;
+use super::{AREA, failing_disk};
+use crate::same::same;
 use arc_data::{Event, Reply, Token};
 use arc_io::{Area, Fill, MemDisk};
-use centre_core::{Setup, Stop};
+use centre_core::{Done, Setup, Stop};
 use centre_store::Store;
 use disk_journal::{Limits, SHIPPED};
 use std::alloc::Global;
+use std::fmt::Display;
 use std::process::Abort;
-use std::test::Fail;
 use test_stations::messages::{account, message};
 use test_stations::moments::BEGIN;
 use test_stations::stores::{opened, recorded};
 
 // What is told to each part `words=answer` of a row, over the store of a disk. The disk at the end.
-fn play(
-    rt: &impl Abort,
-    alloc: Global,
-    disk: MemDisk,
-    limits: Limits,
-    row: &str,
-) -> Result<MemDisk, Fail>
+fn play(rt: &impl Abort, alloc: Global, disk: MemDisk, limits: Limits, row: &str) -> MemDisk
     requires { limits.bytes < 2 ^ 32 }
 {
-    let mut store = opened(alloc, disk, limits)?;
-    let end = play_parts(rt, alloc, &mut store, row);
-    let disk = store.close();
-    end?;
-    Ok(disk)
+    let mut store = opened(alloc, disk, limits).expect(rt, "opened");
+    play_parts(rt, alloc, &mut store, row);
+    store.close()
 }
 
-fn play_parts(
-    rt: &impl Abort,
-    alloc: Global,
-    store: &mut Store<MemDisk>,
-    row: &str,
-) -> Result<(), Fail> {
+fn play_parts(rt: &impl Abort, alloc: Global, store: &mut Store<MemDisk>, row: &str) {
     for part in row.split(';') {
-        play_part(rt, alloc, store, part)?;
+        play_part(rt, alloc, store, part);
     }
-    Ok(())
 }
 
-fn play_part(
-    rt: &impl Abort,
-    alloc: Global,
-    store: &mut Store<MemDisk>,
-    part: &str,
-) -> Result<(), Fail> {
-    let (words, want) = part.split_once('=').ok_or("no answer")?;
-    let told = told(alloc, store, words)?;
-    assert_eq!(rt; told.as_str(), want, "{part}");
-    Ok(())
+fn play_part(rt: &impl Abort, alloc: Global, store: &mut Store<MemDisk>, part: &str) {
+    let (words, want) = part.split_once('=').expect(rt, "an answer");
+    let told = told(rt, alloc, store, words);
+    same(rt, told.as_str(), want, part);
 }
 
 // What a store says to `begin` and `begin other`, which name a setup; `recorded`, `list`, or a sequence, that of a message; and `faults`,
 // how many its disk had when it was opened, and whether it had more since.
-fn told(alloc: Global, store: &mut Store<MemDisk>, words: &str) -> Result<String, Fail> {
+fn told(rt: &impl Abort, alloc: Global, store: &mut Store<MemDisk>, words: &str) -> String {
     match words {
-        "begin" => begun(alloc, store, b"account 1234\n"),
-        "begin other" => begun(alloc, store, b"account 1234\naccount ABC\n"),
-        "recorded" => Ok(format!(in alloc; "{}", store.centre().recorded())?),
-        "faults" => Ok(format!(in alloc; "{} {}", store.at_open(), store.has_failed())?),
-        "list" => submitted(alloc, store, Event::List),
+        "begin" => begun(rt, alloc, store, b"account 1234\n"),
+        "begin other" => begun(rt, alloc, store, b"account 1234\naccount ABC\n"),
+        "recorded" => text_of(rt, alloc, store.centre().recorded()),
+        "faults" => faults_of(rt, alloc, store),
+        "list" => submitted(rt, alloc, store, Event::List),
         _ => {
-            let event = numbered(alloc, Token::AdmCid, words.parse()?, b"1131 01 001")?;
-            submitted(alloc, store, event)
+            let seq = words.parse().expect(rt, "a sequence");
+            let event = numbered(rt, alloc, Token::AdmCid, seq, b"1131 01 001");
+            submitted(rt, alloc, store, event)
         }
     }
 }
 
-fn begun(alloc: Global, store: &mut Store<MemDisk>, text: &[u8]) -> Result<String, Fail> {
-    let setup = Setup::read(alloc, text)?;
+fn text_of<T: Display + Drop>(rt: &impl Abort, alloc: Global, told: T) -> String {
+    format!(in alloc; "{told}").expect(rt, "memory")
+}
+
+fn faults_of(rt: &impl Abort, alloc: Global, store: &Store<MemDisk>) -> String {
+    let (at_open, has_failed) = (store.at_open(), store.has_failed());
+    format!(in alloc; "{at_open} {has_failed}").expect(rt, "memory")
+}
+
+fn begun(rt: &impl Abort, alloc: Global, store: &mut Store<MemDisk>, text: &[u8]) -> String {
+    let setup = Setup::read(alloc, text).expect(rt, "a setup");
     match store.begin(alloc, setup, BEGIN) {
-        Ok(()) => Ok(format!(in alloc; "begun")?),
-        Err(stop) => named(alloc, stop),
+        Ok(()) => text_of(rt, alloc, "begun"),
+        Err(stop) => named(rt, alloc, stop),
     }
 }
 
-fn submitted(alloc: Global, store: &mut Store<MemDisk>, event: Event) -> Result<String, Fail>
+fn submitted(rt: &impl Abort, alloc: Global, store: &mut Store<MemDisk>, event: Event) -> String
     requires formed { IsWellFormed event }
     requires submitted { IsSubmitted event }
 {
-    if !has_begun(store) {
-        return Err("not begun")?;
-    }
+    assert!(rt; has_begun(store), "not begun");
     match store.submit(alloc, 7, event, BEGIN) {
-        Ok(done) => Ok(format!(in alloc; "{} {}", done.caller, word_of(&done.reply))?),
-        Err(stop) => named(alloc, stop),
+        Ok(done) => answered(rt, alloc, &done),
+        Err(stop) => named(rt, alloc, stop),
     }
 }
 
+fn answered(rt: &impl Abort, alloc: Global, done: &Done) -> String {
+    let (caller, word) = (done.caller, word_of(&done.reply));
+    format!(in alloc; "{caller} {word}").expect(rt, "memory")
+}
+
 // The stop with its numbers, and a first fault of the disk as `down`.
-fn named(alloc: Global, stop: Stop) -> Result<String, Fail> {
+fn named(rt: &impl Abort, alloc: Global, stop: Stop) -> String {
     match stop {
-        Stop::Down { at_open: 0, now: 1 } => Ok(format!(in alloc; "down")?),
-        _ => Ok(format!(in alloc; "{stop:?}")?),
+        Stop::Down { at_open: 0, now: 1 } => text_of(rt, alloc, "down"),
+        _ => format!(in alloc; "{stop:?}").expect(rt, "memory"),
     }
 }
 
@@ -125,15 +119,13 @@ fn word_of(reply: &Reply) -> &'static str {
     }
 }
 
-// A message with this sequence and content, where these are not too great.
-fn numbered(alloc: Global, token: Token, seq: u16, content: &[u8]) -> Result<Event, Fail>
-    ensures formed { IfOk result IsWellFormed }
-    ensures submitted { IfOk result IsSubmitted }
+// A message with this sequence and content.
+fn numbered(rt: &impl Abort, alloc: Global, token: Token, seq: u16, content: &[u8]) -> Event
+    ensures formed { IsWellFormed result }
+    ensures submitted { IsSubmitted result }
 {
-    if seq > 9999 || content.len() > 4095 {
-        return Err("no message")?;
-    }
-    Ok(message(alloc, account(), seq, token, content)?)
+    assert!(rt; seq <= 9999 && content.len() <= 4095, "a message");
+    message(alloc, account(), seq, token, content).expect(rt, "memory")
 }
 
 // A journal of three records is full of them, and answers what is quiet.
@@ -143,49 +135,43 @@ begin other=Full { used: 100, need: 43, records: 3 };begin=Full { used: 100, nee
 2=Full { used: 100, need: 38, records: 3 };recorded=3";
 
 #[test]
-fn writes_byte_for_byte_and_is_full_of_records(rt: HostRuntime) -> Result<(), Fail> {
+fn writes_byte_for_byte_and_is_full_of_records(rt: HostRuntime) {
     let alloc = rt.alloc();
     let limits = Limits {
         records: 3,
         ..SHIPPED
     };
-    let disk = play(
-        &rt,
-        alloc,
-        MemDisk::new(alloc, Vec::new(alloc)),
-        limits,
-        FULL,
-    )?;
+    let disk = MemDisk::new(alloc, Vec::new(alloc));
+    let disk = play(&rt, alloc, disk, limits, FULL);
     // Four calls for the opening of a new area, and four for each record.
-    assert_eq!(rt; disk.calls(), 16);
-    assert_eq!(rt; disk.bytes(Area::A), AREA);
-    assert_eq!(rt; disk.bytes(Area::B), b"".as_slice());
-    Ok(())
+    same(&rt, disk.calls(), 16, "calls");
+    same(&rt, disk.bytes(Area::A), AREA, "the first area");
+    same(&rt, disk.bytes(Area::B), b"", "the second area");
+    drop(disk);
 }
 
 // Behind 260 messages of 4,000 bytes there is no room for another one, but for a short one.
 #[test]
-fn is_full_of_bytes(rt: HostRuntime) -> Result<(), Fail> {
+fn is_full_of_bytes(rt: HostRuntime) {
     let alloc = rt.alloc();
     let limits = Limits {
         bytes: 1_048_576,
         ..SHIPPED
     };
-    let mut store = opened(alloc, MemDisk::new(alloc, Vec::new(alloc)), limits)?;
-    let end = fill(&rt, alloc, &mut store);
+    let disk = MemDisk::new(alloc, Vec::new(alloc));
+    let mut store = opened(alloc, disk, limits).expect(&rt, "opened");
+    fill(&rt, alloc, &mut store);
     drop(store);
-    end
 }
 
-fn fill(rt: &impl Abort, alloc: Global, store: &mut Store<MemDisk>) -> Result<(), Fail> {
-    play_part(rt, alloc, store, "begin=begun")?;
+fn fill(rt: &impl Abort, alloc: Global, store: &mut Store<MemDisk>) {
+    play_part(rt, alloc, store, "begin=begun");
     for seq in 1..261u16 {
-        compare_filled(rt, alloc, store, seq, "7 taken")?;
+        compare_filled(rt, alloc, store, seq, "7 taken");
     }
     let full = "Full { used: 1047082, need: 4027, records: 262 }";
-    compare_filled(rt, alloc, store, 261, full)?;
-    play_part(rt, alloc, store, "list=7 listed")?;
-    play_part(rt, alloc, store, "262=7 taken")
+    compare_filled(rt, alloc, store, 261, full);
+    play_parts(rt, alloc, store, "list=7 listed;262=7 taken");
 }
 
 // What is told to a message of 4,000 bytes, an event of code NN with a long text.
@@ -195,11 +181,10 @@ fn compare_filled(
     store: &mut Store<MemDisk>,
     seq: u16,
     want: &str,
-) -> Result<(), Fail> {
-    let event = numbered(alloc, Token::SiaDcs, seq, &[b'N'; 4000])?;
-    let told = submitted(alloc, store, event)?;
-    assert_eq!(rt; told.as_str(), want, "{seq}");
-    Ok(())
+) {
+    let event = numbered(rt, alloc, Token::SiaDcs, seq, &[b'N'; 4000]);
+    let told = submitted(rt, alloc, store, event);
+    same(rt, (seq, told.as_str()), (seq, want), "filled");
 }
 
 // How many of the three records a stop within this call leaves. Four calls open a new area, and four write each record; the third and
@@ -213,42 +198,36 @@ fn left_by(call: u64, fill: Fill) -> u64 {
 }
 
 #[test]
-fn a_stop_leaves_a_record_or_none(rt: HostRuntime) -> Result<(), Fail> {
+fn a_stop_leaves_a_record_or_none(rt: HostRuntime) {
     let alloc = rt.alloc();
     let disk = MemDisk::new(alloc, Vec::new(alloc));
-    let disk = play(&rt, alloc, disk, SHIPPED, "begin=begun;1=7 taken")?;
+    let disk = play(&rt, alloc, disk, SHIPPED, "begin=begun;1=7 taken");
+    same(&rt, disk.calls(), 16, "calls");
+    compare_calls(&rt, alloc, &disk);
+    drop(disk);
+}
+
+fn compare_calls(rt: &impl Abort, alloc: Global, disk: &MemDisk) {
     for call in 1..17u64 {
-        compare_stops(&rt, alloc, &disk, call)?;
+        compare_stops(rt, alloc, disk, call);
     }
-    Ok(())
 }
 
 // Stops within this call, of each kind.
-fn compare_stops(rt: &impl Abort, alloc: Global, disk: &MemDisk, call: u64) -> Result<(), Fail> {
-    compare_stop(rt, alloc, disk, call, Fill::Old)?;
-    compare_stop(rt, alloc, disk, call, Fill::New)?;
-    compare_stop(rt, alloc, disk, call, Fill::Torn(1))?;
-    compare_stop(rt, alloc, disk, call, Fill::Torn(0xff))
-}
-
-fn compare_stop(
-    rt: &impl Abort,
-    alloc: Global,
-    disk: &MemDisk,
-    call: u64,
-    fill: Fill,
-) -> Result<(), Fail> {
-    let left = left_after(alloc, disk, call, fill)?;
-    assert_eq!(rt; left, left_by(call, fill), "within {call} by {fill:?}");
-    Ok(())
+fn compare_stops(rt: &impl Abort, alloc: Global, disk: &MemDisk, call: u64) {
+    compare_stop(rt, alloc, disk, call, Fill::Old);
+    compare_stop(rt, alloc, disk, call, Fill::New);
+    compare_stop(rt, alloc, disk, call, Fill::Torn(1));
+    compare_stop(rt, alloc, disk, call, Fill::Torn(0xff));
 }
 
 // How many entries are recorded in what a stop within the call leaves.
-fn left_after(alloc: Global, disk: &MemDisk, call: u64, fill: Fill) -> Result<u64, Fail> {
-    if call == 0 || call > disk.calls() {
-        return Err("no such call")?;
-    }
-    recorded(alloc, disk.stopped(alloc, call, fill)?)
+fn compare_stop(rt: &impl Abort, alloc: Global, disk: &MemDisk, call: u64, fill: Fill) {
+    assert!(rt; call > 0 && call <= disk.calls());
+    let left = disk.stopped(alloc, call, fill).expect(rt, "memory");
+    let found = recorded(alloc, left);
+    let want = Some(left_by(call, fill));
+    same(rt, (call, fill, found), (call, fill, want), "a stop");
 }
 
 // The call that fails, what is told then and ever after, and how many records are found when the disk is opened again. Where the last sync
@@ -269,19 +248,17 @@ const FAULTS: &str = "\
 0|begin=begun;1=7 taken;list=7 listed;1=7 repeat;recorded=3|3";
 
 #[test]
-fn a_fault_of_the_disk_is_told_until_it_is_opened_again(rt: HostRuntime) -> Result<(), Fail> {
+fn a_fault_of_the_disk_is_told_until_it_is_opened_again(rt: HostRuntime) {
     for row in FAULTS.lines() {
-        compare_fault(&rt, rt.alloc(), row)?;
+        compare_fault(&rt, rt.alloc(), row);
     }
-    Ok(())
 }
 
-fn compare_fault(rt: &impl Abort, alloc: Global, row: &str) -> Result<(), Fail> {
-    let (call, rest) = row.split_once('|').ok_or("no row")?;
-    let (parts, left) = rest.split_once('|').ok_or("no row")?;
-    let disk = MemDisk::new(alloc, [call.parse()?].to_vec(alloc)?);
-    let disk = play(rt, alloc, disk, SHIPPED, parts)?;
-    let left: u64 = left.parse()?;
-    assert_eq!(rt; recorded(alloc, disk)?, left, "{row}");
-    Ok(())
+fn compare_fault(rt: &impl Abort, alloc: Global, row: &str) {
+    let (call, rest) = row.split_once('|').expect(rt, "a row");
+    let (parts, left) = rest.split_once('|').expect(rt, "a row");
+    let call = call.parse().expect(rt, "a call");
+    let left = left.parse().expect(rt, "a count");
+    let disk = play(rt, alloc, failing_disk(rt, alloc, call), SHIPPED, parts);
+    same(rt, recorded(alloc, disk), Some(left), row);
 }

@@ -1,10 +1,11 @@
 // Callers that wait for one another within their sessions.
-ghost use Rattle.std.specs.Prelude.{◌≡◌, ◌<◌, ◌+◌, All, [], length, IfOk, OnOk};
+ghost use Rattle.std.specs.Prelude.{◌≡◌, ◌+◌, length};
 ghost use Rattle.arc_serving.specs.Seen.{StationSeen};
 
 use super::links::{Flag, TurnLink, TurnPulse};
 use super::served;
 use crate::doors::door_of;
+use crate::same::{holds, same};
 use arc_doors::{ListPulse, MemDoor};
 use arc_io::Source;
 use arc_serving::{Crew, Station};
@@ -12,31 +13,34 @@ use std::alloc::Global;
 use std::process::Abort;
 use std::sync::atomic::AtomicBool;
 use std::sync::{Arc, Wait};
-use std::test::Fail;
 use std::thread::Threads;
 
 type TurnDoor = MemDoor<TurnLink<HostRuntime>>;
 
 // A flag that is not set.
-fn flag(alloc: Global) -> Result<Flag, Fail> {
-    Ok(Arc::new(alloc, AtomicBool::new(false))?)
+fn flag(rt: &impl Abort, alloc: Global) -> Flag {
+    Arc::new(alloc, AtomicBool::new(false)).expect(rt, "memory")
+}
+
+fn shared(rt: &impl Abort, flag: &Flag) -> Flag {
+    Arc::try_clone(flag).expect(rt, "few owners")
 }
 
 // One more door, to one link.
 fn add_door(
+    rt: &impl Abort,
     alloc: Global,
     host: HostRuntime,
     doors: &mut Vec<TurnDoor>,
     until: &Flag,
     tells: &Flag,
-) -> Result<(), Fail>
-    ensures { OnOk result (length doors.new.items ≡ length doors.old.items + 1) }
+)
+    ensures { length doors.new.items ≡ length doors.old.items + 1 }
 {
-    let link = TurnLink::new(host, Arc::try_clone(until)?, Arc::try_clone(tells)?);
-    let links = Vec::from_array(alloc, [link])?;
-    let door = door_of(alloc, links, Vec::new(alloc))?;
-    doors.push(door)?;
-    Ok(())
+    let link = TurnLink::new(host, shared(rt, until), shared(rt, tells));
+    let links = Vec::from_array(alloc, [link]).expect(rt, "memory");
+    let door = door_of(rt, alloc, links, Vec::new(alloc));
+    doors.push(door).expect(rt, "memory");
 }
 
 // Whether each link was got back, and no read of any failed.
@@ -62,29 +66,30 @@ fn is_read(door: TurnDoor) -> bool {
 
 // Two doors of lines, whose links wait for each other's answer.
 fn two_doors(
+    rt: &impl Abort,
     alloc: Global,
     host: HostRuntime,
     one: &Flag,
     other: &Flag,
-) -> Result<Station<TurnDoor, TurnDoor, ListPulse>, Fail>
-    ensures { IfOk result (λ s. length s.lines ≡ 2) }
+) -> Station<TurnDoor, TurnDoor, ListPulse>
+    ensures { length result.lines ≡ 2 }
 {
     let mut lines = Vec::new(alloc);
-    add_door(alloc, host, &mut lines, one, other)?;
-    add_door(alloc, host, &mut lines, other, one)?;
-    Ok(Station {
+    add_door(rt, alloc, host, &mut lines, one, other);
+    add_door(rt, alloc, host, &mut lines, other, one);
+    Station {
         lines,
         desks: Vec::new(alloc),
         pulse: ListPulse::new(Vec::new(alloc)),
-    })
+    }
 }
 
 // No lock is held round a session: each of two links ends only once the other was answered.
 #[test]
-fn sessions_go_on_beside_each_other(rt: HostRuntime) -> Result<(), Fail> {
+fn sessions_go_on_beside_each_other(rt: HostRuntime) {
     let alloc = rt.alloc();
-    let (one, other) = (flag(alloc)?, flag(alloc)?);
-    serve_two(&rt, alloc, rt, (&one, &other))
+    let (one, other) = (flag(&rt, alloc), flag(&rt, alloc));
+    serve_two(&rt, alloc, rt, (&one, &other));
 }
 
 fn serve_two<R: Abort + Threads + Wait + Sync>(
@@ -92,17 +97,17 @@ fn serve_two<R: Abort + Threads + Wait + Sync>(
     alloc: Global,
     host: HostRuntime,
     flags: (&Flag, &Flag),
-) -> Result<(), Fail> {
+) {
     let crew = Crew {
         lines: 2,
         desks: 0,
         sessions: 1,
     };
-    let station = two_doors(alloc, host, flags.0, flags.1)?;
-    let (entries, station, came) = served(rt, alloc, station, crew)?;
+    let station = two_doors(rt, alloc, host, flags.0, flags.1);
+    let (entries, station, came) = served(rt, alloc, station, crew);
     drop(came);
     // An Adopt, a Start and two heartbeats.
-    assert_eq!(rt; entries, 4);
+    same(rt, entries, 4, "entries");
     let Station {
         lines,
         desks,
@@ -110,35 +115,35 @@ fn serve_two<R: Abort + Threads + Wait + Sync>(
     } = station;
     drop(desks);
     drop(pulse);
-    assert!(rt; are_read(lines));
-    Ok(())
+    holds(rt, are_read(lines), "read");
 }
 
 // A door of lines, whose link waits for the pulse's moment.
 fn one_door(
+    rt: &impl Abort,
     alloc: Global,
     host: HostRuntime,
     given: &Flag,
     answered: &Flag,
-) -> Result<Station<TurnDoor, TurnDoor, TurnPulse<HostRuntime>>, Fail>
-    ensures { IfOk result (λ s. length s.lines ≡ 1) }
+) -> Station<TurnDoor, TurnDoor, TurnPulse<HostRuntime>>
+    ensures { length result.lines ≡ 1 }
 {
     let mut lines = Vec::new(alloc);
-    add_door(alloc, host, &mut lines, given, answered)?;
-    let pulse = TurnPulse::new(host, Arc::try_clone(given)?);
-    Ok(Station {
+    add_door(rt, alloc, host, &mut lines, given, answered);
+    let pulse = TurnPulse::new(host, shared(rt, given));
+    Station {
         lines,
         desks: Vec::new(alloc),
         pulse,
-    })
+    }
 }
 
 // The pulse is told to end when the workers have ended, and not before.
 #[test]
-fn the_pulse_is_told_when_the_workers_have_ended(rt: HostRuntime) -> Result<(), Fail> {
+fn the_pulse_is_told_when_the_workers_have_ended(rt: HostRuntime) {
     let alloc = rt.alloc();
-    let (given, answered) = (flag(alloc)?, flag(alloc)?);
-    serve_one(&rt, alloc, rt, (&given, &answered))
+    let (given, answered) = (flag(&rt, alloc), flag(&rt, alloc));
+    serve_one(&rt, alloc, rt, (&given, &answered));
 }
 
 fn serve_one<R: Abort + Threads + Wait + Sync>(
@@ -146,17 +151,17 @@ fn serve_one<R: Abort + Threads + Wait + Sync>(
     alloc: Global,
     host: HostRuntime,
     flags: (&Flag, &Flag),
-) -> Result<(), Fail> {
+) {
     let crew = Crew {
         lines: 1,
         desks: 0,
         sessions: 1,
     };
-    let station = one_door(alloc, host, flags.0, flags.1)?;
-    let (entries, station, came) = served(rt, alloc, station, crew)?;
+    let station = one_door(rt, alloc, host, flags.0, flags.1);
+    let (entries, station, came) = served(rt, alloc, station, crew);
     drop(came);
     // An Adopt, a Start, a heartbeat and a Tick.
-    assert_eq!(rt; entries, 4);
+    same(rt, entries, 4, "entries");
     let Station {
         lines,
         desks,
@@ -165,7 +170,6 @@ fn serve_one<R: Abort + Threads + Wait + Sync>(
     drop(desks);
     let was_told = pulse.was_told();
     drop(pulse);
-    assert!(rt; are_read(lines));
-    assert!(rt; was_told);
-    Ok(())
+    holds(rt, are_read(lines), "read");
+    holds(rt, was_told, "told to end");
 }

@@ -4,14 +4,15 @@ ghost use Rattle.centre_core.specs.Runs.{IsSubmitted};
 ghost use Rattle.line_gate.specs.Blanks.{Names};
 
 use super::blank;
+use crate::same::{holds, same};
 use arc_data::{Event, Reply};
 use arc_io::Disk;
 use centre_core::{Done, Hall, Stop};
 use line_gate::{AtGate, Blank, Gate, GateName, Pass};
 use std::alloc::Global;
 use std::marker::Brand;
+use std::process::Abort;
 use std::sync::Wait;
-use std::test::Fail;
 use test_stations::messages::{account, burglary};
 use test_stations::moments::BEGIN;
 
@@ -26,80 +27,65 @@ fn total(reply: &Reply) -> u64 {
 }
 
 // An alarm, which a pass submits.
-fn submit_alarm<R: Wait, D: Disk + Drop, N: GateName>(
+fn submit_alarm<R: Abort + Wait, D: Disk + Drop, N: GateName>(
     rt: &R,
     alloc: Global,
     gate: &Gate<D, N>,
     pass: &mut Pass<N>,
-) -> Result<Done, Fail> {
-    let event = burglary(alloc, account(), 1)?;
-    Ok(gate.submit(rt, alloc, pass, event, BEGIN)?)
-}
-
-// A pass meets another, and asks for the list.
-fn list_after<R: Wait, D: Disk + Drop, N: GateName>(
-    rt: &R,
-    alloc: Global,
-    gate: &Gate<D, N>,
-    pass: &mut Pass<N>,
-    other: &mut Pass<N>,
-) -> Result<Done, Fail> {
-    gate.meet(pass, other)?;
-    Ok(gate.submit(rt, alloc, pass, Event::List, BEGIN)?)
+) -> Result<Done, Stop> {
+    let event = burglary(alloc, account(), 1).expect(rt, "memory");
+    gate.submit(rt, alloc, pass, event, BEGIN)
 }
 
 // One pass is split from another, which submits an alarm; they meet, and the first asks for the list.
-fn split_and_meet<R: Wait, D: Disk + Drop, N: GateName>(
+fn split_and_meet<R: Abort + Wait, D: Disk + Drop, N: GateName>(
     rt: &R,
     alloc: Global,
     gate: &Gate<D, N>,
     first: &mut Pass<N>,
-) -> Result<(Done, Done), Fail> {
-    let mut second = gate.split(rt, first)?;
-    let taken = submit_alarm(rt, alloc, gate, first)?;
-    let listed = list_after(rt, alloc, gate, &mut second, first)?;
-    Ok((taken, listed))
+) -> (Done, Done) {
+    let mut second = gate.split(rt, first).expect(rt, "split");
+    let taken = submit_alarm(rt, alloc, gate, first).expect(rt, "an answer");
+    gate.meet(&mut second, first).expect(rt, "met");
+    let listed = gate.submit(rt, alloc, &mut second, Event::List, BEGIN);
+    (taken, listed.expect(rt, "a list"))
 }
 
 // The same at a gate of its own, and how many entries its store has recorded then.
-fn meet_another<R: Wait, D: Disk + Drop, N: GateName>(
+fn meet_another<R: Abort + Wait, D: Disk + Drop, N: GateName>(
     rt: &R,
     alloc: Global,
     blank: Blank<D>,
-) -> Result<(Done, Done, u64), Fail>
+) -> (Done, Done, u64)
     requires { Names D.told D.may_leave D.fault_count N.terms blank }
 {
     let (gate, mut first) = Gate::<D, N>::new(blank);
-    let told = split_and_meet(rt, alloc, &gate, &mut first);
+    let (taken, listed) = split_and_meet(rt, alloc, &gate, &mut first);
     let store = gate.close(first);
     let recorded = store.centre().recorded();
     // Given to `drop`, since its parts needn't be looked at here.
     drop(store);
-    let (taken, listed) = told?;
-    Ok((taken, listed, recorded))
+    (taken, listed, recorded)
 }
 
-fn met<R: Wait, D: Disk + Drop>(
+fn met<R: Abort + Wait, D: Disk + Drop>(
     rt: &R,
     alloc: Global,
     blank: Blank<D>,
-) -> Result<(Done, Done, u64), Fail> {
+) -> (Done, Done, u64) {
     meet_another::<R, D, Brand>(rt, alloc, blank)
 }
 
 #[test]
-fn a_pass_that_met_another_sees_its_alarm(rt: HostRuntime) -> Result<(), Fail> {
+fn a_pass_that_met_another_sees_its_alarm(rt: HostRuntime) {
     let alloc = rt.alloc();
-    let blank = blank(alloc, SETUP, Vec::new(alloc))?;
-    let (taken, listed, recorded) = met(&rt, alloc, blank)?;
-    let Done { caller, at, reply } = taken;
-    assert_eq!(rt; (caller, at), (1, BEGIN));
-    assert_eq!(rt; reply, Reply::Taken);
-    let Done { caller, at, reply } = listed;
-    assert_eq!(rt; (caller, at), (2, BEGIN));
-    assert_eq!(rt; total(&reply), 1);
-    assert_eq!(rt; recorded, 3);
-    Ok(())
+    let blank = blank(&rt, alloc, SETUP, Vec::new(alloc));
+    let (taken, listed, recorded) = met(&rt, alloc, blank);
+    same(&rt, (taken.caller, taken.at), (1, BEGIN), "the first");
+    holds(&rt, matches!(taken.reply, Reply::Taken), "taken");
+    same(&rt, (listed.caller, listed.at), (2, BEGIN), "the second");
+    same(&rt, total(&listed.reply), 1, "listed");
+    same(&rt, recorded, 3, "recorded");
 }
 
 // An alarm goes through the gate as a hall. Why it was not taken.
@@ -117,62 +103,50 @@ fn submit_at<R: Wait, D: Disk, N: GateName>(
     (hall.leave(), stop)
 }
 
-// Why an alarm that a pass submits was not taken.
-fn stop_of_alarm<R: Wait, D: Disk + Drop, N: GateName>(
-    rt: &R,
-    alloc: Global,
-    gate: &Gate<D, N>,
-    pass: &mut Pass<N>,
-) -> Result<Option<Stop>, Fail> {
-    let event = burglary(alloc, account(), 1)?;
-    Ok(gate.submit(rt, alloc, pass, event, BEGIN).err())
-}
-
 // Two passes submit an alarm each. Why each was not taken.
-fn submit_both<R: Wait, D: Disk + Drop, N: GateName>(
+fn submit_both<R: Abort + Wait, D: Disk + Drop, N: GateName>(
     rt: &R,
     alloc: Global,
     gate: &Gate<D, N>,
     first: &mut Pass<N>,
-) -> Result<(Option<Stop>, Option<Stop>), Fail> {
-    let second = gate.split(rt, first)?;
-    let one = stop_of_alarm(rt, alloc, gate, first)?;
-    let again = burglary(alloc, account(), 1)?;
+) -> (Option<Stop>, Option<Stop>) {
+    let second = gate.split(rt, first).expect(rt, "split");
+    let one = submit_alarm(rt, alloc, gate, first).err();
+    let again = burglary(alloc, account(), 1).expect(rt, "memory");
     let (second, other) = submit_at(rt, alloc, gate, second, again);
     gate.take_in(first, second);
-    Ok((one, other))
+    (one, other)
 }
 
 // The same at a gate of its own, and the count of its disk's faults.
-fn submit_two<R: Wait, D: Disk + Drop, N: GateName>(
+fn submit_two<R: Abort + Wait, D: Disk + Drop, N: GateName>(
     rt: &R,
     alloc: Global,
     blank: Blank<D>,
-) -> Result<(Option<Stop>, Option<Stop>, u64), Fail>
+) -> (Option<Stop>, Option<Stop>, u64)
     requires { Names D.told D.may_leave D.fault_count N.terms blank }
 {
     let (gate, mut first) = Gate::<D, N>::new(blank);
-    let stops = submit_both(rt, alloc, &gate, &mut first);
+    let (one, other) = submit_both(rt, alloc, &gate, &mut first);
     let disk = gate.close(first).close();
-    let (one, other) = stops?;
-    Ok((one, other, disk.faults()))
+    (one, other, disk.faults())
 }
 
-fn submitted<R: Wait, D: Disk + Drop>(
+fn submitted<R: Abort + Wait, D: Disk + Drop>(
     rt: &R,
     alloc: Global,
     blank: Blank<D>,
-) -> Result<(Option<Stop>, Option<Stop>, u64), Fail> {
+) -> (Option<Stop>, Option<Stop>, u64) {
     submit_two::<R, D, Brand>(rt, alloc, blank)
 }
 
 #[test]
-fn a_disk_that_fails_stops_every_caller(rt: HostRuntime) -> Result<(), Fail> {
+fn a_disk_that_fails_stops_every_caller(rt: HostRuntime) {
     let alloc = rt.alloc();
     // Opening a new area, the Adopt and the Start take four calls each.
-    let blank = blank(alloc, SETUP, vec![in alloc; 13]?)?;
-    let told = submitted(&rt, alloc, blank)?;
+    let failing = vec![in alloc; 13].expect(&rt, "memory");
+    let blank = blank(&rt, alloc, SETUP, failing);
+    let told = submitted(&rt, alloc, blank);
     let down = Some(Stop::Down { at_open: 0, now: 1 });
-    assert_eq!(rt; told, (down, down, 1));
-    Ok(())
+    same(&rt, told, (down, down, 1), "down");
 }

@@ -2,15 +2,17 @@
 ghost use Rattle.std.specs.Prelude.{◌≤◌};
 ghost use Rattle.arc_data.specs.WellFormed.{IsWellFormed};
 ghost use Rattle.centre_rules.specs.History.{IsMoment};
+ghost use Rattle.event_codec.specs.Spelling.{IsKept};
 
 use super::events::{SETUP, STEPS, claimed, clock, event};
-use arc_data::{Event, Memory};
+use crate::same::{holds, same};
+use arc_data::Event;
 use arc_io::Disk;
 use centre_core::{Centre, Done};
 use disk_journal::{Bodies, Journal, SHIPPED};
 use event_codec::encode;
 use std::alloc::Global;
-use std::test::Fail;
+use std::process::Abort;
 use test_stations::halls::ram_hall;
 
 /// What a caller was told of its events, in order, and how many of them the history has accounted for.
@@ -49,19 +51,28 @@ impl Caller {
     // was told.
     fn is_answered(
         &mut self,
+        rt: &impl Abort,
         alloc: Global,
         centre: &mut Centre,
         is_quiet: bool,
-    ) -> Result<bool, Fail> {
+    ) -> bool {
         if self.is_through() {
-            return Ok(false);
+            return false;
         }
+        let round = self.round();
+        let event = self.event(rt, alloc);
+        match entered(rt, alloc, centre, event, clock(round), is_quiet) {
+            Some(done) => self.is_told(&done),
+            None => false,
+        }
+    }
+
+    // The next event.
+    fn event(&self, rt: &impl Abort, alloc: Global) -> Event
+        ensures { IsWellFormed result × IsKept result }
+    {
         let (round, step) = (self.round(), self.next % STEPS);
-        let event = event(alloc, self.place, round, step, self.number)?;
-        match entered(alloc, centre, event, clock(round), is_quiet)? {
-            Some(done) => Ok(self.is_told(&done)),
-            None => Ok(false),
-        }
+        event(alloc, self.place, round, step, self.number).expect(rt, "memory")
     }
 
     // Whether the caller was told this of its next event. Then that is accounted for.
@@ -80,117 +91,115 @@ impl Caller {
     }
 
     // The record of the next event, at the moment that the caller was told.
-    fn has_record(&self, alloc: Global, record: &[u8]) -> Result<bool, Fail> {
+    fn has_record(&self, rt: &impl Abort, alloc: Global, record: &[u8]) -> bool {
         let Some(told) = self.told.get(self.next) else {
-            return Ok(false);
+            return false;
         };
-        if told.at >= 253_402_300_800 {
-            return Ok(false);
-        }
-        let (round, step) = (self.round(), self.next % STEPS);
-        let event = event(alloc, self.place, round, step, self.number)?;
+        let at = told.at;
+        assert!(rt; at < 253_402_300_800);
+        let event = self.event(rt, alloc);
         let mut body = Vec::new(alloc);
-        let encoded = encode(&event, told.at, &mut body);
+        encode(&event, at, &mut body).expect(rt, "memory");
         // Given to `drop`, since its parts needn't be looked at here.
         drop(event);
-        encoded?;
-        Ok(body.as_slice() == record)
+        body.as_slice() == record
     }
 
     // The centre enters the caller's events that are quiet now.
-    fn settle(&mut self, alloc: Global, centre: &mut Centre) -> Result<(), Fail> {
+    fn settle(&mut self, rt: &impl Abort, alloc: Global, centre: &mut Centre) {
         for _ in 0..STEPS {
-            if !self.is_answered(alloc, centre, true)? {
-                return Ok(());
+            if !self.is_answered(rt, alloc, centre, true) {
+                return;
             }
         }
-        Ok(())
     }
 }
 
 // The centre enters the event where that is quiet or is to be recorded, as is said, and has room for it.
 fn entered(
+    rt: &impl Abort,
     alloc: Global,
     centre: &mut Centre,
     event: Event,
     clock: u64,
     is_quiet: bool,
-) -> Result<Option<Done>, Memory>
+) -> Option<Done>
     requires event { IsWellFormed event }
     requires clock { IsMoment clock }
 {
-    if centre.entries() >= 1 << 48 {
-        return Ok(None);
-    }
-    let ready = centre.prepare(alloc, event, clock)?;
+    assert!(rt; centre.entries() < 1 << 48);
+    let ready = centre.prepare(alloc, event, clock).expect(rt, "memory");
     if ready.quiet() != is_quiet {
         ready.discard();
-        return Ok(None);
+        return None;
     }
-    Ok(Some(centre.apply(ready)))
+    Some(centre.apply(ready))
 }
 
-fn settle_all(alloc: Global, centre: &mut Centre, callers: &mut [Caller]) -> Result<(), Fail> {
+fn settle_all(rt: &impl Abort, alloc: Global, centre: &mut Centre, callers: &mut [Caller]) {
     for caller in callers.iter_mut() {
-        caller.settle(alloc, centre)?;
+        caller.settle(rt, alloc, centre);
     }
-    Ok(())
 }
 
 // The record is that of the next event of one of the callers, which was told what the centre answers.
 fn is_of_one(
+    rt: &impl Abort,
     alloc: Global,
     centre: &mut Centre,
     callers: &mut [Caller],
     record: &[u8],
-) -> Result<bool, Fail> {
+) -> bool {
     for caller in callers.iter_mut() {
-        if caller.has_record(alloc, record)? {
-            return caller.is_answered(alloc, centre, false);
+        if caller.has_record(rt, alloc, record) {
+            return caller.is_answered(rt, alloc, centre, false);
         }
     }
-    Ok(false)
+    false
 }
 
 // The history of the records behind those of the beginning, and the quiet entries between them.
 fn replay(
+    rt: &impl Abort,
     alloc: Global,
     centre: &mut Centre,
     callers: &mut [Caller],
     records: &Bodies,
-) -> Result<bool, Fail> {
+) {
     for i in 2..records.count() {
-        settle_all(alloc, centre, callers)?;
-        if !is_of_one(alloc, centre, callers, records.at(i))? {
-            return Ok(false);
-        }
+        settle_all(rt, alloc, centre, callers);
+        let is_of_one = is_of_one(rt, alloc, centre, callers, records.at(i));
+        holds(rt, is_of_one, "a record of a caller");
     }
-    settle_all(alloc, centre, callers)?;
-    Ok(callers.iter().all(|caller| caller.is_through()))
+    settle_all(rt, alloc, centre, callers);
+    let are_through = callers.iter().all(|caller| caller.is_through());
+    holds(rt, are_through, "all events");
 }
 
-fn records_of<D: Disk + Drop>(alloc: Global, disk: D) -> Result<Bodies, Fail> {
+/// The records of the disk of a closed store.
+pub(super) fn records_of<D: Disk + Drop>(rt: &impl Abort, alloc: Global, disk: D) -> Bodies {
     match Journal::open(alloc, disk, SHIPPED) {
         Ok((journal, records)) => {
             drop(journal);
-            Ok(records)
+            records
         }
-        Err(_) => Err("not opened")?,
+        Err(_) => panic!(rt; "not opened"),
     }
 }
 
-/// The records of the disk of a closed store and the callers' quiet entries are one history: a centre of one thread answers each as its
-/// caller was told, and ends with as many entries recorded and incidents opened as the store.
-pub(super) fn is_history<D: Disk + Drop>(
+/// These records and the callers' quiet entries are one history: a centre of one thread answers each as its caller was told, and ends with
+/// as many entries recorded and incidents opened as the store.
+pub(super) fn compare_replay(
+    rt: &impl Abort,
     alloc: Global,
-    disk: D,
+    records: &Bodies,
     counts: (u64, u64),
     callers: &mut [Caller],
-) -> Result<bool, Fail> {
-    let records = records_of(alloc, disk)?;
-    let mut centre = ram_hall(alloc, SETUP)?.into_centre();
-    let is_told = replay(alloc, &mut centre, callers, &records);
-    let is_end = (centre.recorded(), centre.table().opened()) == counts;
+) {
+    let hall = ram_hall(alloc, SETUP).expect(rt, "a hall");
+    let mut centre = hall.into_centre();
+    replay(rt, alloc, &mut centre, callers, records);
+    let ended = (centre.recorded(), centre.table().opened());
+    same(rt, ended, counts, "recorded and opened");
     drop(centre);
-    Ok(is_told? && is_end)
 }

@@ -4,7 +4,8 @@ ghost use Rattle.line_gate.specs.Blanks.{Names};
 
 use super::blank;
 use super::events::{SETUP, STEPS, claimed, clock, event};
-use super::replay::{Caller, is_history};
+use super::replay::{Caller, compare_replay, records_of};
+use crate::same::{holds, same};
 use arc_io::Disk;
 use centre_core::Done;
 use centre_store::Store;
@@ -13,7 +14,6 @@ use std::alloc::Global;
 use std::marker::Brand;
 use std::process::Abort;
 use std::sync::Wait;
-use std::test::Fail;
 use std::thread;
 use std::thread::Threads;
 
@@ -89,45 +89,48 @@ fn run_all<R: Threads + Wait + Sync, D: Disk + Send + Drop, N: GateName + Send +
 }
 
 // A job for each caller.
-fn jobs_of<R: Wait, D: Disk + Drop, N: GateName>(
+fn jobs_of<R: Abort + Wait, D: Disk + Drop, N: GateName>(
     rt: &R,
     alloc: Global,
     gate: &Gate<D, N>,
     first: &mut Pass<N>,
-) -> Result<Vec<Job<N>>, Fail> {
+) -> Vec<Job<N>> {
     let mut jobs = Vec::new(alloc);
     for place in 0..CALLERS {
-        let pass = gate.split(rt, first)?;
-        jobs.push(Job {
+        let pass = gate.split(rt, first).expect(rt, "split");
+        let job = Job {
             place,
             pass,
             told: Vec::new(alloc),
             is_done: false,
-        })?;
+        };
+        jobs.push(job).expect(rt, "memory");
     }
-    Ok(jobs)
+    jobs
 }
 
 // The first pass takes in those of all callers, and what they were told is left.
 fn take_in_all<D: Disk + Drop, N: GateName>(
+    rt: &impl Abort,
     alloc: Global,
     gate: &Gate<D, N>,
     first: &mut Pass<N>,
     jobs: Vec<Job<N>>,
-) -> Result<Vec<Caller>, Fail> {
+) -> Vec<Caller> {
     let mut callers = Vec::new(alloc);
     for job in jobs {
-        let caller = take_in(gate, first, job)?;
-        callers.push(caller)?;
+        let caller = take_in(rt, gate, first, job);
+        callers.push(caller).expect(rt, "memory");
     }
-    Ok(callers)
+    callers
 }
 
 fn take_in<D: Disk + Drop, N: GateName>(
+    rt: &impl Abort,
     gate: &Gate<D, N>,
     first: &mut Pass<N>,
     job: Job<N>,
-) -> Result<Caller, Fail> {
+) -> Caller {
     let Job {
         place,
         pass,
@@ -135,30 +138,28 @@ fn take_in<D: Disk + Drop, N: GateName>(
         is_done,
     } = job;
     gate.take_in(first, pass);
-    if !is_done {
-        return Err("stopped")?;
-    }
-    Ok(Caller::new(place, told))
+    holds(rt, is_done, "each event is answered");
+    Caller::new(place, told)
 }
 
 // Eight callers at a gate.
-fn call_eight<R: Threads + Wait + Sync, D: Disk + Send + Drop, N: GateName + Send + Sync>(
+fn call_eight<R: Abort + Threads + Wait + Sync, D: Disk + Send + Drop, N: GateName + Send + Sync>(
     rt: &R,
     alloc: Global,
     gate: &Gate<D, N>,
     first: &mut Pass<N>,
-) -> Result<Vec<Caller>, Fail> {
-    let mut jobs = jobs_of(rt, alloc, gate, first)?;
+) -> Vec<Caller> {
+    let mut jobs = jobs_of(rt, alloc, gate, first);
     run_all(rt, alloc, gate, jobs.as_mut_slice());
-    take_in_all(alloc, gate, first, jobs)
+    take_in_all(rt, alloc, gate, first, jobs)
 }
 
 // The same at a gate of their own, and then the store.
-fn serve_eight<R: Threads + Wait + Sync, D: Disk + Send + Drop, N: GateName + Send + Sync>(
+fn serve_eight<R: Abort + Threads + Wait + Sync, D: Disk + Send + Drop, N: GateName + Send + Sync>(
     rt: &R,
     alloc: Global,
     blank: Blank<D>,
-) -> (Store<D>, Result<Vec<Caller>, Fail>)
+) -> (Store<D>, Vec<Caller>)
     requires { Names D.told D.may_leave D.fault_count N.terms blank }
 {
     let (gate, mut first) = Gate::<D, N>::new(blank);
@@ -166,33 +167,31 @@ fn serve_eight<R: Threads + Wait + Sync, D: Disk + Send + Drop, N: GateName + Se
     (gate.close(first), callers)
 }
 
-fn served<R: Threads + Wait + Sync, D: Disk + Send + Drop>(
+fn served<R: Abort + Threads + Wait + Sync, D: Disk + Send + Drop>(
     rt: &R,
     alloc: Global,
     blank: Blank<D>,
-) -> (Store<D>, Result<Vec<Caller>, Fail>) {
+) -> (Store<D>, Vec<Caller>) {
     serve_eight::<R, D, Brand>(rt, alloc, blank)
 }
 
 #[test]
-fn eight_threads_are_told_what_one_is(rt: HostRuntime) -> Result<(), Fail> {
+fn eight_threads_are_told_what_one_is(rt: HostRuntime) {
     let alloc = rt.alloc();
-    let blank = blank(alloc, SETUP, Vec::new(alloc))?;
+    let blank = blank(&rt, alloc, SETUP, Vec::new(alloc));
     let (store, callers) = served(&rt, alloc, blank);
-    compare_history(&rt, alloc, store, callers)
+    compare_history(&rt, alloc, store, callers);
 }
 
 fn compare_history<D: Disk + Drop>(
     rt: &impl Abort,
     alloc: Global,
     store: Store<D>,
-    callers: Result<Vec<Caller>, Fail>,
-) -> Result<(), Fail> {
+    mut callers: Vec<Caller>,
+) {
     // An Adopt, a Start, and 2,000 entries of each caller.
-    assert_eq!(rt; store.centre().entries(), 16_002);
+    same(rt, store.centre().entries(), 16_002, "entries");
     let counts = (store.centre().recorded(), store.centre().table().opened());
-    let disk = store.close();
-    let mut callers = callers?;
-    assert!(rt; is_history(alloc, disk, counts, callers.as_mut_slice())?);
-    Ok(())
+    let records = records_of(rt, alloc, store.close());
+    compare_replay(rt, alloc, &records, counts, callers.as_mut_slice());
 }

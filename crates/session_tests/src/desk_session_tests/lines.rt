@@ -1,11 +1,11 @@
 // Lines and what they are answered by.
-use super::{SETUP, bytes_of, word};
+use super::{SETUP, bytes_of, compare_written, word};
+use crate::same::same;
 use crate::told::Told;
 use arc_io::MemPort;
 use desk_session::{DeskEnd, DeskState, serve_desk};
 use std::alloc::Global;
 use std::process::Abort;
-use std::test::Fail;
 use test_stations::ports::port_of;
 
 // What is typed, what is printed, how it ends, and how often the hall is asked. A bar is a line feed.
@@ -38,67 +38,51 @@ fn parts(row: &str) -> Option<(&str, &str, &str, &str)> {
     Some((typed, printed, end, calls))
 }
 
-fn try_row(rt: &impl Abort, alloc: Global, row: &str) -> Result<(), Fail> {
-    let mut hall = Told::new(alloc, SETUP, None)?;
-    let end = serve_row(rt, alloc, &mut hall, row);
-    drop(hall);
-    end
-}
-
 // The row over a hall that was not asked yet.
-fn serve_row(rt: &impl Abort, alloc: Global, hall: &mut Told, row: &str) -> Result<(), Fail> {
-    let (typed, printed, end, calls) = parts(row).ok_or("no row")?;
-    let (input, output) = (bytes_of(alloc, typed)?, bytes_of(alloc, printed)?);
-    let calls = calls.parse::<u64>()?;
-    let mut port = port_of(alloc, &input)?;
-    assert_eq!(rt; word(serve_desk(alloc, hall, &mut port)), end, "at {row}");
-    assert_eq!(rt;
-        (port.sink.bytes(), hall.calls),
-        (output.as_slice(), calls),
-        "at {row}"
-    );
+fn try_row(rt: &impl Abort, alloc: Global, row: &str) {
+    let (typed, printed, end, calls) = parts(row).expect(rt, "a row");
+    let calls = calls.parse().expect(rt, "a count");
+    let (input, output) = (bytes_of(rt, alloc, typed), bytes_of(rt, alloc, printed));
+    let mut hall = Told::new(rt, alloc, SETUP, None);
+    let mut port = port_of(alloc, &input).expect(rt, "memory");
+    let ended = serve_desk(alloc, &mut hall, &mut port);
+    same(rt, word(ended), end, row);
+    compare_written(rt, &port, &output, row);
+    same(rt, hall.calls, calls, row);
     drop(port);
-    Ok(())
+    drop(hall);
 }
 
 #[test]
-fn lines_are_answered(rt: HostRuntime) -> Result<(), Fail> {
+fn lines_are_answered(rt: HostRuntime) {
     for row in ROWS.lines() {
-        try_row(&rt, rt.alloc(), row)?;
+        try_row(&rt, rt.alloc(), row);
     }
-    Ok(())
 }
 
 // Each byte in a piece of its own. What stands behind the last line feed may go on, and is not answered.
 #[test]
-fn pieces_of_one_byte(rt: HostRuntime) -> Result<(), Fail> {
-    let mut hall = Told::new(rt.alloc(), SETUP, None)?;
-    let end = feed_desk(&rt, rt.alloc(), &mut hall);
+fn pieces_of_one_byte(rt: HostRuntime) {
+    let alloc = rt.alloc();
+    let mut hall = Told::new(&rt, alloc, SETUP, None);
+    let mut port = port_of(alloc, b"").expect(&rt, "memory");
+    feed_desk(&rt, alloc, &mut hall, &mut port);
+    drop(port);
     drop(hall);
-    end
 }
 
 // Feeds a desk over a hall that was not asked yet.
-fn feed_desk(rt: &impl Abort, alloc: Global, hall: &mut Told) -> Result<(), Fail> {
-    let mut port = port_of(alloc, b"")?;
+fn feed_desk(rt: &impl Abort, alloc: Global, hall: &mut Told, port: &mut MemPort) {
     let mut desk = DeskState::new();
     let input = b"login ann 1234\r\nlist\r\n\r\nnext\r\nli";
-    feed_bytes(rt, alloc, &mut desk, hall, &mut port, input);
-    assert_eq!(rt;
-        port.sink.bytes(),
-        b"ok ann\nlist 7\nwhat\nheld by ann\n".as_slice()
-    );
-    assert_eq!(rt;
-        desk.take(alloc, hall, &mut port, b"st\nquit\nlist\n"),
-        Err(DeskEnd::Quit)
-    );
-    assert_eq!(rt;
-        port.sink.bytes(),
-        b"ok ann\nlist 7\nwhat\nheld by ann\nlist 7\nbye\n".as_slice()
-    );
-    assert_eq!(rt; hall.calls, 3);
-    drop(port);
-    Ok(())
+    feed_bytes(rt, alloc, &mut desk, hall, port, input);
+    let answers = b"ok ann\nlist 7\nwhat\nheld by ann\n";
+    compare_written(rt, port, answers, "all but the last");
+    let ended = desk.take(alloc, hall, port, b"st\nquit\nlist\n");
+    same(rt, ended, Err(DeskEnd::Quit), "the end");
+    let answers = b"ok ann\nlist 7\nwhat\nheld by ann\nlist 7\nbye\n";
+    compare_written(rt, port, answers, "all");
+    same(rt, hall.calls, 3, "asked");
 }
 
 // Feeds a desk these bytes, one after the other, and none ends it.
@@ -111,6 +95,7 @@ fn feed_bytes(
     bytes: &[u8],
 ) {
     for byte in bytes {
-        assert_eq!(rt; desk.take(alloc, hall, port, &[*byte]), Ok(()));
+        let ended = desk.take(alloc, hall, port, &[*byte]);
+        same(rt, ended, Ok(()), "no end");
     }
 }

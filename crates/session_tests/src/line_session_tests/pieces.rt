@@ -3,19 +3,20 @@ ghost use Rattle.std.specs.Prelude.{◌<◌};
 
 use super::panel::Panel;
 use super::{ALARM, ALARM_REPLY, BEAT, BEAT_REPLY, Came, DUH, SETUP, joined, recorded_of, session};
+use crate::same::same;
 use arc_io::MemPort;
 use centre_core::RamHall;
 use line_session::{LineEnd, LineState};
 use std::alloc::Global;
 use std::process::Abort;
-use std::test::Fail;
 use test_stations::halls::ram_hall;
 use test_stations::ports::port_of;
 
 // Whole, damaged, cut-off and too long frames.
-fn stream(alloc: Global) -> Result<Vec<u8>, Fail> {
-    let long = vec![in alloc; b'x'; 4_104]?;
+fn stream(rt: &impl Abort, alloc: Global) -> Vec<u8> {
+    let long = vec![in alloc; b'x'; 4_104].expect(rt, "memory");
     joined(
+        rt,
         alloc,
         &[
             b"xyz\n1BC",
@@ -42,12 +43,12 @@ fn stream(alloc: Global) -> Result<Vec<u8>, Fail> {
 }
 
 // The session over these bytes, handed to a line's state in pieces of a size.
-fn taken(alloc: Global, input: &[u8], size: usize, port: &mut MemPort) -> Result<Came, Fail>
+fn taken(rt: &impl Abort, alloc: Global, input: &[u8], size: usize, port: &mut MemPort) -> Came
     requires { 0 < size }
 {
-    let mut hall = ram_hall(alloc, SETUP)?;
+    let mut hall = ram_hall(alloc, SETUP).expect(rt, "a hall");
     let end = fed(alloc, &mut hall, port, input, size);
-    Ok((end, recorded_of(hall)))
+    (end, recorded_of(hall))
 }
 
 // How a line ends that is fed these bytes in pieces of a size.
@@ -64,47 +65,47 @@ fn fed(alloc: Global, hall: &mut RamHall, port: &mut MemPort, input: &[u8], size
 }
 
 #[test]
-fn pieces_of_any_size_have_the_same_replies(rt: HostRuntime) -> Result<(), Fail> {
+fn pieces_of_any_size_have_the_same_replies(rt: HostRuntime) {
     let alloc = rt.alloc();
-    let input = stream(alloc)?;
+    let input = stream(&rt, alloc);
     let replies = [ALARM_REPLY, BEAT_REPLY, BEAT_REPLY, DUH, ALARM_REPLY];
-    let output = joined(alloc, &replies)?;
-    for size in [1, 2, 3, 7, 4_095, 4_096, 4_097, 1_000_000] {
-        compare_pieces(&rt, alloc, &input, size, &output)?;
-        compare_reads(&rt, alloc, &input, size, &output)?;
-    }
-    Ok(())
+    let output = joined(&rt, alloc, &replies);
+    compare_sizes(&rt, alloc, &input, &output);
 }
 
-fn compare_pieces(
-    rt: &impl Abort,
-    alloc: Global,
-    input: &[u8],
-    size: usize,
-    output: &[u8],
-) -> Result<(), Fail>
+fn compare_sizes(rt: &impl Abort, alloc: Global, input: &[u8], output: &[u8]) {
+    for size in [1, 2, 3, 7, 4_095, 4_096, 4_097, 1_000_000] {
+        compare_pieces(rt, alloc, input, size, output);
+        compare_reads(rt, alloc, input, size, output);
+    }
+}
+
+fn compare_pieces(rt: &impl Abort, alloc: Global, input: &[u8], size: usize, output: &[u8])
     requires { 0 < size }
 {
-    let mut port = port_of(alloc, b"")?;
-    let came = taken(alloc, input, size, &mut port);
-    assert_eq!(rt; port.sink.bytes(), output, "pieces of {size}");
+    let mut port = port_of(alloc, b"").expect(rt, "memory");
+    let came = taken(rt, alloc, input, size, &mut port);
+    same(rt, port.sink.bytes(), output, "in pieces");
+    same(
+        rt,
+        (size, came),
+        (size, (LineEnd::InputEnded, 5)),
+        "in pieces",
+    );
     drop(port);
-    assert_eq!(rt; came?, (LineEnd::InputEnded, 5), "pieces of {size}");
-    Ok(())
 }
 
 // The session with a panel that sends so many bytes at a time.
-fn compare_reads(
-    rt: &impl Abort,
-    alloc: Global,
-    input: &[u8],
-    size: usize,
-    output: &[u8],
-) -> Result<(), Fail> {
-    let mut panel = Panel::new(input.to_vec(alloc)?, size, Vec::new(alloc));
-    let came = session(alloc, SETUP, &mut panel);
-    assert_eq!(rt; panel.written.as_slice(), output, "reads of {size}");
+fn compare_reads(rt: &impl Abort, alloc: Global, input: &[u8], size: usize, output: &[u8]) {
+    let sent = input.to_vec(alloc).expect(rt, "memory");
+    let mut panel = Panel::new(sent, size, Vec::new(alloc));
+    let came = session(rt, alloc, SETUP, &mut panel);
+    same(rt, panel.written.as_slice(), output, "in reads");
+    same(
+        rt,
+        (size, came),
+        (size, (LineEnd::InputEnded, 5)),
+        "in reads",
+    );
     drop(panel);
-    assert_eq!(rt; came?, (LineEnd::InputEnded, 5), "reads of {size}");
-    Ok(())
 }

@@ -1,9 +1,9 @@
 // What each frame is answered. Checks and lengths are worked out by another program.
 use super::{framed, row_of, session};
+use crate::same::same;
 use line_session::LineEnd;
 use std::alloc::Global;
 use std::process::Abort;
-use std::test::Fail;
 use test_stations::ports::port_of;
 
 // A row is an account, how many entries are recorded at the end, the frames that a panel sends, without their line feeds and
@@ -24,26 +24,24 @@ const ROWS: &str =
 77777A;3;52960028"SIA-DCS"0002L0#77777A[#77777A|Nri1/ZQ7];6EA30014"ACK"0002L0#77777A[]"##;
 
 // Compares what is written and recorded after a row's frames with what it wants.
-fn compare(rt: &impl Abort, alloc: Global, row: &str) -> Result<(), Fail> {
-    let Some((account, rest)) = row.split_once(';') else {
-        return Ok(());
-    };
-    let (count, frames, replies) = row_of(rest).ok_or("a whole row")?;
-    let setup = format!(in alloc; "account {account}\n")?;
-    let input = framed(alloc, frames)?;
-    let output = framed(alloc, replies)?;
-    let mut port = port_of(alloc, &input)?;
-    let came = session(alloc, setup.as_bytes(), &mut port);
-    assert_eq!(rt; port.sink.bytes(), output.as_slice(), "{row}");
+fn compare(rt: &impl Abort, alloc: Global, account: &str, row: &str) {
+    let (count, frames, replies) = row_of(row).expect(rt, "a whole row");
+    let count = count.parse().expect(rt, "a count");
+    let setup = format!(in alloc; "account {account}\n").expect(rt, "memory");
+    let input = framed(rt, alloc, frames);
+    let output = framed(rt, alloc, replies);
+    let mut port = port_of(alloc, &input).expect(rt, "memory");
+    let came = session(rt, alloc, setup.as_bytes(), &mut port);
+    same(rt, port.sink.bytes(), output.as_slice(), row);
+    same(rt, came, (LineEnd::InputEnded, count), row);
     drop(port);
-    assert_eq!(rt; came?, (LineEnd::InputEnded, count.parse()?), "{row}");
-    Ok(())
 }
 
 #[test]
-fn frames_have_their_replies(rt: HostRuntime) -> Result<(), Fail> {
+fn frames_have_their_replies(rt: HostRuntime) {
     for row in ROWS.lines() {
-        compare(&rt, rt.alloc(), row)?;
+        if let Some((account, rest)) = row.split_once(';') {
+            compare(&rt, rt.alloc(), account, rest);
+        }
     }
-    Ok(())
 }

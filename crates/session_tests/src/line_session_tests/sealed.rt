@@ -2,11 +2,11 @@
 // `|1131 01 001]` and a stamp behind 15 letters, of a heartbeat's `|]` and a stamp behind ten letters, and of replies
 // `BCDEFGHIJK|]_01:47:20,09-09-2001` for the first noise and `AAAAAAAAAA|]_01:47:20,09-09-2001` behind it.
 use super::{framed, row_of, session};
+use crate::same::same;
 use arc_io::{ListClock, ListNoise};
 use line_session::LineEnd;
 use std::alloc::Global;
 use std::process::Abort;
-use std::test::Fail;
 use test_stations::ports::port_of;
 
 const SETUP: &[u8] =
@@ -40,28 +40,35 @@ const ROWS: &str = r##"# 40 seconds old, 41 seconds old, 20 seconds early, 21 se
 3;02F10076"*ADM-CID"0001L0#1234[3F1E0DF5E62BED2CA66E4FBCF2EB27F85D7B6E322BCFA631E3AA1E16523E72D95C1DC3EFC9821A5300A888A4FB84AACB~3B540027"ADM-CID"0001L0#1234[#1234|1131 01 777]~B55C0076"*ADM-CID"0001L0#1234[3F1E0DF5E62BED2CA66E4FBCF2EB27F85D7B6E322BCFA631E3AA1E16523E72D935A7353558B2B6E337C508DF5B4F5749~9F140076"*ADM-CID"0001L0#1234[3F1E0DF5E62BED2CA66E4FBCF2EB27F85D7B6E322BCFA631E3AA1E16523E72D907CDE0C9F6D9F1ACE38B381CE942409B;32D10025"NAK"0000R0L0A0[]_01:47:20,09-09-2001~251F0012"DUH"0001L0#1234[]~08A00052"*ACK"0001L0#1234[B562217097A7F8026ED9AB69BB395CEE09BE9CDE8206CDFF797980109FBEDEAB~297E0052"*ACK"0001L0#1234[0F691D7A300E9BDDF73FB56CCB2F8B8E215F5C5A4D4FEC49430E218B4ED8530D"##;
 
 // Compares what is written and recorded after a row's frames with what it wants.
-fn compare(rt: &impl Abort, alloc: Global, row: &str) -> Result<(), Fail> {
-    let Some((count, frames, replies)) = row_of(row) else {
-        return Ok(());
-    };
-    let input = framed(alloc, frames)?;
-    let output = framed(alloc, replies)?;
-    let clock = [NOW].to_vec(alloc)?;
-    let noise = [[1, 2, 3, 4, 5, 6, 7, 8, 9, 10]].to_vec(alloc)?;
-    let mut port = port_of(alloc, &input)?;
-    port.clock = ListClock::new(clock);
-    port.noise = ListNoise::new(noise);
-    let came = session(alloc, SETUP, &mut port);
-    assert_eq!(rt; port.sink.bytes(), output.as_slice(), "{row}");
+fn compare(rt: &impl Abort, alloc: Global, row: (&str, &str, &str)) {
+    let (count, frames, replies) = row;
+    let count = count.parse().expect(rt, "a count");
+    let input = framed(rt, alloc, frames);
+    let output = framed(rt, alloc, replies);
+    let mut port = port_of(alloc, &input).expect(rt, "memory");
+    port.clock = clock(rt, alloc);
+    port.noise = noise(rt, alloc);
+    let came = session(rt, alloc, SETUP, &mut port);
+    same(rt, port.sink.bytes(), output.as_slice(), frames);
+    same(rt, came, (LineEnd::InputEnded, count), frames);
     drop(port);
-    assert_eq!(rt; came?, (LineEnd::InputEnded, count.parse()?), "{row}");
-    Ok(())
+}
+
+fn clock(rt: &impl Abort, alloc: Global) -> ListClock {
+    let moments = [NOW].to_vec(alloc).expect(rt, "memory");
+    ListClock::new(moments)
+}
+
+fn noise(rt: &impl Abort, alloc: Global) -> ListNoise {
+    let noise = [[1, 2, 3, 4, 5, 6, 7, 8, 9, 10]].to_vec(alloc);
+    ListNoise::new(noise.expect(rt, "memory"))
 }
 
 #[test]
-fn sealed_frames_have_their_replies(rt: HostRuntime) -> Result<(), Fail> {
+fn sealed_frames_have_their_replies(rt: HostRuntime) {
     for row in ROWS.lines() {
-        compare(&rt, rt.alloc(), row)?;
+        if let Some(parts) = row_of(row) {
+            compare(&rt, rt.alloc(), parts);
+        }
     }
-    Ok(())
 }

@@ -1,4 +1,0 @@
-use Rattle.arc_text.proofs.tests.pairs.pairs_of_numbers.Given as goal
-
-abbrev pub ghosts-play_order : goal.ghosts-play_order
-ghosts-play_order g a = record { name = a.blank.name; parts = a.blank.parts }

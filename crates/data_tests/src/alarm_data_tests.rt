@@ -1,0 +1,46 @@
+// The signals of a content under each token.
+use crate::checks::{holds, is_named, same, same_bytes};
+use alarm_data::signals;
+use arc_data::Token;
+use std::process::Abort;
+
+#[test]
+fn reads_contents(rt: HostRuntime) {
+    reads(&rt, Token::AdmCid, "1131 01 001", 1, "burglary new", "131");
+    reads(
+        &rt,
+        Token::AdmCid,
+        "3401 0a 00F][V1",
+        1,
+        "openclose closing",
+        "401",
+    );
+    reads(
+        &rt,
+        Token::SiaDcs,
+        "Nri1/FA129/BR2][S123Main St.",
+        2,
+        "fire new",
+        "FA",
+    );
+    holds(
+        &rt,
+        signals(Token::AdmCid, b"Nri1/FA129").is_none(),
+        "other data",
+    );
+    holds(
+        &rt,
+        signals(Token::SiaDcs, b"1131 01 001").is_none(),
+        "other data",
+    );
+}
+
+// The content has so many signals, the first with this class and kind and with this code.
+fn reads(rt: &impl Abort, token: Token, content: &str, count: u64, words: &str, code: &str) {
+    let signals = signals(token, content.as_bytes()).expect(rt, "signals");
+    same(rt, signals.count() as u64, count, content);
+    assert!(rt; signals.count() > 0);
+    let first = signals.at(0);
+    holds(rt, is_named(words, first.class, first.kind), content);
+    same_bytes(rt, first.code.bytes(), code.as_bytes(), content);
+}

@@ -1,0 +1,155 @@
+// What no clause says: that memory for a table is found, the worked life of three incidents, and many incidents.
+use crate::made::text;
+use crate::same::{holds, same};
+use incidents::{Class, Incident, Outcome, Step, StepList, Table, Txt};
+use std::alloc::Global;
+use std::process::Abort;
+
+fn note() -> StepList {
+    let mut steps = StepList::new();
+    let _ = steps.push(Step::Note);
+    steps
+}
+
+// Opens an incident, where none of its account and class is open. The answer is its number, or 0.
+fn open(rt: &impl Abort, table: &mut Table, account: &[u8], class: Class, at: u64) -> u64 {
+    let account = text(rt, account);
+    table.reserve(1).expect(rt, "memory");
+    if table.opened() > 99 || table.find(&account, class).is_some() {
+        return 0;
+    }
+    table.raise(account, class, text(rt, b"130"), at, note())
+}
+
+fn attach(table: &mut Table, number: u64) {
+    if let Some(incident) = table.get(number) {
+        if incident.signals < 9 {
+            table.attach(number);
+        }
+    }
+}
+
+fn act(table: &mut Table, number: u64, at: u64, operator: Txt) {
+    if let Some(incident) = table.get(number) {
+        if incident.acts.count() < 10 {
+            table.act(number, Step::Note, Outcome::Done, at, operator);
+        }
+    }
+}
+
+fn close(table: &mut Table, number: u64) -> Option<Incident> {
+    if table.get(number).is_none() {
+        return None;
+    }
+    Some(table.remove(number))
+}
+
+fn three_incidents(rt: &impl Abort, alloc: Global) -> Table {
+    let mut table = Table::new(alloc);
+    open(rt, &mut table, b"1234", Class::Burglary, 100);
+    open(rt, &mut table, b"1234", Class::Fire, 200);
+    open(rt, &mut table, b"ABC", Class::Burglary, 300);
+    same(rt, table.count(), 3, "open");
+    same(rt, table.opened(), 3, "opened");
+    table
+}
+
+fn compare_found(rt: &impl Abort, table: &Table, account: &str, class: Class, want: Option<u64>) {
+    let number = table.find(&text(rt, account.as_bytes()), class);
+    same(rt, number, want, account);
+}
+
+#[test]
+fn one_of_an_account_and_a_class(rt: HostRuntime) {
+    let mut table = three_incidents(&rt, rt.alloc());
+    compare_found(&rt, &table, "1234", Class::Burglary, Some(1));
+    compare_found(&rt, &table, "1234", Class::Fire, Some(2));
+    compare_found(&rt, &table, "ABC", Class::Burglary, Some(3));
+    compare_found(&rt, &table, "ABC", Class::Fire, None);
+    compare_found(&rt, &table, "123", Class::Fire, None);
+    close_and_open(&rt, &mut table);
+}
+
+// The second is closed once, and then another one of its account and class opens.
+fn close_and_open(rt: &impl Abort, table: &mut Table) {
+    let number = open(rt, table, b"1234", Class::Fire, 400);
+    same(rt, number, 0, "one is open");
+    let closed = close(table, 2).expect(rt, "open until now");
+    let told = (closed.number, closed.at, closed.signals);
+    same(rt, told, (2, 200, 1), "closed");
+    holds(rt, close(table, 2).is_none(), "closed once");
+    compare_found(rt, table, "1234", Class::Fire, None);
+    let number = open(rt, table, b"1234", Class::Fire, 400);
+    same(rt, number, 4, "opened again");
+    compare_found(rt, table, "1234", Class::Fire, Some(4));
+}
+
+// How many signals an open incident has, whether it is restored, and when it was touched.
+fn compare_marks(rt: &impl Abort, table: &Table, number: u64, want: (u64, bool, u64), what: &str) {
+    let incident = table.get(number).expect(rt, "open");
+    let marks = (incident.signals, incident.restored, incident.touched);
+    same(rt, marks, want, what);
+}
+
+fn compare_holder(rt: &impl Abort, table: &Table, number: u64, want: Option<Txt>) {
+    let incident = table.get(number).expect(rt, "open");
+    same(rt, incident.holder, want, "who holds it");
+    let counts = (incident.acts.count(), incident.steps.count());
+    same(rt, counts, (1, 1), "acts and steps");
+}
+
+#[test]
+fn the_life_of_an_incident(rt: HostRuntime) {
+    let mut table = three_incidents(&rt, rt.alloc());
+    let ann = text(&rt, b"ann");
+    table.mark_restored(1);
+    attach(&mut table, 3);
+    table.mark_restored(3);
+    table.hold(3, Some(ann), 500);
+    act(&mut table, 3, 600, ann);
+    compare_marks(&rt, &table, 1, (1, true, 0), "the first");
+    compare_marks(&rt, &table, 3, (2, true, 600), "the third");
+    compare_holder(&rt, &table, 3, Some(ann));
+    attach(&mut table, 3);
+    table.release_all();
+    compare_marks(&rt, &table, 3, (3, false, 0), "the third at last");
+    compare_holder(&rt, &table, 3, None);
+}
+
+// Two incidents of each of twenty accounts.
+fn open_one(rt: &impl Abort, table: &mut Table, k: u8) {
+    let class = if k % 2 == 0 { Class::Gas } else { Class::Panic };
+    open(rt, table, &[b'A' + k / 2], class, u64::from(k));
+}
+
+fn open_forty(rt: &impl Abort, table: &mut Table) {
+    for k in 0..40u8 {
+        open_one(rt, table, k);
+    }
+    same(rt, table.count(), 40, "open");
+}
+
+fn close_every_third(rt: &impl Abort, table: &mut Table) {
+    for third in 0..13u64 {
+        let closed = close(table, 3 * third + 1);
+        holds(rt, closed.is_some(), "open until now");
+    }
+    same(rt, table.count(), 27, "open still");
+    same(rt, table.opened(), 40, "opened");
+}
+
+fn compare_open(rt: &impl Abort, table: &Table) {
+    for number in 0..42u64 {
+        let is_open = number == 40 || number % 3 != 1 && number > 0 && number < 40;
+        let told = (number, table.get(number).is_some());
+        same(rt, told, (number, is_open), "whether open");
+    }
+}
+
+#[test]
+fn many_incidents_and_gaps(rt: HostRuntime) {
+    let mut table = Table::new(rt.alloc());
+    open_forty(&rt, &mut table);
+    close_every_third(&rt, &mut table);
+    compare_open(&rt, &table);
+}
