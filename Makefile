@@ -1,24 +1,39 @@
-# What a user runs. It needs the kit's rt on PATH, make, bash, grep, sed and coreutils; test also needs awk, openssl, perl and script.
+# What a user runs. It needs the kit's rt on PATH, make, bash, grep, sed and coreutils; test also what tools/test-tools names.
 PREFIX = /usr/local
 PROGRAM = crates/arc_server/out/arc_server
-UNITS = arc.service arc-lines.service arc-watch.service arc-watch.timer
+UNITS = arc.service arc-lines.service arc-watch.service arc-watch.timer arc-restart.service arc-restart.timer \
+	arc-backup.service arc-backup.timer
+PAGES = man1/arc.1 man5/arc-setup.5 man7/arc-desk.7
+VERSION = $(shell cat VERSION)
 ROOT = $(DESTDIR)$(PREFIX)
 
-.PHONY: build demo test install install-files uninstall clean
+.PHONY: try build demo test test-tools install install-files uninstall clean
 
 # proves and builds the program, a line for each crate, and says where it stands; what was proved before is proved again only
 # where it has changed
 build:
 	@tools/build
 
+# builds the program without any proof, in about a minute, and shows what a receiver does: one alarm frame in, its acknowledgement out,
+# and a burglary alarm that an operator works. The program that is installed is the one that build proves
+try:
+	@tools/quick out/unproved
+	@tools/demo out/unproved
+	@example/day out/unproved alarm
+	@echo 'try: NOTHING of this program was proved. make demo proves all of it, and shows the same and more'
+
 # one alarm frame in, its acknowledgement out; and the first minute of the example station's day
 demo: build
 	@tools/demo $(PROGRAM)
 	@example/day $(PROGRAM) minute
 
-# proves and tests everything from nothing, and checks the built program
+# proves and tests everything from nothing, and checks the built program; what this machine lacks for that is named, and not installed
 test:
 	@.ci/run
+
+# installs what the check of the built program uses and this machine lacks, by apt-get, and says before what that is
+test-tools:
+	@tools/test-tools install
 
 # puts the program as PREFIX/bin/arc, its manual pages and units, the user of the units, and the tools of the guide
 install: build install-files
@@ -26,12 +41,15 @@ install: build install-files
 # the same with the program that PROGRAM names, as it was built before
 install-files:
 	install -D -m 755 '$(PROGRAM)' '$(ROOT)/bin/arc'
-	install -D -m 644 -t '$(ROOT)/share/man/man1' station/arc.1
-	install -D -m 644 -t '$(ROOT)/share/man/man5' station/arc-setup.5
-	install -D -m 644 -t '$(ROOT)/share/man/man7' station/arc-desk.7
+	for page in $(PAGES); do \
+		install -d '$(ROOT)/share/man/'"$${page%/*}" && \
+		sed 's|@VERSION@|$(VERSION)|g' "station/$${page#*/}" >'$(ROOT)/share/man/'"$$page" && \
+		chmod 644 '$(ROOT)/share/man/'"$$page" || exit 1; \
+	done
 	install -D -m 644 -t '$(ROOT)/share/arc' tools/panel
-	install -D -m 755 -t '$(ROOT)/share/arc' tools/visible station/watch
-	install -D -m 644 -t '$(ROOT)/share/doc/arc' README.md docs/OPERATING.md example/setup.txt
+	install -D -m 755 -t '$(ROOT)/share/arc' tools/visible station/watch station/check-setup station/backup
+	install -D -m 644 -t '$(ROOT)/share/doc/arc' README.md docs/OPERATING.md docs/DESK.md docs/PANELS.md \
+		example/setup.txt VERSION
 	install -D -m 644 station/arc.sysusers '$(ROOT)/lib/sysusers.d/arc.conf'
 	install -d '$(ROOT)/lib/systemd/system'
 	for unit in $(UNITS); do \
@@ -41,7 +59,7 @@ install-files:
 
 # takes away what install has put; the station's folder and its user stay
 uninstall:
-	rm -f '$(ROOT)/bin/arc' '$(ROOT)/share/man/man1/arc.1' '$(ROOT)/share/man/man5/arc-setup.5' '$(ROOT)/share/man/man7/arc-desk.7'
+	rm -f '$(ROOT)/bin/arc' $(PAGES:%='$(ROOT)/share/man/%')
 	rm -f '$(ROOT)/lib/sysusers.d/arc.conf' $(UNITS:%='$(ROOT)/lib/systemd/system/%')
 	rm -rf '$(ROOT)/share/arc' '$(ROOT)/share/doc/arc'
 
