@@ -27,7 +27,8 @@ demo: build
 	@tools/demo $(PROGRAM)
 	@example/day $(PROGRAM) minute
 
-# proves and tests everything from nothing, and checks the built program; what this machine lacks for that is named, and not installed
+# the gate: proves and tests everything, but for what an earlier run on this machine passed, and checks the built program; what this
+# machine lacks for that is named, and not installed
 test:
 	@.ci/run
 
