@@ -14,7 +14,7 @@ ROOT = $(DESTDIR)$(PREFIX)
 build:
 	@tools/build
 
-# builds the program without any proof, in about a minute, and shows what a receiver does: one alarm frame in, its acknowledgement out,
+# builds the program without any proof, in a minute or two, and shows what a receiver does: one alarm frame in, its acknowledgement out,
 # and a burglary alarm that an operator works. The program that is installed is the one that build proves
 try:
 	@tools/quick out/unproved
