@@ -1,9 +1,10 @@
 # What a user runs. It needs the kit's rt on PATH, make, bash, grep, sed and coreutils; test also what tools/test-tools names.
 PREFIX = /usr/local
 PROGRAM = crates/arc_server/out/arc_server
+SCREEN = crates/arc_screen/out/arc_screen
 UNITS = arc.service arc-lines.service arc-watch.service arc-watch.timer arc-restart.service arc-restart.timer \
 	arc-backup.service arc-backup.timer
-PAGES = man1/arc.1 man5/arc-setup.5 man7/arc-desk.7
+PAGES = man1/arc.1 man1/arc-screen.1 man5/arc-setup.5 man7/arc-desk.7
 VERSION = $(shell cat VERSION)
 ROOT = $(DESTDIR)$(PREFIX)
 
@@ -13,6 +14,7 @@ ROOT = $(DESTDIR)$(PREFIX)
 # where it has changed
 build:
 	@tools/build
+	@tools/build arc_screen
 
 # builds the program without any proof, in a minute or two, and shows what a receiver does: one alarm frame in, its acknowledgement out,
 # and a burglary alarm that an operator works. The program that is installed is the one that build proves
@@ -42,14 +44,16 @@ install: build install-files
 # the same with the program that PROGRAM names, as it was built before
 install-files:
 	install -D -m 755 '$(PROGRAM)' '$(ROOT)/bin/arc'
+	install -D -m 755 -t '$(ROOT)/bin' station/arc-screen
+	[ ! -x '$(SCREEN)' ] || install -D -m 755 '$(SCREEN)' '$(ROOT)/bin/arc_screen'
 	for page in $(PAGES); do \
 		install -d '$(ROOT)/share/man/'"$${page%/*}" && \
 		sed 's|@VERSION@|$(VERSION)|g' "station/$${page#*/}" >'$(ROOT)/share/man/'"$$page" && \
 		chmod 644 '$(ROOT)/share/man/'"$$page" || exit 1; \
 	done
 	install -D -m 644 -t '$(ROOT)/share/arc' tools/panel
-	install -D -m 755 -t '$(ROOT)/share/arc' tools/visible station/watch station/check-setup station/backup
-	install -D -m 644 -t '$(ROOT)/share/doc/arc' README.md docs/OPERATING.md docs/DESK.md docs/PANELS.md \
+	install -D -m 755 -t '$(ROOT)/share/arc' tools/visible station/watch station/check-setup station/backup station/make-sites
+	install -D -m 644 -t '$(ROOT)/share/doc/arc' README.md docs/OPERATING.md docs/DESK.md docs/SCREEN.md docs/PANELS.md \
 		example/setup.txt VERSION
 	install -D -m 644 station/arc.sysusers '$(ROOT)/lib/sysusers.d/arc.conf'
 	install -d '$(ROOT)/lib/systemd/system'
@@ -60,7 +64,7 @@ install-files:
 
 # takes away what install has put; the station's folder and its user stay
 uninstall:
-	rm -f '$(ROOT)/bin/arc' $(PAGES:%='$(ROOT)/share/man/%')
+	rm -f '$(ROOT)/bin/arc' '$(ROOT)/bin/arc-screen' '$(ROOT)/bin/arc_screen' $(PAGES:%='$(ROOT)/share/man/%')
 	rm -f '$(ROOT)/lib/sysusers.d/arc.conf' $(UNITS:%='$(ROOT)/lib/systemd/system/%')
 	rm -rf '$(ROOT)/share/arc' '$(ROOT)/share/doc/arc'
 

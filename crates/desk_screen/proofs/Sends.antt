@@ -1,0 +1,68 @@
+-- What is sent, and why.
+use Rattle.std.proofs.Common.{◌≡◌, ◌⊎◌, ℕ, List, Bool, true, false, ◌&&◌, cond, Option, Some, None, refl, inl, inr}
+use Rattle.std.specs.Prelude.{is_none}
+use Rattle.std.specs.Option.{option_or}
+use Rattle.desk_wire.specs.declared.command.Command.{Command}
+use Rattle.desk_screen.specs.Inputs.{Input, is_break}
+use Rattle.desk_screen.specs.Orders.{due_order, polled, wish_asked, typed_of}
+use Rattle.desk_screen.specs.Asking.{may_ask}
+use Rattle.desk_screen.specs.declared.order.Order.{Order}
+use Rattle.desk_screen.specs.declared.order.Order.TheVariants.{Typed}
+
+-- something is sent over a connection alone
+pub due_connected : (connected : Bool) (way : Option Order) (wish : Option Command) (user : Option (List ℕ)) (number : Option ℕ) (list : Bool) (o : Order)
+    → due_order connected way wish user number list ≡ Some o → connected ≡ true
+due_connected false way wish user number list o is = absurd cc
+due_connected true way wish user number list o is = refl
+
+-- and where nothing is on the way
+pub due_alone : (connected : Bool) (way : Option Order) (wish : Option Command) (user : Option (List ℕ)) (number : Option ℕ) (list : Bool) (o : Order)
+    → due_order connected way wish user number list ≡ Some o → way ≡ None
+due_alone false way wish user number list o is = absurd cc
+due_alone true (Some p) wish user number list o is = absurd cc
+due_alone true None wish user number list o is = refl
+
+polled_is : (number : Option ℕ) (list : Bool) (c : Command) → polled number list ≡ Some (Typed c) → ⊥
+polled_is (Some number) list c is = cc
+polled_is None true c is = cc
+polled_is None false c is = cc
+
+-- a command of the operator's is what he wished
+pub due_typed : (connected : Bool) (way : Option Order) (wish : Option Command) (user : Option (List ℕ)) (number : Option ℕ) (list : Bool) (c : Command)
+    → due_order connected way wish user number list ≡ Some (Typed c) → wish ≡ Some c
+due_typed false way wish user number list c is = absurd cc
+due_typed true (Some p) wish user number list c is = absurd cc
+due_typed true None (Some d) user number list c is = cc
+due_typed true None None None number list c is = absurd cc
+due_typed true None None (Some name) number list c is = absurd (polled_is number list c is)
+
+or_is : (asked before : Option Command) (c : Command) → option_or asked before ≡ Some c → (asked ≡ Some c) ⊎ ((asked ≡ None) × (before ≡ Some c))
+or_is (Some a) before c is = inl is
+or_is None before c is = inr (refl, is)
+
+wished_by : (broken : Bool) (asked before : Option Command) (c : Command) → cond broken None (option_or asked before) ≡ Some c
+    → (asked ≡ Some c) ⊎ ((asked ≡ None) × (before ≡ Some c))
+wished_by true asked before c is = absurd cc
+wished_by false asked before c is = or_is asked before c is
+
+-- what he wished is what a key asks for now, or asked for before
+pub wished : (i : Input) (asked before : Option Command) (c : Command) → wish_asked i asked before ≡ Some c
+    → (asked ≡ Some c) ⊎ ((asked ≡ None) × (before ≡ Some c))
+wished i asked before c is = wished_by (is_break i) asked before c is
+
+-- nothing, where the test says so
+pub none_is : {A : Type 0} (o : Option A) → is_none o ≡ true → o ≡ None
+none_is None is = refl
+none_is (Some a) is = absurd cc
+
+three : (a b d : Bool) → (a && (b && d)) ≡ true → (b ≡ true) × (d ≡ true)
+three true true true is = (refl, refl)
+three true true false is = absurd cc
+three true false d is = absurd cc
+three false b d is = absurd cc
+
+-- a key may ask where no command of the operator's is on the way or waits
+pub free_is : (connected : Bool) (way : Option Order) (wish : Option Command) → may_ask connected way wish ≡ true → (typed_of way ≡ None) × (wish ≡ None)
+free_is connected way wish may =
+    let h = three connected (is_none (typed_of way)) (is_none wish) may in
+    (none_is (typed_of way) h.0, none_is wish h.1)

@@ -1,0 +1,11 @@
+pub mod Asking
+pub mod Bell
+pub mod Inputs
+pub mod Orders
+pub mod Owning
+pub mod Plain
+pub mod Proper
+pub mod Stands
+pub mod Steps
+pub mod Typing
+pub mod Watching

@@ -1,0 +1,61 @@
+-- What a screen knows of its sitting, and one turn of it.
+use Rattle.std.specs.Prelude.{◌≡◌, Option, None, if◌then◌else◌}
+use Rattle.desk_wire.specs.declared.command.Command.{Command}
+use Rattle.desk_screen.specs.Asking.{may_ask, key_asks}
+use Rattle.desk_screen.specs.Bell.{quiet, muted}
+use Rattle.desk_screen.specs.Inputs.{Input, Key, Answer, Second, Made, Lost, Turn, Sitting, news}
+use Rattle.desk_screen.specs.Orders.{way, wish, is_connected, user, undone, list_owed, show_owed}
+use Rattle.desk_screen.specs.Owning.{own, own_after, untold_number}
+use Rattle.desk_screen.specs.Plain.{answered, answered_after}
+use Rattle.desk_screen.specs.Proper.{IsProper}
+use Rattle.desk_screen.specs.Steps.{IsSession, IsTyped, IsWatch}
+use Rattle.desk_screen.specs.Typing.{last_key, name, typed}
+use Rattle.desk_screen.specs.Watching.{clock, queue, silence, total}
+use Rattle.desk_screen.specs.declared.reaction.Reaction.{Reaction}
+use Rattle.desk_screen.specs.declared.screen.Screen.{Screen}
+
+-- what came, and what the screen did
+abbrev pub turn : Input → Reaction → Turn
+turn i r = record { input = i; asked = r.asked; sent = r.sent; rung = r.rung }
+
+-- the command that an input asks for
+abbrev pub asked_at : Input → Screen → Option Command
+asked_at (Key key) old =
+    if may_ask old.session.connected old.session.way old.session.wish
+    then key_asks old.session.user old.own old.keyboard.last old.keyboard.typed old.keyboard.name key
+    else None
+asked_at (Answer line) old = None
+asked_at Second old = None
+asked_at Made old = None
+asked_at Lost old = None
+
+-- one turn of a screen
+pub record IsTurn (i : Input) (r : Reaction) (old new : Screen) : Type 0 where
+  pub asked : r.asked ≡ asked_at i old
+  pub session : IsSession i (news i old.session.way) r (untold_number new.own) old.session new.session
+  pub own : new.own ≡ own_after i (news i old.session.way) old.session.user old.own
+  pub watch : IsWatch i (news i old.session.way) r old.session.user old.watch new.watch
+  pub typed : IsTyped i old.session.user old.keyboard new.keyboard
+  pub answered : new.answered ≡ answered_after i old.session.way old.answered
+
+-- The screen shows what is so of the sitting, and each turn of the sitting was as it has to be.
+pub record StandsFor (screen : Screen) (s : Sitting) : Type 0 where
+  pub proper : IsProper s
+  pub connected : screen.session.connected ≡ is_connected s
+  pub user : screen.session.user ≡ user s
+  pub way : screen.session.way ≡ way s
+  pub wish : screen.session.wish ≡ wish s
+  pub undone : screen.session.undone ≡ undone s
+  pub show : screen.session.show_owed ≡ show_owed s
+  pub list : screen.session.list_owed ≡ list_owed s
+  pub silence : screen.session.silence ≡ silence s
+  pub own : screen.own ≡ own s
+  pub queue : screen.watch.queue ≡ queue s
+  pub total : screen.watch.total ≡ total s
+  pub clock : screen.watch.clock ≡ clock s
+  pub quiet : screen.watch.quiet ≡ quiet s
+  pub muted : screen.watch.muted ≡ muted s
+  pub last : screen.keyboard.last ≡ last_key s
+  pub typed : screen.keyboard.typed ≡ typed s
+  pub name : screen.keyboard.name ≡ name s
+  pub answered : screen.answered ≡ answered s

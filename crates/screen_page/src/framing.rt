@@ -1,0 +1,42 @@
+// What a terminal is sent for a row.
+ghost use Rattle.std.specs.Prelude.{◌≡◌, ◌≤◌, ◌++◌, ◌∷◌, length, take, codes};
+ghost use Rattle.screen_page.specs.Frames.{frame_of, tone_codes};
+
+use crate::line::Line;
+use crate::strip::Strip;
+use crate::tone::Tone;
+
+fn tone_codes(tone: Tone) -> &'static [u8]
+    ensures text { result.now ≡ tone_codes tone }
+    ensures short { length result.now ≤ 7 }
+{
+    match tone {
+        Tone::Plainly => b"0",
+        Tone::Heading => b"1",
+        Tone::Grave => b"1;37;41",
+        Tone::Urgent => b"1;30;43",
+        Tone::Lesser => b"36",
+        Tone::Mine => b"1;32",
+        Tone::Faint => b"2",
+    }
+}
+
+/// The bytes that draw a row at its place, from 1 on, cut to so many columns: control sequences of its place and its colour, and else
+/// the printable bytes of the strip alone.
+pub fn frame(row: u16, tone: Tone, strip: &Strip, columns: usize) -> Line
+    ensures { result ≡ frame_of row tone (take columns strip.now) }
+{
+    let text = strip.bytes();
+    let text = &text[..columns.min(text.len())];
+    let mut line = Line::new();
+    line.put(b"\x1b[");
+    line.put_number(u64::from(row));
+    line.put(b";1H");
+    line.put(b"\x1b[");
+    line.put(tone_codes(tone));
+    line.put(b"m");
+    line.put(text);
+    line.put(b"\x1b[0m");
+    line.put(b"\x1b[K");
+    line
+}

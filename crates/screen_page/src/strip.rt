@@ -1,0 +1,126 @@
+// The text of a row.
+ghost use Rattle.std.specs.Prelude.{◌≡◌, ◌<◌, ◌≤◌, ◌++◌, ◌∷◌, [], true, length, take, decimal};
+ghost use Rattle.desk_screen.specs.Plain.{is_plain, plain_byte};
+ghost use Rattle.screen_page.specs.Texts.{are_plain, with_age, with_text};
+
+use crate::tone::Tone;
+use itoa::Buffer;
+use std::marker::Model;
+
+/// The text of a row, of at most 160 bytes, each of them printable. Contracts see the list of its bytes.
+#[derive(Drop)]
+pub struct Strip {
+    bytes: [u8; 160],
+    len: usize,
+}
+
+impl Model for Strip {
+    ghost use Rattle.std.specs.Prelude.{ℕ, ◌≤◌, ◌≡◌, List, take, true};
+    ghost use Rattle.screen_page.specs.Texts.{are_plain};
+
+    ghost Value = { List ℕ };
+
+    ghost view = { λ s. take s.len s.bytes };
+
+    ghost invariant = { λ s. (s.len ≤ 160) × (are_plain (take s.len s.bytes) ≡ true) };
+}
+
+// A byte as it is shown.
+fn plain_byte(byte: u8) -> u8
+    ensures shown { result ≡ plain_byte byte }
+    ensures plain { is_plain result ≡ true }
+{
+    if (32..=126).contains(&byte) {
+        byte
+    } else {
+        b'?'
+    }
+}
+
+impl Strip {
+    /// No text.
+    pub fn new() -> Strip
+        ensures { result ≡ [] }
+    {
+        Strip {
+            bytes: [b' '; 160],
+            len: 0,
+        }
+    }
+
+    /// Its bytes, which are printable, whatever was put.
+    pub fn bytes(&self) -> &[u8]
+        ensures value { result.now ≡ self.now }
+        ensures short { length result.now ≤ 160 }
+        ensures plain { are_plain result.now ≡ true }
+    {
+        &self.bytes[..self.len]
+    }
+
+    // Puts a printable byte, where there is room.
+    fn push(&mut self, byte: u8)
+        requires room { length self.old < 160 }
+        requires plain { is_plain byte ≡ true }
+        ensures { self.new ≡ self.old ++ byte ∷ [] }
+    {
+        self.bytes[self.len] = byte;
+        self.len += 1;
+    }
+
+    /// Puts a text behind the one that stands there, with a question mark for each byte that a terminal would not print. What is more
+    /// than 160 bytes is left out.
+    #[tactic(auto, unfolding(crate::specs::Texts::with_text))]
+    pub fn put(&mut self, text: &[u8])
+        ensures { self.new ≡ with_text self.old text.now }
+    {
+        let front = front_of(text, 160 - self.bytes().len());
+        for byte in front {
+            self.push(plain_byte(*byte));
+        }
+    }
+
+    /// Puts a number in decimal.
+    pub fn put_number(&mut self, number: u64)
+        ensures { self.new ≡ with_text self.old (decimal number) }
+    {
+        let mut buffer = Buffer::new();
+        self.put(buffer.format(number).as_bytes());
+    }
+
+    /// Puts seconds in words: up to a minute, up to an hour, and more.
+    #[tactic(auto, unfolding(crate::specs::Texts::with_age))]
+    pub fn put_age(&mut self, seconds: u64)
+        ensures { self.new ≡ with_age self.old seconds }
+    {
+        if seconds < 60 {
+            self.put_number(seconds);
+            self.put(b" s");
+        } else if seconds < 3600 {
+            self.put_number(seconds / 60);
+            self.put(b" min");
+        } else {
+            self.put_number(seconds / 3600);
+            self.put(b" h");
+        }
+    }
+
+    /// Puts spaces up to a column, where it lies ahead.
+    pub fn put_to(&mut self, column: usize) {
+        let len = self.bytes().len();
+        self.put(&SPACES[..column.saturating_sub(len).min(160)]);
+    }
+}
+
+const SPACES: [u8; 160] = [b' '; 160];
+
+// At most so many bytes of a text.
+fn front_of(text: &[u8], most: usize) -> &[u8]
+    ensures front { result.now ≡ take most text.now }
+    ensures short { length result.now ≤ most }
+{
+    if text.len() > most {
+        &text[..most]
+    } else {
+        text
+    }
+}

@@ -1,0 +1,161 @@
+// Sittings at a screen: what is sent to the desk, key by key and answer by answer, as the desk's guide has it.
+use desk_screen::{Command, Order, Poll, Reaction, Screen};
+use std::process::Abort;
+
+fn name_of(command: &Command) -> &'static str {
+    match command {
+        Command::Login { .. } => "login",
+        Command::Quit => "quit",
+        Command::Next => "next",
+        Command::Claim { .. } => "claim",
+        Command::Act { .. } => "act",
+        Command::Release { .. } => "release",
+        Command::Close { .. } => "close",
+        Command::Show { .. } => "show",
+        Command::List => "list",
+    }
+}
+
+fn sent(reaction: &Reaction) -> &'static str {
+    match &reaction.sent {
+        Some(Order::Typed(command)) => name_of(command),
+        Some(Order::Polled(Poll::Whole)) => "(list)",
+        Some(Order::Polled(Poll::One { .. })) => "(show)",
+        None => "-",
+    }
+}
+
+fn key(rt: &impl Abort, screen: &mut Screen, byte: u8, wanted: &str) {
+    let reaction = screen.key(byte);
+    assert!(rt; sent(&reaction) == wanted, "key {byte}");
+}
+
+fn answer(rt: &impl Abort, screen: &mut Screen, line: &str, wanted: &str) {
+    let reaction = screen.answer(line.as_bytes());
+    assert!(rt; sent(&reaction) == wanted, "{line}");
+}
+
+fn rings(rt: &impl Abort, screen: &mut Screen, line: &str, wanted: bool) {
+    let reaction = screen.answer(line.as_bytes());
+    assert!(rt; reaction.rung == wanted, "{line}");
+}
+
+fn second(rt: &impl Abort, screen: &mut Screen, wanted: &str) {
+    let reaction = screen.second();
+    assert!(rt; sent(&reaction) == wanted, "a second");
+}
+
+// A screen at which ann is logged in, and nothing is on the way.
+fn at_work(rt: &impl Abort) -> Screen {
+    let mut screen = Screen::new();
+    let _ = screen.made();
+    for byte in b"ann\r123".iter() {
+        key(rt, &mut screen, *byte, "-");
+    }
+    key(rt, &mut screen, b'4', "-");
+    key(rt, &mut screen, b'\r', "login");
+    answer(rt, &mut screen, "ok ann", "(list)");
+    answer(rt, &mut screen, "list 0", "-");
+    screen
+}
+
+#[test]
+fn an_incident_from_its_ring_to_its_closing(rt: HostRuntime) {
+    let mut screen = at_work(&rt);
+    second(&rt, &mut screen, "(list)");
+    rings(&rt, &mut screen, "list 1 1/burglary/1234/-", true);
+    key(&rt, &mut screen, b'n', "next");
+    answer(&rt, &mut screen, "claimed 1 burglary 1234", "(show)");
+    answer(
+        &rt,
+        &mut screen,
+        "incident 1 burglary 1234 code 131 opened 1000000000 signals 1 restored no holder ann next premises",
+        "(list)",
+    );
+    answer(&rt, &mut screen, "list 1 1/burglary/1234/ann", "-");
+    key(&rt, &mut screen, b'd', "-");
+    key(&rt, &mut screen, b'a', "act");
+    key(&rt, &mut screen, b'a', "-");
+    answer(&rt, &mut screen, "recorded 1 left 3", "(show)");
+    answer(
+        &rt,
+        &mut screen,
+        "incident 1 burglary 1234 code 131 opened 1000000000 signals 1 restored no holder ann next holder1",
+        "(list)",
+    );
+    // the list is on the way: the act waits for its answer
+    key(&rt, &mut screen, b'r', "-");
+    answer(&rt, &mut screen, "list 1 1/burglary/1234/ann", "act");
+    answer(&rt, &mut screen, "recorded 1 left 1", "(show)");
+    answer(
+        &rt,
+        &mut screen,
+        "incident 1 burglary 1234 code 131 opened 1000000000 signals 1 restored no holder ann next police",
+        "(list)",
+    );
+    answer(&rt, &mut screen, "list 1 1/burglary/1234/ann", "-");
+    key(&rt, &mut screen, b'd', "act");
+    answer(&rt, &mut screen, "recorded 1 left 0", "(show)");
+    answer(
+        &rt,
+        &mut screen,
+        "incident 1 burglary 1234 code 131 opened 1000000000 signals 1 restored no holder ann next none",
+        "(list)",
+    );
+    answer(&rt, &mut screen, "list 1 1/burglary/1234/ann", "-");
+    key(&rt, &mut screen, b'y', "-");
+    key(&rt, &mut screen, b'R', "-");
+    key(&rt, &mut screen, b'n', "next");
+    answer(&rt, &mut screen, "busy with 1", "(show)");
+    answer(
+        &rt,
+        &mut screen,
+        "incident 1 burglary 1234 code 131 opened 1000000000 signals 1 restored no holder ann next none",
+        "(list)",
+    );
+    answer(&rt, &mut screen, "list 1 1/burglary/1234/ann", "-");
+    key(&rt, &mut screen, b'R', "-");
+    key(&rt, &mut screen, b'y', "close");
+    answer(&rt, &mut screen, "closed 1", "(list)");
+    answer(&rt, &mut screen, "list 0", "-");
+}
+
+#[test]
+fn a_lost_connection(rt: HostRuntime) {
+    let mut screen = at_work(&rt);
+    key(&rt, &mut screen, b'n', "next");
+    assert!(rt; sent(&screen.lost()) == "-", "lost");
+    second(&rt, &mut screen, "-");
+    key(&rt, &mut screen, b'n', "-");
+    assert!(rt; sent(&screen.made()) == "-", "made");
+    second(&rt, &mut screen, "-");
+    answer(&rt, &mut screen, "claimed 1 burglary 1234", "-");
+    second(&rt, &mut screen, "-");
+}
+
+#[test]
+fn the_bell(rt: HostRuntime) {
+    let mut screen = at_work(&rt);
+    second(&rt, &mut screen, "(list)");
+    rings(&rt, &mut screen, "list 1 1/tamper/1234/-", false);
+    second(&rt, &mut screen, "(list)");
+    rings(
+        &rt,
+        &mut screen,
+        "list 2 2/gas/1234/- 1/tamper/1234/-",
+        true,
+    );
+    for _ in 0..19u8 {
+        let reaction = screen.second();
+        assert!(rt; !reaction.rung, "within 20 seconds");
+    }
+    let reaction = screen.second();
+    assert!(rt; reaction.rung, "after 20 seconds");
+    let _ = screen.key(b'm');
+    for _ in 0..60u8 {
+        let reaction = screen.second();
+        assert!(rt; !reaction.rung, "silenced");
+    }
+    let reaction = screen.second();
+    assert!(rt; reaction.rung, "after a minute");
+}
