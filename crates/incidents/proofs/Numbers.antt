@@ -7,7 +7,7 @@ use Rattle.std.proofs.lemmas.Bool.Decides.{nat_tests}
 use Rattle.std.proofs.lemmas.List.Sorted.{IsPartitionedBy-ltb}
 use Rattle.std.proofs.lemmas.List.Sums.{position_or_len_is}
 use Rattle.arc_data.specs.declared.incident.Incident.{Incident}
-use Rattle.arc_data.specs.Incidents.{has_number, Ascends}
+use Rattle.arc_data.specs.Incidents.{has_number, Ascends, Each}
 use Rattle.incidents.specs.Tables.{IsCut, is_below}
 
 -- Numbers told apart.
@@ -68,6 +68,11 @@ ascends_remove low (i ∷ is) high (suc place) a lt = (a.0, ascends_remove i.num
 pub ascends_more : (i : Incident) (low : ℕ) (is : List Incident) (high : ℕ) → i.number ≡ high + 1 → Ascends low is high → Ascends low (is ++ i ∷ []) (high + 1)
 ascends_more i low [] high e a = (omega (arith, e, a), omega (arith, e))
 ascends_more i low (j ∷ is) high e a = (a.0, ascends_more i j.number is high e a.1)
+
+-- a number above all that stand there, and at most the greatest one allowed
+pub ascends_put : (i : Incident) (low : ℕ) (is : List Incident) (high : ℕ) → low < i.number → Each (λ j. j.number < i.number) is → i.number ≤ high → Ascends low is high → Ascends low (is ++ i ∷ []) high
+ascends_put i low [] high lt above le a = (lt, le)
+ascends_put i low (j ∷ is) high lt above le a = (a.0, ascends_put i j.number is high above.0 above.1 le a.1)
 
 -- The place that a search finds.
 

@@ -14,7 +14,7 @@ use Rattle.arc_data.specs.declared.incident.Incident.{Incident}
 use Rattle.arc_data.specs.declared.signal.Class.{Class}
 use Rattle.arc_data.specs.Incidents.{has_number, is_of, Ascends, Each}
 use Rattle.incidents.specs.Tables.{TableValue, IsCut, IsTable, IsSingle, at_number, without, held}
-use Rattle.incidents.proofs.Numbers.{above_apart, ascends_set, ascends_remove, ascends_more, cut_past, cut_here, cut_apart}
+use Rattle.incidents.proofs.Numbers.{above_apart, ascends_set, ascends_remove, ascends_more, ascends_put, cut_past, cut_here, cut_apart}
 
 -- the first incident of the number is x, at this place
 pub record IsAt (n : ℕ) (is : List Incident) (place : ℕ) (x : Incident) : Type 0 where
@@ -197,6 +197,14 @@ changed_table n opened room memory is place x y t w a = record {
 pub more_table : (opened room memory : ℕ) (is : List Incident) (i : Incident) → IsTable opened is room memory → i.number ≡ opened + 1 → find (is_of i.account i.class) is ≡ None → length is < room → IsTable (opened + 1) (is ++ i ∷ []) room memory
 more_table opened room memory is i t e none lt = record {
   ascends = ascends_more i 0 is opened e t.ascends;
+  single = single_more is i t.single (none_found (is_of i.account i.class) is none);
+  within = omega (arith, lt, length-append is (i ∷ []));
+  kept = t.kept;
+}
+
+pub put_table : (opened room memory : ℕ) (is : List Incident) (i : Incident) → IsTable opened is room memory → 0 < i.number → Each (λ j. j.number < i.number) is → i.number ≤ opened → find (is_of i.account i.class) is ≡ None → length is < room → IsTable opened (is ++ i ∷ []) room memory
+put_table opened room memory is i t positive above le none lt = record {
+  ascends = ascends_put i 0 is opened positive above le t.ascends;
   single = single_more is i t.single (none_found (is_of i.account i.class) is none);
   within = omega (arith, lt, length-append is (i ∷ []));
   kept = t.kept;

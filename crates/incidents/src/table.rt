@@ -4,7 +4,7 @@ ghost use Rattle.std.specs.Prelude.{is_some, if◌then◌else◌};
 ghost use Rattle.std.specs.List.{find, position};
 ghost use Rattle.std.specs.List.Sorted.{IsPartitionedBy};
 ghost use Rattle.std.specs.Option.{option_map};
-ghost use Rattle.arc_data.specs.Incidents.{has_number, is_of, Ascends};
+ghost use Rattle.arc_data.specs.Incidents.{has_number, is_of, Ascends, Each};
 ghost use Rattle.incidents.specs.Tables.{IsCut, IsSingle, Rise, is_below, at_number, without, attached, restored, held, acted, raised, number_of};
 
 use crate::index::Index;
@@ -54,6 +54,19 @@ impl Table {
     {
         Table {
             opened: 0,
+            room: 0,
+            items: Vec::new(alloc),
+            index: Index::new(alloc),
+        }
+    }
+
+    /// None is open, and so many were opened and closed already. Takes no memory.
+    pub fn opened_at(alloc: Global, opened: u64) -> Table
+        requires { opened ≤ 2 ^ 62 }
+        ensures { result ≡ record { opened = opened; incidents = []; room = 0 } }
+    {
+        Table {
+            opened,
             room: 0,
             items: Vec::new(alloc),
             index: Index::new(alloc),
@@ -153,6 +166,20 @@ impl Table {
             acts: Acts::new(),
         });
         self.opened
+    }
+
+    /// Puts an incident last that was opened before, with all that it has. Takes no memory.
+    pub fn put(&mut self, incident: Incident)
+        requires room { length self.old.incidents < self.old.room }
+        requires positive { 0 < incident.number }
+        requires above { Each (λ i. i.number < incident.number) self.old.incidents }
+        requires opened { incident.number ≤ self.old.opened }
+        requires none { find (is_of incident.account incident.class) self.old.incidents ≡ None }
+        ensures { self.new ≡ record self.old { incidents = self.old.incidents ++ incident ∷ [] } }
+    {
+        self.index
+            .put(&incident.account, incident.class, incident.number);
+        self.items.push_reserved(incident);
     }
 
     /// A New or Again signal more of an open incident: it counts as not restored. Where no incident has the number, nothing

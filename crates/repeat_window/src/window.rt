@@ -1,5 +1,5 @@
 // The last 32 messages of an account.
-ghost use Rattle.std.specs.Prelude.{◌≡◌, ◌∷◌, [], take, reverse, IfOk};
+ghost use Rattle.std.specs.Prelude.{◌≡◌, ◌<◌, ◌≤◌, ◌∷◌, [], Some, length, slice_get, take, reverse, IfOk};
 ghost use Rattle.std.specs.List.{find};
 ghost use Rattle.std.specs.Option.{option_map};
 ghost use Rattle.centre_rules.specs.Answers.{repeats, same_message};
@@ -51,6 +51,25 @@ impl Window {
     {
         self.sequences = led_by(seen.message.seq, &self.sequences);
         self.ring.push_back(seen);
+    }
+
+    /// How many messages it keeps: at most 32.
+    pub fn count(&self) -> usize
+        ensures count { result ≡ length self.now }
+        ensures few { result ≤ 32 }
+    {
+        self.ring.len()
+    }
+
+    /// The message at a place below the count, with its moment. The oldest has the place 0.
+    pub fn at(&self, i: usize) -> &Seen
+        requires { i < length self.now }
+        ensures { slice_get (reverse self.now) i ≡ Some result.now }
+    {
+        match self.ring.get(i) {
+            Some(seen) => seen,
+            None => unreachable!(),
+        }
     }
 
     /// The moment of the newest of the last 32 that makes the message, at this moment, a repeat.

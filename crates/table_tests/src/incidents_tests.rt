@@ -1,7 +1,7 @@
 // What no clause says: that memory for a table is found, the worked life of three incidents, and many incidents.
 use crate::made::text;
 use crate::same::{holds, same};
-use incidents::{Class, Incident, Outcome, Step, StepList, Table, Txt};
+use incidents::{Acts, Class, Incident, Outcome, Step, StepList, Table, Txt};
 use std::alloc::Global;
 use std::process::Abort;
 
@@ -152,4 +152,49 @@ fn many_incidents_and_gaps(rt: HostRuntime) {
     open_forty(&rt, &mut table);
     close_every_third(&rt, &mut table);
     compare_open(&rt, &table);
+}
+
+// A held incident with a number that was given before.
+fn held_before(rt: &impl Abort) -> Incident {
+    Incident {
+        number: 7,
+        account: text(rt, b"1234"),
+        class: Class::Gas,
+        code: text(rt, b"151"),
+        at: 100,
+        signals: 5,
+        restored: true,
+        holder: Some(text(rt, b"ann")),
+        touched: 200,
+        steps: note(),
+        acts: Acts::new(),
+    }
+}
+
+// A table of nine incidents that were opened, of which this one is open.
+fn put_back(rt: &impl Abort, alloc: Global, incident: Incident) -> Table {
+    let mut table = Table::opened_at(alloc, 9);
+    same(
+        rt,
+        (table.opened(), table.count()),
+        (9, 0),
+        "opened and closed",
+    );
+    table.reserve(1).expect(rt, "memory");
+    if 0 < incident.number && incident.number <= 9 {
+        table.put(incident);
+    }
+    table
+}
+
+#[test]
+fn an_incident_is_put_back(rt: HostRuntime) {
+    let mut table = put_back(&rt, rt.alloc(), held_before(&rt));
+    same(&rt, (table.opened(), table.count()), (9, 1), "put back");
+    compare_found(&rt, &table, "1234", Class::Gas, Some(7));
+    compare_marks(&rt, &table, 7, (5, true, 200), "as it was");
+    let number = open(&rt, &mut table, b"1234", Class::Gas, 300);
+    same(&rt, number, 0, "one is open");
+    let number = open(&rt, &mut table, b"1234", Class::Fire, 300);
+    same(&rt, number, 10, "the next number");
 }

@@ -79,3 +79,27 @@ fn equal_messages_at_both_ends(rt: HostRuntime) {
     push(&rt, alloc, &mut window, 63, 1003);
     compare(&rt, alloc, &window, 1, 1100, None, "32 behind it");
 }
+
+// How many messages it keeps, and the sequences of its oldest and its newest; 0 where it keeps none.
+fn compare_kept(rt: &impl Abort, window: &Window, want: (usize, u16, u16), what: &str) {
+    let count = window.count();
+    let ends = if count == 0 {
+        (0, 0)
+    } else {
+        (window.at(0).message.seq, window.at(count - 1).message.seq)
+    };
+    same(rt, (count, ends.0, ends.1), want, what);
+}
+
+#[test]
+fn the_oldest_stands_first(rt: HostRuntime) {
+    let alloc = rt.alloc();
+    let mut window = window(&rt, alloc);
+    compare_kept(&rt, &window, (0, 0, 0), "of none");
+    push(&rt, alloc, &mut window, 1, 1000);
+    compare_kept(&rt, &window, (1, 1, 1), "of one");
+    push_all(&rt, alloc, &mut window, 2, 32, 1000);
+    compare_kept(&rt, &window, (32, 1, 32), "of 32");
+    push(&rt, alloc, &mut window, 33, 1000);
+    compare_kept(&rt, &window, (32, 2, 33), "of 33");
+}

@@ -1,0 +1,15 @@
+-- The number is above all others, and no incident of the account and class is open.
+use Rattle.std.proofs.Common.{◌≡◌, ◌<◌, ◌≤◌, length, None}
+use Rattle.std.specs.List.{find}
+use Rattle.arc_data.specs.Incidents.{is_of, Each}
+use Rattle.incidents.proofs.Kept.{put_kept}
+use Rattle.incidents.proofs.table.Table.put.Goals as goal
+
+pub invariant_of-self : goal.invariant_of-self
+invariant_of-self c =
+    let items = c.self.inside.items.items in
+    let room : length items < c.self.inside.room = rw (← c.self.view_is) at c.requires.room in
+    let above : Each (λ i. i.number < c.args.incident.number) items = rw (← c.self.view_is) at c.requires.above in
+    let le : c.args.incident.number ≤ c.self.inside.opened = rw (← c.self.view_is) at c.requires.opened in
+    let none : find (is_of c.args.incident.account c.args.incident.class) items ≡ None = rw (← c.self.view_is) at c.requires.none in
+    rw (c.push_reserved.ensures.items, c.push_reserved.ensures.capacity) (put_kept c.self.inside.opened c.self.inside.room _ c.self.inside.index _ items c.args.incident c.self.invariant c.requires.positive above le none room c.put.ensures.tells c.put.ensures.spare)
