@@ -1,0 +1,4 @@
+pub mod Combining
+pub mod RowReading
+pub mod IncidentReading
+pub mod Whole

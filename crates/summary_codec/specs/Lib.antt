@@ -1,0 +1,3 @@
+pub use Rattle.summary_rules.specs.Conditions
+pub mod Reading
+pub mod OneSpelling

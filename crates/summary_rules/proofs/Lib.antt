@@ -1,0 +1,16 @@
+pub mod Everies
+pub mod Pairs
+pub mod Ascending
+pub mod SetupMeaning
+pub mod PlanSteps
+pub mod SignalCodes
+pub mod Fine
+pub mod Keeping
+pub mod Moments
+pub mod Messages
+pub mod OpenIncidents
+pub mod Counts
+pub mod Acting
+pub mod Formed
+pub mod Spelled
+pub mod Written

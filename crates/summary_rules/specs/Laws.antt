@@ -1,0 +1,100 @@
+-- What stays so of the summaries of histories.
+use Rattle.std.specs.Prelude.{◌≡◌, ◌≤◌, ◌<◌, ◌*◌, ◌+◌, ◌^◌, ℕ, List, length, Option, Some, None, IsOk}
+use Rattle.arc_data.specs.Moments.{IsMoment}
+use Rattle.arc_data.specs.Incidents.{Ascends}
+use Rattle.arc_data.specs.declared.incident.Incident.{Incident}
+use Rattle.alarm_rules.specs.Setups.{setup_of}
+use Rattle.centre_rules.specs.Summary.{Summary, nothing}
+use Rattle.centre_rules.specs.History.{Entry}
+use Rattle.centre_rules.specs.Answers.{IsLegal}
+use Rattle.centre_rules.specs.Sums.{summary_of}
+use Rattle.summary_rules.specs.Lists.{Every, EveryTwo}
+use Rattle.summary_rules.specs.Fields.{Given, HasFields}
+use Rattle.summary_rules.specs.Spelling.{summary_text}
+use Rattle.summary_rules.specs.Conditions.{IsRowBefore, AreMomentsBy, AreMessages, IsApart, IsHeldApart, AreActsOf, IsSummary, IsSpelling}
+
+-- over a summary whose rows ascend by account, those of the summary of a history do
+abbrev pub RowsAscend : Type 0
+RowsAscend = (s : Summary) (h : List Entry) → EveryTwo IsRowBefore s.rows → EveryTwo IsRowBefore (summary_of s h).rows
+
+-- over one that names no moment later than its last one, the summary of a legal history names none
+abbrev pub MomentsStay : Type 0
+MomentsStay = (s : Summary) (h : List Entry) → AreMomentsBy s → IsLegal s h → AreMomentsBy (summary_of s h)
+
+-- likewise the messages of each row have signals, and their moments don't fall
+abbrev pub MessagesStay : Type 0
+MessagesStay = (s : Summary) (h : List Entry) → AreMomentsBy s → Every (λ r. AreMessages r.messages) s.rows → IsLegal s h
+    → Every (λ r. AreMessages r.messages) (summary_of s h).rows
+
+-- likewise the text in force is a setup
+abbrev pub SetupsStay : Type 0
+SetupsStay = (s : Summary) (h : List Entry) → Given (λ text. IsOk (setup_of text)) s.text → IsLegal s h
+    → Given (λ text. IsOk (setup_of text)) (summary_of s h).text
+
+-- Incidents.
+
+-- where nobody holds an incident, the moment since which it was not touched is 0
+abbrev pub IsUnheld : Option (List ℕ) → ℕ → Type 0
+IsUnheld None touched = touched ≡ 0
+IsUnheld (Some operator) touched = Unit {0}
+
+abbrev pub IsUntouched : Incident → Type 0
+IsUntouched i = IsUnheld i.holder i.touched
+
+abbrev pub HasSignal : Incident → Type 0
+HasSignal i = 1 ≤ i.signals
+
+-- no two are of one account and class, no operator holds two, those that nobody holds were not touched, and each has a signal
+pub record AreIncidents (is : List Incident) : Type 0 where
+  pub single : EveryTwo IsApart is
+  pub holders : EveryTwo IsHeldApart is
+  pub untouched : Every IsUntouched is
+  pub counted : Every HasSignal is
+
+-- over such open incidents, whose numbers ascend, it is so of those of a legal history
+abbrev pub IncidentsStay : Type 0
+IncidentsStay = (s : Summary) (h : List Entry) → Ascends 0 s.incidents s.opened → AreIncidents s.incidents → IsLegal s h
+    → AreIncidents (summary_of s h).incidents
+
+-- Counts.
+
+-- so many were opened at most, and no incident has more signals
+pub record AreWithin (most count : ℕ) (is : List Incident) : Type 0 where
+  pub all : count ≤ most
+  pub each : Every (λ i. i.signals ≤ most) is
+
+-- where no count is greater than 4,000 times the number of recorded entries, it is so of the summary of each history
+abbrev pub CountsStay : Type 0
+CountsStay = (s : Summary) (h : List Entry) → AreWithin (4000 * s.recorded) s.opened s.incidents
+    → AreWithin (4000 * (summary_of s h).recorded) (summary_of s h).opened (summary_of s h).incidents
+
+-- Acts.
+
+abbrev pub HasActs : Incident → Type 0
+HasActs i = AreActsOf i.steps i.acts
+
+-- over incidents whose numbers ascend and whose acts are each of one of their steps, no two of one step, it is so of those of a legal
+-- history
+abbrev pub ActsStay : Type 0
+ActsStay = (s : Summary) (h : List Entry) → Ascends 0 s.incidents s.opened → Every HasActs s.incidents → IsLegal s h
+    → Every HasActs (summary_of s h).incidents
+
+-- The whole.
+
+-- what has to hold of the summary of a history, and of a generation, beside what its entries bring: moments lie before the year
+-- 10000, at most 2^48 entries are recorded, the generation is one that may come, and four bytes hold the counts of rows and incidents
+pub record MaySpell (generation : ℕ) (t : Summary) : Type 0 where
+  pub last : IsMoment t.last
+  pub recorded : t.recorded ≤ 2 ^ 48
+  pub first : 1 ≤ generation
+  pub followed : generation ≤ t.recorded + 1
+  pub few_rows : length t.rows < 2 ^ 32
+  pub few_incidents : length t.incidents < 2 ^ 32
+
+-- over one that has a spelling, the summary of a legal history has one, and so has the empty one, over which the first history is
+abbrev pub SummariesAreSpelled : Type 0
+SummariesAreSpelled = (generation other : ℕ) (s : Summary) (h : List Entry) → HasFields generation s → IsSummary generation s → IsLegal s h
+    → MaySpell other (summary_of s h) → IsSpelling other (summary_of s h) (summary_text other (summary_of s h))
+
+abbrev pub NothingIsSpelled : Type 0
+NothingIsSpelled = IsSpelling 1 nothing (summary_text 1 nothing)
