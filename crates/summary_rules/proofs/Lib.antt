@@ -14,3 +14,4 @@ pub mod Acting
 pub mod Formed
 pub mod Spelled
 pub mod Written
+pub mod Composing

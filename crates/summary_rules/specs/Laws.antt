@@ -1,5 +1,5 @@
 -- What stays so of the summaries of histories.
-use Rattle.std.specs.Prelude.{◌≡◌, ◌≤◌, ◌<◌, ◌*◌, ◌+◌, ◌^◌, ℕ, List, length, Option, Some, None, IsOk}
+use Rattle.std.specs.Prelude.{◌≡◌, ◌≤◌, ◌<◌, ◌*◌, ◌++◌, ◌+◌, ◌^◌, ℕ, List, length, Option, Some, None, IsOk}
 use Rattle.arc_data.specs.Moments.{IsMoment}
 use Rattle.arc_data.specs.Incidents.{Ascends}
 use Rattle.arc_data.specs.declared.incident.Incident.{Incident}
@@ -98,3 +98,7 @@ SummariesAreSpelled = (generation other : ℕ) (s : Summary) (h : List Entry) �
 
 abbrev pub NothingIsSpelled : Type 0
 NothingIsSpelled = IsSpelling 1 nothing (summary_text 1 nothing)
+
+-- the summary of a history over the summary of a legal one is that of the first and then the other
+abbrev pub SummariesCompose : Type 0
+SummariesCompose = (s : Summary) (h k : List Entry) → IsLegal s h → summary_of (summary_of s h) k ≡ summary_of s (k ++ h)

@@ -1,5 +1,5 @@
 // What stays so of the summaries of histories.
-ghost use Rattle.summary_rules.specs.Laws.{RowsAscend, MomentsStay, MessagesStay, SetupsStay, IncidentsStay, CountsStay, ActsStay, SummariesAreSpelled, NothingIsSpelled};
+ghost use Rattle.summary_rules.specs.Laws.{RowsAscend, MomentsStay, MessagesStay, SetupsStay, IncidentsStay, CountsStay, ActsStay, SummariesAreSpelled, NothingIsSpelled, SummariesCompose};
 
 /// The rows of the summary of a history ascend by account.
 #[tactic(auto, using(crate::proofs::Ascending::rows_ascend))]
@@ -54,4 +54,10 @@ pub fn law_summaries_are_spelled()
 #[tactic(auto, using(crate::proofs::Spelled::nothing_spelled))]
 pub fn law_nothing_is_spelled()
     ensures { NothingIsSpelled }
+{}
+
+/// The summary of a history over the summary of a legal one is the summary of that one and then the other.
+#[tactic(auto, using(crate::proofs::Composing::summaries_compose))]
+pub fn law_summaries_compose()
+    ensures { SummariesCompose }
 {}
