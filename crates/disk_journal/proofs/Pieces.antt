@@ -153,23 +153,17 @@ read_broken (Some s) len at bodies (Open.NotJournal byte) is long used sizes so_
 read_broken (Some s) len at bodies (Open.WrongVersion found) is long used sizes so_far shown = absurd shown
 read_broken (Some s) len at bodies Open.Memory is long used sizes so_far shown = tt
 
--- the front that was read of an area that is long enough
-front_is : (bytes buf : List ℕ) (full : Bool) → 17 < length bytes → length buf ≡ 16 → IsFilled bytes 0 full buf → buf ≡ take 16 bytes
-front_is bytes buf true long sixteen read = read.same refl ∙ ap (λ n. take n bytes) sixteen
-front_is bytes buf false long sixteen read = absurd (omega (arith, read.few refl))
-
 -- the first byte of the front that is not the name's
-pub no_journal : (o : Option Areas) (buf part : List ℕ) (full : Bool) (k : ℕ) → IfSome o (λ s. 17 < length s.a) → IfSome o (λ s. IsFilled s.a 0 full buf) → length buf ≡ 16
-    → part ≡ take 12 buf → (k < length part) × (take k part ≡ take k name) × (get_or part k 0 ≢ get_or name k 0) → IfSome o (λ s. IsNoJournal s.a k)
-no_journal None buf part full k long read sixteen is first = tt
-no_journal (Some s) buf part full k long read sixteen is first =
-    let named : part ≡ take 12 s.a = is ∙ ap (take 12) (front_is s.a buf full long sixteen read) ∙ take-take 12 16 s.a (omega arith) in
-    let below : k < 12 = omega (arith, first.0, ap length named, length-take 12 s.a) in
-    let here : get_or part k 0 ≡ get_or s.a k 0 = ap (λ (l : List ℕ). get_or l k 0) named ∙ get_or-take 12 s.a k 0 below in
+pub no_journal : (bytes buf part : List ℕ) (k : ℕ) → 17 < length bytes → take 16 bytes ≡ buf → part ≡ take 12 buf
+    → (k < length part) × (take k part ≡ take k name) × (get_or part k 0 ≢ get_or name k 0) → IsNoJournal bytes k
+no_journal bytes buf part k long front_of is first =
+    let named : part ≡ take 12 bytes = is ∙ ap (take 12) (sym front_of) ∙ take-take 12 16 bytes (omega arith) in
+    let below : k < 12 = omega (arith, first.0, ap length named, length-take 12 bytes) in
+    let here : get_or part k 0 ≡ get_or bytes k 0 = ap (λ (l : List ℕ). get_or l k 0) named ∙ get_or-take 12 bytes k 0 below in
     record {
       long = long;
       within = below;
-      same = sym (take-take k 12 s.a (omega arith)) ∙ ap (take k) (sym named) ∙ first.1;
+      same = sym (take-take k 12 bytes (omega arith)) ∙ ap (take k) (sym named) ∙ first.1;
       other = λ same. first.2 (here ∙ same);
     }
 
@@ -183,17 +177,15 @@ four_bytes (a ∷ b ∷ c ∷ d ∷ []) is = refl
 four_bytes (a ∷ b ∷ c ∷ d ∷ e ∷ l) is = absurd (omega arith)
 
 -- another version behind the name
-pub other_version : (o : Option Areas) (buf part rest : List ℕ) (full : Bool) → IfSome o (λ s. 17 < length s.a) → IfSome o (λ s. IsFilled s.a 0 full buf) → length buf ≡ 16
+pub other_version : (bytes buf part rest : List ℕ) → 17 < length bytes → take 16 bytes ≡ buf → length buf ≡ 16
     → part ≡ take 12 buf → part ≡ name → rest ≡ drop 12 buf → (rest ≡ version → ⊥)
-    → IfSome o (λ s. IsOfVersion s.a (get_or rest 0 0 ∷ get_or rest 1 0 ∷ get_or rest 2 0 ∷ get_or rest 3 0 ∷ []))
-other_version None buf part rest full long read sixteen front_of named behind other = tt
-other_version (Some s) buf part rest full long read sixteen front_of named behind other =
-    let is = front_is s.a buf full long sixteen read in
-    let found : rest ≡ take 4 (drop 12 s.a) = behind ∙ ap (drop 12) is ∙ drop-take 12 4 s.a in
-    let four : get_or rest 0 0 ∷ get_or rest 1 0 ∷ get_or rest 2 0 ∷ get_or rest 3 0 ∷ [] ≡ rest = four_bytes rest (omega (arith, ap length behind, length-drop 12 buf)) in
+    → IsOfVersion bytes (get_or rest 0 0 ∷ get_or rest 1 0 ∷ get_or rest 2 0 ∷ get_or rest 3 0 ∷ [])
+other_version bytes buf part rest long front_of sixteen is named behind other =
+    let found : rest ≡ take 4 (drop 12 bytes) = behind ∙ ap (drop 12) (sym front_of) ∙ drop-take 12 4 bytes in
+    let four : get_or rest 0 0 ∷ get_or rest 1 0 ∷ get_or rest 2 0 ∷ get_or rest 3 0 ∷ [] ≡ rest = four_bytes rest (omega (arith, sixteen, ap length behind, length-drop 12 buf)) in
     record {
       long = long;
-      named = sym (take-take 12 16 s.a (omega arith)) ∙ ap (take 12) (sym is) ∙ sym front_of ∙ named;
+      named = sym (take-take 12 16 bytes (omega arith)) ∙ ap (take 12) front_of ∙ sym is ∙ named;
       is = four ∙ found;
       other = λ same. other (sym four ∙ same);
     }

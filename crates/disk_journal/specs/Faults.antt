@@ -29,6 +29,14 @@ IsOfContent (Open.WrongVersion found) = Unit {0}
 IsOfContent (Open.Damaged place) = Unit {0}
 IsOfContent Open.Memory = ⊥
 
+-- it speaks of the front of an area alone
+abbrev pub IsOfFront : OpenFault → Type 0
+IsOfFront (Open.DiskFault was is) = ⊥
+IsOfFront (Open.NotJournal byte) = Unit {0}
+IsOfFront (Open.WrongVersion found) = Unit {0}
+IsOfFront (Open.Damaged place) = ⊥
+IsOfFront Open.Memory = ⊥
+
 -- What the bytes of an area answer: one list or one refusal of content, and no other. So each of these comes exactly where
 -- its case holds, as long as the disk and the memory do not fail.
 pub record HasOneAnswer (bytes : List ℕ) : Type 0 where

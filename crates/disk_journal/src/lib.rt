@@ -14,3 +14,4 @@ pub use bodies::Bodies;
 pub use fault::{AppendFault, OpenFault};
 pub use journal::{Journal, Limits, OpenRefused, SHIPPED};
 pub use laws::law_one_answer;
+pub use open::check_front;

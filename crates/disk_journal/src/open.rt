@@ -6,7 +6,7 @@ ghost use Rattle.arc_io.specs.Crashes.{Becomes, IsQuiet, OnlyIn, LeavesOnly, Lea
 ghost use Rattle.arc_io.specs.Causes.{HasCause};
 ghost use Rattle.arc_io.specs.declared.disk.Area.TheVariants.{A};
 ghost use Rattle.disk_journal.specs.Records.{MayHave, HaveSizes, AtRest, Stands, head, size};
-ghost use Rattle.disk_journal.specs.Faults.{IsShown, IsOfContent, HasCounts};
+ghost use Rattle.disk_journal.specs.Faults.{IsShown, IsOfContent, IsOfFront, HasCounts};
 ghost use Rattle.disk_journal.specs.Reading.{Shows, IsGate, IsRecord, IsBrokenAt, GoesOn};
 ghost use Rattle.disk_journal.specs.Journal.{Keeps};
 ghost use Rattle.disk_journal.specs.OtherArea.{SparesB};
@@ -185,6 +185,25 @@ fn first_other(found: &[u8], wanted: &[u8]) -> Option<usize>
     None
 }
 
+/// Finds the name and the version in the sixteen bytes at the front of an area that has more than 17. The fault is NotJournal or
+/// WrongVersion.
+pub fn check_front(front: &[u8; 16]) -> Result<(), OpenFault>
+    ensures head { OnOk result (front.now ≡ head) }
+    ensures front { IfErr result IsOfFront }
+    ensures shown { IfErr result (λ f. (bytes : List ℕ) → 17 < length bytes → take 16 bytes ≡ front.now → IsShown f bytes) }
+{
+    let (found_name, found) = front.split_at(12);
+    if let Some(byte) = first_other(found_name, &NAME) {
+        return Err(OpenFault::NotJournal { byte: byte as u64 });
+    }
+    if first_other(found, &VERSION).is_some() {
+        return Err(OpenFault::WrongVersion {
+            found: [found[0], found[1], found[2], found[3]],
+        });
+    }
+    Ok(())
+}
+
 // Finds the name and the version at the front of an area that is long enough to have them.
 fn check_head<D: Disk>(disk: &mut D, window: &mut Window, before: u64) -> Result<(), OpenFault>
     requires before { before ≤ D.fault_count disk.old }
@@ -199,16 +218,7 @@ fn check_head<D: Disk>(disk: &mut D, window: &mut Window, before: u64) -> Result
 {
     let mut front = [0; 16];
     let _ = window.fill(disk, before, 0, &mut front)?;
-    let (found_name, found) = front.split_at(12);
-    if let Some(byte) = first_other(found_name, &NAME) {
-        return Err(OpenFault::NotJournal { byte: byte as u64 });
-    }
-    if first_other(found, &VERSION).is_some() {
-        return Err(OpenFault::WrongVersion {
-            found: [found[0], found[1], found[2], found[3]],
-        });
-    }
-    Ok(())
+    check_front(&front)
 }
 
 // Syncs the area and takes its length.
