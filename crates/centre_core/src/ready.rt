@@ -1,5 +1,6 @@
 // What has been worked out for an event, before anything changes.
-ghost use Rattle.std.specs.Prelude.{◌≡◌, not};
+ghost use Rattle.std.specs.Prelude.{◌≡◌, ◌≤◌, [], length, not, true};
+ghost use Rattle.centre_rules.specs.Carrying.{carried_by};
 ghost use Rattle.centre_rules.specs.History.{is_recorded, IsMoment};
 
 use crate::centre::Centre;
@@ -53,6 +54,21 @@ impl Ready {
         ensures { result.now ≡ self.now.event }
     {
         &self.event
+    }
+
+    /// The reply of the entry.
+    pub fn reply(&self) -> &Reply
+        ensures { result.now ≡ self.now.reply }
+    {
+        &self.reply
+    }
+
+    /// The signals that the entry carries, where it is recorded.
+    pub fn carried(&self) -> &[Carried]
+        ensures carried { is_recorded self.now.reply ≡ true → result.now ≡ carried_by self.now.of.sum [] self.now.event self.now.at }
+        ensures few { length result.now ≤ 8000 }
+    {
+        &self.carried
     }
 
     /// Gives the answer up. The centre stays as it was.
