@@ -1,5 +1,5 @@
 -- What one more body does to a centre that stands for the past of those before it.
-use Rattle.std.proofs.Common.{◌≡◌, ◌≤◌, ◌<◌, ◌^◌, ℕ, List, [], ◌∷◌, ◌++◌, length, Bool, true, false, Option, Some, None, sym, ap, ◌∙◌, arith}
+use Rattle.std.proofs.Common.{◌≡◌, ◌≤◌, ◌<◌, ◌^◌, ℕ, List, [], ◌∷◌, ◌++◌, length, Bool, true, false, Option, Some, None, sym, ap, ◌∙◌, subst, arith}
 use Rattle.std.specs.Prelude.{◌↔◌, IfSome, IsSome, IsTrue}
 use Rattle.arc_data.specs.declared.event.Event.{Event}
 use Rattle.arc_data.specs.declared.reply.Reply.{Reply}
@@ -11,7 +11,7 @@ use Rattle.event_codec.specs.Spelling.{spelling, HasSpelling}
 use Rattle.centre_store.specs.Bodies.{body_of}
 use Rattle.centre_store.specs.Pasts.{IsPast, IsReplayed}
 use Rattle.centre_store.proofs.PastSteps.{past_more, past_less}
-use Rattle.centre_store.proofs.PastOnce.{same_ends}
+use Rattle.centre_store.proofs.PastOnce.{some_is, same_ends}
 
 pub never_none : {A : Type 0} (o : Option A) → o ≡ None → IsSome o → ⊥
 never_none None is some = absurd (cc)
@@ -28,6 +28,11 @@ found_spelled o event at bytes is found = rw is at found
 pub retold : (event other : Event) (at then : ℕ) (bytes : List ℕ) → other ≡ event → then ≡ at → HasSpelling event at × (bytes ≡ spelling event at)
     → HasSpelling other then × (bytes ≡ spelling other then)
 retold event other at then bytes same same_at spelled = rw (same, same_at) spelled
+
+-- what is said of whatever was found
+pub found_so : {A : Type 0} (P : A → Type 0) (o : Option A) (x : A) → o ≡ Some x → IfSome o P → P x
+found_so P None x is found = absurd (cc)
+found_so P (Some y) x is found = subst P (some_is y x is) found
 
 -- the last body is that of the newest entry
 pub last_body : (front : List (List ℕ)) (body : List ℕ) (e : Entry) (past : List Entry) → IsPast (front ++ body ∷ []) (e ∷ past) → body ≡ body_of e
@@ -56,13 +61,17 @@ is_taken b P Q tells is = tells.0 is
 pub is_refused : (b : Bool) (P Q : Type 0) → (IsTrue b ↔ (P × Q)) → b ≡ false → P × Q → ⊥
 is_refused b P Q tells is both = let yes : b ≡ true = tells.1 both in absurd (cc (sym is ∙ yes))
 
-pub replayed_more : (front : List (List ℕ)) (body : List ℕ) (e : Entry) (old new : State) (r : IsReplayed front old) → old.entries < 2 ^ 48 → e.caller ≡ 0
-    → is_recorded e.reply ≡ true → HasSpelling e.event e.at → body ≡ body_of e → StandsFor nothing new (e ∷ r.past) → IsReplayed (front ++ body ∷ []) new
-replayed_more front body e old new r few caller recorded spelled is stands =
-    let count : old.entries ≡ length r.past = r.stands.entries ∙ omega arith in
-    let short : length r.past < 2 ^ 48 = omega arith in
-    record {
-      past = e ∷ r.past;
-      is_past = past_more front r.past e body r.is_past stands.legal.0 (record { caller = caller; recorded = recorded; spelled = spelled }) short is;
-      stands = stands;
-    }
+-- the entry that was worked out goes on from the past
+pub next_more : (front : List (List ℕ)) (body : List ℕ) (e : Entry) (s : State) (past : List Entry) (clock : ℕ) → IsPast front past → StandsFor nothing s past → s.entries < 2 ^ 48
+    → e.caller ≡ 0 → is_recorded e.reply ≡ true → HasSpelling e.event e.at × (body ≡ body_of e) → e.at ≡ moment_after nothing past clock
+    → e.reply ≡ answer nothing past e.event e.at → IsPast (front ++ body ∷ []) (e ∷ past)
+next_more front body e s past clock p stands few caller recorded spelled moment replied =
+    let count : s.entries ≡ length past = stands.entries ∙ omega arith in
+    let late : last nothing past ≤ e.at = omega (arith, moment) in
+    let short : length past < 2 ^ 48 = omega arith in
+    past_more front past e body p (record { event = spelled.0.well_formed; reply = replied; late = late }) (record { caller = caller; recorded = recorded; spelled = spelled.0 }) short spelled.1
+
+-- and with it the centre is that of one body more
+pub replayed_more : (front : List (List ℕ)) (body : List ℕ) (e : Entry) (old new : State) (r : IsReplayed front old) → IsPast (front ++ body ∷ []) (e ∷ r.past)
+    → StandsFor nothing new (e ∷ r.past) → IsReplayed (front ++ body ∷ []) new
+replayed_more front body e old new r past stands = record { past = e ∷ r.past; is_past = past; stands = stands }

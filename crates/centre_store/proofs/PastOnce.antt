@@ -13,7 +13,7 @@ use Rattle.centre_store.specs.Bodies.{body_of}
 use Rattle.centre_store.specs.Pasts.{IsKept, IsPast, IsBadAt, HasNoNext}
 use Rattle.centre_store.proofs.PastSteps.{past_less, no_entries}
 
-some_is : {A : Type 0} (x y : A) → Some x ≡ Some y → x ≡ y
+pub some_is : {A : Type 0} (x y : A) → Some x ≡ Some y → x ≡ y
 some_is x y e = cc
 
 -- two lists that end in one body each

@@ -8,4 +8,5 @@ mod store;
 mod submit;
 
 pub use laws::law_one_opening;
+pub use open::entry_in;
 pub use store::Store;

@@ -1,14 +1,15 @@
 // How a store is opened: the recorded events are read and taken in again, one after another.
-ghost use Rattle.std.specs.Prelude.{◌≡◌, ◌≤◌, ◌<◌, ◌↔◌, ◌^◌, ◌++◌, [], ◌∷◌, ℕ, List, true, false, IfOk, IfErr, IfSome, IsTrue};
+ghost use Rattle.std.specs.Prelude.{◌≡◌, ◌≤◌, ◌<◌, ◌↔◌, ◌^◌, ◌++◌, [], ◌∷◌, ℕ, List, true, false, IfOk, IfErr, IfSome, IfNone, IsTrue};
 ghost use Rattle.arc_io.specs.Areas.{Areas};
 ghost use Rattle.arc_io.specs.Crashes.{Becomes, IsQuiet, LeavesOnly};
 ghost use Rattle.centre_rules.specs.Summary.{nothing};
 ghost use Rattle.centre_rules.specs.History.{Entry, is_recorded};
-ghost use Rattle.centre_rules.specs.State.{StandsFor};
+ghost use Rattle.centre_rules.specs.State.{StandsFor, entry_of};
 ghost use Rattle.disk_journal.specs.Faults.{IsOfContent, HasCounts};
 ghost use Rattle.disk_journal.specs.OtherArea.{SparesB};
 ghost use Rattle.disk_journal.specs.Reading.{GoesOn};
 ghost use Rattle.disk_journal.specs.Records.{size};
+ghost use Rattle.event_codec.specs.Spelling.{HasSpelling, spelling};
 ghost use Rattle.centre_store.specs.Pasts.{IsPast, HasNoNext, IsReplayed};
 ghost use Rattle.centre_store.specs.Openings.{IsOpened, IsRefused, IsOfBodies, disk_of};
 
@@ -84,28 +85,51 @@ fn replay(alloc: Global, bodies: &Bodies) -> Result<Centre, OpenFault>
     Ok(centre)
 }
 
-// Takes the event of a body in. False where no entry goes on with it: it is no spelling, or its moment is less than the last, or its
-// event is quiet.
+// Takes the event of a body in. False where no entry goes on with it.
 fn take_in(centre: &mut Centre, alloc: Global, body: &[u8]) -> Result<bool, Memory>
     ensures taken { IfOk result (λ taken. taken ≡ true → (front : List (List ℕ)) → IsReplayed front centre.old
         → IsReplayed (front ++ body.now ∷ []) centre.new) }
     ensures broken { IfOk result (λ taken. taken ≡ false → (front : List (List ℕ)) (past : List Entry) → IsPast front past
         → StandsFor nothing centre.old past → HasNoNext front past body.now) }
 {
-    if centre.entries() >= 1 << 48 {
+    let Some(ready) = entry_in(centre, alloc, body)? else {
         return Ok(false);
+    };
+    let _ = centre.apply(ready);
+    Ok(true)
+}
+
+/// Works out the entry that goes on with the next body of a journal, which is to be applied to the centre or discarded. What the centre
+/// keeps stays. None where no entry goes on with it: the body is no spelling, or its moment is less than the last, or its event is quiet,
+/// or there are 2^48 entries. The error is want of memory.
+pub fn entry_in(
+    centre: &mut Centre,
+    alloc: Global,
+    body: &[u8],
+) -> Result<Option<Ready>, Memory>
+    ensures stays { (h : List Entry) → StandsFor nothing centre.old h → StandsFor nothing centre.new h }
+    ensures made { IfOk result (λ found. IfSome found (λ r. r.of ≡ centre.new)) }
+    ensures few { IfOk result (λ found. IfSome found (λ _. centre.new.entries < 2 ^ 48)) }
+    ensures recorded { IfOk result (λ found. IfSome found (λ r. is_recorded r.reply ≡ true)) }
+    ensures spelled { IfOk result (λ found. IfSome found (λ r. HasSpelling r.event r.at × (body.now ≡ spelling r.event r.at))) }
+    ensures next { IfOk result (λ found. IfSome found (λ r. (front : List (List ℕ)) (past : List Entry) → IsPast front past
+        → StandsFor nothing centre.new past → IsPast (front ++ body.now ∷ []) (entry_of 0 r ∷ past))) }
+    ensures broken { IfOk result (λ found. IfNone found ((front : List (List ℕ)) (past : List Entry) → IsPast front past
+        → StandsFor nothing centre.old past → HasNoNext front past body.now)) }
+{
+    if centre.entries() >= 1 << 48 {
+        return Ok(None);
     }
     let (event, at) = match decode(alloc, body)? {
         Some(spelled) => spelled,
-        None => return Ok(false),
+        None => return Ok(None),
     };
     let ready = centre.prepare(alloc, event, at)?;
     if !is_recorded_at(&ready, at) {
         ready.discard();
-        return Ok(false);
+        return Ok(None);
     }
-    let _ = centre.apply(ready);
-    Ok(true)
+    Ok(Some(ready))
 }
 
 // The entry will be recorded, and at just this moment.
