@@ -1,0 +1,119 @@
+// Putting the line of a record.
+ghost use Rattle.std.specs.Prelude.{◌≡◌, ◌+◌, ◌≤◌, ◌++◌, codes, decimal, length};
+ghost use Rattle.arc_data.specs.Moments.{IsMoment};
+ghost use Rattle.arc_data.specs.WellFormed.{IsWellFormed};
+ghost use Rattle.book_lines.specs.Dates.{date_time};
+ghost use Rattle.book_lines.specs.Lines.{line_of, words_of};
+
+use crate::names::{code_name, outcome_name};
+use crate::page::Page;
+use crate::words::{put_about, put_got, put_message, put_order, put_raised};
+use arc_data::{Carried, Event, Reply};
+use civil_time::stamp_of;
+use incidents::Table;
+
+/// Puts the line of the record of this number, made at a moment (seconds since 1970): its event, its reply, the signals that it carries,
+/// and the incidents that were open before it. At most 65,536 bytes stand on the page, and the line has at most 440,000.
+pub fn put_line(
+    page: &mut Page,
+    number: u64,
+    at: u64,
+    event: &Event,
+    reply: &Reply,
+    carried: &[Carried],
+    table: &Table,
+)
+    requires moment { IsMoment at }
+    requires formed { IsWellFormed event.now }
+    requires few { length carried.now ≤ 8000 }
+    requires room { length page.old ≤ 65536 }
+    ensures { page.new ≡ page.old ++ line_of number at (words_of table.now.incidents carried.now event.now reply.now) }
+{
+    page.put_number(number);
+    page.put(b" ");
+    put_date_time(page, at);
+    page.put(b" ");
+    put_words(page, event, reply, carried, table);
+    page.put(b"\n");
+}
+
+// Puts the date and the time of a moment in GMT.
+fn put_date_time(page: &mut Page, at: u64)
+    requires moment { IsMoment at }
+    requires room { length page.old ≤ 66000 }
+    ensures text { page.new ≡ page.old ++ date_time at }
+    ensures size { length page.new ≤ length page.old + 19 }
+{
+    let stamp = stamp_of(at);
+    page.put(&stamp[16..20]);
+    page.put(b"-");
+    page.put(&stamp[10..12]);
+    page.put(b"-");
+    page.put(&stamp[13..15]);
+    page.put(b" ");
+    page.put(&stamp[1..9]);
+}
+
+// Puts what a record was, in words.
+#[tactic(auto, unfolding(crate::specs::Lines::words_of))]
+fn put_words(page: &mut Page, event: &Event, reply: &Reply, carried: &[Carried], table: &Table)
+    requires formed { IsWellFormed event.now }
+    requires few { length carried.now ≤ 8000 }
+    requires room { length page.old ≤ 67000 }
+    ensures text { page.new ≡ page.old ++ words_of table.now.incidents carried.now event.now reply.now }
+    ensures room { length page.new ≤ length page.old + 430000 }
+{
+    match event {
+        Event::Adopt { text } => put_adopt(page, text.count() as u64),
+        Event::Start => page.put(b"start"),
+        Event::Message(message) => put_message(page, message, carried),
+        Event::Beat { account } => {
+            page.put(b"heartbeat ");
+            page.put(account.bytes());
+        }
+        Event::Tick => {
+            page.put(b"tick");
+            put_raised(page, carried);
+        }
+        Event::Claim { operator, number } => {
+            put_order(page, operator, b" claims ", *number);
+            put_about(page, table, *number);
+        }
+        Event::Next { operator } => put_got(page, operator, reply),
+        Event::Act {
+            operator,
+            number,
+            step,
+            outcome,
+        } => {
+            put_order(page, operator, b" acts on ", *number);
+            page.put(b": ");
+            page.put_step(*step);
+            page.put(b" ");
+            page.put(outcome_name(*outcome));
+        }
+        Event::Release { operator, number } => put_order(page, operator, b" releases ", *number),
+        Event::Close {
+            operator,
+            number,
+            code,
+        } => {
+            put_order(page, operator, b" closes ", *number);
+            page.put(b" as ");
+            page.put(code_name(*code));
+            put_about(page, table, *number);
+        }
+        Event::Show { .. } | Event::List => {}
+    }
+}
+
+// Puts that a setup text of so many bytes came into force.
+fn put_adopt(page: &mut Page, bytes: u64)
+    requires { length page.old ≤ 67000 }
+    ensures text { page.new ≡ page.old ++ codes "adopt " ++ decimal bytes ++ codes " bytes" }
+    ensures room { length page.new ≤ length page.old + 32 }
+{
+    page.put(b"adopt ");
+    page.put_number(bytes);
+    page.put(b" bytes");
+}
