@@ -1,0 +1,152 @@
+-- What was read of an area says what the area is.
+use Rattle.std.proofs.Common.{◌≡◌, ◌≢◌, ◌⊎◌, ◌≤◌, ◌<◌, ◌+◌, ◌^◌, ℕ, List, [], ◌∷◌, ◌++◌, length, Option, Some, None, refl, sym, ap, ◌∙◌, subst, inl, inr, arith, append_assoc, length-append}
+use Rattle.std.specs.Prelude.{IfSome}
+use Rattle.std.specs.Io.KnownBytes.{prepend_known}
+use Rattle.arc_io.proofs.KnownMore.{known_taken}
+use Rattle.centre_rules.specs.History.{Entry}
+use Rattle.centre_store.specs.Pasts.{IsPast, IsBadAt, HasNoNext}
+use Rattle.disk_journal.specs.Records.{front as bytes_before, bytes_of, IsWhole, IsDamaged, Stands}
+use Rattle.disk_journal.specs.declared.fault.OpenFault.{OpenFault}
+use Rattle.disk_journal.specs.declared.fault.OpenFault.TheVariants as Open
+use Rattle.disk_journal.proofs.Gates.{front-more, sizes-more, length-front, size-more}
+use Rattle.arc_book.specs.Compiled.{BeginsWith, EndsAt, EndsRefused}
+use Rattle.arc_book.specs.Tapes.{IsReadTo, IsBodyAhead, IsBrokenAhead}
+
+pub some_is : {A : Type 0} (x y : A) → Some x ≡ Some y → x ≡ y
+some_is x y e = cc
+
+pub never : {A : Type 0} (x : A) → Some x ≡ None → ⊥
+never x e = cc
+
+-- what is told of an area of which something was told ahead, and what of one of which nothing was
+pub told : (P : List ℕ → Type 0) (all rest : Option (List ℕ)) (before : List ℕ) → all ≡ prepend_known before rest
+    → ((bytes behind : List ℕ) → all ≡ Some bytes → rest ≡ Some behind → bytes ≡ before ++ behind → P bytes) → IfSome all P
+told P None rest before is so = tt
+told P (Some bytes) None before is so = absurd (never bytes is)
+told P (Some bytes) (Some behind) before is so = so bytes behind refl refl (some_is bytes (before ++ behind) is)
+
+gated : (bodies : List (List ℕ)) (gate : ℕ) (behind bytes : List ℕ) → bytes ≡ (bytes_before bodies ++ gate ∷ []) ++ behind → bytes ≡ bytes_before bodies ++ gate ∷ behind
+gated bodies gate behind bytes is = is ∙ append_assoc (bytes_before bodies) (gate ∷ []) behind
+
+-- behind a closed gate nothing counts
+pub stands_at : (all : Option (List ℕ)) (bodies : List (List ℕ)) (gate place : ℕ) (rest : Option (List ℕ)) → IsReadTo all bodies gate place rest → gate ≢ 1
+    → IfSome all (λ bytes. Stands bytes bodies)
+stands_at all bodies gate place rest r closed =
+    told (λ bytes. Stands bytes bodies) all rest (bytes_before bodies ++ gate ∷ []) r.is
+    (λ bytes behind some some' is. inr (record { gate = gate; behind = behind; closed = closed; sizes = r.sizes; is = gated bodies gate behind bytes is }))
+
+pub begins_at : (all : Option (List ℕ)) (bodies : List (List ℕ)) (gate place : ℕ) (rest : Option (List ℕ)) → IsReadTo all bodies gate place rest
+    → IfSome all (BeginsWith bodies)
+begins_at all bodies gate place rest r =
+    told (BeginsWith bodies) all rest (bytes_before bodies ++ gate ∷ []) r.is
+    (λ bytes behind some some' is. inr (gate ∷ behind, gated bodies gate behind bytes is))
+
+pub spent_at : (all : Option (List ℕ)) (bodies : List (List ℕ)) (gate place : ℕ) (rest : Option (List ℕ)) → IsReadTo all bodies gate place rest → 2 ^ 40 ≤ place
+    → IfSome all (λ bytes. 2 ^ 40 ≤ length bytes)
+spent_at all bodies gate place rest r far =
+    told (λ bytes. 2 ^ 40 ≤ length bytes) all rest (bytes_before bodies ++ gate ∷ []) r.is
+    (λ bytes behind some some' is. omega (arith, far, r.at, ap length (gated bodies gate behind bytes is), length-append (bytes_before bodies) (gate ∷ behind)))
+
+pub both_far : (all : Option (List ℕ)) (bodies : List (List ℕ)) → IfSome all (BeginsWith bodies) → IfSome all (λ bytes. 2 ^ 40 ≤ length bytes)
+    → IfSome all (λ bytes. BeginsWith bodies bytes × (2 ^ 40 ≤ length bytes))
+both_far None bodies p q = tt
+both_far (Some bytes) bodies p q = (p, q)
+
+-- so far that no more is read
+pub spent_end : (all : Option (List ℕ)) (bodies : List (List ℕ)) (gate place : ℕ) (rest : Option (List ℕ)) → IsReadTo all bodies gate place rest → 2 ^ 40 ≤ place
+    → IfSome all (λ bytes. BeginsWith bodies bytes × (2 ^ 40 ≤ length bytes))
+spent_end all bodies gate place rest r far = both_far all bodies (begins_at all bodies gate place rest r) (spent_at all bodies gate place rest r far)
+
+lacks_ahead : (rest : Option (List ℕ)) (behind : List ℕ) → rest ≡ Some behind → IsBrokenAhead rest → IsWhole behind → ⊥
+lacks_ahead None behind is broken whole = absurd (never behind (sym is))
+lacks_ahead (Some x) behind is broken whole = broken (subst IsWhole (sym (some_is x behind is)) whole)
+
+pub long_bytes : (all : Option (List ℕ)) (bytes : List ℕ) → all ≡ Some bytes → IfSome all (λ b. 17 < length b) → 17 < length bytes
+long_bytes None bytes is long = absurd (never bytes (sym is))
+long_bytes (Some x) bytes is long = subst (λ (b : List ℕ). 17 < length b) (some_is x bytes is) long
+
+-- no whole record stands behind an open gate
+pub damaged_at : (all : Option (List ℕ)) (bodies : List (List ℕ)) (gate place : ℕ) (rest : Option (List ℕ)) → IsReadTo all bodies gate place rest → gate ≡ 1
+    → IsBrokenAhead rest → IfSome all (λ bytes. IsDamaged bytes place)
+damaged_at all bodies gate place rest r opened broken =
+    told (λ bytes. IsDamaged bytes place) all rest (bytes_before bodies ++ gate ∷ []) r.is
+    (λ bytes behind some some' is.
+    let lacks = lacks_ahead rest behind some' broken in
+    record {
+      long = long_bytes all bytes some r.long;
+      bodies = bodies;
+      rest = behind;
+      sizes = r.sizes;
+      is = gated bodies gate behind bytes is ∙ ap (λ g. bytes_before bodies ++ g ∷ behind) opened;
+      at = r.at;
+      broken = lacks;
+    })
+
+pub ends_broken : (all : Option (List ℕ)) (bodies : List (List ℕ)) (past : List Entry) (gate place : ℕ) (rest : Option (List ℕ)) → IsReadTo all bodies gate place rest → gate ≡ 1
+    → IsBrokenAhead rest → IfSome all (EndsAt bodies past)
+ends_broken all bodies past gate place rest r opened broken =
+    told (EndsAt bodies past) all rest (bytes_before bodies ++ gate ∷ []) r.is
+    (λ bytes behind some some' is.
+    let lacking = lacks_ahead rest behind some' broken in
+    record {
+      rest = behind;
+      is = gated bodies gate behind bytes is ∙ ap (λ g. bytes_before bodies ++ g ∷ behind) opened;
+      lacks = inl lacking;
+    })
+
+-- the end at an open gate behind which no whole record stands
+pub broken_end : (all : Option (List ℕ)) (bodies : List (List ℕ)) (past : List Entry) (gate place : ℕ) (rest : Option (List ℕ)) → IsReadTo all bodies gate place rest → gate ≡ 1
+    → IsBrokenAhead rest → IfSome all (EndsRefused (Open.Damaged place) bodies past)
+broken_end all bodies past gate place rest r opened broken =
+    refused_both all (damaged_at all bodies gate place rest r opened broken) (ends_broken all bodies past gate place rest r opened broken)
+  where
+    refused_both : (all : Option (List ℕ)) → IfSome all (λ bytes. IsDamaged bytes place) → IfSome all (EndsAt bodies past) → IfSome all (EndsRefused (Open.Damaged place) bodies past)
+    refused_both None p q = tt
+    refused_both (Some bytes) p q = (inl p, q)
+
+-- one record more was read
+pub read_on : (all : Option (List ℕ)) (bodies : List (List ℕ)) (body : List ℕ) (gate place next : ℕ) (before rest : Option (List ℕ)) → IsReadTo all bodies 1 place before
+    → IsBodyAhead before body gate rest → next ≡ place + (5 + length body) → IsReadTo all (bodies ++ body ∷ []) gate next rest
+read_on all bodies body gate place next before rest r ahead step = record {
+  sizes = sizes-more bodies body r.sizes ahead.size;
+  at = omega (arith, step, r.at, length-front bodies, length-front (bodies ++ body ∷ []), size-more bodies body);
+  long = r.long;
+  is = r.is ∙ ap (prepend_known (bytes_before bodies ++ 1 ∷ [])) ahead.is ∙ known_taken rest (bytes_before bodies ++ 1 ∷ []) (bytes_of body ++ gate ∷ [])
+      ∙ ap (λ l. prepend_known l rest) (append_assoc (bytes_before bodies) (1 ∷ []) (bytes_of body ++ gate ∷ []) ∙ sym (front-more bodies body (gate ∷ [])));
+}
+
+-- the end at a record whose body no entry has
+pub ends_bad : (all : Option (List ℕ)) (bodies : List (List ℕ)) (past : List Entry) (body : List ℕ) (gate next : ℕ) (rest : Option (List ℕ))
+    → IsReadTo all (bodies ++ body ∷ []) gate next rest → HasNoNext bodies past body → IfSome all (EndsAt bodies past)
+ends_bad all bodies past body gate next rest r bad =
+    told (EndsAt bodies past) all rest (bytes_before (bodies ++ body ∷ []) ++ gate ∷ []) r.is
+    (λ bytes behind some some' is. record {
+      rest = bytes_of body ++ gate ∷ behind;
+      is = gated (bodies ++ body ∷ []) gate behind bytes is ∙ front-more bodies body (gate ∷ behind);
+      lacks = inr (body, gate ∷ behind, refl, bad);
+    })
+
+bad_at : (bodies behind : List (List ℕ)) (body : List ℕ) (past : List Entry) (place : ℕ) → IsPast bodies past → place ≡ length (bytes_before bodies)
+    → HasNoNext bodies past body → IsBadAt ((bodies ++ body ∷ []) ++ behind) place
+bad_at bodies behind body past place p at bad = record {
+  front = bodies;
+  body = body;
+  behind = behind;
+  past = past;
+  split = append_assoc bodies (body ∷ []) behind;
+  before = p;
+  at = at;
+  broken = bad;
+}
+
+-- what a reading behind a bad body finds is a refusal of the area
+pub bad_end : (all : Option (List ℕ)) (bodies : List (List ℕ)) (past : List Entry) (body : List ℕ) (fault : OpenFault) (place : ℕ)
+    → IfSome all (EndsAt bodies past) → IsPast bodies past → place ≡ length (bytes_before bodies) → HasNoNext bodies past body
+    → ((fault ≡ Open.Damaged place) × ((behind : List (List ℕ)) × IfSome all (λ bytes. Stands bytes ((bodies ++ body ∷ []) ++ behind))))
+    ⊎ ((q : ℕ) × (fault ≡ Open.Damaged q) × IfSome all (λ bytes. IsDamaged bytes q))
+    → IfSome all (EndsRefused fault bodies past)
+bad_end None bodies past body fault place ends p at bad found = tt
+bad_end (Some bytes) bodies past body fault place ends p at bad (inl f) =
+    subst (λ (x : OpenFault). EndsRefused x bodies past bytes) (sym f.0) (inr ((bodies ++ body ∷ []) ++ f.1.0, f.1.1, bad_at bodies f.1.0 body past place p at bad), ends)
+bad_end (Some bytes) bodies past body fault place ends p at bad (inr f) =
+    subst (λ (x : OpenFault). EndsRefused x bodies past bytes) (sym f.1) (inl f.2, ends)
