@@ -1,19 +1,23 @@
 # What a user runs. It needs the kit's rt on PATH, make, bash, grep, sed and coreutils; test also what tools/test-tools names.
 PREFIX = /usr/local
 PROGRAM = crates/arc_server/out/arc_server
-SCREEN = crates/arc_screen/out/arc_screen
+# the programs that were built beside it: crates/NAME/out/NAME, or PROGRAM-book and PROGRAM-screen beside another PROGRAM
+OTHER = $(if $(findstring arc_server/out/arc_server,$(PROGRAM)),$(subst arc_server,arc_$1,$(PROGRAM)),$(PROGRAM)-$1)
+BOOK = $(call OTHER,book)
+SCREEN = $(call OTHER,screen)
 UNITS = arc.service arc-lines.service arc-watch.service arc-watch.timer arc-restart.service arc-restart.timer \
 	arc-backup.service arc-backup.timer
-PAGES = man1/arc.1 man1/arc-screen.1 man5/arc-setup.5 man7/arc-desk.7
+PAGES = man1/arc.1 man1/arc-book.1 man1/arc-screen.1 man5/arc-setup.5 man7/arc-desk.7
 VERSION = $(shell cat VERSION)
 ROOT = $(DESTDIR)$(PREFIX)
 
 .PHONY: try build demo test test-tools install install-files uninstall clean
 
-# proves and builds the program, a line for each crate, and says where it stands; what was proved before is proved again only
+# proves and builds the programs, a line for each crate, and says where they stand; what was proved before is proved again only
 # where it has changed
 build:
 	@tools/build
+	@tools/build arc_book
 	@tools/build arc_screen
 
 # builds the program without any proof, in a minute or two, and shows what a receiver does: one alarm frame in, its acknowledgement out,
@@ -38,14 +42,15 @@ test:
 test-tools:
 	@tools/test-tools install
 
-# puts the program as PREFIX/bin/arc, its manual pages and units, the user of the units, and the tools of the guide
+# puts the programs as PREFIX/bin/arc, arc-book and arc-screen, their manual pages and units, the user of the units, and the tools of the guide
 install: build install-files
 
-# the same with the program that PROGRAM names, as it was built before
+# the same with the program that PROGRAM names and those beside it, as they were built before
 install-files:
 	install -D -m 755 '$(PROGRAM)' '$(ROOT)/bin/arc'
+	install -D -m 755 '$(BOOK)' '$(ROOT)/bin/arc-book'
 	install -D -m 755 -t '$(ROOT)/bin' station/arc-screen
-	[ ! -x '$(SCREEN)' ] || install -D -m 755 '$(SCREEN)' '$(ROOT)/bin/arc_screen'
+	install -D -m 755 '$(SCREEN)' '$(ROOT)/bin/arc_screen'
 	for page in $(PAGES); do \
 		install -d '$(ROOT)/share/man/'"$${page%/*}" && \
 		sed 's|@VERSION@|$(VERSION)|g' "station/$${page#*/}" >'$(ROOT)/share/man/'"$$page" && \
@@ -64,7 +69,7 @@ install-files:
 
 # takes away what install has put; the station's folder and its user stay
 uninstall:
-	rm -f '$(ROOT)/bin/arc' '$(ROOT)/bin/arc-screen' '$(ROOT)/bin/arc_screen' $(PAGES:%='$(ROOT)/share/man/%')
+	rm -f '$(ROOT)/bin/arc' '$(ROOT)/bin/arc-book' '$(ROOT)/bin/arc-screen' '$(ROOT)/bin/arc_screen' $(PAGES:%='$(ROOT)/share/man/%')
 	rm -f '$(ROOT)/lib/sysusers.d/arc.conf' $(UNITS:%='$(ROOT)/lib/systemd/system/%')
 	rm -rf '$(ROOT)/share/arc' '$(ROOT)/share/doc/arc'
 
