@@ -1,9 +1,10 @@
-// The traits of doors and pulses.
-ghost use Rattle.std.specs.Prelude.{◌≡◌, ◌<◌, Option, None, IfSome};
+// The traits of doors, mailboxes and pulses.
+ghost use Rattle.std.specs.Prelude.{◌≡◌, ◌<◌, ◌≤◌, Option, None, IfOk, IfSome};
 ghost use Rattle.arc_doors.specs.Doors.{DoorSeen, Gives, HasOneOut, IsBackWithin, after_back};
+ghost use Rattle.arc_doors.specs.Mails.{IsNoStream, Receives, Sends};
 ghost use Rattle.arc_doors.specs.Pulses.{Moments, GivesMoment};
 
-use arc_io::{Failed, Port};
+use arc_io::{Clock, Failed, Noise, Port};
 use std::sync::Wait;
 use std::sync::atomic::AtomicBool;
 
@@ -32,6 +33,34 @@ pub trait Door {
 
     /// No more links are got back than were given.
     ghost within: { (door : Self) → IsBackWithin (Self.seen door).links };
+}
+
+/// How many bytes of a datagram are given at most.
+pub const DATAGRAM_ROOM: usize = 8192;
+
+/// Gives datagrams, and sends each a reply: the station's side of panels that report by UDP, with a clock and a noise.
+pub trait Mailbox: Clock + Noise {
+    /// Waits for the next datagram, puts its bytes, or the first 8,192 of more, to the front of the buffer, and answers how many these
+    /// are: none where it has none. None comes where no more datagrams come. `Failed` says that none could be received.
+    fn receive(&mut self, buf: &mut [u8; DATAGRAM_ROOM]) -> Result<Option<usize>, Failed>
+        ensures bound { IfOk result (λ next. IfSome next (λ n. n ≤ 8192)) }
+        ensures told { Receives (Self.seen self.old) (Self.seen self.new) result buf.new };
+
+    /// Sends these bytes as one datagram to the sender of the last one. `Failed` says that they were not sent, as where none was
+    /// received yet: nothing of them was.
+    fn reply(&mut self, bytes: &[u8]) -> Result<(), Failed>
+        ensures { Sends (Self.seen self.old) (Self.seen self.new) result bytes.now };
+
+    /// How often a call of `receive` has failed. It never falls, and stands still at the last value of `u64`.
+    fn receive_faults(&self) -> u64
+        ensures { result ≡ (Self.seen self.now).read_faults };
+
+    /// How often a call of `reply` has failed. It never falls, and stands still at the last value of `u64`.
+    fn reply_faults(&self) -> u64
+        ensures { result ≡ (Self.seen self.now).write_faults };
+
+    /// It tells nothing of a stream.
+    ghost no_stream: { (mail : Self) → IsNoStream (Self.seen mail) };
 }
 
 /// Gives the moments at which to tick.

@@ -16,9 +16,9 @@ use std::time::Duration;
 use std::{io, thread, time};
 
 // How often in a row a door fails to take a connection until it gives up, and for how many milliseconds it pauses between.
-const TRIES: u32 = 600;
+pub(super) const TRIES: u32 = 600;
 
-const PAUSE: u64 = 100;
+pub(super) const PAUSE: u64 = 100;
 
 // For how many seconds nothing more is said of doors that fail, once it was.
 const QUIET: u64 = 600;
