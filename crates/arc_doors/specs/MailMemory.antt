@@ -1,5 +1,6 @@
 -- What the mailbox in memory tells, and what its calls do.
-use Rattle.std.specs.Prelude.{◌≡◌, ◌↔◌, ◌<◌, ◌++◌, ◌∷◌, [], ℕ, Bool, true, false, List, map, drop, length, Option, Some, Result, Contains, IsErr, is_err, if◌then◌else◌}
+use Rattle.std.specs.Prelude.{◌≡◌, ◌↔◌, ◌++◌, ◌∷◌, [], ℕ, Bool, false, List, drop, Option, Some, Result}
+use Rattle.std.specs.Prelude.{Contains, IsErr, is_err, if◌then◌else◌}
 use Rattle.arc_io.specs.Causes.{next_count}
 use Rattle.arc_io.specs.Memory.{clock_given, noise_given}
 use Rattle.arc_io.specs.Seen.{PortSeen, untold}

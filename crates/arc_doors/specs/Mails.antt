@@ -1,5 +1,6 @@
 -- What a mailbox tells of its datagrams, and what its calls do to that.
-use Rattle.std.specs.Prelude.{◌≡◌, ℕ, List, [], ◌∷◌, ◌++◌, map, take, false, Option, Some, None, Result, MatchOption, MatchResult, option_map}
+use Rattle.std.specs.Prelude.{◌≡◌, ℕ, List, [], ◌∷◌, ◌++◌, map, take, false, Option, Some, None, Result}
+use Rattle.std.specs.Prelude.{MatchOption, MatchResult, option_map}
 use Rattle.arc_io.specs.Causes.{HasCause}
 use Rattle.arc_io.specs.Seen.{PortSeen}
 
