@@ -14,3 +14,5 @@ mod line_session_tests;
 mod same;
 #[cfg(test)]
 mod told;
+#[cfg(test)]
+mod udp_line_tests;
