@@ -1,0 +1,165 @@
+-- What a panel has done, as a list of marks, the newest first: the events that it took, its steps with the copies that it sent, and what
+-- was acknowledged. Events are numbered from 1, in the order in which they were taken. Moments are seconds since 1970.
+use Rattle.std.specs.Prelude.{ℕ, ◌+◌, ◌-◌, ◌==◌, ◌&&◌, Bool, false, not, if◌then◌else◌, List, [], ◌∷◌, Option, Some, None}
+use Rattle.std.specs.Prelude.{nat_lt, nat_le, length, filter, option_and_then}
+use Rattle.std.specs.List.{list_any, find, range_with_len}
+use Rattle.arc_data.specs.declared.event.Token.{Token}
+use Rattle.panel_rules.specs.declared.Fate.{Fate}
+use Rattle.panel_rules.specs.declared.Fate.TheVariants.{Waiting, InFlight, Acked, GivenUp}
+
+-- an event: the token and the data of its message
+pub record Event : Type 0 where
+  pub token : Token
+  pub content : List ℕ
+
+-- An event was taken. A step was done at a moment, and a copy of the message of an event was sent, or none. The message of an event
+-- was acknowledged while it was in flight.
+pub data Mark : Type 0 where
+  Takes : (event : Event) → Mark
+  Steps : (now : ℕ) (sent : Option ℕ) → Mark
+  Acks : (event : ℕ) → Mark
+
+-- the events taken, the newest first
+
+abbrev pub taken_at : Mark → List Event → List Event
+taken_at (Takes event) before = event ∷ before
+taken_at m before = before
+
+abbrev pub taken : List Mark → List Event
+taken [] = []
+taken (m ∷ ms) = taken_at m (taken ms)
+
+-- how many events were taken
+abbrev pub count : List Mark → ℕ
+count ms = length (taken ms)
+
+-- the numbers of the events taken, from 1 on
+abbrev pub numbers : List Mark → List ℕ
+numbers ms = range_with_len 1 (count ms)
+
+-- the event with a number, of a list that stands the newest first and whose oldest one has the number 1
+abbrev pub numbered : ℕ → List Event → Option Event
+numbered n [] = None
+numbered n (event ∷ events) = if n == length events + 1 then Some event else numbered n events
+
+-- the moments of the steps, the newest first
+
+abbrev pub steps_at : Mark → List ℕ → List ℕ
+steps_at (Steps now sent) before = now ∷ before
+steps_at m before = before
+
+abbrev pub steps : List Mark → List ℕ
+steps [] = []
+steps (m ∷ ms) = steps_at m (steps ms)
+
+-- the number is this one
+abbrev pub is_event : ℕ → Option ℕ → Bool
+is_event n None = false
+is_event n (Some k) = k == n
+
+-- the moments at which a copy of the message of event n was sent, the newest first
+
+abbrev pub copies_at : ℕ → Mark → List ℕ → List ℕ
+copies_at n (Steps now sent) before = if is_event n sent then now ∷ before else before
+copies_at n m before = before
+
+abbrev pub copies : ℕ → List Mark → List ℕ
+copies n [] = []
+copies n (m ∷ ms) = copies_at n m (copies n ms)
+
+-- the newest and the oldest of a list that stands the newest first
+
+abbrev pub newest : List ℕ → Option ℕ
+newest [] = None
+newest (t ∷ ts) = Some t
+
+abbrev pub oldest : List ℕ → Option ℕ
+oldest [] = None
+oldest (t ∷ []) = Some t
+oldest (t ∷ u ∷ ts) = oldest (u ∷ ts)
+
+-- when the first copy of the message of event n was sent, and when the last one
+abbrev pub first_copy : ℕ → List Mark → Option ℕ
+first_copy n ms = oldest (copies n ms)
+
+abbrev pub last_copy : ℕ → List Mark → Option ℕ
+last_copy n ms = newest (copies n ms)
+
+-- its message was acknowledged while it was in flight
+
+abbrev pub acks_event : ℕ → Mark → Bool
+acks_event n (Acks k) = k == n
+acks_event n m = false
+
+abbrev pub is_acked : ℕ → List Mark → Bool
+is_acked n ms = list_any (acks_event n) ms
+
+-- a step was done more than 240 seconds after this moment
+abbrev pub is_late : List Mark → ℕ → Bool
+is_late ms first = list_any (λ now. nat_lt (first + 240) now) (steps ms)
+
+-- What came of event n: it waits where no copy of its message was sent, and is otherwise acknowledged, or given up by a step more than
+-- 240 seconds after the first copy, or in flight.
+
+abbrev pub fate_of_sent : ℕ → List Mark → ℕ → Fate
+fate_of_sent n ms first = if is_acked n ms then Acked else if is_late ms first then GivenUp else InFlight
+
+abbrev pub fate_by : ℕ → List Mark → Option ℕ → Fate
+fate_by n ms None = Waiting
+fate_by n ms (Some first) = fate_of_sent n ms first
+
+abbrev pub fate : List Mark → ℕ → Fate
+fate ms n = fate_by n ms (first_copy n ms)
+
+abbrev pub is_waiting : Fate → Bool
+is_waiting f = elim f [ Waiting ↦ true | InFlight ↦ false | Acked ↦ false | GivenUp ↦ false ]
+
+abbrev pub is_in_flight : Fate → Bool
+is_in_flight f = elim f [ Waiting ↦ false | InFlight ↦ true | Acked ↦ false | GivenUp ↦ false ]
+
+-- the numbers of the events that wait, the oldest first
+abbrev pub waiting : List Mark → List ℕ
+waiting ms = filter (λ n. is_waiting (fate ms n)) (numbers ms)
+
+-- the oldest event that waits
+abbrev pub oldest_waiting : List Mark → Option ℕ
+oldest_waiting ms = find (λ n. is_waiting (fate ms n)) (numbers ms)
+
+-- the event whose message is in flight
+abbrev pub in_flight : List Mark → Option ℕ
+in_flight ms = find (λ n. is_in_flight (fate ms n)) (numbers ms)
+
+-- What a step sends.
+
+-- the moment is at least so many seconds after another; where there is no other, no such demand is made
+abbrev pub is_after : ℕ → ℕ → Option ℕ → Bool
+is_after seconds now None = true
+is_after seconds now (Some before) = nat_le (before + seconds) now
+
+-- the moment is at most so many seconds after another
+abbrev pub is_within : ℕ → ℕ → Option ℕ → Bool
+is_within seconds now None = true
+is_within seconds now (Some before) = nat_le now (before + seconds)
+
+-- The first copy of event n may be sent: the moment is at least 10 seconds after the first copy of the event before, where there is one.
+abbrev pub may_begin : List Mark → ℕ → ℕ → Bool
+may_begin ms now n = is_after 10 now (first_copy (n - 1) ms)
+
+-- A further copy of event n may be sent: the moment is at least 20 seconds after the last copy, and at most 180 after the first.
+abbrev pub may_repeat : List Mark → ℕ → ℕ → Bool
+may_repeat ms now n = is_after 20 now (last_copy n ms) && is_within 180 now (first_copy n ms)
+
+abbrev pub if_may : (ℕ → Bool) → Option ℕ → Option ℕ
+if_may test None = None
+if_may test (Some n) = if test n then Some n else None
+
+-- by the event that is in flight once the step has given up what is too old
+abbrev pub sends_by : List Mark → ℕ → Option ℕ → Option ℕ
+sends_by ms now (Some n) = if may_repeat ms now n then Some n else None
+sends_by ms now None = if_may (may_begin ms now) (oldest_waiting ms)
+
+-- The event of whose message a step at a moment sends a copy. The step first gives up a message whose first copy is more than 240 seconds
+-- old. Where one is in flight then, a further copy of it is sent if it may be, and otherwise nothing. Where none is, the oldest event that
+-- waits is sent for the first time if it may be.
+abbrev pub sends : List Mark → ℕ → Option ℕ
+sends ms now = sends_by ms now (in_flight (Steps now None ∷ ms))

@@ -1,0 +1,145 @@
+-- Panels: what happens to one, and what it does then.
+use Rattle.std.specs.Prelude.{◌≡◌, ℕ, zero, suc, ◌+◌, ◌-◌, ◌/◌, ◌%◌, ◌==◌, ◌&&◌, ◌||◌, ◌++◌, Bool, true, false, not, if◌then◌else◌}
+use Rattle.std.specs.Prelude.{List, [], ◌∷◌, Option, Some, None, codes, nat_le, nat_lt, length}
+use Rattle.std.specs.List.{list_any}
+use Rattle.std.specs.Option.{option_map}
+use Rattle.std.specs.Str.{bytes_eq}
+use Rattle.arc_data.specs.Digits.{is_capital_hex, is_between, is_hex, is_run, two_digits}
+use Rattle.arc_data.specs.declared.event.Token.{Token}
+use Rattle.arc_data.specs.declared.event.Token.TheVariants.{SiaDcs, AdmCid}
+use Rattle.alarm_rules.specs.Signals.{has_signals}
+use Rattle.dc09_frame.specs.Headers.{header_bytes, echo_body}
+use Rattle.dc09_frame.specs.declared.header.Echo.TheVariants.{Ack}
+use Rattle.dc09_frame.specs.declared.header.Header.{Header}
+use Rattle.panel_rules.specs.declared.Heard.{Heard}
+use Rattle.panel_rules.specs.declared.Heard.TheVariants.{Acked, Other}
+use Rattle.panel_rules.specs.declared.Queued.{Queued}
+use Rattle.panel_rules.specs.declared.Queued.TheVariants.{Taken, Full, BadData}
+use Rattle.panel_rules.specs.Marks.{Event, Mark, Takes, Steps, Acks, count, in_flight, numbered, sends, taken, waiting}
+
+-- how a panel is set up: its account, its line number, and the number of its first message
+pub record Setting : Type 0 where
+  pub account : List ℕ
+  pub line : List ℕ
+  pub first : ℕ
+
+-- 3 to 16 hexadecimal digits in capitals, 1 to 6 hexadecimal digits, and 1 to 9999
+abbrev pub is_setting : Setting → Bool
+is_setting s = is_run is_capital_hex 3 16 s.account && is_run is_hex 1 6 s.line && is_between 1 9999 s.first
+
+-- What happens to a panel: it is given an event to send, it does a step at a moment, it hears the body of a reply.
+pub data Happening : Type 0 where
+  Queue : (token : Token) (content : List ℕ) → Happening
+  Step : (now : ℕ) → Happening
+  Hear : (body : List ℕ) → Happening
+
+-- Messages.
+
+-- the number that follows: 9999 is followed by 1
+abbrev pub next_number : ℕ → ℕ
+next_number number = if number == 9999 then 1 else number + 1
+
+-- the number of the message that so many went before: the first, and then always the next
+abbrev pub number_after : Setting → ℕ → ℕ
+number_after s zero = s.first
+number_after s (suc before) = next_number (number_after s before)
+
+-- the number of the message of event n, counted from 1
+abbrev pub number : Setting → ℕ → ℕ
+number s n = number_after s (n - 1)
+
+-- a number in four digits
+abbrev pub sequence : ℕ → List ℕ
+sequence k = two_digits (k / 100) ++ two_digits (k % 100)
+
+abbrev pub token_bytes : Token → List ℕ
+token_bytes SiaDcs = codes "SIA-DCS"
+token_bytes AdmCid = codes "ADM-CID"
+
+-- the header of the message of event n
+abbrev pub header : Setting → ℕ → Token → Header
+header s n token = record {
+  sealed = false;
+  token = token_bytes token;
+  seq = sequence (number s n);
+  receiver = None;
+  line = s.line;
+  account = s.account;
+}
+
+-- The body of the message of event n: a double quote, the token, a double quote, four digits, `L` and the line, `#` and the account, `[`,
+-- `#` and the account, `|`, the data, `]`.
+abbrev pub message_body : Setting → ℕ → Event → List ℕ
+message_body s n event =
+    header_bytes (header s n event.token) ++ 35 ∷ s.account ++ 124 ∷ event.content ++ 93 ∷ []
+
+-- the body of the plain acknowledgement of the message of event n: its word and the header's fields as they were sent
+abbrev pub ack_body : Setting → ℕ → Token → List ℕ
+ack_body s n token = echo_body Ack (header s n token)
+
+-- What is taken.
+
+-- `[`, `]`, a line feed or a carriage return
+abbrev pub is_barred : ℕ → Bool
+is_barred b = (b == 91) || (b == 93) || (b == 10) || (b == 13)
+
+-- data that no message of a panel carries: more than 3,900 bytes, a barred byte, or no signals
+abbrev pub is_bad : Token → List ℕ → Bool
+is_bad token content = nat_lt 3900 (length content) || list_any is_barred content || not (has_signals token content)
+
+-- 1,000 events wait
+abbrev pub is_full : List Mark → Bool
+is_full ms = nat_le 1000 (length (waiting ms))
+
+-- what comes of an event that is given to a panel with these marks
+abbrev pub queued : List Mark → Token → List ℕ → Queued
+queued ms token content =
+    if is_bad token content then BadData else if is_full ms then Full else Taken (count ms + 1)
+
+-- What is heard.
+
+-- whether a body acknowledges the message of event n, where there is such an event
+abbrev pub is_ack_by : Setting → ℕ → List ℕ → Option Event → Bool
+is_ack_by s n body None = false
+is_ack_by s n body (Some event) = bytes_eq body (ack_body s n event.token)
+
+abbrev pub is_ack : Setting → List Mark → ℕ → List ℕ → Bool
+is_ack s ms n body = is_ack_by s n body (numbered n (taken ms))
+
+abbrev pub heard_by : Setting → List Mark → List ℕ → Option ℕ → Heard
+heard_by s ms body None = Other
+heard_by s ms body (Some n) = if is_ack s ms n body then Acked n else Other
+
+-- what a body tells a panel with these marks: that the message in flight is acknowledged, where it is the plain acknowledgement of it
+abbrev pub heard : Setting → List Mark → List ℕ → Heard
+heard s ms body = heard_by s ms body (in_flight ms)
+
+-- The marks that what happened leaves, the newest first.
+
+abbrev pub marks_queued : Token → List ℕ → Queued → List Mark
+marks_queued token content (Taken n) = Takes (record { token = token; content = content }) ∷ []
+marks_queued token content Full = []
+marks_queued token content BadData = []
+
+abbrev pub marks_heard : Heard → List Mark
+marks_heard (Acked n) = Acks n ∷ []
+marks_heard Other = []
+
+abbrev pub marks_at : Setting → List Mark → Happening → List Mark
+marks_at s ms (Queue token content) = marks_queued token content (queued ms token content)
+marks_at s ms (Step now) = Steps now (sends ms now) ∷ []
+marks_at s ms (Hear body) = marks_heard (heard s ms body)
+
+-- the marks of a panel to which all this happened, the newest first
+abbrev pub marks : Setting → List Happening → List Mark
+marks s [] = []
+marks s (x ∷ h) = marks_at s (marks s h) x ++ marks s h
+
+-- the body that is sent of an event, where there is one
+abbrev pub body_of_event : Setting → List Mark → Option ℕ → Option (List ℕ)
+body_of_event s ms None = None
+body_of_event s ms (Some n) = option_map (message_body s n) (numbered n (taken ms))
+
+-- the body that a step at a moment sends, where it sends one, after all this happened
+abbrev pub body_sent : Setting → List Happening → ℕ → Option (List ℕ)
+body_sent s h now = body_of_event s (marks s h) (sends (marks s h) now)
