@@ -1,31 +1,26 @@
 -- What a panel has done, as a list of marks, the newest first: the events that it took, its steps with the copies that it sent, and what
 -- was acknowledged. Events are numbered from 1, in the order in which they were taken. Moments are seconds since 1970.
-use Rattle.std.specs.Prelude.{ℕ, ◌+◌, ◌-◌, ◌==◌, ◌&&◌, Bool, false, not, if◌then◌else◌, List, [], ◌∷◌, Option, Some, None}
-use Rattle.std.specs.Prelude.{nat_lt, nat_le, length, filter, option_and_then}
+use Rattle.std.specs.Prelude.{ℕ, ◌+◌, ◌-◌, ◌==◌, ◌&&◌, Bool, true, false, if◌then◌else◌, List, [], ◌∷◌, Option, Some, None}
+use Rattle.std.specs.Prelude.{nat_lt, nat_le, length, filter}
 use Rattle.std.specs.List.{list_any, find, range_with_len}
-use Rattle.arc_data.specs.declared.event.Token.{Token}
 use Rattle.panel_rules.specs.declared.Fate.{Fate}
 use Rattle.panel_rules.specs.declared.Fate.TheVariants.{Waiting, InFlight, Acked, GivenUp}
-
--- an event: the token and the data of its message
-pub record Event : Type 0 where
-  pub token : Token
-  pub content : List ℕ
+pub use Rattle.panel_rules.specs.declared.Report.{Report}
 
 -- An event was taken. A step was done at a moment, and a copy of the message of an event was sent, or none. The message of an event
 -- was acknowledged while it was in flight.
 pub data Mark : Type 0 where
-  Takes : (event : Event) → Mark
+  Takes : (report : Report) → Mark
   Steps : (now : ℕ) (sent : Option ℕ) → Mark
   Acks : (event : ℕ) → Mark
 
--- the events taken, the newest first
+-- what the events taken report, the newest first
 
-abbrev pub taken_at : Mark → List Event → List Event
-taken_at (Takes event) before = event ∷ before
+abbrev pub taken_at : Mark → List Report → List Report
+taken_at (Takes report) before = report ∷ before
 taken_at m before = before
 
-abbrev pub taken : List Mark → List Event
+abbrev pub taken : List Mark → List Report
 taken [] = []
 taken (m ∷ ms) = taken_at m (taken ms)
 
@@ -37,10 +32,10 @@ count ms = length (taken ms)
 abbrev pub numbers : List Mark → List ℕ
 numbers ms = range_with_len 1 (count ms)
 
--- the event with a number, of a list that stands the newest first and whose oldest one has the number 1
-abbrev pub numbered : ℕ → List Event → Option Event
+-- what event n reports, by the list of all, which stands the newest first
+abbrev pub numbered : ℕ → List Report → Option Report
 numbered n [] = None
-numbered n (event ∷ events) = if n == length events + 1 then Some event else numbered n events
+numbered n (report ∷ reports) = if n == length reports + 1 then Some report else numbered n reports
 
 -- the moments of the steps, the newest first
 

@@ -15,7 +15,7 @@ use Rattle.panel_rules.specs.declared.Heard.{Heard}
 use Rattle.panel_rules.specs.declared.Heard.TheVariants.{Acked, Other}
 use Rattle.panel_rules.specs.declared.Queued.{Queued}
 use Rattle.panel_rules.specs.declared.Queued.TheVariants.{Taken, Full, BadData}
-use Rattle.panel_rules.specs.Marks.{Event, Mark, Takes, Steps, Acks, count, in_flight, numbered, sends, taken, waiting}
+use Rattle.panel_rules.specs.Marks.{Report, Mark, Takes, Steps, Acks, count, in_flight, numbered, sends, taken, waiting}
 
 -- how a panel is set up: its account, its line number, and the number of its first message
 pub record Setting : Type 0 where
@@ -69,9 +69,9 @@ header s n token = record {
 
 -- The body of the message of event n: a double quote, the token, a double quote, four digits, `L` and the line, `#` and the account, `[`,
 -- `#` and the account, `|`, the data, `]`.
-abbrev pub message_body : Setting → ℕ → Event → List ℕ
-message_body s n event =
-    header_bytes (header s n event.token) ++ 35 ∷ s.account ++ 124 ∷ event.content ++ 93 ∷ []
+abbrev pub message_body : Setting → ℕ → Report → List ℕ
+message_body s n report =
+    header_bytes (header s n report.token) ++ 35 ∷ s.account ++ 124 ∷ report.content ++ 93 ∷ []
 
 -- the body of the plain acknowledgement of the message of event n: its word and the header's fields as they were sent
 abbrev pub ack_body : Setting → ℕ → Token → List ℕ
@@ -99,9 +99,9 @@ queued ms token content =
 -- What is heard.
 
 -- whether a body acknowledges the message of event n, where there is such an event
-abbrev pub is_ack_by : Setting → ℕ → List ℕ → Option Event → Bool
+abbrev pub is_ack_by : Setting → ℕ → List ℕ → Option Report → Bool
 is_ack_by s n body None = false
-is_ack_by s n body (Some event) = bytes_eq body (ack_body s n event.token)
+is_ack_by s n body (Some report) = bytes_eq body (ack_body s n report.token)
 
 abbrev pub is_ack : Setting → List Mark → ℕ → List ℕ → Bool
 is_ack s ms n body = is_ack_by s n body (numbered n (taken ms))

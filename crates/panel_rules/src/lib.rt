@@ -2,6 +2,15 @@
 //! Definitions, and the answers that they speak of.
 #![tactic(auto)]
 
+use arc_data::{Blob, Token};
+
+/// What a message of a panel reports: the kind of its data, and the data. It has at most 3,900 bytes.
+#[derive(Drop)]
+pub struct Report {
+    pub token: Token,
+    pub content: Blob,
+}
+
 /// What came of an event that a panel was given to send.
 #[derive(Clone, Copy, Debug, PartialEq, Eq)]
 pub enum Queued {
