@@ -157,4 +157,4 @@ sends_by ms now None = if_may (may_begin ms now) (oldest_waiting ms)
 -- old. Where one is in flight then, a further copy of it is sent if it may be, and otherwise nothing. Where none is, the oldest event that
 -- waits is sent for the first time if it may be.
 abbrev pub sends : List Mark → ℕ → Option ℕ
-sends ms now = sends_by ms now (in_flight (Steps now None ∷ ms))
+sends ms now = let after = Steps now None ∷ ms in sends_by after now (in_flight after)

@@ -56,22 +56,29 @@ abbrev pub token_bytes : Token → List ℕ
 token_bytes SiaDcs = codes "SIA-DCS"
 token_bytes AdmCid = codes "ADM-CID"
 
--- the header of the message of event n
-abbrev pub header : Setting → ℕ → Token → Header
-header s n token = record {
+-- the header of a message, by its account, line, number and token
+abbrev pub header_of : List ℕ → List ℕ → ℕ → Token → Header
+header_of account line number token = record {
   sealed = false;
   token = token_bytes token;
-  seq = sequence (number s n);
+  seq = sequence number;
   receiver = None;
-  line = s.line;
-  account = s.account;
+  line = line;
+  account = account;
 }
 
--- The body of the message of event n: a double quote, the token, a double quote, four digits, `L` and the line, `#` and the account, `[`,
--- `#` and the account, `|`, the data, `]`.
+-- The body of a message: a double quote, the token, a double quote, four digits, `L` and the line, `#` and the account, `[`, `#` and the
+-- account, `|`, the data, `]`.
+abbrev pub body_of : List ℕ → List ℕ → ℕ → Report → List ℕ
+body_of account line number report =
+    header_bytes (header_of account line number report.token) ++ 35 ∷ account ++ 124 ∷ report.content ++ 93 ∷ []
+
+-- the header and the body of the message of event n
+abbrev pub header : Setting → ℕ → Token → Header
+header s n token = header_of s.account s.line (number s n) token
+
 abbrev pub message_body : Setting → ℕ → Report → List ℕ
-message_body s n report =
-    header_bytes (header s n report.token) ++ 35 ∷ s.account ++ 124 ∷ report.content ++ 93 ∷ []
+message_body s n report = body_of s.account s.line (number s n) report
 
 -- the body of the plain acknowledgement of the message of event n: its word and the header's fields as they were sent
 abbrev pub ack_body : Setting → ℕ → Token → List ℕ
