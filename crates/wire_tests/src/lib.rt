@@ -15,6 +15,8 @@ mod dc09_message_tests;
 #[cfg(test)]
 mod desk_wire_tests;
 #[cfg(test)]
+mod panel_core_tests;
+#[cfg(test)]
 mod rows;
 #[cfg(test)]
 mod script_lines_tests;

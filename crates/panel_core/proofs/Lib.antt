@@ -1,0 +1,5 @@
+pub mod Ranges
+pub mod Fates
+pub mod Found
+pub mod Kept
+pub mod Sends
