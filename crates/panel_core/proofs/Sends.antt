@@ -19,38 +19,45 @@ pub record IsSent (s : Setting) (ms : List Mark) (now : ℕ) (p : PanelValue) (s
   pub kept : Keeps s (Steps now sent ∷ ms) after
   pub told : is_some sent ≡ copies
   pub body : copies ≡ true → body_of_event s ms sent ≡ body_in_flight after after.flight
+  pub some : copies ≡ true → is_some (body_of_event s ms sent) ≡ true
   pub nothing : copies ≡ false → body_of_event s ms sent ≡ None
 
 module _ (s : Setting) (ms : List Mark) (now : ℕ) (p : PanelValue) (k : Keeps s (Steps now None ∷ ms) p) where
   sent_again : (f : Flight) → p.flight ≡ Some f → Flies s (Steps now None ∷ ms) p.sent f → (b : Bool) → repeats now f ≡ b → IsSent s ms now p (cond b (Some p.sent) None) b (record p { flight = Some (cond b (record f { last = now }) f) })
   sent_again f flying is true may =
       let kept = sends_again s ms p now k f is in
+      let flies = body_flies s (Steps now (Some p.sent) ∷ ms) (record p { flight = Some (record f { last = now }) }) (record f { last = now }) k.account_is k.line_is kept.last_is in
       record {
         kept = kept;
         told = refl;
-        body = λ _. body_flies s (Steps now (Some p.sent) ∷ ms) (record p { flight = Some (record f { last = now }) }) (record f { last = now }) k.account_is k.line_is kept.last_is;
+        body = λ _. flies;
+        some = λ _. ap is_some flies;
         nothing = λ no. absurd cc;
       }
   sent_again f flying is false may = record {
     kept = subst (λ o. Keeps s (Steps now None ∷ ms) (record p { flight = o })) flying k;
     told = refl;
     body = λ no. absurd cc;
+    some = λ no. absurd cc;
     nothing = λ _. refl;
   }
 
   sent_next : (report : Report) (rest : List Report) → p.waiting ≡ report ∷ rest → (1 ≤ p.sent → HasEnded p.sent (Steps now None ∷ ms)) → p.stepped ≡ now → (b : Bool) → IsSent s ms now p (cond b (Some (p.sent + 1)) None) b (cond b (begin_next now p report rest) p)
   sent_next report rest waits over stepped true =
       let kept = sends_next s ms p now k report rest waits over stepped in
+      let flies = body_flies s (Steps now (Some (p.sent + 1)) ∷ ms) (begin_next now p report rest) (record { report = report; number = p.next; first = now; last = now }) k.account_is k.line_is kept.last_is in
       record {
         kept = kept;
         told = refl;
-        body = λ _. body_flies s (Steps now (Some (p.sent + 1)) ∷ ms) (begin_next now p report rest) (record { report = report; number = p.next; first = now; last = now }) k.account_is k.line_is kept.last_is;
+        body = λ _. flies;
+        some = λ _. ap is_some flies;
         nothing = λ no. absurd cc;
       }
   sent_next report rest waits over stepped false = record {
     kept = k;
     told = refl;
     body = λ no. absurd cc;
+    some = λ no. absurd cc;
     nothing = λ _. refl;
   }
 
@@ -75,6 +82,7 @@ module _ (s : Setting) (ms : List Mark) (now : ℕ) (p : PanelValue) (k : Keeps 
         kept = rw (sym waits, sym flying) k;
         told = refl;
         body = λ no. absurd cc;
+        some = λ no. absurd cc;
         nothing = λ _. refl;
       })
   by_flight None flying is stepped (report ∷ rest) waits =

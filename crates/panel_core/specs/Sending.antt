@@ -1,6 +1,6 @@
 -- What a step does with what a panel keeps.
-use Rattle.std.specs.Prelude.{◌≡◌, ◌<◌, ◌≤◌, ◌+◌, ◌^◌, ◌&&◌, ℕ, List, [], ◌∷◌, Bool, true, false, if◌then◌else◌, Option, Some, None}
-use Rattle.std.specs.Prelude.{length, nat_le, nat_lt, IfSome}
+use Rattle.std.specs.Prelude.{◌≡◌, ◌<◌, ◌≤◌, ◌+◌, ◌-◌, ◌^◌, ◌&&◌, ◌++◌, ℕ, List, [], ◌∷◌, Bool, true, false, if◌then◌else◌, Option, Some, None}
+use Rattle.std.specs.Prelude.{length, nat_le, nat_lt, slice_set, IfSome}
 use Rattle.std.specs.List.{AllByRecursion}
 use Rattle.std.specs.Str.{bytes_eq}
 use Rattle.arc_data.specs.Digits.{is_between, is_capital_hex, is_hex, is_run}
@@ -13,6 +13,14 @@ use Rattle.panel_rules.specs.Marks.{is_after}
 use Rattle.panel_rules.specs.Panels.{body_of, header_of, is_bad, next_number}
 use Rattle.panel_core.specs.declared.flight.Flight.{Flight}
 use Rattle.panel_core.specs.Standing.{PanelValue}
+
+-- with one event more that waits
+abbrev pub pushed : PanelValue → Report → PanelValue
+pushed p report = record p { waiting = p.waiting ++ report ∷ []; acked = p.acked ++ false ∷ [] }
+
+-- with the last event that was sent acknowledged
+abbrev pub acknowledged : PanelValue → PanelValue
+acknowledged p = record p { flight = None; acked = slice_set p.acked (p.sent - 1) true }
 
 -- the message that is in flight after a step at a moment: none that is late
 abbrev pub still : ℕ → Option Flight → Option Flight

@@ -8,7 +8,9 @@ use panel_rules::Report;
 // How long after its last copy a message is repeated, how long after its first copy it may be repeated, and how long after that it is
 // given up, in seconds.
 const REPEATED_AFTER: u64 = 20;
+
 const REPEATED_WITHIN: u64 = 180;
+
 const GIVEN_UP_AFTER: u64 = 240;
 
 /// A message in flight: what it reports, its number, and when its first and its last copy were sent.

@@ -1,10 +1,10 @@
 // A panel.
-ghost use Rattle.std.specs.Prelude.{◌≡◌, ◌<◌, ◌≤◌, ◌^◌, ℕ, List, [], ◌∷◌, length, Some, None, is_some, if◌then◌else◌, IfSome, IfOk, OnErr};
+ghost use Rattle.std.specs.Prelude.{◌≡◌, ◌<◌, ◌≤◌, ◌+◌, ◌-◌, ◌^◌, ◌==◌, ◌&&◌, List, [], ◌∷◌, length, nat_le, slice_index_or, true, false, Some, None, is_some, if◌then◌else◌, IfSome, IfOk, OnOk, OnErr};
 ghost use Rattle.arc_data.specs.Moments.{IsMoment};
 ghost use Rattle.panel_rules.specs.declared.Heard.TheVariants.{Other};
 ghost use Rattle.panel_rules.specs.Marks.{count, fate, is_after};
 ghost use Rattle.panel_rules.specs.Panels.{Setting, Happening, Queue, Step, Hear, body_sent, heard, is_setting, marks, queued};
-ghost use Rattle.panel_core.specs.Sending.{copied_with, copies_with, frame_sent, is_ack_of, body_in_flight, still};
+ghost use Rattle.panel_core.specs.Sending.{copied_with, copies_with, frame_sent, is_ack_of, body_in_flight, acknowledged, pushed, still, IsGood};
 ghost use Rattle.panel_core.specs.Standing.{StandsFor};
 
 use crate::flight::Flight;
@@ -20,6 +20,7 @@ use std::marker::Model;
 
 // How many events may wait, and how long after the first copy of an event's message that of the next one is sent, in seconds.
 const WAITING_LIMIT: usize = 1000;
+
 const BEGUN_AFTER: u64 = 10;
 
 /// The transmitter of a panel: the events that wait to be sent, the message in flight, and what came of each event. It has one account
@@ -107,14 +108,12 @@ impl Panel {
         if is_bad(token, content.bytes()) {
             return Ok(Queued::BadData);
         }
-        if self.waiting.len() >= WAITING_LIMIT {
+        if self.is_full() {
             return Ok(Queued::Full);
         }
-        self.reserve()?;
-        self.waiting.push_back_reserved(Report { token, content });
-        self.acked.push_reserved(false);
+        self.push(Report { token, content })?;
         Ok(Queued::Taken {
-            event: self.acked.len() as u64,
+            event: self.taken(),
         })
     }
 
@@ -146,9 +145,8 @@ impl Panel {
         if !self.is_acked_by(body) {
             return Heard::Other;
         }
-        self.acked[self.sent as usize - 1] = true;
-        self.flight = None;
-        Heard::Acked { event: self.sent }
+        let event = self.acknowledge();
+        Heard::Acked { event }
     }
 
     /// What came so far of an event that was taken.
@@ -158,12 +156,10 @@ impl Panel {
         ensures { (s : Setting) (h : List Happening) → StandsFor s h self.now → result ≡ fate (marks s h) event }
     {
         if event > self.sent {
-            return Fate::Waiting;
-        }
-        if event == self.sent && self.flight.is_some() {
-            return Fate::InFlight;
-        }
-        if self.acked[event as usize - 1] {
+            Fate::Waiting
+        } else if self.is_in_flight(event) {
+            Fate::InFlight
+        } else if self.is_acked(event) {
             Fate::Acked
         } else {
             Fate::GivenUp
@@ -185,14 +181,58 @@ impl Panel {
         self.stepped
     }
 
-    // Takes memory for one event more.
-    fn reserve(&mut self) -> Result<(), Memory>
-        ensures kept { self.new ≡ self.old }
+    // Whether the message of an event is in flight.
+    fn is_in_flight(&self, event: u64) -> bool
+        ensures { result ≡ ((event == self.now.sent) && is_some self.now.flight) }
     {
-        match (self.waiting.reserve(1), self.acked.reserve(1)) {
-            (Ok(()), Ok(())) => Ok(()),
-            _ => Err(Memory),
-        }
+        event == self.sent && self.flight.is_some()
+    }
+
+    // Whether the message of an event was acknowledged.
+    fn is_acked(&self, event: u64) -> bool
+        requires first { 1 ≤ event }
+        requires taken { event ≤ length self.now.acked }
+        ensures { result ≡ slice_index_or self.now.acked (event - 1) false }
+    {
+        self.acked[event as usize - 1]
+    }
+
+    // Whether no event more may wait.
+    fn is_full(&self) -> bool
+        ensures { result ≡ nat_le 1000 (length self.now.waiting) }
+    {
+        self.waiting.len() >= WAITING_LIMIT
+    }
+
+    // Lets an event wait. The error is want of memory, and then nothing has changed.
+    fn push(&mut self, report: Report) -> Result<(), Memory>
+        requires good { IsGood report }
+        requires many { length self.old.acked < 2 ^ 48 }
+        ensures pushed { OnOk result (self.new ≡ pushed self.old report) }
+        ensures counted { length self.old.acked ≡ self.old.sent + length self.old.waiting }
+        ensures kept { OnErr result (self.new ≡ self.old) }
+    {
+        let Ok(()) = self.waiting.reserve(1) else {
+            return Err(Memory);
+        };
+        let Ok(()) = self.acked.reserve(1) else {
+            return Err(Memory);
+        };
+        self.waiting.push_back_reserved(report);
+        self.acked.push_reserved(false);
+        Ok(())
+    }
+
+    // Marks the last event that was sent as acknowledged: it is in flight no more. Its number is the answer.
+    fn acknowledge(&mut self) -> u64
+        requires { 1 ≤ self.old.sent }
+        ensures number { result ≡ self.old.sent }
+        ensures acked { self.new ≡ acknowledged self.old }
+        ensures within { self.old.sent ≤ length self.old.acked }
+    {
+        self.acked[self.sent as usize - 1] = true;
+        self.flight = None;
+        self.sent
     }
 
     // Gives up the message in flight where it is late.
@@ -249,17 +289,30 @@ impl Panel {
         ensures { out.new ≡ frame_sent (body_in_flight self.now self.now.flight) }
     {
         match &self.flight {
-            Some(flight) => write_message(&self.account, &self.line, flight.number, &flight.report, out),
+            Some(flight) => write_message(
+                &self.account,
+                &self.line,
+                flight.number,
+                &flight.report,
+                out,
+            ),
             None => out.clear(),
         }
     }
 
     // Whether the body acknowledges the message in flight.
     fn is_acked_by(&self, body: &[u8]) -> bool
-        ensures { result ≡ is_ack_of self.now body.now self.now.flight }
+        ensures told { result ≡ is_ack_of self.now body.now self.now.flight }
+        ensures sent { result ≡ true → 1 ≤ self.now.sent }
     {
         match &self.flight {
-            Some(flight) => is_ack(body, &self.account, &self.line, flight.number, flight.report.token),
+            Some(flight) => is_ack(
+                body,
+                &self.account,
+                &self.line,
+                flight.number,
+                flight.report.token,
+            ),
             None => false,
         }
     }

@@ -15,9 +15,7 @@ pub struct Report {
 #[derive(Clone, Copy, Debug, PartialEq, Eq)]
 pub enum Queued {
     /// The event waits to be sent. Events are numbered from 1, in the order in which they were taken.
-    Taken {
-        event: u64,
-    },
+    Taken { event: u64 },
     /// 1,000 events wait already.
     Full,
     /// The data has more than 3,900 bytes, or a `[`, `]`, line feed or carriage return, or reports no signals.
@@ -28,9 +26,7 @@ pub enum Queued {
 #[derive(Clone, Copy, Debug, PartialEq, Eq)]
 pub enum Heard {
     /// The message in flight, which has this event, is acknowledged.
-    Acked {
-        event: u64,
-    },
+    Acked { event: u64 },
     /// Anything else, which changes nothing.
     Other,
 }
