@@ -104,6 +104,8 @@ impl Panel {
         ensures told { (s : Setting) (h : List Happening) → StandsFor s h self.old → IfOk result (λ q. q ≡ queued (marks s h) token content) }
         ensures stands { (s : Setting) (h : List Happening) → StandsFor s h self.old → IfOk result (λ _. StandsFor s (Queue token content ∷ h) self.new) }
         ensures kept { OnErr result (self.new ≡ self.old) }
+        ensures moment { self.new.stepped ≡ self.old.stepped }
+        ensures count { length self.new.acked ≤ length self.old.acked + 1 }
     {
         if is_bad(token, content.bytes()) {
             return Ok(Queued::BadData);
@@ -125,6 +127,8 @@ impl Panel {
         ensures told { (s : Setting) (h : List Happening) → StandsFor s h self.old → result ≡ is_some (body_sent s h now) }
         ensures frame { (s : Setting) (h : List Happening) → StandsFor s h self.old → out.new ≡ frame_sent (body_sent s h now) }
         ensures stands { (s : Setting) (h : List Happening) → StandsFor s h self.old → StandsFor s (Step now ∷ h) self.new }
+        ensures moment { self.new.stepped ≡ now }
+        ensures count { length self.new.acked ≡ length self.old.acked }
     {
         self.give_up(now);
         let sends = self.send(now);
@@ -141,6 +145,8 @@ impl Panel {
         ensures told { (s : Setting) (h : List Happening) → StandsFor s h self.old → result ≡ heard s (marks s h) body.now }
         ensures stands { (s : Setting) (h : List Happening) → StandsFor s h self.old → StandsFor s (Hear body.now ∷ h) self.new }
         ensures other { result ≡ Other → self.new ≡ self.old }
+        ensures moment { self.new.stepped ≡ self.old.stepped }
+        ensures count { length self.new.acked ≡ length self.old.acked }
     {
         if !self.is_acked_by(body) {
             return Heard::Other;
@@ -252,6 +258,8 @@ impl Panel {
         requires { self.old.stepped ≡ now }
         ensures told { result ≡ copies_with now self.old self.old.flight }
         ensures copied { self.new ≡ copied_with now self.old self.old.flight }
+        ensures moment { self.new.stepped ≡ self.old.stepped }
+        ensures count { self.new.acked ≡ self.old.acked }
     {
         match &mut self.flight {
             Some(flight) => flight.repeat(now),
@@ -265,6 +273,8 @@ impl Panel {
         requires none { self.old.flight ≡ None }
         ensures told { result ≡ copies_with now self.old None }
         ensures copied { self.new ≡ copied_with now self.old None }
+        ensures moment { self.new.stepped ≡ self.old.stepped }
+        ensures count { self.new.acked ≡ self.old.acked }
     {
         if !is_time(self.begun, now) {
             return false;
