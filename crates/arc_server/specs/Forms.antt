@@ -2,10 +2,11 @@
 use Rattle.std.specs.Prelude.{ℕ, if◌then◌else◌, List, [], ◌∷◌, Option, Some, None, codes}
 use Rattle.std.specs.Str.{bytes_eq}
 use Rattle.alarm_rules.specs.SetupWords.{number_between}
+use Rattle.arc_data.specs.Digits.{is_capital_hex, is_run}
 use Rattle.arc_serving.specs.declared.station.Crew.{Crew}
 use Rattle.arc_sessions.specs.declared.side.Side.TheVariants.{Lines, Desks}
 use Rattle.arc_server.specs.declared.form.Form.{Form}
-use Rattle.arc_server.specs.declared.form.Form.TheVariants.{Session, Script, Report, Drill, Serve}
+use Rattle.arc_server.specs.declared.form.Form.TheVariants.{Session, Script, Report, Drill, Serve, Panel}
 
 abbrev pub form_named : List ℕ → Option Form
 form_named word =
@@ -24,6 +25,10 @@ drill_with None = None
 abbrev pub drill_named : List ℕ → Option Form
 drill_named messages = drill_with (number_between 1 100_000 messages)
 
+-- an account of 3 to 16 hexadecimal digits in capitals
+abbrev pub panel_named : List ℕ → Option Form
+panel_named account = if is_run is_capital_hex 3 16 account then Some (Panel account) else None
+
 -- of three numbers, where all of them are given
 abbrev pub crew_with : Option ℕ → Option ℕ → Option ℕ → Option Form
 crew_with (Some lines) (Some desks) (Some sessions) = Some (Serve (record { lines = lines; desks = desks; sessions = sessions }))
@@ -36,9 +41,12 @@ abbrev pub crew_named : List ℕ → List ℕ → List ℕ → Option Form
 crew_named lines desks sessions =
     crew_with (number_between 1 64 lines) (number_between 0 16 desks) (number_between 1 1_000_000 sessions)
 
--- the one word `line`, `desk`, `script` or `report`; `drill` and a number; or `serve` and three numbers
+-- the one word `line`, `desk`, `script` or `report`; `drill` and a number; `panel` and an account; or `serve` and three numbers
 abbrev pub form_of : List (List ℕ) → Option Form
 form_of (word ∷ []) = form_named word
-form_of (word ∷ messages ∷ []) = if bytes_eq word (codes "drill") then drill_named messages else None
+form_of (word ∷ argument ∷ []) =
+    if bytes_eq word (codes "drill") then drill_named argument
+    else if bytes_eq word (codes "panel") then panel_named argument
+    else None
 form_of (word ∷ lines ∷ desks ∷ sessions ∷ []) = if bytes_eq word (codes "serve") then crew_named lines desks sessions else None
 form_of words = None

@@ -19,6 +19,7 @@ pub mod SessionRuns
 pub mod Reports
 pub mod ScriptRuns
 pub mod DrillRuns
+pub mod PanelRuns
 pub mod Servings
 pub mod ServeRuns
 pub mod WholeRuns

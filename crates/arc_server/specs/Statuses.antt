@@ -85,7 +85,7 @@ bad_script_text line = codes "script: line " ++ decimal line ++ codes "\n"
 -- the line that it writes on standard error, or nothing
 unfoldable pub text_of_status : Status → List ℕ
 text_of_status Done = []
-text_of_status Usage = codes "usage: line | desk | script | report | drill N | serve LINES DESKS SESSIONS\n"
+text_of_status Usage = codes "usage: line | desk | script | report | drill N | serve LINES DESKS SESSIONS | panel ACCOUNT\n"
 text_of_status (SetupBad fault) = setup_text fault
 text_of_status (ReadFault which before now) = read_text which
 text_of_status (WriteFault before now) = codes "write fault\n"

@@ -1,15 +1,17 @@
 -- What a run did, by its form.
 use Rattle.std.specs.Prelude.{◌≡◌, ◌≤◌, ℕ, Bool, true, false, Option, length}
+use Rattle.arc_data.specs.Digits.{is_capital_hex, is_run}
 use Rattle.arc_io.specs.Areas.{Areas}
 use Rattle.arc_io.specs.Seen.{PortSeen}
 use Rattle.arc_serving.specs.Seen.{StationSeen}
 use Rattle.arc_server.specs.DrillRuns.{IsDrillRun}
+use Rattle.arc_server.specs.PanelRuns.{IsPanelRun}
 use Rattle.arc_server.specs.Reports.{IsReportRun}
 use Rattle.arc_server.specs.ScriptRuns.{IsScriptRun}
 use Rattle.arc_server.specs.ServeRuns.{IsServeRun}
 use Rattle.arc_server.specs.SessionRuns.{IsSessionRun}
 use Rattle.arc_server.specs.declared.form.Form.{Form}
-use Rattle.arc_server.specs.declared.form.Form.TheVariants.{Session, Script, Report, Drill, Serve}
+use Rattle.arc_server.specs.declared.form.Form.TheVariants.{Session, Script, Report, Drill, Serve, Panel}
 use Rattle.arc_server.specs.declared.status.Status.{Status}
 
 -- there are doors for all that are asked for
@@ -19,14 +21,16 @@ HasDoors (Session side) lines desks = Unit {0}
 HasDoors Script lines desks = Unit {0}
 HasDoors Report lines desks = Unit {0}
 HasDoors (Drill messages) lines desks = Unit {0}
+HasDoors (Panel account) lines desks = Unit {0}
 
--- a number of messages that a drill can have
-abbrev pub HasMessages : Form → Type 0
-HasMessages (Drill messages) = (1 ≤ messages) × (messages ≤ 100_000)
-HasMessages (Session side) = Unit {0}
-HasMessages Script = Unit {0}
-HasMessages Report = Unit {0}
-HasMessages (Serve crew) = Unit {0}
+-- a number of messages that a drill can have, and an account that a panel can have
+abbrev pub IsInRange : Form → Type 0
+IsInRange (Drill messages) = (1 ≤ messages) × (messages ≤ 100_000)
+IsInRange (Session side) = Unit {0}
+IsInRange Script = Unit {0}
+IsInRange Report = Unit {0}
+IsInRange (Serve crew) = Unit {0}
+IsInRange (Panel account) = is_run is_capital_hex 3 16 account ≡ true
 
 -- the setup is read
 abbrev pub reads_setup : Form → Bool
@@ -35,6 +39,7 @@ reads_setup Script = true
 reads_setup (Serve crew) = true
 reads_setup Report = false
 reads_setup (Drill messages) = false
+reads_setup (Panel account) = false
 
 -- Of a disk as it was and as it is, of the setup's source, of the port, and of what stands around it.
 abbrev pub IsRun : {D : Type 0} → (D → Option Areas) → (D → Areas → Type 0) → (D → ℕ) → (D → ℕ → Areas → Type 0) → (D → ℕ)
@@ -47,5 +52,7 @@ IsRun told may_leave moment left_since faults Report status q q' p p' around aro
     (q' ≡ q) × (around' ≡ around) × IsReportRun told may_leave moment left_since faults status p p' disk disk'
 IsRun told may_leave moment left_since faults (Drill messages) status q q' p p' around around' disk disk' =
     (q' ≡ q) × (around' ≡ around) × (disk' ≡ disk) × IsDrillRun messages status p p'
+IsRun told may_leave moment left_since faults (Panel account) status q q' p p' around around' disk disk' =
+    (q' ≡ q) × (around' ≡ around) × (disk' ≡ disk) × IsPanelRun account status p p'
 IsRun told may_leave moment left_since faults (Serve crew) status q q' p p' around around' disk disk' =
     IsServeRun told may_leave moment left_since faults crew status q q' p p' around around' disk disk'

@@ -1,10 +1,11 @@
 // The forms of the words that a run is called with.
 ghost use Rattle.std.specs.Prelude.{◌≡◌, ◌≤◌, IfSome};
-ghost use Rattle.arc_server.specs.Forms.{form_of, form_named, crew_named, drill_named};
-ghost use Rattle.arc_server.specs.WholeRuns.{HasDoors, HasMessages};
+ghost use Rattle.arc_server.specs.Forms.{form_of, form_named, crew_named, drill_named, panel_named};
+ghost use Rattle.arc_server.specs.WholeRuns.{HasDoors, IsInRange};
 
 use accounts::number_between;
 use arc_data::Txt;
+use arc_panel::is_panel_account;
 use arc_serving::Crew;
 use arc_sessions::Side;
 
@@ -21,17 +22,20 @@ pub enum Form {
     Drill(u32),
     /// `serve LINES DESKS SESSIONS`: so many lines and desks at once, each for so many sessions.
     Serve(Crew),
+    /// `panel ACCOUNT`: the lines on the port, played over a panel of this account.
+    Panel(Txt),
 }
 
 /// The form of the words. None where they are of none.
 pub(crate) fn form_of(words: &[Txt]) -> Option<Form>
     ensures form { result ≡ form_of words.now }
     ensures doors { IfSome result (λ form. HasDoors form 64 16) }
-    ensures few { IfSome result HasMessages }
+    ensures range { IfSome result IsInRange }
 {
     match words {
         [word] => form_named(word),
         [word, messages] if word.bytes() == b"drill".as_slice() => drill_named(messages),
+        [word, account] if word.bytes() == b"panel".as_slice() => panel_named(account),
         [word, lines, desks, sessions] if word.bytes() == b"serve".as_slice() => {
             crew_named(lines, desks, sessions)
         }
@@ -43,7 +47,7 @@ pub(crate) fn form_of(words: &[Txt]) -> Option<Form>
 fn form_named(word: &Txt) -> Option<Form>
     ensures form { result ≡ form_named word.now }
     ensures doors { IfSome result (λ form. HasDoors form 64 16) }
-    ensures few { IfSome result HasMessages }
+    ensures range { IfSome result IsInRange }
 {
     if word.bytes() == b"line".as_slice() {
         Some(Form::Session(Side::Lines))
@@ -62,17 +66,30 @@ fn form_named(word: &Txt) -> Option<Form>
 fn drill_named(messages: &Txt) -> Option<Form>
     ensures form { result ≡ drill_named messages.now }
     ensures doors { IfSome result (λ form. HasDoors form 64 16) }
-    ensures few { IfSome result HasMessages }
+    ensures range { IfSome result IsInRange }
 {
     let messages = number_between(1, 100_000, messages.bytes())?;
     Some(Form::Drill(messages as u32))
+}
+
+// The form of the account behind `panel`.
+fn panel_named(account: &Txt) -> Option<Form>
+    ensures form { result ≡ panel_named account.now }
+    ensures doors { IfSome result (λ form. HasDoors form 64 16) }
+    ensures range { IfSome result IsInRange }
+{
+    if is_panel_account(account.bytes()) {
+        Some(Form::Panel(*account))
+    } else {
+        None
+    }
 }
 
 // The form of the three numbers behind `serve`.
 fn crew_named(lines: &Txt, desks: &Txt, sessions: &Txt) -> Option<Form>
     ensures form { result ≡ crew_named lines.now desks.now sessions.now }
     ensures doors { IfSome result (λ form. HasDoors form 64 16) }
-    ensures few { IfSome result HasMessages }
+    ensures range { IfSome result IsInRange }
 {
     let lines = number_between(1, 64, lines.bytes())?;
     let desks = number_between(0, 16, desks.bytes())?;

@@ -1,7 +1,8 @@
 //! The alarm receiving centre. `arc line` and `arc desk` read the setup from `setup.txt` in the working folder and serve one line,
 //! or one operator's desk, on their standard input and output. What they record stands in `journal.a`, beside `journal.b`, and
 //! `arc report` writes what stands there. `arc serve` serves many lines and desks at once, each on a connection. `arc script` runs a
-//! script from standard input over the same journal, and `arc drill` one of its own over a journal in memory.
+//! script from standard input over the same journal, and `arc drill` one of its own over a journal in memory. `arc panel` is a panel that a
+//! receiver can be tried with.
 #![tactic(auto)]
 
 ghost use Rattle.std.specs.Prelude.{◌≡◌, Some};
@@ -27,6 +28,7 @@ mod drill;
 mod form;
 mod made;
 mod opened;
+mod panel;
 mod report;
 mod run;
 mod script;

@@ -1,10 +1,11 @@
 // The top call.
 ghost use Rattle.std.specs.Prelude.{◌≡◌, ◌≢◌, ◌↔◌, Some, None, false, length, map};
 ghost use Rattle.arc_server.specs.Forms.{form_of as form_by};
-ghost use Rattle.arc_server.specs.WholeRuns.{IsRun, HasDoors, HasMessages, reads_setup};
+ghost use Rattle.arc_server.specs.WholeRuns.{IsRun, HasDoors, IsInRange, reads_setup};
 
 use crate::drill::run_drill;
 use crate::form::{Form, form_of};
+use crate::panel::run_panelled;
 use crate::report::run_report;
 use crate::script::run_scripted;
 use crate::serving::{Served, run_serve};
@@ -43,7 +44,8 @@ pub struct Ended<S, P, D, A, B, T> {
 /// side have a worker each, all beside each other, and a ticker; when all have ended, a summary is written on the port. Of `report` the
 /// setup is not read: the journal is opened, and what it has is reported on the port. Of `script` the setup is read, and the script on the
 /// port is run over the journal: it sets the clock. Of `drill N` nothing but the port is touched: a script of so many messages is run over
-/// a disk in memory, and one line of what was counted is written.
+/// a disk in memory, and one line of what was counted is written. Of `panel ACCOUNT` nothing but the port is touched, too: its lines say what
+/// happens to a panel of this account, and what it does is written.
 pub fn run<
     R: Threads + Wait + Sync,
     S: Source,
@@ -143,7 +145,7 @@ fn run_form<
     requires setup { (S.seen setup.old).ended ≡ false }
     requires port { (P.seen port.old).ended ≡ false }
     requires doors { HasDoors form (length station.lines) (length station.desks) }
-    requires messages { HasMessages form }
+    requires range { IsInRange form }
     ensures usage { result.status ≢ Status.Usage }
     ensures unread { reads_setup form ≡ false → setup.new ≡ setup.old }
     ensures ran { IsRun D.told D.may_leave D.moment D.left_since D.fault_count form result.status
@@ -155,6 +157,7 @@ fn run_form<
         Form::Script => run_scripted(alloc, setup, port, disk),
         Form::Report => run_report(alloc, port, disk),
         Form::Drill(messages) => (run_drill(alloc, messages, port), disk),
+        Form::Panel(account) => (run_panelled(alloc, account, port), disk),
     };
     Served {
         status,

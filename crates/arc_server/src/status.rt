@@ -38,7 +38,8 @@ pub enum Status {
     Journal(OpenFault),
     /// The journal has no room for a record: the bytes that it has, those that the record needs, and its records.
     Full { used: u64, need: u64, records: u64 },
-    /// The line of this number, from 1, is none of a script, or comes before its first `T`.
+    /// The line of this number, from 1, is none of a script, or comes before its first `T`; or it is none of a panel's input, or its moment
+    /// falls.
     BadScript { line: u64 },
     /// Taking a connection failed at a door of this side, with the door's counts at entry and at the end.
     DoorFault { door: Side, before: u64, now: u64 },
@@ -82,7 +83,7 @@ impl Status {
             Status::Done => Ok(()),
             Status::Usage => put(
                 out,
-                b"usage: line | desk | script | report | drill N | serve LINES DESKS SESSIONS\n",
+                b"usage: line | desk | script | report | drill N | serve LINES DESKS SESSIONS | panel ACCOUNT\n",
             ),
             Status::SetupBad(fault) => put_setup(out, *fault),
             Status::ReadFault {

@@ -11,3 +11,4 @@ pub use arc_data::{Blob, Memory, Token, Txt};
 pub use dc09_frame::FrameBuf;
 pub use panel::Panel;
 pub use panel_rules::{Fate, Heard, Queued};
+pub use setting::is_panel_account;

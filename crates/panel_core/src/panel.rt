@@ -10,7 +10,7 @@ ghost use Rattle.panel_core.specs.Standing.{StandsFor};
 use crate::flight::Flight;
 use crate::message::{is_ack, write_message};
 use crate::report::is_bad;
-use crate::setting::{is_account, is_line, is_number, next_number};
+use crate::setting::{is_line, is_number, is_panel_account, next_number};
 use arc_data::{Blob, Memory, Token, Txt};
 use dc09_frame::FrameBuf;
 use panel_rules::{Fate, Heard, Queued, Report};
@@ -81,8 +81,10 @@ impl Panel {
     pub fn new(alloc: Global, account: Txt, line: Txt, first: u16) -> Option<Panel>
         ensures exactly { is_some result ≡ is_setting (record { account = account; line = line; first = first }) }
         ensures stands { IfSome result (λ p. StandsFor (record { account = account; line = line; first = first }) [] p) }
+        ensures moment { IfSome result (λ p. p.stepped ≡ 0) }
+        ensures count { IfSome result (λ p. length p.acked ≡ 0) }
     {
-        if !is_account(account.bytes()) || !is_line(line.bytes()) || !is_number(first) {
+        if !is_panel_account(account.bytes()) || !is_line(line.bytes()) || !is_number(first) {
             return None;
         }
         Some(Panel {

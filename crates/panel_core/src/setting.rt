@@ -11,8 +11,8 @@ const FIRST_NUMBER: u16 = 1;
 
 const LAST_NUMBER: u16 = 9999;
 
-/// 3 to 16 hexadecimal digits in capitals.
-pub fn is_account(account: &[u8]) -> bool
+/// Whether a panel may have the account: 3 to 16 hexadecimal digits in capitals.
+pub fn is_panel_account(account: &[u8]) -> bool
     ensures { result ≡ is_run is_capital_hex 3 16 account.now }
 {
     if account.len() < 3 || account.len() > 16 {

@@ -1,0 +1,110 @@
+-- How the playing of a panel's lines ended, and what was written.
+use Rattle.std.specs.Prelude.{◌≡◌, ◌<◌, ◌≤◌, ◌+◌, ◌++◌, ℕ, List, [], ◌∷◌, Bool, true, if◌then◌else◌, codes, length, take}
+use Rattle.std.specs.Io.KnownBytes.{prepend_known, append_known, IsAtEnd}
+use Rattle.arc_io.specs.Causes.{Rose}
+use Rattle.arc_io.specs.Seen.{PortSeen}
+use Rattle.arc_io.specs.Told.{IsReadOut}
+use Rattle.panel_rules.specs.Panels.{Setting, Happening}
+use Rattle.std.specs.Str.Lines.{lines}
+use Rattle.arc_text.specs.Lines.{ended_lines}
+use Rattle.session_rules.specs.Inputs.{input_limit}
+use Rattle.arc_panel.specs.Lines.{AreSaid, IsPlayable}
+use Rattle.arc_panel.specs.Texts.{line_of, text_of}
+use Rattle.arc_panel.specs.declared.play.PanelEnd.{PanelEnd}
+use Rattle.arc_panel.specs.declared.play.PanelEnd.TheVariants.{Done, ReadFault, WriteFault, Spent, BadLine, Memory}
+
+-- the setting of the panel of an account: the line `0`, and the number 1 of the first message
+abbrev pub setting_of : List ℕ → Setting
+setting_of account = record { account = account; line = codes "0"; first = 1 }
+
+-- The lines that were read: where the input ended, what stands behind its last line feed is a line too, if it is not empty; what a failed
+-- read or the limit cut short is none.
+abbrev pub lines_read : Bool → List ℕ → List (List ℕ)
+lines_read ended read = if ended then lines read else ended_lines read
+
+-- What was played of some lines: the first of them say what happened. Those behind were not played.
+pub record Played (lines : List (List ℕ)) : Type 0 where
+  pub front : List (List ℕ)
+  pub behind : List (List ℕ)
+  pub history : List Happening
+  pub split : lines ≡ front ++ behind
+  pub said : AreSaid [] front history
+
+-- all lines were played, and the output is theirs
+pub record IsWhole (s : Setting) (lines : List (List ℕ)) (played : Played lines) (p p' : PortSeen) : Type 0 where
+  pub none_behind : played.behind ≡ []
+  pub output : p'.written ≡ append_known p.written (text_of s played.history)
+
+-- the next line, of this number from 1 on, says nothing here; the output is that of the lines before it
+pub record IsBad (s : Setting) (lines : List (List ℕ)) (played : Played lines) (number : ℕ) (p p' : PortSeen) : Type 0 where
+  pub line : List ℕ
+  pub more : List (List ℕ)
+  pub next : played.behind ≡ line ∷ more
+  pub numbered : number ≡ length played.front + 1
+  pub wrong : (x : Happening) → IsPlayable played.history line x → ⊥
+  pub output : p'.written ≡ append_known p.written (text_of s played.history)
+
+-- the next line says something, whose output was cut short: it lacks a byte at least
+pub record IsCutOff (s : Setting) (lines : List (List ℕ)) (played : Played lines) (p p' : PortSeen) : Type 0 where
+  pub line : List ℕ
+  pub more : List (List ℕ)
+  pub next : played.behind ≡ line ∷ more
+  pub happens : Happening
+  pub says : IsPlayable played.history line happens
+  pub count : ℕ
+  pub short : count < length (line_of s played.history happens)
+  pub output : p'.written ≡ append_known p.written (text_of s played.history ++ take count (line_of s played.history happens))
+
+-- the next line says something, for which memory was wanted; the output is that of the lines before it
+pub record IsWanting (s : Setting) (lines : List (List ℕ)) (played : Played lines) (p p' : PortSeen) : Type 0 where
+  pub line : List ℕ
+  pub more : List (List ℕ)
+  pub next : played.behind ≡ line ∷ more
+  pub happens : Happening
+  pub says : IsPlayable played.history line happens
+  pub output : p'.written ≡ append_known p.written (text_of s played.history)
+
+-- what an end says of what was played, of the bytes that were read
+abbrev pub EndsAs : Setting → List ℕ → (lines : List (List ℕ)) → Played lines → PanelEnd → PortSeen → PortSeen → Type 0
+EndsAs s read lines played Done p p' = IsReadOut p' × (length read < input_limit) × IsWhole s lines played p p'
+EndsAs s read lines played ReadFault p p' = Rose p.read_faults p'.read_faults × (length read < input_limit) × IsWhole s lines played p p'
+EndsAs s read lines played Spent p p' = (length read ≡ input_limit) × IsWhole s lines played p p'
+EndsAs s read lines played WriteFault p p' = Rose p.write_faults p'.write_faults × IsCutOff s lines played p p'
+EndsAs s read lines played (BadLine number) p p' = IsBad s lines played number p p'
+EndsAs s read lines played Memory p p' = IsWanting s lines played p p'
+
+-- Not far ahead: all lines but those that end in the last bytes read, at most 4,096 of them, were played.
+pub record IsNotAhead (read : List ℕ) (front : List (List ℕ)) : Type 0 where
+  pub early : List ℕ
+  pub last : List ℕ
+  pub more : List (List ℕ)
+  pub parts : read ≡ early ++ last
+  pub small : length last ≤ 4096
+  pub before : front ≡ ended_lines early ++ more
+
+-- of lines of which one ended the playing
+abbrev pub ReadsNoFurther : PanelEnd → List ℕ → List (List ℕ) → Type 0
+ReadsNoFurther Done read front = Unit {0}
+ReadsNoFurther ReadFault read front = Unit {0}
+ReadsNoFurther Spent read front = Unit {0}
+ReadsNoFurther WriteFault read front = IsNotAhead read front
+ReadsNoFurther (BadLine number) read front = IsNotAhead read front
+ReadsNoFurther Memory read front = IsNotAhead read front
+
+-- What a panel of this setting did with the bytes that were read of the port: their lines, and what was played of them. Where a read has met
+-- the input's end, the last line may lack its line feed. All but what is about reading and writing stayed.
+pub record HasPlayed (s : Setting) (end : PanelEnd) (p p' : PortSeen) : Type 0 where
+  pub read : List ℕ
+  pub taken : p.left ≡ prepend_known read p'.left
+  pub out : p'.ended ≡ true → IsAtEnd p'.left
+  pub most : length read ≤ input_limit
+  pub played : Played (lines_read p'.ended read)
+  pub ends : EndsAs s read (lines_read p'.ended read) played end p p'
+  pub ahead : ReadsNoFurther end read played.front
+  pub others : p' ≡ record p {
+    left = p'.left;
+    ended = p'.ended;
+    read_faults = p'.read_faults;
+    written = p'.written;
+    write_faults = p'.write_faults;
+  }
