@@ -43,11 +43,15 @@ module _ (s : Setting) (p : PortSeen) (lines : List (List ℕ)) (player : Player
     says_all = so.says_all;
     halted = (
       rose_since p.write_faults q.write_faults q'.write_faults so.writes rose,
-      (x, says, (
-        n,
-        subst (λ (l : List ℕ). n < length l) text_is short,
-        written ∙ ap (λ l. append_known q.written (take n l)) text_is ∙ ap (λ k. append_known k (take n (line_of s so.history x))) so.output ∙ known_both p.written (text_of s so.history) (take n (line_of s so.history x)),
-      )),
+      (
+        x,
+        says,
+        (
+          n,
+          subst (λ (l : List ℕ). n < length l) text_is short,
+          written ∙ ap (λ l. append_known q.written (take n l)) text_is ∙ ap (λ k. append_known k (take n (line_of s so.history x))) so.output ∙ known_both p.written (text_of s so.history) (take n (line_of s so.history x)),
+        ),
+      ),
     );
   }
 

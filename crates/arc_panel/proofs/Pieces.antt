@@ -127,16 +127,19 @@ halted_ends : (s : Setting) (p q : PortSeen) (read : List ℕ) (before all : Lis
 halted_ends s p q read before all Done h is = absurd is
 halted_ends s p q read before all ReadFault h is = absurd is
 halted_ends s p q read before all Spent h is = absurd is
-halted_ends s p q read before all WriteFault h is = (is.0, record {
-  line = h.line;
-  more = h.more;
-  next = refl;
-  happens = is.1.0;
-  says = is.1.1;
-  count = is.1.2.0;
-  short = is.1.2.1;
-  output = is.1.2.2;
-})
+halted_ends s p q read before all WriteFault h is = (
+  is.0,
+  record {
+    line = h.line;
+    more = h.more;
+    next = refl;
+    happens = is.1.0;
+    says = is.1.1;
+    count = is.1.2.0;
+    short = is.1.2.1;
+    output = is.1.2.2;
+  },
+)
 halted_ends s p q read before all (BadLine number) h is = record {
   line = h.line;
   more = h.more;

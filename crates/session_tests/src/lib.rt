@@ -1,7 +1,9 @@
-//! Tests of sessions of lines, of desks, of both kinds and of scripts by their public calls, each in a module of its own. Only the tests
+//! Tests of sessions of lines, of desks, of both kinds, of scripts and of panels by their public calls, each in a module of its own. Only the tests
 //! are proved here, over the proved libraries.
 #![tactic(auto)]
 
+#[cfg(test)]
+mod arc_panel_tests;
 #[cfg(test)]
 mod arc_script_tests;
 #[cfg(test)]

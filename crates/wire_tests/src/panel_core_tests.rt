@@ -208,7 +208,11 @@ fn panels_have_accounts_lines_and_numbers_in_their_ranges(rt: HostRuntime) {
     holds(&rt, !is_panel(alloc, b"123", b"1234567", 1), "7 digits");
     holds(&rt, !is_panel(alloc, b"123", b"g", 1), "no digit of a line");
     holds(&rt, !is_panel(alloc, b"123", b"0", 0), "the number 0");
-    holds(&rt, !is_panel(alloc, b"123", b"0", 10_000), "the number 10,000");
+    holds(
+        &rt,
+        !is_panel(alloc, b"123", b"0", 10_000),
+        "the number 10,000",
+    );
 }
 
 // Queues an event, of which fewer than 2^48 are there.

@@ -13,8 +13,11 @@ returns-in-Ok-clause-finished g c s p stream fed so =
     let tells = f.lines.2 in
     let cut = tells.cut ∙ ap (λ l. cut_of l line) (c.in-Some.ensures.limit ∙ c.requires.limit) in
     let more = c.in-Ok.ensures.played s p (ended_lines stream) line cut (c.line.ensures ∙ tells.kept) so in
-    inl (refl, whole_of s p (lines stream) c.play_line.new.player (g.P.Ends.seen c.play_line.new.port)
-    (subst (λ l. SoFar s p l c.play_line.new.player (g.P.Ends.seen c.play_line.new.port)) (sym f.lines.1) more))
+    inl (
+      refl,
+      whole_of s p (lines stream) c.play_line.new.player (g.P.Ends.seen c.play_line.new.port)
+          (subst (λ l. SoFar s p l c.play_line.new.player (g.P.Ends.seen c.play_line.new.port)) (sym f.lines.1) more),
+    )
 
 pub returns-in-Err-clause-finished : goal.returns-in-Err-clause-finished
 returns-in-Err-clause-finished g c s p stream fed so =
