@@ -90,7 +90,7 @@ ack_body s n token = echo_body Ack (header s n token)
 abbrev pub is_barred : ℕ → Bool
 is_barred b = (b == 91) || (b == 93) || (b == 10) || (b == 13)
 
--- data that no message of a panel carries: more than 3,900 bytes, a barred byte, or no signals
+-- data that no message of a panel carries: more than 3900 bytes, a barred byte, or no signals
 abbrev pub is_bad : Token → List ℕ → Bool
 is_bad token content = nat_lt 3900 (length content) || list_any is_barred content || not (has_signals token content)
 

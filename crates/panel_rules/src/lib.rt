@@ -4,7 +4,7 @@
 
 use arc_data::{Blob, Token};
 
-/// What a message of a panel reports: the kind of its data, and the data. It has at most 3,900 bytes.
+/// What a message of a panel reports: the kind of its data, and the data. It has at most 3900 bytes.
 #[derive(Drop)]
 pub struct Report {
     pub token: Token,
@@ -18,7 +18,7 @@ pub enum Queued {
     Taken { event: u64 },
     /// 1,000 events wait already.
     Full,
-    /// The data has more than 3,900 bytes, or a `[`, `]`, line feed or carriage return, or reports no signals.
+    /// The data has more than 3900 bytes, or a `[`, `]`, line feed or carriage return, or reports no signals.
     BadData,
 }
 
