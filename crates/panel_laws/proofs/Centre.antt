@@ -1,0 +1,197 @@
+-- The steps of the centre: what holds of a world goes on when a frame reaches it, when another event comes, and when it crashes.
+use Rattle.std.proofs.Common.{◌≡◌, ◌≤◌, ◌+◌, ◌-◌, ℕ, List, [], ◌∷◌, ◌++◌, length, Bool, true, false, refl, sym, subst, true≢false, arith}
+use Rattle.std.specs.Prelude.{None}
+use Rattle.std.specs.List.{AllByRecursion}
+use Rattle.std.proofs.lemmas.Option.{none-some}
+use Rattle.arc_data.specs.declared.event.Event.{Event}
+use Rattle.arc_data.specs.declared.event.Event.TheVariants.{Message as Sends}
+use Rattle.alarm_rules.specs.Setups.{meaning, has_account}
+use Rattle.centre_rules.specs.History.{Entry}
+use Rattle.centre_laws.specs.Schedules.{Step, Deliver, Other, Lose, Crash, Schedule, Item, entries, sent_item, item_of, message_entry, start_entry, next, oldest, ideal_after, IsKept, is_other}
+use Rattle.centre_laws.specs.Spacing.{message_in, IsSpaced}
+use Rattle.centre_laws.proofs.Lists.{all_drop}
+use Rattle.centre_laws.proofs.Shape.{delivered_has, added_has}
+use Rattle.panel_rules.specs.declared.Report.{Report}
+use Rattle.panel_rules.specs.Marks.{Mark, taken}
+use Rattle.panel_rules.specs.Panels.{Setting, is_setting}
+use Rattle.panel_laws.specs.Worlds.{Copy, IsAmong, Deliver as Delivers, message_of, reply_at}
+use Rattle.panel_laws.proofs.Sent.{Sent, all_among}
+use Rattle.panel_laws.proofs.Flown.{IsSent, IsAcked, sent_later, event_counted, first_below}
+use Rattle.panel_laws.proofs.Items.{Another, Its, IsItem, AreItems, IsAbove, AreFalling, items_later, items_acknowledged, falling_acknowledged, falling_dropped, moment_is}
+use Rattle.panel_laws.proofs.Spaced.{IsArrival, spaced, above_all}
+use Rattle.panel_laws.proofs.Holds.{acked_more, IsFrame, IsReply, Holds, stood, signals_of, good_of, replies_later}
+
+-- another event is no message
+not_message : (e : Event) → is_other e ≡ true → message_in e ≡ None
+not_message (Sends m) other = absurd (true≢false (sym other))
+not_message rest other = refl
+
+module _ (x : Schedule) (s : Setting) (ms : List Mark) (now : ℕ) (fs rs : List Copy) (ts : List Step) (h : Holds x s ms now fs rs ts)
+    (clock : ℕ) (le : now ≤ clock) where
+  -- the items, once the moment has passed
+  passed : AreItems s h.xs clock (ideal_after x ts)
+  passed = items_later s h.xs h.xs now clock (ideal_after x ts) le (λ y there. there) h.items
+
+  -- A copy of the message of y reaches the centre.
+
+  arrival : (y : Sent) → is_setting s ≡ true → IsAmong y h.xs → clock ≤ y.first + 240
+      → IsArrival s (IsAcked ms) h.xs now clock (ideal_after x ts) y
+  arrival y ok there soon = record {
+    setting = ok;
+    order = h.sent.order;
+    some = λ z among. (event_counted ms now h.xs z h.sent among).some;
+    there = there;
+    from = omega (arith, first_below ms now h.xs y h.sent there, le);
+    soon = soon;
+    time = le;
+    items = h.items;
+    falls = h.falls;
+    kept = λ acked. stood x ts y.event h.steps h.spaced (h.acked y.event acked);
+  }
+
+  -- the item that it adds
+  item_is : (y : Sent) (b : Bool) → IsAmong y h.xs → clock ≤ y.first + 240
+      → IsItem s h.xs clock (sent_item y.event b (message_entry (ideal_after x ts) (message_of s y.event y.report) clock))
+  item_is y b there soon =
+      let at = moment_is s h.xs now clock (ideal_after x ts) le h.items in
+      record {
+        upto = omega (arith, at);
+        of = Its y there (record {
+          number = refl;
+          event = refl;
+          low = omega (arith, at, first_below ms now h.xs y h.sent there, le);
+          high = omega (arith, at, soon);
+        });
+      }
+
+  replied : (y : Sent) (at : ℕ) (b : Bool) → IsAmong y h.xs → clock ≤ y.first + 240
+      → AllByRecursion (IsReply h.xs (Deliver y.event (message_of s y.event y.report) clock b ∷ ts))
+      (reply_at (Delivers (record { event = y.event; report = y.report; at = at }) clock b) ++ rs)
+  replied y at true there soon = let t = Deliver y.event (message_of s y.event y.report) clock true in (
+    record {
+      of = y;
+      there = there;
+      copy = record { event = refl; report = refl; high = soon };
+      acked = record { later = []; earlier = ts; message = message_of s y.event y.report; clock = clock; is = refl };
+    },
+    replies_later h.xs t ts rs h.replies,
+  )
+  replied y at false there soon = replies_later h.xs (Deliver y.event (message_of s y.event y.report) clock false) ts rs h.replies
+
+  -- what holds once the copy that was sent at a moment is delivered
+  abbrev Delivered : ℕ → Bool → ℕ → Report → Type 0
+  Delivered at b e r = Holds x s ms clock fs (reply_at (Delivers (record { event = e; report = r; at = at }) clock b) ++ rs)
+      (Deliver e (message_of s e r) clock b ∷ ts)
+
+  arrive : (y : Sent) (at : ℕ) (b : Bool) → is_setting s ≡ true → has_account (meaning x.text) s.account ≡ true → IsAmong y h.xs
+      → clock ≤ y.first + 240 → Delivered at b y.event y.report
+  arrive y at b ok has there soon =
+      let w = ideal_after x ts in
+      let m = message_of s y.event y.report in
+      let v = arrival y ok there soon in
+      let own = all_among (IsSent ms) y h.xs h.sent.each there in
+      let new = sent_item y.event b (message_entry w m clock) in
+      let t = Deliver y.event m clock b in
+      record {
+        xs = h.xs;
+        sent = sent_later ms now clock h.xs le h.sent;
+        frames = h.frames;
+        replies = replied y at b there soon;
+        acked = λ n is. acked_more n t ts (h.acked n is);
+        good = h.good;
+        deliveries = ((y, there, refl, refl), h.deliveries);
+        items = delivered_has (AreItems s h.xs clock) y.event m clock b w passed (items_acknowledged s h.xs clock y.event w passed)
+            (λ none. (item_is y b there soon, passed));
+        falls = delivered_has AreFalling y.event m clock b w h.falls (falling_acknowledged y.event w h.falls)
+            (λ none. (above_all s (IsAcked ms) h.xs now clock w y v new refl none, h.falls));
+        steps = (record { account = has; signals = signals_of y.report (good_of y.event y.report (taken ms) h.good own.told) }, h.steps);
+        spaced = (
+          subst (λ (at : ℕ). IsSpaced y.event m at ts w) (sym (moment_is s h.xs now clock w le h.items))
+              (spaced s (IsAcked ms) h.xs now clock w y v ts h.deliveries),
+          h.spaced,
+        );
+      }
+
+  -- a frame that is under way
+  pub deliver : (c : Copy) (b : Bool) → is_setting s ≡ true → has_account (meaning x.text) s.account ≡ true → IsAmong c fs
+      → clock ≤ c.at + 60
+      → Holds x s ms clock fs (reply_at (Delivers c clock b) ++ rs) (Deliver c.event (message_of s c.event c.report) clock b ∷ ts)
+  deliver c b ok has there soon =
+      let f = all_among (IsFrame h.xs) c fs h.frames there in
+      let y = f.of in
+      let own = arrive y c.at b ok has f.there (omega (arith, f.copy.high, soon)) in
+      subst (λ (e : ℕ). Delivered c.at b e c.report) (sym f.copy.event)
+      (subst (λ (r : Report). Delivered c.at b y.event r) (sym f.copy.report) own)
+
+  -- Another event comes.
+
+  pub other : (e : Event) (b : Bool) → is_other e ≡ true → Holds x s ms clock fs rs (Other e clock b ∷ ts)
+  other e b is =
+      let w = ideal_after x ts in
+      let t = Other e clock b in
+      let new = next (entries w) e clock in
+      record {
+        xs = h.xs;
+        sent = sent_later ms now clock h.xs le h.sent;
+        frames = h.frames;
+        replies = replies_later h.xs t ts rs h.replies;
+        acked = λ n acked. acked_more n t ts (h.acked n acked);
+        good = h.good;
+        deliveries = (tt, h.deliveries);
+        items = added_has (AreItems s h.xs clock) new b w passed (λ _.
+            (record { upto = omega (arith, moment_is s h.xs now clock w le h.items); of = Another refl (not_message e is) }, passed));
+        falls = added_has AreFalling new b w h.falls (λ _. (all_below new b w, h.falls));
+        steps = (is, h.steps);
+        spaced = (tt, h.spaced);
+      }
+    where
+      all_below : (new : Entry) (b : Bool) (w : List Item) → AllByRecursion (IsAbove (item_of b new)) w
+      all_below new b [] = tt
+      all_below new b (i ∷ w) = ((λ n k none number. absurd (none-some n none)), all_below new b w)
+
+  -- The centre crashes.
+
+  pub crash : (kept : ℕ) → IsKept kept (ideal_after x ts) → Holds x s ms clock fs rs (Crash kept clock ∷ ts)
+  crash kept is =
+      let w = ideal_after x ts in
+      let d = length w - kept in
+      let left = oldest kept w in
+      let t = Crash kept clock in
+      let before = all_drop (IsItem s h.xs now) d w h.items in
+      record {
+        xs = h.xs;
+        sent = sent_later ms now clock h.xs le h.sent;
+        frames = h.frames;
+        replies = replies_later h.xs t ts rs h.replies;
+        acked = λ n acked. acked_more n t ts (h.acked n acked);
+        good = h.good;
+        deliveries = (tt, h.deliveries);
+        items = (
+          record { upto = omega (arith, moment_is s h.xs now clock left le before); of = Another refl refl },
+          all_drop (IsItem s h.xs clock) d w passed,
+        );
+        falls = (all_below (start_entry left clock) left, falling_dropped d w h.falls);
+        steps = (is, h.steps);
+        spaced = (tt, h.spaced);
+      }
+    where
+      all_below : (new : Entry) (w : List Item) → AllByRecursion (IsAbove (item_of false new)) w
+      all_below new [] = tt
+      all_below new (i ∷ w) = ((λ n k none number. absurd (none-some n none)), all_below new w)
+
+-- A frame or a reply is lost.
+pub lose : (x : Schedule) (s : Setting) (ms : List Mark) (now : ℕ) (fs rs : List Copy) (ts : List Step) → Holds x s ms now fs rs ts
+    → Holds x s ms now fs rs (Lose ∷ ts)
+lose x s ms now fs rs ts h = record {
+  xs = h.xs;
+  sent = h.sent;
+  frames = h.frames;
+  replies = replies_later h.xs Lose ts rs h.replies;
+  acked = λ n acked. acked_more n Lose ts (h.acked n acked);
+  good = h.good;
+  deliveries = (tt, h.deliveries);
+  items = h.items;
+  falls = h.falls;
+  steps = (tt, h.steps);
+  spaced = (tt, h.spaced);
+}

@@ -1,0 +1,15 @@
+pub mod Sent
+pub mod Finds
+pub mod Fates
+pub mod Flown
+pub mod Sends
+pub mod Numbering
+pub mod Items
+pub mod Spaced
+pub mod Holds
+pub mod Panel
+pub mod Centre
+pub mod Worlds
+pub mod Readings
+pub mod Bodies
+pub mod Sample

@@ -1,0 +1,9 @@
+pub use Rattle.alarm_rules.specs.Setups
+pub use Rattle.centre_laws.specs.Sendings
+pub use Rattle.dc09_frame.specs.Headers
+pub use Rattle.dc09_message.specs.Verdicts
+pub use Rattle.panel_rules.specs.Panels
+pub mod Worlds
+pub mod Orders
+pub mod Readings
+pub mod Samples
