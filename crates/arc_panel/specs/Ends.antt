@@ -67,7 +67,8 @@ pub record IsWanting (s : Setting) (lines : List (List ℕ)) (played : Played li
 -- what an end says of what was played, of the bytes that were read
 abbrev pub EndsAs : Setting → List ℕ → (lines : List (List ℕ)) → Played lines → PanelEnd → PortSeen → PortSeen → Type 0
 EndsAs s read lines played Done p p' = IsReadOut p' × (length read < input_limit) × IsWhole s lines played p p'
-EndsAs s read lines played ReadFault p p' = Rose p.read_faults p'.read_faults × (length read < input_limit) × IsWhole s lines played p p'
+EndsAs s read lines played ReadFault p p' =
+    Rose p.read_faults p'.read_faults × (length read < input_limit) × IsWhole s lines played p p'
 EndsAs s read lines played Spent p p' = (length read ≡ input_limit) × IsWhole s lines played p p'
 EndsAs s read lines played WriteFault p p' = Rose p.write_faults p'.write_faults × IsCutOff s lines played p p'
 EndsAs s read lines played (BadLine number) p p' = IsBad s lines played number p p'
@@ -91,8 +92,8 @@ ReadsNoFurther WriteFault read front = IsNotAhead read front
 ReadsNoFurther (BadLine number) read front = IsNotAhead read front
 ReadsNoFurther Memory read front = IsNotAhead read front
 
--- What a panel of this setting did with the bytes that were read of the port: their lines, and what was played of them. Where a read has met
--- the input's end, the last line may lack its line feed. All but what is about reading and writing stayed.
+-- What a panel of this setting did with the bytes that were read of the port: their lines, and what was played of them. Where a read
+-- has met the input's end, the last line may lack its line feed. All but what is about reading and writing stayed.
 pub record HasPlayed (s : Setting) (end : PanelEnd) (p p' : PortSeen) : Type 0 where
   pub read : List ℕ
   pub taken : p.left ≡ prepend_known read p'.left

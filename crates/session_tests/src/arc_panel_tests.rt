@@ -30,8 +30,10 @@ fn plays(
 #[test]
 fn a_panel_says_what_it_does(rt: HostRuntime) {
     let alloc = rt.alloc();
-    let input = b"T 1000000000\nE ADM-CID 1131 01 001\nT 1000000001\nT 1000000020\nT 1000000021\nR \"ACK\"0001L0#1234[]\nT 1000000041\n";
-    let output = b"T -\nE 1\nT 2EE70027\"ADM-CID\"0001L0#1234[#1234|1131 01 001]\nT -\nT 2EE70027\"ADM-CID\"0001L0#1234[#1234|1131 01 001]\nR acked 1\nT -\n";
+    let input =
+        b"T 1000000000\nE ADM-CID 1131 01 001\nT 1000000001\nT 1000000020\nT 1000000021\nR \"ACK\"0001L0#1234[]\nT 1000000041\n";
+    let output =
+        b"T -\nE 1\nT 2EE70027\"ADM-CID\"0001L0#1234[#1234|1131 01 001]\nT -\nT 2EE70027\"ADM-CID\"0001L0#1234[#1234|1131 01 001]\nR acked 1\nT -\n";
     plays(&rt, alloc, input, (&[], &[]), (PanelEnd::Done, output));
     let rest = b"E SIA-DCS \r\nR \nE ADM-CID 1131 01 001";
     let said = b"E bad\nR other\nE 1\n";

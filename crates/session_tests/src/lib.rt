@@ -1,5 +1,5 @@
-//! Tests of sessions of lines, of desks, of both kinds, of scripts and of panels by their public calls, each in a module of its own. Only the tests
-//! are proved here, over the proved libraries.
+//! Tests of sessions of lines, of desks, of both kinds, of scripts and of panels by their public calls, each in a module of its own.
+//! Only the tests are proved here, over the proved libraries.
 #![tactic(auto)]
 
 #[cfg(test)]
