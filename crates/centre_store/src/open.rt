@@ -102,11 +102,7 @@ fn take_in(centre: &mut Centre, alloc: Global, body: &[u8]) -> Result<bool, Memo
 /// Works out the entry that goes on with the next body of a journal, which is to be applied to the centre or discarded. What the centre
 /// keeps stays. None where no entry goes on with it: the body is no spelling, or its moment is less than the last, or its event is quiet,
 /// or there are 2^48 entries. The error is want of memory.
-pub fn entry_in(
-    centre: &mut Centre,
-    alloc: Global,
-    body: &[u8],
-) -> Result<Option<Ready>, Memory>
+pub fn entry_in(centre: &mut Centre, alloc: Global, body: &[u8]) -> Result<Option<Ready>, Memory>
     ensures stays { (h : List Entry) → StandsFor nothing centre.old h → StandsFor nothing centre.new h }
     ensures made { IfOk result (λ found. IfSome found (λ r. r.of ≡ centre.new)) }
     ensures few { IfOk result (λ found. IfSome found (λ _. centre.new.entries < 2 ^ 48)) }
