@@ -259,7 +259,7 @@ fn a_thousand_events_wait(rt: HostRuntime) -> Result<(), Fail> {
 fn long_data(alloc: Global, bytes: usize) -> Result<Vec<u8>, Fail> {
     let mut data = Vec::new(alloc);
     data.extend_from_slice(b"NFA")?;
-    while data.len() < bytes {
+    for _ in data.len()..bytes {
         data.push(b'x')?;
     }
     Ok(data)
