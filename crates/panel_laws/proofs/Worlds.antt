@@ -1,7 +1,7 @@
 -- The law, by induction on the steps of a world.
 use Rattle.std.proofs.Common.{◌≡◌, ◌<◌, ◌⊎◌, ℕ, List, [], ◌∷◌, map, true, ◌||◌, refl, sym, ap, ◌∙◌, true≢false, inl, inr, subst}
 use Rattle.std.specs.Prelude.{Option, Some, None, ◌==◌}
-use Rattle.std.specs.List.{AllByRecursion, filter_map, cons_option}
+use Rattle.std.specs.List.{AllByRecursion, cons_option}
 use Rattle.std.specs.Option.{option_map}
 use Rattle.std.specs.Str.{bytes_eq}
 use Rattle.std.proofs.lemmas.Bool.{or_cases, eqb-true}
@@ -15,7 +15,7 @@ use Rattle.panel_rules.specs.Marks.{Mark, taken, numbered, sends}
 use Rattle.panel_rules.specs.declared.Report.{Report}
 use Rattle.panel_rules.specs.Panels.{Setting, message_body, body_of_event}
 use Rattle.panel_laws.specs.Worlds.{World, Copy, Step, Queue, Turn, Deliver, Hand, Other, Lose, Crash, IsWorld, IsStep, AreSteps, IsAmong, marks_after, reading, frames, replies, scheduled, schedule_of, message_of, copy_of, sent_copy}
-use Rattle.panel_laws.specs.Orders.{messages_among, event_message, Falls, StandInOrder, IsInOrder}
+use Rattle.panel_laws.specs.Orders.{messages_among, event_message, numbers_of, Falls, StandInOrder, IsInOrder}
 use Rattle.panel_laws.proofs.Fates.{acked}
 use Rattle.panel_laws.proofs.Sent.{Sent, all_among}
 use Rattle.panel_laws.proofs.Flown.{IsSent}
@@ -51,9 +51,6 @@ holds w [] is ok = begins (schedule_of w) w.setting
 holds w (t ∷ ss) is ok = holds_step w t ss is ok.0 (holds w ss is ok.1)
 
 -- The events that stand.
-
-abbrev pub numbers_of : List Item → List ℕ
-numbers_of w = filter_map (λ i. i.number) w
 
 number_here : (n : ℕ) (i : Item) (w : List Item) → i.number ≡ Some n → numbers_of (i ∷ w) ≡ n ∷ numbers_of w
 number_here n i w is = rw is refl
@@ -137,6 +134,7 @@ stand w restarts schedule spaced h =
     let same : recorded (history x) ≡ entries (ideal_list x) = (restarts x schedule spaced).ideal.recorded in
     record {
       events = numbers_of (ideal_list x);
+      standing = refl;
       order = numbers_fall (ideal_list x) h.falls;
       messages = ap (λ (l : List Entry). map Some (messages_among w.setting.account l)) same
           ∙ messages_same w.setting h.xs (reading w.first w.steps) (event_message w) (ideal_list x)

@@ -161,7 +161,7 @@ AreSteps w [] = Unit {0}
 AreSteps w (x ∷ earlier) = IsStep w x earlier × AreSteps w earlier
 
 -- The panel is set up well, its account stands in the setup without a key, and each step is one. The panel does not restart, and nobody
--- else sends messages of its account: no step does so.
+-- else sends messages: no step does so.
 pub record IsWorld (w : World) : Type 0 where
   pub setting : is_setting w.setting ≡ true
   pub setup : is_ok (setup_of w.text) ≡ true
