@@ -6,7 +6,7 @@ use Rattle.std.proofs.lemmas.List.{take_all, take-append-le}
 use Rattle.arc_io.specs.Areas.{Areas, part}
 use Rattle.arc_io.specs.Crashes.{Torn, TornIn, Follows, Elapses}
 use Rattle.arc_io.specs.KeptCalls.{written_in, done_in, leaves_in, content_after, left_after, IsKeptSync}
-use Rattle.arc_io.specs.MemoryDisk.{LeftBy, LeftBySince}
+use Rattle.arc_io.specs.MemoryDisk.{seen_after, LeftBy}
 use Rattle.arc_io.specs.declared.disk.Area.{Area}
 use Rattle.arc_io.specs.declared.disk.Area.TheVariants.{A, B}
 use Rattle.arc_io.specs.declared.memory.disk_kept.Kept.{Kept}
@@ -51,8 +51,9 @@ unwhole fa fb past c left = subst (λ (l : List Kept). LeftBy fa fb l c) (sym (a
 
 module _ (fa fb : List ℕ) (past after : List Kept) where
   -- time goes on by the call
-  pub elapses : (k : Kept) → after ≡ past ++ k ∷ [] → Elapses (length past) (length after) (LeftBySince fa fb past) (LeftBySince fa fb after) (LeftBy fa fb (take (length after) after))
-  elapses k is =
+  pub elapses : (k : Kept) → after ≡ past ++ k ∷ [] → (bytes bytes' : Areas) (faults faults' : ℕ)
+      → Elapses (seen_after bytes fa fb past faults) (seen_after bytes' fa fb after faults')
+  elapses k is bytes bytes' faults faults' =
       let more : length after ≡ length past + 1 = omega (arith, ap length is, length-append past (k ∷ [])) in
       let same : (n : ℕ) → n ≤ length past → take n after ≡ take n past = λ n le. ap (take n) is ∙ take-append-le n past (k ∷ []) le in
       record {

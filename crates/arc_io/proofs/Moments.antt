@@ -1,63 +1,62 @@
 -- How a run of device calls goes on.
-use Rattle.std.proofs.Common.{◌≡◌, ◌≤◌, ◌+◌, ◌-◌, inl, inr, ⊎_elim, ℕ, List, ◌++◌, length, take, drop, Option, refl, ap, ◌∙◌, arith, append_assoc, length-append}
+use Rattle.std.proofs.Common.{◌≡◌, ◌≤◌, ◌+◌, ◌-◌, inl, inr, ⊎_elim, ℕ, List, ◌++◌, length, take, drop, refl, ap, ◌∙◌, arith, append_assoc, length-append}
 use Rattle.std.proofs.lemmas.List.{take_at, drop_at, length-take-le, length-drop}
 use Rattle.arc_io.specs.declared.disk.Area.{Area}
 use Rattle.arc_io.specs.Areas.{Areas, part}
+use Rattle.arc_io.specs.Disks.{DiskSeen}
 use Rattle.arc_io.specs.Crashes.{Elapses, LeavesOnly, Torn, TornIn, IsWritten, IsQuiet}
 
 pub torn_same : (area : Area) (at n : ℕ) (s : Areas) → TornIn area at n s s
 torn_same area at n s = (record { before = refl; after = refl; no_shorter = omega arith; no_longer = omega arith }, refl)
 
-module _ {D : Type 0} (moment : D → ℕ) (left_since : D → ℕ → Areas → Type 0) where
-  -- before the first call
-  pub started : (old : D) (P : Areas → Type 0) → ((c : Areas) → left_since old (moment old) c → P c) → LeavesOnly moment left_since old old P
-  started old P here = record { later = omega arith; each = here; before = λ t c le left. inl left }
+-- before the first call
+pub started : (old : DiskSeen) (P : Areas → Type 0) → ((c : Areas) → old.left_since old.moment c → P c) → LeavesOnly old old P
+started old P here = record { later = omega arith; each = here; before = λ t c le left. inl left }
 
-  -- one call more, after which a crash leaves what has P
-  pub goes_on : (old mid new : D) (P may_leave : Areas → Type 0) → LeavesOnly moment left_since old mid P → Elapses (moment mid) (moment new) (left_since mid) (left_since new) may_leave
-      → ((c : Areas) → may_leave c → P c) → LeavesOnly moment left_since old new P
-  goes_on old mid new P may_leave so_far time here = record {
-    later = omega (arith, so_far.later, time.later);
-    each = λ c left. ⊎_elim (so_far.each c) (here c) (time.nothing_else (moment old) c so_far.later left);
-    before = λ t c le left. ⊎_elim (so_far.before t c le) (λ now. inr (here c now)) (time.nothing_else t c (omega (arith, le, so_far.later)) left);
-  }
+-- one call more, after which a crash leaves what has P
+pub goes_on : (old mid new : DiskSeen) (P : Areas → Type 0) → LeavesOnly old mid P → Elapses mid new → ((c : Areas) → new.may_leave c → P c)
+    → LeavesOnly old new P
+goes_on old mid new P so_far time here = record {
+  later = omega (arith, so_far.later, time.later);
+  each = λ c left. ⊎_elim (so_far.each c) (here c) (time.nothing_else old.moment c so_far.later left);
+  before = λ t c le left. ⊎_elim (so_far.before t c le) (λ now. inr (here c now)) (time.nothing_else t c (omega (arith, le, so_far.later)) left);
+}
 
-  -- a run after a run
-  pub joined : (old mid new : D) (P Q : Areas → Type 0) → LeavesOnly moment left_since old mid P → LeavesOnly moment left_since mid new Q → ((c : Areas) → Q c → P c) → LeavesOnly moment left_since old new P
-  joined old mid new P Q one two weaker = record {
-    later = omega (arith, one.later, two.later);
-    each = λ c left. ⊎_elim (one.each c) (weaker c) (two.before (moment old) c one.later left);
-    before = λ t c le left. ⊎_elim (one.before t c le) (λ q. inr (weaker c q)) (two.before t c (omega (arith, le, one.later)) left);
-  }
+-- a run after a run
+pub joined : (old mid new : DiskSeen) (P Q : Areas → Type 0) → LeavesOnly old mid P → LeavesOnly mid new Q → ((c : Areas) → Q c → P c) → LeavesOnly old new P
+joined old mid new P Q one two weaker = record {
+  later = omega (arith, one.later, two.later);
+  each = λ c left. ⊎_elim (one.each c) (weaker c) (two.before old.moment c one.later left);
+  before = λ t c le left. ⊎_elim (one.before t c le) (λ q. inr (weaker c q)) (two.before t c (omega (arith, le, one.later)) left);
+}
 
-  pub weaker : (old new : D) (P Q : Areas → Type 0) → LeavesOnly moment left_since old new Q → ((c : Areas) → Q c → P c) → LeavesOnly moment left_since old new P
-  weaker old new P Q run w = record {
-    later = run.later;
-    each = λ c left. w c (run.each c left);
-    before = λ t c le left. ⊎_elim (λ was. inl was) (λ q. inr (w c q)) (run.before t c le left);
-  }
+pub weaker : (old new : DiskSeen) (P Q : Areas → Type 0) → LeavesOnly old new Q → ((c : Areas) → Q c → P c) → LeavesOnly old new P
+weaker old new P Q run w = record {
+  later = run.later;
+  each = λ c left. w c (run.each c left);
+  before = λ t c le left. ⊎_elim (λ was. inl was) (λ q. inr (w c q)) (run.before t c le left);
+}
 
-module _ {D : Type 0} (told : D → Option Areas) (may_leave : D → Areas → Type 0) (moment : D → ℕ) (left_since : D → ℕ → Areas → Type 0) where
-  -- a call that writes nothing: what each reading call of a disk ensures, in one fact
-  pub quiet_call : (old new : D) → ((c : Areas) → left_since old (moment old) c → may_leave old c) → told new ≡ told old → ((c : Areas) → may_leave new c → may_leave old c)
-      → Elapses (moment old) (moment new) (left_since old) (left_since new) (may_leave new) → IsQuiet told may_leave moment left_since old new
-  quiet_call old new only_now same crash time = record {
-    same = same;
-    crash = crash;
-    any_moment = goes_on moment left_since old old new (may_leave old) _ (started moment left_since old (may_leave old) only_now) time crash;
-  }
+-- a call that writes nothing: what each reading call of a disk ensures, in one fact
+pub quiet_call : (old new : DiskSeen) → ((c : Areas) → old.left_since old.moment c → old.may_leave c) → new.told ≡ old.told
+    → ((c : Areas) → new.may_leave c → old.may_leave c) → Elapses old new → IsQuiet old new
+quiet_call old new only_now same crash time = record {
+  same = same;
+  crash = crash;
+  any_moment = goes_on old old new old.may_leave (started old old.may_leave only_now) time crash;
+}
 
-  -- before the first call
-  pub quiet_start : (old : D) → ((c : Areas) → left_since old (moment old) c → may_leave old c) → IsQuiet told may_leave moment left_since old old
-  quiet_start old only_now = record { same = refl; crash = λ c now. now; any_moment = started moment left_since old (may_leave old) only_now }
+-- before the first call
+pub quiet_start : (old : DiskSeen) → ((c : Areas) → old.left_since old.moment c → old.may_leave c) → IsQuiet old old
+quiet_start old only_now = record { same = refl; crash = λ c now. now; any_moment = started old old.may_leave only_now }
 
-  -- one run that writes nothing after another
-  pub quiet_then : (old mid new : D) → IsQuiet told may_leave moment left_since old mid → IsQuiet told may_leave moment left_since mid new → IsQuiet told may_leave moment left_since old new
-  quiet_then old mid new one two = record {
-    same = two.same ∙ one.same;
-    crash = λ c now. one.crash c (two.crash c now);
-    any_moment = joined moment left_since old mid new (may_leave old) (may_leave mid) one.any_moment two.any_moment one.crash;
-  }
+-- one run that writes nothing after another
+pub quiet_then : (old mid new : DiskSeen) → IsQuiet old mid → IsQuiet mid new → IsQuiet old new
+quiet_then old mid new one two = record {
+  same = two.same ∙ one.same;
+  crash = λ c now. one.crash c (two.crash c now);
+  any_moment = joined old mid new old.may_leave mid.may_leave one.any_moment two.any_moment one.crash;
+}
 
 -- what was written is one of the things that a torn write may leave
 pub written_torn_in : (at : ℕ) (bytes old new : List ℕ) → at ≤ length old → new ≡ take at old ++ bytes ++ drop (at + length bytes) old → Torn at (length bytes) old new

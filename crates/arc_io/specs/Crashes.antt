@@ -2,6 +2,7 @@
 use Rattle.std.specs.Prelude.{◌≡◌, ◌⊎◌, ◌≤◌, ◌+◌, ℕ, min, max, List, ◌++◌, length, take, drop, Option, Some, None, Result, MatchResult}
 use Rattle.arc_io.specs.declared.disk.Area.{Area}
 use Rattle.arc_io.specs.Areas.{Areas, part, rest}
+use Rattle.arc_io.specs.Disks.{DiskSeen}
 
 -- a disk that tells its bytes goes on to tell them, and they have changed so; one that does not never does
 abbrev pub Becomes : Option Areas → Option Areas → (Areas → Areas → Type 0) → Type 0
@@ -43,27 +44,24 @@ abbrev pub OnlyIn : Area → Areas → (Areas → Type 0) → Type 0
 OnlyIn area s outcomes = (c : Areas) → outcomes c → part area c ≡ part area s
 
 -- Time goes on: a crash since t might have left what it might have left before, or what it may leave now.
-pub record Elapses (before now : ℕ) (past since : ℕ → Areas → Type 0) (may_leave : Areas → Type 0) : Type 0 where
-  pub later : before ≤ now
-  pub nothing_else : (t : ℕ) (c : Areas) → t ≤ before → since t c → past t c ⊎ may_leave c
-  pub keeps : (t : ℕ) (c : Areas) → t ≤ before → past t c → since t c
+pub record Elapses (old new : DiskSeen) : Type 0 where
+  pub later : old.moment ≤ new.moment
+  pub nothing_else : (t : ℕ) (c : Areas) → t ≤ old.moment → new.left_since t c → old.left_since t c ⊎ new.may_leave c
+  pub keeps : (t : ℕ) (c : Areas) → t ≤ old.moment → old.left_since t c → new.left_since t c
 
 -- A crash at any moment since old leaves areas that have P.
-pub record LeavesOnly {D : Type 0} (moment : D → ℕ) (left_since : D → ℕ → Areas → Type 0) (old new : D)
-    (P : Areas → Type 0) : Type 0 where
-  pub later : moment old ≤ moment new
-  pub each : (c : Areas) → left_since new (moment old) c → P c
+pub record LeavesOnly (old new : DiskSeen) (P : Areas → Type 0) : Type 0 where
+  pub later : old.moment ≤ new.moment
+  pub each : (c : Areas) → new.left_since old.moment c → P c
   -- for a run that began earlier
-  pub before : (t : ℕ) (c : Areas) → t ≤ moment old → left_since new t c → left_since old t c ⊎ P c
+  pub before : (t : ℕ) (c : Areas) → t ≤ old.moment → new.left_since t c → old.left_since t c ⊎ P c
 
 -- A crash at any moment of a write leaves what it might have left before, torn in this range or not.
-abbrev pub LeavesTorn : {D : Type 0} → (D → ℕ) → (D → ℕ → Areas → Type 0) → (D → Areas → Type 0) → D → D → Area → ℕ → ℕ → Type 0
-LeavesTorn moment left_since may_leave old new area at n =
-    LeavesOnly moment left_since old new (λ c. (d : Areas) × may_leave old d × TornIn area at n d c)
+abbrev pub LeavesTorn : DiskSeen → DiskSeen → Area → ℕ → ℕ → Type 0
+LeavesTorn old new area at n = LeavesOnly old new (λ c. (d : Areas) × old.may_leave d × TornIn area at n d c)
 
 -- From old to new nothing was written: what is told stays, and a crash at any moment between leaves what one at old might have left.
-pub record IsQuiet {D : Type 0} (told : D → Option Areas) (may_leave : D → Areas → Type 0)
-    (moment : D → ℕ) (left_since : D → ℕ → Areas → Type 0) (old new : D) : Type 0 where
-  pub same : told new ≡ told old
-  pub crash : (c : Areas) → may_leave new c → may_leave old c
-  pub any_moment : LeavesOnly moment left_since old new (may_leave old)
+pub record IsQuiet (old new : DiskSeen) : Type 0 where
+  pub same : new.told ≡ old.told
+  pub crash : (c : Areas) → new.may_leave c → old.may_leave c
+  pub any_moment : LeavesOnly old new old.may_leave

@@ -6,6 +6,7 @@ pub mod Lists
 pub mod Memory
 pub mod Seconds
 pub mod Areas
+pub mod Disks
 pub mod Crashes
 pub mod KeptCalls
 pub mod MemoryDisk

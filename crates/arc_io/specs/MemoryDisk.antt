@@ -1,7 +1,8 @@
 -- What a disk in memory tells.
-use Rattle.std.specs.Prelude.{◌≡◌, ◌≤◌, ◌+◌, ℕ, List, length, take, Result, Contains, IsErr, is_err, OnOk, OnErr, if◌then◌else◌}
+use Rattle.std.specs.Prelude.{◌≡◌, ◌≤◌, ◌+◌, ℕ, List, length, take, Result, Contains, IsErr, is_err, OnOk, OnErr, Some, if◌then◌else◌}
 use Rattle.arc_io.specs.Causes.{next_count}
 use Rattle.arc_io.specs.Areas.{Areas}
+use Rattle.arc_io.specs.Disks.{DiskSeen}
 use Rattle.arc_io.specs.KeptCalls.{left_after, filled_after, below, stop_at}
 use Rattle.arc_io.specs.declared.disk.Area.TheVariants.{A, B}
 use Rattle.arc_io.specs.declared.memory.disk.MemDisk.{MemDisk}
@@ -42,6 +43,19 @@ LeftAt d k c = LeftBy d.first_a.items d.first_b.items (take k d.past.items) c
 -- after some number of them from t on
 abbrev pub LeftSince : MemDisk → ℕ → Areas → Type 0
 LeftSince d t c = LeftBySince d.first_a.items d.first_b.items d.past.items t c
+
+-- what it tells, by its bytes, what its areas had at first, its calls and its faults
+abbrev pub seen_after : Areas → List ℕ → List ℕ → List Kept → ℕ → DiskSeen
+seen_after bytes first_a first_b past faults = record {
+  told = Some bytes;
+  may_leave = λ c. LeftBy first_a first_b (take (length past) past) c;
+  moment = length past;
+  left_since = λ t c. LeftBySince first_a first_b past t c;
+  faults = faults;
+}
+
+abbrev pub disk_seen : MemDisk → DiskSeen
+disk_seen d = seen_after (bytes_of d) d.first_a.items d.first_b.items d.past.items d.faults
 
 -- The moments of a stop within the call of number n: before what the call did, and after it.
 pub record LeftWithin (d : MemDisk) (n : ℕ) (c : Areas) : Type 0 where

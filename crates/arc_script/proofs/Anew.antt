@@ -4,6 +4,7 @@ use Rattle.std.specs.Prelude.{All, slice_get}
 use Rattle.std.specs.Io.KnownBytes.{append_known}
 use Rattle.alarm_rules.specs.Setups.{meaning}
 use Rattle.arc_io.specs.Areas.{Areas}
+use Rattle.arc_io.specs.Disks.{DiskSeen}
 use Rattle.arc_io.specs.Crashes.{Becomes, IsQuiet, LeavesOnly}
 use Rattle.arc_io.specs.Seen.{PortSeen}
 use Rattle.centre_core.specs.declared.hall.Stop.{Stop}
@@ -25,7 +26,7 @@ use Rattle.script_lines.specs.Lines.{Asked, Reopen, spelling}
 use Rattle.arc_script.specs.Between.{Begun, Between, CarriedOut, ShutAt, StoppedAt}
 use Rattle.arc_script.specs.Carrying.{CountsMore, HasRead, HaveTaken}
 use Rattle.arc_script.specs.Causes.{HasShown}
-use Rattle.arc_script.specs.Ends.{DiskWords, BegunUntil, Tells}
+use Rattle.arc_script.specs.Ends.{BegunUntil, Tells}
 use Rattle.arc_script.specs.Fed.{clock_of}
 use Rattle.arc_script.specs.Halting.{closing}
 use Rattle.arc_script.specs.Pages.{counted_line}
@@ -67,22 +68,22 @@ taken_anew setup count before lines desks new_lines new_desks =
 
 -- The store was closed, opened again, and a run was to begin: the script and the store are as they were then, in all that is not said of
 -- that run.
-pub record IsAnew {D : Type 0} (w : DiskWords D) (script script' : Script) (s mid s' : Stored D) : Type 0 where
-  pub opened : IsOpened w.told w.may_leave w.faults s.journal.disk mid
+pub record IsAnew {D : Type 0} (seen : D → DiskSeen) (script script' : Script) (s mid s' : Stored D) : Type 0 where
+  pub opened : IsOpened seen s.journal.disk mid
   pub setup : script'.setup ≡ script.setup
   pub limits : script'.limits ≡ script.limits
   pub clock : script'.clock ≡ script.clock
   pub lines : All (Line.TookStream []) script'.lines.items
   pub desks : All IsNewDesk script'.desks.items
   pub tally : script'.tally ≡ closing script.tally script.opened_before s.state.sum
-  pub tells : is_told (w.told s'.journal.disk) ≡ is_told (w.told s.journal.disk)
+  pub tells : is_told (seen s'.journal.disk).told ≡ is_told (seen s.journal.disk).told
   pub journal : s'.journal.limits ≡ script.limits
   pub later : s.at_open ≤ s'.at_open
 
-pub made_anew : {D : Type 0} (w : DiskWords D) (script closed script' : Script) (s mid s' : Stored D) (disk : D) → s.at_open ≤ w.faults s.journal.disk
+pub made_anew : {D : Type 0} (seen : D → DiskSeen) (script closed script' : Script) (s mid s' : Stored D) (disk : D) → s.at_open ≤ (seen s.journal.disk).faults
     → disk ≡ s.journal.disk → closed ≡ record script { tally = closing script.tally script.opened_before s.state.sum }
-    → IsOpened w.told w.may_leave w.faults disk mid → SparesB w.told w.may_leave w.moment w.left_since disk mid.journal.disk
-    → mid.journal.limits ≡ closed.limits → mid.at_open ≡ w.faults mid.journal.disk → w.faults disk ≤ w.faults mid.journal.disk
+    → IsOpened seen disk mid → SparesB (seen disk) (seen mid.journal.disk)
+    → mid.journal.limits ≡ closed.limits → mid.at_open ≡ (seen mid.journal.disk).faults → (seen disk).faults ≤ (seen mid.journal.disk).faults
     → All (Line.TookStream []) script'.lines.items → All IsNewDesk script'.desks.items
     → script' ≡ record closed {
       lines = script'.lines;
@@ -90,30 +91,30 @@ pub made_anew : {D : Type 0} (w : DiskWords D) (script closed script' : Script) 
       sixteen = script'.sixteen;
       eight = script'.eight;
     }
-    → is_told (w.told s'.journal.disk) ≡ is_told (w.told mid.journal.disk) → s'.at_open ≡ mid.at_open → s'.journal.limits ≡ mid.journal.limits
-    → IsAnew w script script' s mid s'
-made_anew w script closed script' s mid s' disk before disk_is closed_is opened spared limits opened_at later lines desks rest tells at_open journal
+    → is_told (seen s'.journal.disk).told ≡ is_told (seen mid.journal.disk).told → s'.at_open ≡ mid.at_open → s'.journal.limits ≡ mid.journal.limits
+    → IsAnew seen script script' s mid s'
+made_anew {D = D} seen script closed script' s mid s' disk before disk_is closed_is opened spared limits opened_at later lines desks rest tells at_open journal
     = record {
-      opened = subst (λ d. IsOpened w.told w.may_leave w.faults d mid) disk_is opened;
+      opened = subst (λ d. IsOpened seen d mid) disk_is opened;
       setup = ap (λ (k : Script). k.setup) rest ∙ ap (λ (k : Script). k.setup) closed_is;
       limits = ap (λ (k : Script). k.limits) rest ∙ ap (λ (k : Script). k.limits) closed_is;
       clock = ap (λ (k : Script). k.clock) rest ∙ ap (λ (k : Script). k.clock) closed_is;
       lines = lines;
       desks = desks;
       tally = ap (λ (k : Script). k.tally) rest ∙ ap (λ (k : Script). k.tally) closed_is;
-      tells = tells ∙ spared_tells spared ∙ ap (λ d. is_told (w.told d)) disk_is;
+      tells = tells ∙ spared_tells spared ∙ ap (λ d. is_told (seen d).told) disk_is;
       journal = journal ∙ limits ∙ ap (λ (k : Script). k.limits) closed_is;
-      later = (let same : w.faults disk ≡ w.faults s.journal.disk = ap w.faults disk_is in omega (arith, before, same, later, opened_at, at_open));
+      later = (let same : (seen disk).faults ≡ (seen s.journal.disk).faults = ap (λ (d : D). (seen d).faults) disk_is in omega (arith, before, same, later, opened_at, at_open));
     }
 
-module _ {D : Type 0} (w : DiskWords D) (script script' : Script) (s mid s' : Stored D) (anew : IsAnew w script script' s mid s') (moment : ℕ)
-    (b : Begun D) (before : List Asked) (count : ℕ) (h : List Entry) (between : Between w b before count h script s)
-    (held : Holds w.told w.may_leave s.journal (bodies_of h)) (set : clock_of before ≡ Some moment) where
+module _ {D : Type 0} (seen : D → DiskSeen) (script script' : Script) (s mid s' : Stored D) (anew : IsAnew seen script script' s mid s') (moment : ℕ)
+    (b : Begun D) (before : List Asked) (count : ℕ) (h : List Entry) (between : Between seen b before count h script s)
+    (held : Holds seen s.journal (bodies_of h)) (set : clock_of before ≡ Some moment) where
   abbrev past : List Entry
   past = anew.opened.past
 
-  keeps : Keeps (Tells w b.disk) h past
-  keeps = keeps_recorded w b h s mid between.store.stands.centre.legal between.store.readable between.store.tells held anew.opened
+  keeps : Keeps (Tells (seen b.disk)) h past
+  keeps = keeps_recorded seen b h s mid between.store.stands.centre.legal between.store.readable between.store.tells held anew.opened
 
   setup_is : script'.setup ≡ b.setup
   setup_is = anew.setup ∙ between.setup
@@ -121,7 +122,7 @@ module _ {D : Type 0} (w : DiskWords D) (script script' : Script) (s mid s' : St
   limits_are : s'.journal.limits ≡ b.limits
   limits_are = anew.journal ∙ between.limits
 
-  later : w.faults b.disk ≤ s'.at_open
+  later : (seen b.disk).faults ≤ s'.at_open
   later = let first = between.store.later in let second = anew.later in omega (arith, first, second)
 
   abbrev step_of : ℕ → List Entry → List ℕ → Step
@@ -140,9 +141,9 @@ module _ {D : Type 0} (w : DiskWords D) (script script' : Script) (s mid s' : St
   readable_past = subst AreKept (sym (kept_recorded past anew.opened.is_past.kept)) anew.opened.is_past.kept
 
   carried : (number : ℕ) (p p' : PortSeen) → IsMoment moment
-      → StoreStands w.told w.may_leave w.faults nothing s' (begun_after nothing past b.setup moment)
+      → StoreStands seen nothing s' (begun_after nothing past b.setup moment)
       → s'.state.sum.text ≡ Some b.setup → p'.written ≡ append_known p.written (counted_line s'.state.sum.recorded)
-      → CarriedOut w b before count number h Reopen script.tally script' s' p p'
+      → CarriedOut seen b before count number h Reopen script.tally script' s' p p'
   carried number p p' fits stands text put =
       let x = begun_after nothing past b.setup moment in
       let adds = adds_begun b.setup moment past in
@@ -186,9 +187,9 @@ module _ {D : Type 0} (w : DiskWords D) (script script' : Script) (s mid s' : St
         };
       }
 
-  stopped : (stop : Stop) (x : List Entry) → StoreStands w.told w.may_leave w.faults nothing s' x → BegunUntil None b.setup moment past x
-      → HasShown w.told w.may_leave w.faults s' stop moment (IsOfBegin b.setup)
-      → StoppedAt w b before h Reopen stop script.tally script'.tally s'
+  stopped : (stop : Stop) (x : List Entry) → StoreStands seen nothing s' x → BegunUntil None b.setup moment past x
+      → HasShown seen s' stop moment (IsOfBegin b.setup)
+      → StoppedAt seen b before h Reopen stop script.tally script'.tally s'
   stopped stop x stands until cause =
       let adds = adds_until None b.setup moment past x until in
       record {
@@ -213,68 +214,68 @@ module _ {D : Type 0} (w : DiskWords D) (script script' : Script) (s mid s' : St
       }
 
 -- by what beginning the run answered
-module _ {D : Type 0} (w : DiskWords D) (script script' : Script) (s mid s' : Stored D) (anew : IsAnew w script script' s mid s') (moment : ℕ) where
+module _ {D : Type 0} (seen : D → DiskSeen) (script script' : Script) (s mid s' : Stored D) (anew : IsAnew seen script script' s mid s') (moment : ℕ) where
   pub carried_on : (r : Result (Unit {0}) Stop) (p p' : PortSeen) → IsMoment moment
-      → OnOk r ((k : List Entry) → StoreStands w.told w.may_leave w.faults nothing mid k
-      → StoreStands w.told w.may_leave w.faults nothing s' (begun_after nothing k script'.setup moment))
+      → OnOk r ((k : List Entry) → StoreStands seen nothing mid k
+      → StoreStands seen nothing s' (begun_after nothing k script'.setup moment))
       → OnOk r (s'.state.sum.text ≡ Some script'.setup)
       → OnOk r (p'.written ≡ append_known p.written (counted_line s'.state.sum.recorded))
-      → OnOk r ((b : Begun D) (before : List Asked) (count number : ℕ) (h : List Entry) → Between w b before count h script s
-      → Holds w.told w.may_leave s.journal (bodies_of h) → clock_of before ≡ Some moment
-      → CarriedOut w b before count number h Reopen script.tally script' s' p p')
+      → OnOk r ((b : Begun D) (before : List Asked) (count number : ℕ) (h : List Entry) → Between seen b before count h script s
+      → Holds seen s.journal (bodies_of h) → clock_of before ≡ Some moment
+      → CarriedOut seen b before count number h Reopen script.tally script' s' p p')
   carried_on (Ok done) p p' fits begun text put = λ b before count number h between held set.
       let same = anew.setup ∙ between.setup in
-      carried w script script' s mid s' anew moment b before count h between held set number p p' fits
-      (subst (λ (l : List ℕ). StoreStands w.told w.may_leave w.faults nothing s' (begun_after nothing anew.opened.past l moment)) same
+      carried seen script script' s mid s' anew moment b before count h between held set number p p' fits
+      (subst (λ (l : List ℕ). StoreStands seen nothing s' (begun_after nothing anew.opened.past l moment)) same
       (begun anew.opened.past anew.opened.stands))
       (text ∙ ap Some same) put
   carried_on (Err stop) p p' fits begun text put = tt
 
   pub stopped_on : (r : Result (Unit {0}) Stop)
-      → OnErr r ((k : List Entry) → StoreStands w.told w.may_leave w.faults nothing mid k
-      → (x : List Entry) × StoreStands w.told w.may_leave w.faults nothing s' x × BegunUntil None script'.setup moment k x)
-      → IfErr r (λ stop. HasShown w.told w.may_leave w.faults s' stop moment (IsOfBegin script'.setup))
-      → IfErr r (λ stop. (b : Begun D) (before : List Asked) (count : ℕ) (h : List Entry) → Between w b before count h script s
-      → Holds w.told w.may_leave s.journal (bodies_of h) → clock_of before ≡ Some moment
-      → StoppedAt w b before h Reopen stop script.tally script'.tally s')
+      → OnErr r ((k : List Entry) → StoreStands seen nothing mid k
+      → (x : List Entry) × StoreStands seen nothing s' x × BegunUntil None script'.setup moment k x)
+      → IfErr r (λ stop. HasShown seen s' stop moment (IsOfBegin script'.setup))
+      → IfErr r (λ stop. (b : Begun D) (before : List Asked) (count : ℕ) (h : List Entry) → Between seen b before count h script s
+      → Holds seen s.journal (bodies_of h) → clock_of before ≡ Some moment
+      → StoppedAt seen b before h Reopen stop script.tally script'.tally s')
   stopped_on (Ok done) stops cause = tt
   stopped_on (Err stop) stops cause = λ b before count h between held set.
       let same = anew.setup ∙ between.setup in
       let at = stops anew.opened.past anew.opened.stands in
-      stopped w script script' s mid s' anew moment b before count h between held set stop at.0 at.1
+      stopped seen script script' s mid s' anew moment b before count h between held set stop at.0 at.1
       (subst (λ (l : List ℕ). BegunUntil None l moment anew.opened.past at.0) same at.2)
-      (subst (λ (l : List ℕ). HasShown w.told w.may_leave w.faults s' stop moment (IsOfBegin l)) same cause)
+      (subst (λ (l : List ℕ). HasShown seen s' stop moment (IsOfBegin l)) same cause)
 
 -- The journal was not opened again.
-shut : {D : Type 0} (w : DiskWords D) (script : Script) (s : Stored D) (r : OpenRefused D) → s.at_open ≤ w.faults s.journal.disk
-    → IfSome (w.told s.journal.disk) (λ a. IsRefused r.fault a.a) → HasCounts r.fault (w.faults s.journal.disk) (w.faults r.disk)
-    → Becomes (w.told s.journal.disk) (w.told r.disk) (λ a c. GoesOn a.a c.a)
-    → LeavesOnly w.moment w.left_since s.journal.disk r.disk (λ c. (d : Areas) × w.may_leave s.journal.disk d × GoesOn d.a c.a)
-    → (IsOfContent r.fault → IsQuiet w.told w.may_leave w.moment w.left_since s.journal.disk r.disk)
-    → (b : Begun D) (before : List Asked) (count : ℕ) (h : List Entry) → Between w b before count h script s
-    → Holds w.told w.may_leave s.journal (bodies_of h) → ShutAt w b h r.fault r.disk
-shut w script s r later shown counts told any_moment unwritten b before count h between held = record {
+shut : {D : Type 0} (seen : D → DiskSeen) (script : Script) (s : Stored D) (r : OpenRefused D) → s.at_open ≤ (seen s.journal.disk).faults
+    → IfSome (seen s.journal.disk).told (λ a. IsRefused r.fault a.a) → HasCounts r.fault (seen s.journal.disk).faults (seen r.disk).faults
+    → Becomes (seen s.journal.disk).told (seen r.disk).told (λ a c. GoesOn a.a c.a)
+    → LeavesOnly (seen s.journal.disk) (seen r.disk) (λ c. (d : Areas) × (seen s.journal.disk).may_leave d × GoesOn d.a c.a)
+    → (IsOfContent r.fault → IsQuiet (seen s.journal.disk) (seen r.disk))
+    → (b : Begun D) (before : List Asked) (count : ℕ) (h : List Entry) → Between seen b before count h script s
+    → Holds seen s.journal (bodies_of h) → ShutAt seen b h r.fault r.disk
+shut seen script s r later shown counts told any_moment unwritten b before count h between held = record {
   closed = s.journal.disk;
   later = (let first = between.store.later in omega (arith, first, later));
-  area = recorded_in w s h s.journal.disk held refl;
+  area = recorded_in seen s h s.journal.disk held refl;
   unopened = record { shown = shown; counts = counts; told = told; any_moment = any_moment; unwritten = unwritten };
 }
 
-pub shut_on : {A D : Type 0} (w : DiskWords D) (script : Script) (s : Stored D) (disk : D) (refused : OpenRefused D) (r : Result A (OpenRefused D))
-    → r ≡ Err refused → disk ≡ s.journal.disk → s.at_open ≤ w.faults s.journal.disk
-    → IfSome (w.told disk) (λ a. IsRefused refused.fault a.a) → HasCounts refused.fault (w.faults disk) (w.faults refused.disk)
-    → Becomes (w.told disk) (w.told refused.disk) (λ a c. GoesOn a.a c.a)
-    → LeavesOnly w.moment w.left_since disk refused.disk (λ c. (d : Areas) × w.may_leave disk d × GoesOn d.a c.a)
-    → (IsOfContent refused.fault → IsQuiet w.told w.may_leave w.moment w.left_since disk refused.disk)
-    → IfErr r (λ o. (b : Begun D) (before : List Asked) (count : ℕ) (h : List Entry) → Between w b before count h script s
-    → Holds w.told w.may_leave s.journal (bodies_of h) → ShutAt w b h o.fault o.disk)
-shut_on {A} {D} w script s disk refused r is disk_is later shown counts told any_moment unwritten =
-    let at = λ (o : OpenRefused D). (b : Begun D) (before : List Asked) (count : ℕ) (h : List Entry) → Between w b before count h script s
-    → Holds w.told w.may_leave s.journal (bodies_of h) → ShutAt w b h o.fault o.disk in
+pub shut_on : {A D : Type 0} (seen : D → DiskSeen) (script : Script) (s : Stored D) (disk : D) (refused : OpenRefused D) (r : Result A (OpenRefused D))
+    → r ≡ Err refused → disk ≡ s.journal.disk → s.at_open ≤ (seen s.journal.disk).faults
+    → IfSome (seen disk).told (λ a. IsRefused refused.fault a.a) → HasCounts refused.fault (seen disk).faults (seen refused.disk).faults
+    → Becomes (seen disk).told (seen refused.disk).told (λ a c. GoesOn a.a c.a)
+    → LeavesOnly (seen disk) (seen refused.disk) (λ c. (d : Areas) × (seen disk).may_leave d × GoesOn d.a c.a)
+    → (IsOfContent refused.fault → IsQuiet (seen disk) (seen refused.disk))
+    → IfErr r (λ o. (b : Begun D) (before : List Asked) (count : ℕ) (h : List Entry) → Between seen b before count h script s
+    → Holds seen s.journal (bodies_of h) → ShutAt seen b h o.fault o.disk)
+shut_on {A} {D} seen script s disk refused r is disk_is later shown counts told any_moment unwritten =
+    let at = λ (o : OpenRefused D). (b : Begun D) (before : List Asked) (count : ℕ) (h : List Entry) → Between seen b before count h script s
+    → Holds seen s.journal (bodies_of h) → ShutAt seen b h o.fault o.disk in
     subst (λ (q : Result A (OpenRefused D)). IfErr q at) (sym is)
-    (shut w script s refused later
-    (subst (λ d. IfSome (w.told d) (λ a. IsRefused refused.fault a.a)) disk_is shown)
-    (subst (λ d. HasCounts refused.fault (w.faults d) (w.faults refused.disk)) disk_is counts)
-    (subst (λ d. Becomes (w.told d) (w.told refused.disk) (λ a c. GoesOn a.a c.a)) disk_is told)
-    (subst (λ d. LeavesOnly w.moment w.left_since d refused.disk (λ c. (e : Areas) × w.may_leave d e × GoesOn e.a c.a)) disk_is any_moment)
-    (subst (λ d. IsOfContent refused.fault → IsQuiet w.told w.may_leave w.moment w.left_since d refused.disk) disk_is unwritten))
+    (shut seen script s refused later
+    (subst (λ d. IfSome (seen d).told (λ a. IsRefused refused.fault a.a)) disk_is shown)
+    (subst (λ d. HasCounts refused.fault (seen d).faults (seen refused.disk).faults) disk_is counts)
+    (subst (λ d. Becomes (seen d).told (seen refused.disk).told (λ a c. GoesOn a.a c.a)) disk_is told)
+    (subst (λ d. LeavesOnly (seen d) (seen refused.disk) (λ c. (e : Areas) × (seen d).may_leave e × GoesOn e.a c.a)) disk_is any_moment)
+    (subst (λ d. IsOfContent refused.fault → IsQuiet (seen d) (seen refused.disk)) disk_is unwritten))

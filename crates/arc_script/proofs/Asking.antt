@@ -2,6 +2,7 @@
 use Rattle.std.proofs.Common.{◌≡◌, ◌≤◌, ◌&&◌, ℕ, List, [], Option, Some, Bool, true, false, if◌then◌else◌, nat_le, length, refl, sym, ap, subst, ◌∙◌, arith}
 use Rattle.std.specs.List.{list_any}
 use Rattle.alarm_rules.specs.Setups.{meaning}
+use Rattle.arc_io.specs.Disks.{DiskSeen}
 use Rattle.arc_io.specs.Seen.{PortSeen}
 use Rattle.arc_text.specs.LineCutting.{cut_of, line_of}
 use Rattle.arc_text.specs.Lines.{is_feed}
@@ -11,7 +12,6 @@ use Rattle.centre_store.specs.Stores.{Stored}
 use Rattle.script_lines.specs.Lines.{Asked, Time, Feed, Message, Command, Reopen, Asks, spelling, is_skipped}
 use Rattle.arc_script.specs.Between.{Begun, IsClock, MayComeNext, SoFar, size_of}
 use Rattle.arc_script.specs.Carrying.{IsNext}
-use Rattle.arc_script.specs.Ends.{DiskWords}
 use Rattle.arc_script.specs.Playing.{moment_at}
 use Rattle.arc_script.specs.Steps.{asked_after}
 use Rattle.arc_script.specs.Texts.{IsPlayable, is_passed, line_limit}
@@ -68,10 +68,10 @@ playable clock before line a moment is asks short set = record {
 }
 
 -- a line that asks for something, as the next one
-pub next_line : {D : Type 0} (w : DiskWords D) (b : Begun D) (lines : List (List ℕ)) (script : Script) (s : Stored D) (p : PortSeen) (line : List ℕ)
-    (a : Asked) (moment : ℕ) (so : SoFar w b lines script s p) → Asks line a → MayComeNext lines line → moment_at script.clock a ≡ Some moment
+pub next_line : {D : Type 0} (seen : D → DiskSeen) (b : Begun D) (lines : List (List ℕ)) (script : Script) (s : Stored D) (p : PortSeen) (line : List ℕ)
+    (a : Asked) (moment : ℕ) (so : SoFar seen b lines script s p) → Asks line a → MayComeNext lines line → moment_at script.clock a ≡ Some moment
     → IsNext (meaning b.setup) moment (size_of lines) (asked_after [] so.steps) a script.lines.items script.desks.items
-next_line w b lines script s p line a moment so asks may set =
+next_line seen b lines script s p line a moment so asks may set =
     let same : length line ≡ length (spelling a) = ap length asks.spelled in
     let within = may.within in
     record {

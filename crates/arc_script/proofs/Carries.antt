@@ -1,5 +1,5 @@
 -- The step of a line of a script that feeds bytes or a frame.
-use Rattle.std.proofs.Common.{◌≡◌, ◌≢◌, ◌⊎◌, ◌<◌, ◌≤◌, ◌-◌, ◌+◌, ◌++◌, ℕ, zero, suc, List, [], ◌∷◌, Option, Some, inl, inr, length, set, refl, ap, sym, subst, ◌∙◌, arith}
+use Rattle.std.proofs.Common.{◌≡◌, ◌≢◌, ◌⊎◌, ◌<◌, ◌≤◌, ◌-◌, ◌+◌, ◌++◌, ℕ, zero, suc, List, [], ◌∷◌, Some, inl, inr, length, set, refl, ap, sym, subst, ◌∙◌, arith}
 use Rattle.std.specs.Prelude.{IfSome, decimal}
 use Rattle.std.specs.Io.KnownBytes.{append_known}
 use Rattle.std.specs.List.{slice_get}
@@ -7,7 +7,7 @@ use Rattle.std.proofs.lemmas.List.{length-append}
 use Rattle.alarm_rules.specs.Setups.{Setup, meaning}
 use Rattle.arc_data.specs.Digits.{bytes_spelled}
 use Rattle.arc_data.specs.Moments.{IsMoment}
-use Rattle.arc_io.specs.Areas.{Areas}
+use Rattle.arc_io.specs.Disks.{DiskSeen}
 use Rattle.arc_io.specs.Seen.{PortSeen}
 use Rattle.centre_core.specs.declared.hall.Stop.{Stop}
 use Rattle.centre_core.specs.declared.hall.Stop.TheVariants.{Memory}
@@ -70,14 +70,14 @@ unfolding step_of
 feeds_of setup moment number letter line asked before bytes h x turns set fed =
     record { turns = turns; fed = record { clock = moment; set = set; fed = fed }; entries = refl; sent = refl; text = refl }
 
-pub carried : {D : Type 0} (told_of : D → Option Areas) (may_leave : D → Areas → Type 0) (faults : D → ℕ) (s' : Stored D) (setup : List ℕ)
+pub carried : {D : Type 0} (seen : D → DiskSeen) (s' : Stored D) (setup : List ℕ)
     (moment number letter line : ℕ) (asked : Asked) (before : List Asked) (bytes : List ℕ) (h : List Entry) (t t' : Tally) (p p' : PortSeen)
     (written : List ℕ) → IsMoment moment → clock_of before ≡ Some moment
-    → HasFed told_of may_leave faults setup moment (line_fed line before) bytes h t t' written s'
+    → HasFed seen setup moment (line_fed line before) bytes h t t' written s'
     → p'.written ≡ append_known p.written (head_of letter line ++ replied written ++ 10 ∷ [])
-    → Carried told_of may_leave faults (λ x s. Feeds setup before letter line bytes h x s) number asked t t' p p' s'
+    → Carried seen (λ x s. Feeds setup before letter line bytes h x s) number asked t t' p p' s'
 unfolding step_of
-carried told_of may_leave faults s' setup moment number letter line asked before bytes h t t' p p' written at set w put =
+carried seen s' setup moment number letter line asked before bytes h t t' p p' written at set w put =
     let turns = w.turns in
     let s = step_of number asked letter line (length turns) turns in
     let listed_is : replied written ≡ listed (replies_of turns) =
@@ -95,21 +95,21 @@ carried told_of may_leave faults s' setup moment number letter line asked before
     }
 
 -- how far it came, in the words of its contract
-abbrev CameSoFar : {D : Type 0} → (D → Option Areas) → (D → Areas → Type 0) → (D → ℕ) → Stored D → List ℕ → ℕ → ℕ → ℕ → List Asked → List ℕ → List Entry
+abbrev CameSoFar : {D : Type 0} → (D → DiskSeen) → Stored D → List ℕ → ℕ → ℕ → ℕ → List Asked → List ℕ → List Entry
     → Stop → List Entry → Step → Type 0
-CameSoFar told_of may_leave faults s' setup moment letter line before bytes h stop x s =
+CameSoFar seen s' setup moment letter line before bytes h stop x s =
     ((waiting : List (List ℕ)) × FedUntil setup before line bytes waiting h x s
-    × HasShown told_of may_leave faults s' stop moment (IsOfFrame setup moment waiting))
+    × HasShown seen s' stop moment (IsOfFrame setup moment waiting))
     ⊎ ((stop ≡ Memory) × Feeds setup before letter line bytes h x s)
 
 -- all was fed, and memory was wanted for the output
-pub finished : {D : Type 0} (told_of : D → Option Areas) (may_leave : D → Areas → Type 0) (faults : D → ℕ) (s' : Stored D) (setup : List ℕ)
+pub finished : {D : Type 0} (seen : D → DiskSeen) (s' : Stored D) (setup : List ℕ)
     (moment letter line : ℕ) (asked : Asked) (before : List Asked) (bytes : List ℕ) (h : List Entry) (t t' : Tally) (written : List ℕ)
     (stop : Stop) → stop ≡ Memory → clock_of before ≡ Some moment
-    → HasFed told_of may_leave faults setup moment (line_fed line before) bytes h t t' written s'
-    → Halted told_of may_leave faults (λ x s. CameSoFar told_of may_leave faults s' setup moment letter line before bytes h stop x s) t t' s'
+    → HasFed seen setup moment (line_fed line before) bytes h t t' written s'
+    → Halted seen (λ x s. CameSoFar seen s' setup moment letter line before bytes h stop x s) t t' s'
 unfolding step_of
-finished told_of may_leave faults s' setup moment letter line asked before bytes h t t' written stop is set w =
+finished seen s' setup moment letter line asked before bytes h t t' written stop is set w =
     let s = step_of 0 asked letter line (length w.turns) w.turns in
     record {
       partial = s;
@@ -121,12 +121,12 @@ finished told_of may_leave faults s' setup moment letter line asked before bytes
     }
 
 -- a frame was stopped
-pub halted_at : {D : Type 0} (told_of : D → Option Areas) (may_leave : D → Areas → Type 0) (faults : D → ℕ) (s' : Stored D) (setup : List ℕ)
+pub halted_at : {D : Type 0} (seen : D → DiskSeen) (s' : Stored D) (setup : List ℕ)
     (moment letter line : ℕ) (asked : Asked) (before : List Asked) (bytes : List ℕ) (h : List Entry) (t t' : Tally) (stop : Stop)
-    → clock_of before ≡ Some moment → FeedStops told_of may_leave faults setup moment (line_fed line before) bytes h t t' stop s'
-    → Halted told_of may_leave faults (λ x s. CameSoFar told_of may_leave faults s' setup moment letter line before bytes h stop x s) t t' s'
+    → clock_of before ≡ Some moment → FeedStops seen setup moment (line_fed line before) bytes h t t' stop s'
+    → Halted seen (λ x s. CameSoFar seen s' setup moment letter line before bytes h stop x s) t t' s'
 unfolding step_of
-halted_at told_of may_leave faults s' setup moment letter line asked before bytes h t t' stop set w =
+halted_at seen s' setup moment letter line asked before bytes h t t' stop set w =
     let s = step_of 0 asked letter line w.sent w.turns in
     record {
       partial = s;

@@ -1,6 +1,7 @@
 -- One line that was carried out or stopped over a store, as a step of its script.
 use Rattle.std.proofs.Common.{◌≡◌, ◌≤◌, ◌∷◌, ◌⊎◌, ℕ, List, Option, Some, IfSome, inl, inr, sym, subst, ◌∙◌}
 use Rattle.alarm_rules.specs.Setups.{meaning}
+use Rattle.arc_io.specs.Disks.{DiskSeen}
 use Rattle.arc_io.specs.Seen.{PortSeen}
 use Rattle.centre_core.specs.declared.hall.Stop.{Stop}
 use Rattle.centre_core.specs.declared.hall.Stop.TheVariants.{Memory}
@@ -10,7 +11,7 @@ use Rattle.script_lines.specs.Lines.{Asked}
 use Rattle.arc_script.specs.Between.{Begun, Between, CarriedOut, IsClock, StoppedAt}
 use Rattle.arc_script.specs.Carrying.{Carried, Halted, HaveTakenWith}
 use Rattle.arc_script.specs.Causes.{HasShown, Submits}
-use Rattle.arc_script.specs.Ends.{DiskWords, Tells, CameTo}
+use Rattle.arc_script.specs.Ends.{Tells, CameTo}
 use Rattle.arc_script.specs.Fed.{clock_of}
 use Rattle.arc_script.specs.Playing.{moment_at}
 use Rattle.arc_script.specs.Standing.{is_told}
@@ -19,10 +20,10 @@ use Rattle.arc_script.specs.declared.script.Script.{Script}
 use Rattle.arc_script.proofs.Wanting.{clock_with}
 
 -- what a line over the store leaves alone
-pub record Stays {D : Type 0} (w : DiskWords D) (script script' : Script) (s s' : Stored D) : Type 0 where
+pub record Stays {D : Type 0} (seen : D → DiskSeen) (script script' : Script) (s s' : Stored D) : Type 0 where
   pub setup : script'.setup ≡ script.setup
   pub limits : script'.limits ≡ script.limits
-  pub tells : is_told (w.told s'.journal.disk) ≡ is_told (w.told s.journal.disk)
+  pub tells : is_told (seen s'.journal.disk).told ≡ is_told (seen s.journal.disk).told
   pub at_open : s'.at_open ≡ s.at_open
   pub journal : s'.journal.limits ≡ s.journal.limits
 
@@ -36,14 +37,14 @@ clock_behind clock before asked moment fits set is =
       once = (moment, behind);
     }
 
-module _ {D : Type 0} (w : DiskWords D) (b : Begun D) (before : List Asked) (count : ℕ) (h : List Entry) (asked : Asked) (moment : ℕ)
-    (script script' : Script) (s s' : Stored D) (between : Between w b before count h script s) (stays : Stays w script script' s s')
+module _ {D : Type 0} (seen : D → DiskSeen) (b : Begun D) (before : List Asked) (count : ℕ) (h : List Entry) (asked : Asked) (moment : ℕ)
+    (script script' : Script) (s s' : Stored D) (between : Between seen b before count h script s) (stays : Stays seen script script' s s')
     (fits : IsMoment moment) (set : moment_at (clock_of before) asked ≡ Some moment) where
   pub carried_out : (number : ℕ) (p p' : PortSeen)
-      → Carried w.told w.may_leave w.faults (λ x st. IsStepOf (Tells w b.disk) b.setup before h x st asked) number asked script.tally script'.tally p p' s'
+      → Carried seen (λ x st. IsStepOf (Tells (seen b.disk)) b.setup before h x st asked) number asked script.tally script'.tally p p' s'
       → HaveTakenWith (meaning b.setup) count before asked script'.lines.items script'.desks.items
       → script'.clock ≡ Some moment → s'.state.sum.text ≡ Some b.setup
-      → CarriedOut w b before count number h asked script.tally script' s' p p'
+      → CarriedOut seen b before count number h asked script.tally script' s' p p'
   carried_out number p p' out taken clock text = record {
     step = out.step;
     history = out.history;
@@ -63,18 +64,18 @@ module _ {D : Type 0} (w : DiskWords D) (b : Begun D) (before : List Asked) (cou
         readable = out.readable;
         tells = stays.tells ∙ between.store.tells;
         limits_are = stays.journal ∙ between.store.limits_are;
-        later = subst (λ (n : ℕ). w.faults b.disk ≤ n) (sym stays.at_open) between.store.later;
+        later = subst (λ (n : ℕ). (seen b.disk).faults ≤ n) (sym stays.at_open) between.store.later;
       };
     };
   }
 
   pub stopped_at : (stop : Stop) (waiting : List (List ℕ))
-      → Halted w.told w.may_leave w.faults (λ x st.
-      (CameTo (Tells w b.disk) b.setup before waiting h x st asked × HasShown w.told w.may_leave w.faults s' stop moment (Submits b.setup before moment waiting asked))
-      ⊎ ((stop ≡ Memory) × IsStepOf (Tells w b.disk) b.setup before h x st asked)) script.tally script'.tally s'
-      → StoppedAt w b before h asked stop script.tally script'.tally s'
+      → Halted seen (λ x st.
+      (CameTo (Tells (seen b.disk)) b.setup before waiting h x st asked × HasShown seen s' stop moment (Submits b.setup before moment waiting asked))
+      ⊎ ((stop ≡ Memory) × IsStepOf (Tells (seen b.disk)) b.setup before h x st asked)) script.tally script'.tally s'
+      → StoppedAt seen b before h asked stop script.tally script'.tally s'
   stopped_at stop waiting out =
-      elim out.came as (λ came. StoppedAt w b before h asked stop script.tally script'.tally s') [
+      elim out.came as (λ came. StoppedAt seen b before h asked stop script.tally script'.tally s') [
         | inl until ↦ record {
           waiting = waiting;
           partial = out.partial;
@@ -85,7 +86,7 @@ module _ {D : Type 0} (w : DiskWords D) (b : Begun D) (before : List Asked) (cou
           cause = until.1;
           stands = out.stands;
           limits_are = stays.journal ∙ between.store.limits_are;
-          later = subst (λ (n : ℕ). w.faults b.disk ≤ n) (sym stays.at_open) between.store.later;
+          later = subst (λ (n : ℕ). (seen b.disk).faults ≤ n) (sym stays.at_open) between.store.later;
           counts = out.counts.more;
         }
         | inr whole ↦ record {
@@ -98,7 +99,7 @@ module _ {D : Type 0} (w : DiskWords D) (b : Begun D) (before : List Asked) (cou
           cause = inl whole.0;
           stands = out.stands;
           limits_are = stays.journal ∙ between.store.limits_are;
-          later = subst (λ (n : ℕ). w.faults b.disk ≤ n) (sym stays.at_open) between.store.later;
+          later = subst (λ (n : ℕ). (seen b.disk).faults ≤ n) (sym stays.at_open) between.store.later;
           counts = out.counts.more;
         }
       ]

@@ -3,7 +3,7 @@ use Rattle.std.proofs.Common.{◌≡◌, ◌≤◌, ◌-◌, ◌+◌, ◌++◌, 
 use Rattle.std.specs.Prelude.{min, unwrap_or}
 use Rattle.std.specs.List.{slice_get}
 use Rattle.alarm_rules.specs.Setups.{meaning}
-use Rattle.arc_io.specs.Areas.{Areas}
+use Rattle.arc_io.specs.Disks.{DiskSeen}
 use Rattle.arc_io.specs.Seen.{PortSeen}
 use Rattle.centre_core.specs.Setting.{text_of}
 use Rattle.centre_core.specs.declared.hall.Stop.{Stop}
@@ -47,11 +47,11 @@ stop_is : (stop : Stop) (r : Result (Unit {0}) Stop) → r ≡ Err stop → r �
 stop_is stop r at memory = cc
 
 -- memory was wanted for the head of the line
-pub halted_first : {D : Type 0} (told_of : D → Option Areas) (may_leave : D → Areas → Type 0) (faults : D → ℕ) (s : Stored D) (setup : List ℕ)
+pub halted_first : {D : Type 0} (seen : D → DiskSeen) (s : Stored D) (setup : List ℕ)
     (clock desk : ℕ) (before : List Asked) (text : List ℕ) (h : List Entry) (t : Tally) (stop : Stop) (r : Result (Unit {0}) Stop) → r ≡ Err stop
-    → r ≡ Err Memory → StoreStands told_of may_leave faults nothing s h → IsReadable h
-    → Halted told_of may_leave faults (λ x k. CameSoFar told_of may_leave faults s setup clock desk before text h stop x k) t t s
-halted_first told_of may_leave faults s setup clock desk before text h t stop r at memory stands readable =
+    → r ≡ Err Memory → StoreStands seen nothing s h → IsReadable h
+    → Halted seen (λ x k. CameSoFar seen s setup clock desk before text h stop x k) t t s
+halted_first seen s setup clock desk before text h t stop r at memory stands readable =
     let partial : Step = record { number = 0; asked = Command desk text; entries = []; sent = 0; text = [] } in
     record {
       partial = partial;
@@ -75,28 +75,28 @@ set_at [] i x y there = absurd cc
 set_at (z ∷ xs) zero x y there = refl
 set_at (z ∷ xs) (suc i) x y there = set_at xs i x y there
 
-module _ {D : Type 0} (told_of : D → Option Areas) (may_leave : D → Areas → Type 0) (faults : D → ℕ) (s s' : Stored D) (setup : List ℕ)
+module _ {D : Type 0} (seen : D → DiskSeen) (s s' : Stored D) (setup : List ℕ)
     (desk : ℕ) (text : List ℕ) (lines : List Line.LineValue) (desks : List Desk.DeskValue) (was now : Desk.DeskValue) (t t' : Tally) (p : PortSeen)
     (page page' : Page) (given : List ℕ) (r : Result (Unit {0}) DeskEnd)
-    (g : IsGiven told_of may_leave faults s s' setup desk text desks was now p page page' given r) where
-  pub given_as : (q : Result (Unit {0}) DeskEnd) → r ≡ q → IsGiven told_of may_leave faults s s' setup desk text desks was now p page page' given q
+    (g : IsGiven seen s s' setup desk text desks was now p page page' given r) where
+  pub given_as : (q : Result (Unit {0}) DeskEnd) → r ≡ q → IsGiven seen s s' setup desk text desks was now p page page' given q
   given_as q is =
-      subst (λ (q : Result (Unit {0}) DeskEnd). IsGiven told_of may_leave faults s s' setup desk text desks was now p page page' given q) is g
+      subst (λ (q : Result (Unit {0}) DeskEnd). IsGiven seen s s' setup desk text desks was now p page page' given q) is g
 
   -- Of the ends that are no stops a failed write alone can come: memory was wanted for it.
   ended : (end : DeskEnd) → ReadsNothing (Err end) → r ≡ Err end → Closings s.state s'.state t t'
       → (before : List Asked) (clock count : ℕ) (h : List Entry) → IsNext (meaning setup) clock count before (Command desk text) lines desks
-      → p ≡ blank clock → StoreStands told_of may_leave faults nothing s h → IsReadable h
-      → Halted told_of may_leave faults (λ x k. CameSoFar told_of may_leave faults s' setup clock desk before text h (stop_in end) x k) t t' s'
+      → p ≡ blank clock → StoreStands seen nothing s h → IsReadable h
+      → Halted seen (λ x k. CameSoFar seen s' setup clock desk before text h (stop_in end) x k) t t' s'
   ended InputEnded reads is sums before clock count h next empty stands readable = absurd reads
   ended ReadFault reads is sums before clock count h next empty stands readable = absurd reads
   ended WriteFault reads is sums before clock count h next empty stands readable =
-      fails_at told_of may_leave faults s s' setup desk text lines desks was now t t' p page page' given (given_as (Err WriteFault) is) sums before
+      fails_at seen s s' setup desk text lines desks was now t t' p page page' given (given_as (Err WriteFault) is) sums before
       clock
       count h next empty stands readable
   ended Spent reads is sums before clock count h next empty stands readable =
       let at = given_as (Err Spent) is in
-      let w = has_served told_of may_leave faults s s' setup clock count desk before text h lines desks was now p page page' given (Err Spent) at
+      let w = has_served seen s s' setup clock count desk before text h lines desks was now p page page' given (Err Spent) at
       next empty
       stands readable in
       let same : setup ≡ text_of s.state = sym (ap (λ (o : Option (List ℕ)). unwrap_or o []) at.set) in
@@ -105,7 +105,7 @@ module _ {D : Type 0} (told_of : D → Option Areas) (may_leave : D → Areas �
       let short = command_short (meaning setup) clock count desk before text w.has.stream lines desks next w.has.few in
       absurd (omega (arith, short, over))
   ended Quit reads is sums before clock count h next empty stands readable =
-      let w = quits_on told_of may_leave faults s s' setup desk text lines desks was now t t' p page page' given (given_as (Err Quit) is) sums
+      let w = quits_on seen s s' setup desk text lines desks was now t t' p page page' given (given_as (Err Quit) is) sums
       before clock
       count 0 h next empty stands readable in
       record {
@@ -117,15 +117,15 @@ module _ {D : Type 0} (told_of : D → Option Areas) (may_leave : D → Areas �
         counts = w.counts;
       }
   ended (Stopped stop) reads is sums before clock count h next empty stands readable =
-      stops_at told_of may_leave faults s s' setup desk text lines desks was now t t' p page page' given stop (given_as (Err (Stopped stop)) is)
+      stops_at seen s s' setup desk text lines desks was now t t' p page page' given stop (given_as (Err (Stopped stop)) is)
       sums before
       clock count h next empty stands readable
 
   pub ended_as : (end : DeskEnd) (stop : Stop) → r ≡ Err end → stop ≡ stop_in end → ReadsNothing r → Closings s.state s'.state t t'
       → (before : List Asked) (clock count : ℕ) (h : List Entry) → IsNext (meaning setup) clock count before (Command desk text) lines desks
-      → p ≡ blank clock → StoreStands told_of may_leave faults nothing s h → IsReadable h
-      → Halted told_of may_leave faults (λ x k. CameSoFar told_of may_leave faults s' setup clock desk before text h stop x k) t t' s'
+      → p ≡ blank clock → StoreStands seen nothing s h → IsReadable h
+      → Halted seen (λ x k. CameSoFar seen s' setup clock desk before text h stop x k) t t' s'
   ended_as end stop is same reads sums before clock count h next empty stands readable =
-      subst (λ (k : Stop). Halted told_of may_leave faults (λ x q. CameSoFar told_of may_leave faults s' setup clock desk before text h k x q) t t'
+      subst (λ (k : Stop). Halted seen (λ x q. CameSoFar seen s' setup clock desk before text h k x q) t t'
       s')
       (sym same) (ended end (subst ReadsNothing is reads) is sums before clock count h next empty stands readable)

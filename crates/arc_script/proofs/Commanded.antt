@@ -11,7 +11,7 @@ use Rattle.std.proofs.lemmas.List.{append_assoc, length-append}
 use Rattle.std.proofs.lemmas.List.Folds.{list_any-append}
 use Rattle.alarm_rules.specs.Setups.{meaning}
 use Rattle.arc_data.specs.declared.event.Event.{Event}
-use Rattle.arc_io.specs.Areas.{Areas}
+use Rattle.arc_io.specs.Disks.{DiskSeen}
 use Rattle.arc_io.specs.Lists.{readings_of as given_of}
 use Rattle.arc_io.specs.Seen.{PortSeen}
 use Rattle.arc_text.proofs.LineLaws.{ended-append_feed, ended-append_run, rest-append_feed, rest-append_run}
@@ -141,28 +141,28 @@ turned_by setup operator clock n text h x t line are legal own readings =
     }
 
 -- The desk answered the line, or would have: the store stands for the history with its turn.
-pub record Answers {D : Type 0} (told : D → Option Areas) (may_leave : D → Areas → Type 0) (faults : D → ℕ) (s' : Stored D)
+pub record Answers {D : Type 0} (seen : D → DiskSeen) (s' : Stored D)
     (setup : List ℕ) (operator : Option (List ℕ)) (clock : ℕ) (text : List ℕ) (h : List Entry) : Type 0 where
   pub turn : Turn
   pub history : List Entry
   pub turned : Turned setup operator clock text h history turn
-  pub stands : StoreStands told may_leave faults nothing s' history
+  pub stands : StoreStands seen nothing s' history
   pub readable : IsReadable history
 
 -- all was answered
-pub record Said {D : Type 0} (told : D → Option Areas) (may_leave : D → Areas → Type 0) (faults : D → ℕ) (s' : Stored D)
+pub record Said {D : Type 0} (seen : D → DiskSeen) (s' : Stored D)
     (setup : List ℕ) (operator : Option (List ℕ)) (clock : ℕ) (text : List ℕ) (h : List Entry) (p p' : PortSeen) : Type 0 where
-  pub answers : Answers told may_leave faults s' setup operator clock text h
+  pub answers : Answers seen s' setup operator clock text h
   pub text_is : p'.written ≡ append_known p.written answers.turn.reply
 
-one_added : {D : Type 0} (told : D → Option Areas) (may_leave : D → Areas → Type 0) (faults : D → ℕ) (s s' : Stored D) (setup : List ℕ)
+one_added : {D : Type 0} (seen : D → DiskSeen) (s s' : Stored D) (setup : List ℕ)
     (operator : Option (List ℕ)) (clock : ℕ) (text : List ℕ) (h x : List Entry) (p p' : PortSeen) (turns : List Turn) (readings : List ℕ)
     → (page : PageTells clock p p') → text ∷ [] ≡ pieces_of desk_turns turns ++ []
     → AreTurns nothing (meaning setup) 0 operator h x turns → IsLegal nothing x → x ≡ reverse (entries_of desk_turns turns) ++ h
     → p'.readings ≡ append_known p.readings readings → readings ≡ readings_of desk_turns turns
-    → StoreStands told may_leave faults nothing s' x → IsReadable x
-    → (answers : Answers told may_leave faults s' setup operator clock text h) × (text_of desk_turns turns ≡ answers.turn.reply)
-one_added told may_leave faults s s' setup operator clock text h x p p' turns readings page whole are legal own tells same stands readable =
+    → StoreStands seen nothing s' x → IsReadable x
+    → (answers : Answers seen s' setup operator clock text h) × (text_of desk_turns turns ≡ answers.turn.reply)
+one_added seen s s' setup operator clock text h x p p' turns readings page whole are legal own tells same stands readable =
     let one = one_turn turns text whole in
     let t = one.turn in
     let list = option_to_list t.reading ++ [] in
@@ -209,13 +209,13 @@ none_before (t ∷ []) text piece more is = absurd cc
 none_before (t ∷ u ∷ ts) text piece more is = absurd cc
 
 -- all was answered: the desk goes on, or the line was a `quit`
-pub says : {D : Type 0} (told : D → Option Areas) (may_leave : D → Areas → Type 0) (faults : D → ℕ) (s s' : Stored D) (setup : List ℕ)
+pub says : {D : Type 0} (seen : D → DiskSeen) (s s' : Stored D) (setup : List ℕ)
     (clock : ℕ) (stream text : List ℕ) (h : List Entry) (p p' : PortSeen) → text_in s.state ≡ setup → (page : PageTells clock p p')
     → EndsAs stream text → quits (ended_lines stream) ≡ false
-    → ServesLines (Ok tt) (ended_lines stream) (ended_lines (stream ++ (text ++ 13 ∷ 10 ∷ []))) nothing h (script_seen told may_leave faults s)
-    (script_seen told may_leave faults s') p p'
-    → Said told may_leave faults s' setup (acts_over (meaning setup) None (ended_lines stream)) clock text h p p'
-says told may_leave faults s s' setup clock stream text h p p' same page ends none serves =
+    → ServesLines (Ok tt) (ended_lines stream) (ended_lines (stream ++ (text ++ 13 ∷ 10 ∷ []))) nothing h (script_seen seen s)
+    (script_seen seen s') p p'
+    → Said seen s' setup (acts_over (meaning setup) None (ended_lines stream)) clock text h p p'
+says seen s s' setup clock stream text h p p' same page ends none serves =
     let session = serves.desk.session in
     let turns = session.turns in
     let told_of = session.adds.told in
@@ -224,31 +224,31 @@ says told may_leave faults s s' setup clock stream text h p p' same page ends no
     let operator = acts_over (meaning (text_in s.state)) None (ended_lines stream) in
     let whole : text ∷ [] ≡ pieces_of desk_turns turns ++ [] =
     sym more ∙ session.taken ∙ ap (λ l. pieces_of desk_turns turns ++ l) session.ended.none_left in
-    let one = one_added told may_leave faults s s' (text_in s.state) operator clock text h session.history p p' turns session.added.readings page whole
+    let one = one_added seen s s' (text_in s.state) operator clock text h session.history p p' turns session.added.readings page whole
     session.each.0 session.legal session.own (ap (λ (q : PortSeen). q.readings) told_of) (ap (λ a. a.readings) added) session.holds.0.stands (session.holds.1 refl) in
-    subst (λ (t : List ℕ). Said told may_leave faults s' t (acts_over (meaning t) None (ended_lines stream)) clock text h p p') same
+    subst (λ (t : List ℕ). Said seen s' t (acts_over (meaning t) None (ended_lines stream)) clock text h p p') same
     (record {
       answers = one.0;
       text_is = ap (λ (q : PortSeen). q.written) told_of ∙ ap (λ (l : List ℕ). append_known p.written l) (ap (λ a. a.text) added ∙ one.1);
     })
 
-pub says_quit : {D : Type 0} (told : D → Option Areas) (may_leave : D → Areas → Type 0) (faults : D → ℕ) (s s' : Stored D) (setup : List ℕ)
+pub says_quit : {D : Type 0} (seen : D → DiskSeen) (s s' : Stored D) (setup : List ℕ)
     (clock : ℕ) (stream text : List ℕ) (h : List Entry) (p p' : PortSeen) → text_in s.state ≡ setup → (page : PageTells clock p p')
     → EndsAs stream text → quits (ended_lines stream) ≡ false
-    → ServesLines (Err Quit) (ended_lines stream) (ended_lines (stream ++ (text ++ 13 ∷ 10 ∷ []))) nothing h (script_seen told may_leave faults s)
-    (script_seen told may_leave faults s') p p'
-    → Said told may_leave faults s' setup (acts_over (meaning setup) None (ended_lines stream)) clock text h p p'
-says_quit told may_leave faults s s' setup clock stream text h p p' same page ends none serves =
-    says told may_leave faults s s' setup clock stream text h p p' same page ends none (record { more = serves.more; came = serves.came; desk = serves.desk })
+    → ServesLines (Err Quit) (ended_lines stream) (ended_lines (stream ++ (text ++ 13 ∷ 10 ∷ []))) nothing h (script_seen seen s)
+    (script_seen seen s') p p'
+    → Said seen s' setup (acts_over (meaning setup) None (ended_lines stream)) clock text h p p'
+says_quit seen s s' setup clock stream text h p p' same page ends none serves =
+    says seen s s' setup clock stream text h p p' same page ends none (record { more = serves.more; came = serves.came; desk = serves.desk })
 
 -- a write failed: the line has its turn all the same
-pub unsaid : {D : Type 0} (told : D → Option Areas) (may_leave : D → Areas → Type 0) (faults : D → ℕ) (s s' : Stored D) (setup : List ℕ)
+pub unsaid : {D : Type 0} (seen : D → DiskSeen) (s s' : Stored D) (setup : List ℕ)
     (clock : ℕ) (stream text : List ℕ) (h : List Entry) (p p' : PortSeen) → text_in s.state ≡ setup → (page : PageTells clock p p')
     → EndsAs stream text → quits (ended_lines stream) ≡ false
     → ServesLines (Err WriteFault) (ended_lines stream) (ended_lines (stream ++ (text ++ 13 ∷ 10 ∷ []))) nothing h
-    (script_seen told may_leave faults s) (script_seen told may_leave faults s') p p'
-    → Answers told may_leave faults s' setup (acts_over (meaning setup) None (ended_lines stream)) clock text h
-unsaid told may_leave faults s s' setup clock stream text h p p' same page ends none serves =
+    (script_seen seen s) (script_seen seen s') p p'
+    → Answers seen s' setup (acts_over (meaning setup) None (ended_lines stream)) clock text h
+unsaid seen s s' setup clock stream text h p p' same page ends none serves =
     let session = serves.desk.session in
     let turns = session.turns in
     let ended = session.ended in
@@ -256,23 +256,23 @@ unsaid told may_leave faults s s' setup clock stream text h p p' same page ends 
     let operator = acts_over (meaning (text_in s.state)) None (ended_lines stream) in
     let whole : text ∷ [] ≡ pieces_of desk_turns turns ++ [] = only_left turns ended.front session.behind ended.last text session.left ended.split
     (sym more ∙ session.taken) in
-    let one = one_added told may_leave faults s s' (text_in s.state) operator clock text h session.history p p' turns session.added.readings page whole
+    let one = one_added seen s s' (text_in s.state) operator clock text h session.history p p' turns session.added.readings page whole
     session.each.0 session.legal session.own (ap (λ (q : PortSeen). q.readings) session.adds.told) (ap (λ a. a.readings) ended.added) session.holds.0.stands (session.holds.1 refl) in
-    subst (λ (t : List ℕ). Answers told may_leave faults s' t (acts_over (meaning t) None (ended_lines stream)) clock text h) same one.0
+    subst (λ (t : List ℕ). Answers seen s' t (acts_over (meaning t) None (ended_lines stream)) clock text h) same one.0
 
 -- the store stopped for the line
-pub record StoppedFor {D : Type 0} (told : D → Option Areas) (may_leave : D → Areas → Type 0) (faults : D → ℕ) (s' : Stored D)
+pub record StoppedFor {D : Type 0} (seen : D → DiskSeen) (s' : Stored D)
     (setup : List ℕ) (operator : Option (List ℕ)) (clock : ℕ) (text : List ℕ) (h : List Entry) (stop : Stop) : Type 0 where
-  pub stands : StoreStands told may_leave faults nothing s' h
-  pub cause : HasShown told may_leave faults s' stop clock (λ event. event_of operator (command_in text) ≡ Some event)
+  pub stands : StoreStands seen nothing s' h
+  pub cause : HasShown seen s' stop clock (λ event. event_of operator (command_in text) ≡ Some event)
 
-pub stops : {D : Type 0} (told : D → Option Areas) (may_leave : D → Areas → Type 0) (faults : D → ℕ) (s s' : Stored D) (setup : List ℕ)
+pub stops : {D : Type 0} (seen : D → DiskSeen) (s s' : Stored D) (setup : List ℕ)
     (clock : ℕ) (stream text : List ℕ) (h : List Entry) (p p' : PortSeen) (stop : Stop) → text_in s.state ≡ setup → (page : PageTells clock p p')
     → EndsAs stream text → quits (ended_lines stream) ≡ false
     → ServesLines (Err (Stopped stop)) (ended_lines stream) (ended_lines (stream ++ (text ++ 13 ∷ 10 ∷ []))) nothing h
-    (script_seen told may_leave faults s) (script_seen told may_leave faults s') p p'
-    → StoppedFor told may_leave faults s' setup (acts_over (meaning setup) None (ended_lines stream)) clock text h stop
-stops told may_leave faults s s' setup clock stream text h p p' stop same page ends none serves =
+    (script_seen seen s) (script_seen seen s') p p'
+    → StoppedFor seen s' setup (acts_over (meaning setup) None (ended_lines stream)) clock text h stop
+stops seen s s' setup clock stream text h p p' stop same page ends none serves =
     let session = serves.desk.session in
     let turns = session.turns in
     let ended = session.ended in
@@ -290,12 +290,12 @@ stops told may_leave faults s s' setup clock stream text h p p' stop same page e
     (ap (λ a. a.readings) ended.added ∙ ap (λ (ts : List Turn). readings_of desk_turns ts ++ list) none_done.turns) in
     let at : ended.reading ≡ clock = ap (λ (l : List ℕ). slice_index l 0) (still page.list page.calls clock list page.one known).same in
     let cause = ended.cause in
-    subst (λ (t : List ℕ). StoppedFor told may_leave faults s' t (acts_over (meaning t) None (ended_lines stream)) clock text h stop) same
+    subst (λ (t : List ℕ). StoppedFor seen s' t (acts_over (meaning t) None (ended_lines stream)) clock text h stop) same
     (record {
-      stands = subst (λ (x : List Entry). StoreStands told may_leave faults nothing s' x) back session.holds.0.stands;
+      stands = subst (λ (x : List Entry). StoreStands seen nothing s' x) back session.holds.0.stands;
       cause = inr (
         cause.0,
         ap (λ (o : Option (List ℕ)). event_of o (command_in text)) last ∙ ap (λ (l : List ℕ). event_of serves.desk.last (command_in l)) (sym none_done.piece) ∙ cause.1,
-        subst (λ (r : ℕ). Shows told may_leave faults s' stop cause.0 r) at cause.2,
+        subst (λ (r : ℕ). Shows seen s' stop cause.0 r) at cause.2,
       );
     })

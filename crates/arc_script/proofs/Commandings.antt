@@ -5,7 +5,7 @@ use Rattle.std.specs.Io.KnownBytes.{append_known}
 use Rattle.std.specs.List.{slice_get}
 use Rattle.std.proofs.lemmas.List.{length-append}
 use Rattle.alarm_rules.specs.Setups.{Setup, meaning}
-use Rattle.arc_io.specs.Areas.{Areas}
+use Rattle.arc_io.specs.Disks.{DiskSeen}
 use Rattle.arc_io.specs.Memory.{clock_list, noise_list}
 use Rattle.arc_io.specs.Seen.{PortSeen}
 use Rattle.arc_io.specs.Told.{OnlyWrites}
@@ -41,7 +41,7 @@ use Rattle.arc_script.proofs.Feeds.{PageTells}
 use Rattle.arc_script.proofs.Taken.{read_after, read_next}
 
 -- what the code gave to a desk, over a page on which the head of the line was put
-pub record IsGiven {D : Type 0} (told_of : D → Option Areas) (may_leave : D → Areas → Type 0) (faults : D → ℕ) (s s' : Stored D) (setup : List ℕ)
+pub record IsGiven {D : Type 0} (seen : D → DiskSeen) (s s' : Stored D) (setup : List ℕ)
     (desk : ℕ) (text : List ℕ) (desks : List Desk.DeskValue) (was now : Desk.DeskValue) (p : PortSeen) (page page' : Page) (given : List ℕ)
     (r : Result (Unit {0}) DeskEnd) : Type 0 where
   pub low : 1 ≤ desk
@@ -55,19 +55,19 @@ pub record IsGiven {D : Type 0} (told_of : D → Option Areas) (may_leave : D �
   pub silent : noise_list page'.port.noise ≡ []
   pub taken : (stream : List ℕ) → Desk.TookStream (meaning (text_of s.state)) stream was → Desk.IsTaken r (meaning (text_of s.state)) stream given now
   pub served : (stream : List ℕ) (h : List Entry) → Desk.TookStream (meaning (text_of s.state)) stream was
-      → IsStoreFor told_of may_leave faults nothing s h → IsReadable h
-      → Desk.ServesBytes r stream (in_limit stream given) nothing h (script_seen told_of may_leave faults s) (script_seen told_of may_leave faults s')
+      → IsStoreFor seen nothing s h → IsReadable h
+      → Desk.ServesBytes r stream (in_limit stream given) nothing h (script_seen seen s) (script_seen seen s')
       (page_seen page) (page_seen page')
 
 -- what the desk had read, and what it did
-pub record HasServed {D : Type 0} (told_of : D → Option Areas) (may_leave : D → Areas → Type 0) (faults : D → ℕ) (s s' : Stored D) (setup : List ℕ)
+pub record HasServed {D : Type 0} (seen : D → DiskSeen) (s s' : Stored D) (setup : List ℕ)
     (clock count desk : ℕ) (before : List Asked) (text : List ℕ) (h : List Entry) (was : Desk.DeskValue) (p p' : PortSeen)
     (r : Result (Unit {0}) DeskEnd) : Type 0 where
   pub has : HasRead (meaning setup) count (desk_read desk before) was
   pub ends : EndsAs has.stream text
   pub none : quits (ended_lines has.stream) ≡ false
   pub serves : Desk.ServesLines r (ended_lines has.stream) (ended_lines (has.stream ++ (text ++ 13 ∷ 10 ∷ []))) nothing h
-      (script_seen told_of may_leave faults s) (script_seen told_of may_leave faults s') p p'
+      (script_seen seen s) (script_seen seen s') p p'
   pub page : PageTells clock p p'
 
 had_read : (setup : Setup) (clock count desk : ℕ) (before : List Asked) (text : List ℕ) (lines : List Line.LineValue) (desks : List Desk.DeskValue)
@@ -89,14 +89,14 @@ whole_given stream text given line short =
     let fits : length bytes ≤ input_limit - length stream = omega (arith, long, short) in
     ap (in_limit stream) line ∙ all_in_limit stream bytes fits
 
-pub has_served : {D : Type 0} (told_of : D → Option Areas) (may_leave : D → Areas → Type 0) (faults : D → ℕ) (s s' : Stored D) (setup : List ℕ)
+pub has_served : {D : Type 0} (seen : D → DiskSeen) (s s' : Stored D) (setup : List ℕ)
     (clock count desk : ℕ) (before : List Asked) (text : List ℕ) (h : List Entry) (lines : List Line.LineValue) (desks : List Desk.DeskValue)
     (was now : Desk.DeskValue) (p : PortSeen) (page page' : Page) (given : List ℕ) (r : Result (Unit {0}) DeskEnd)
-    → IsGiven told_of may_leave faults s s' setup desk text desks was now p page page' given r
+    → IsGiven seen s s' setup desk text desks was now p page page' given r
     → IsNext (meaning setup) clock count before (Command desk text) lines desks → p ≡ blank clock
-    → StoreStands told_of may_leave faults nothing s h → IsReadable h
-    → HasServed told_of may_leave faults s s' setup clock count desk before text h was (page_seen page) (page_seen page') r
-has_served told_of may_leave faults s s' setup clock count desk before text h lines desks was now p page page' given r g next empty stands readable =
+    → StoreStands seen nothing s h → IsReadable h
+    → HasServed seen s s' setup clock count desk before text h was (page_seen page) (page_seen page') r
+has_served seen s s' setup clock count desk before text h lines desks was now p page page' given r g next empty stands readable =
     let has = had_read (meaning setup) clock count desk before text lines desks was g.low g.there next in
     let same = text_is s setup g.set in
     let took = subst (λ (t : List ℕ). Desk.TookStream (meaning t) has.stream was) (sym same) has.took in
@@ -108,7 +108,7 @@ has_served told_of may_leave faults s s' setup clock count desk before text h li
       ends = ends_as has.stream text (text_unbroken desk text next.unbroken) has.none;
       none = has.took.taken.goes_on;
       serves = subst (λ (l : List ℕ). Desk.ServesLines r (ended_lines has.stream) (ended_lines (has.stream ++ l)) nothing h
-          (script_seen told_of may_leave faults s) (script_seen told_of may_leave faults s') (page_seen page) (page_seen page')) whole serves;
+          (script_seen seen s) (script_seen seen s') (page_seen page) (page_seen page')) whole serves;
       page = page_tells clock page page'
           (ap (λ (q : PortSeen). q.readings) g.only.rest ∙ ap (λ (q : PortSeen). q.readings) empty)
           (ap (λ (q : PortSeen). q.noise) g.only.rest ∙ ap (λ (q : PortSeen). q.noise) empty) g.one g.silent;
@@ -116,59 +116,59 @@ has_served told_of may_leave faults s s' setup clock count desk before text h li
 
 -- The desk goes on, or the line was a `quit`.
 
-pub goes_on : {D : Type 0} (told_of : D → Option Areas) (may_leave : D → Areas → Type 0) (faults : D → ℕ) (s s' : Stored D) (setup : List ℕ)
+pub goes_on : {D : Type 0} (seen : D → DiskSeen) (s s' : Stored D) (setup : List ℕ)
     (desk : ℕ) (text : List ℕ) (lines : List Line.LineValue) (desks : List Desk.DeskValue) (was now : Desk.DeskValue) (t t' : Tally) (p : PortSeen)
-    (page page' : Page) (given : List ℕ) → IsGiven told_of may_leave faults s s' setup desk text desks was now p page page' given (Ok tt)
+    (page page' : Page) (given : List ℕ) → IsGiven seen s s' setup desk text desks was now p page page' given (Ok tt)
     → Closings s.state s'.state t t'
     → (before : List Asked) (clock count number : ℕ) (h : List Entry) → IsNext (meaning setup) clock count before (Command desk text) lines desks
-    → p ≡ blank clock → StoreStands told_of may_leave faults nothing s h → IsReadable h
-    → Carried told_of may_leave faults (λ x k. Commands setup before desk text h x k) number (Command desk text) t t' p (page_seen page') s'
-goes_on told_of may_leave faults s s' setup desk text lines desks was now t t' p page page' given g closings before clock count number h next empty stands readable =
-    let w = has_served told_of may_leave faults s s' setup clock count desk before text h lines desks was now p page page' given (Ok tt) g next empty stands readable in
-    let said = says told_of may_leave faults s s' setup clock w.has.stream text h (page_seen page) (page_seen page') (text_is s setup g.set) w.page w.ends w.none w.serves in
-    commanded told_of may_leave faults s s' setup clock number desk before text (ended_lines w.has.stream) h t t' p (page_seen page) (page_seen page')
+    → p ≡ blank clock → StoreStands seen nothing s h → IsReadable h
+    → Carried seen (λ x k. Commands setup before desk text h x k) number (Command desk text) t t' p (page_seen page') s'
+goes_on seen s s' setup desk text lines desks was now t t' p page page' given g closings before clock count number h next empty stands readable =
+    let w = has_served seen s s' setup clock count desk before text h lines desks was now p page page' given (Ok tt) g next empty stands readable in
+    let said = says seen s s' setup clock w.has.stream text h (page_seen page) (page_seen page') (text_is s setup g.set) w.page w.ends w.none w.serves in
+    commanded seen s s' setup clock number desk before text (ended_lines w.has.stream) h t t' p (page_seen page) (page_seen page')
     next.set w.has.ended stands said g.head closings
 
-pub quits_on : {D : Type 0} (told_of : D → Option Areas) (may_leave : D → Areas → Type 0) (faults : D → ℕ) (s s' : Stored D) (setup : List ℕ)
+pub quits_on : {D : Type 0} (seen : D → DiskSeen) (s s' : Stored D) (setup : List ℕ)
     (desk : ℕ) (text : List ℕ) (lines : List Line.LineValue) (desks : List Desk.DeskValue) (was now : Desk.DeskValue) (t t' : Tally) (p : PortSeen)
-    (page page' : Page) (given : List ℕ) → IsGiven told_of may_leave faults s s' setup desk text desks was now p page page' given (Err Quit)
+    (page page' : Page) (given : List ℕ) → IsGiven seen s s' setup desk text desks was now p page page' given (Err Quit)
     → Closings s.state s'.state t t'
     → (before : List Asked) (clock count number : ℕ) (h : List Entry) → IsNext (meaning setup) clock count before (Command desk text) lines desks
-    → p ≡ blank clock → StoreStands told_of may_leave faults nothing s h → IsReadable h
-    → Carried told_of may_leave faults (λ x k. Commands setup before desk text h x k) number (Command desk text) t t' p (page_seen page') s'
-quits_on told_of may_leave faults s s' setup desk text lines desks was now t t' p page page' given g closings before clock count number h next empty stands readable =
-    let w = has_served told_of may_leave faults s s' setup clock count desk before text h lines desks was now p page page' given (Err Quit) g next empty stands readable in
-    let said = says_quit told_of may_leave faults s s' setup clock w.has.stream text h (page_seen page) (page_seen page') (text_is s setup g.set) w.page w.ends w.none w.serves in
-    commanded told_of may_leave faults s s' setup clock number desk before text (ended_lines w.has.stream) h t t' p (page_seen page) (page_seen page')
+    → p ≡ blank clock → StoreStands seen nothing s h → IsReadable h
+    → Carried seen (λ x k. Commands setup before desk text h x k) number (Command desk text) t t' p (page_seen page') s'
+quits_on seen s s' setup desk text lines desks was now t t' p page page' given g closings before clock count number h next empty stands readable =
+    let w = has_served seen s s' setup clock count desk before text h lines desks was now p page page' given (Err Quit) g next empty stands readable in
+    let said = says_quit seen s s' setup clock w.has.stream text h (page_seen page) (page_seen page') (text_is s setup g.set) w.page w.ends w.none w.serves in
+    commanded seen s s' setup clock number desk before text (ended_lines w.has.stream) h t t' p (page_seen page) (page_seen page')
     next.set w.has.ended stands said g.head closings
 
 -- the store stopped for the command
-pub stops_at : {D : Type 0} (told_of : D → Option Areas) (may_leave : D → Areas → Type 0) (faults : D → ℕ) (s s' : Stored D) (setup : List ℕ)
+pub stops_at : {D : Type 0} (seen : D → DiskSeen) (s s' : Stored D) (setup : List ℕ)
     (desk : ℕ) (text : List ℕ) (lines : List Line.LineValue) (desks : List Desk.DeskValue) (was now : Desk.DeskValue) (t t' : Tally) (p : PortSeen)
     (page page' : Page) (given : List ℕ) (stop : Stop)
-    → IsGiven told_of may_leave faults s s' setup desk text desks was now p page page' given (Err (Stopped stop)) → Closings s.state s'.state t t'
+    → IsGiven seen s s' setup desk text desks was now p page page' given (Err (Stopped stop)) → Closings s.state s'.state t t'
     → (before : List Asked) (clock count : ℕ) (h : List Entry) → IsNext (meaning setup) clock count before (Command desk text) lines desks
-    → p ≡ blank clock → StoreStands told_of may_leave faults nothing s h → IsReadable h
-    → Halted told_of may_leave faults (λ x k. CameSoFar told_of may_leave faults s' setup clock desk before text h stop x k) t t' s'
-stops_at told_of may_leave faults s s' setup desk text lines desks was now t t' p page page' given stop g closings before clock count h next empty stands readable =
-    let w = has_served told_of may_leave faults s s' setup clock count desk before text h lines desks was now p page page' given (Err (Stopped stop)) g next empty stands readable in
-    let stopped = stops told_of may_leave faults s s' setup clock w.has.stream text h (page_seen page) (page_seen page') stop (text_is s setup g.set) w.page w.ends w.none w.serves in
-    let cause = subst (λ (ls : List (List ℕ)). HasShown told_of may_leave faults s' stop clock
+    → p ≡ blank clock → StoreStands seen nothing s h → IsReadable h
+    → Halted seen (λ x k. CameSoFar seen s' setup clock desk before text h stop x k) t t' s'
+stops_at seen s s' setup desk text lines desks was now t t' p page page' given stop g closings before clock count h next empty stands readable =
+    let w = has_served seen s s' setup clock count desk before text h lines desks was now p page page' given (Err (Stopped stop)) g next empty stands readable in
+    let stopped = stops seen s s' setup clock w.has.stream text h (page_seen page) (page_seen page') stop (text_is s setup g.set) w.page w.ends w.none w.serves in
+    let cause = subst (λ (ls : List (List ℕ)). HasShown seen s' stop clock
     (λ event. event_of (acts_over (meaning setup) None ls) (command_in text) ≡ Some event)) w.has.ended stopped.cause in
-    halted_before told_of may_leave faults s s' setup clock desk before text h t t' stop stands stopped.stands readable cause closings
+    halted_before seen s s' setup clock desk before text h t t' stop stands stopped.stands readable cause closings
 
 -- A write failed, or nothing like that can be.
-pub fails_at : {D : Type 0} (told_of : D → Option Areas) (may_leave : D → Areas → Type 0) (faults : D → ℕ) (s s' : Stored D) (setup : List ℕ)
+pub fails_at : {D : Type 0} (seen : D → DiskSeen) (s s' : Stored D) (setup : List ℕ)
     (desk : ℕ) (text : List ℕ) (lines : List Line.LineValue) (desks : List Desk.DeskValue) (was now : Desk.DeskValue) (t t' : Tally) (p : PortSeen)
-    (page page' : Page) (given : List ℕ) → IsGiven told_of may_leave faults s s' setup desk text desks was now p page page' given (Err WriteFault)
+    (page page' : Page) (given : List ℕ) → IsGiven seen s s' setup desk text desks was now p page page' given (Err WriteFault)
     → Closings s.state s'.state t t'
     → (before : List Asked) (clock count : ℕ) (h : List Entry) → IsNext (meaning setup) clock count before (Command desk text) lines desks
-    → p ≡ blank clock → StoreStands told_of may_leave faults nothing s h → IsReadable h
-    → Halted told_of may_leave faults (λ x k. CameSoFar told_of may_leave faults s' setup clock desk before text h Memory x k) t t' s'
-fails_at told_of may_leave faults s s' setup desk text lines desks was now t t' p page page' given g closings before clock count h next empty stands readable =
-    let w = has_served told_of may_leave faults s s' setup clock count desk before text h lines desks was now p page page' given (Err WriteFault) g next empty stands readable in
-    let answers = unsaid told_of may_leave faults s s' setup clock w.has.stream text h (page_seen page) (page_seen page') (text_is s setup g.set) w.page w.ends w.none w.serves in
-    unsaid_all told_of may_leave faults s s' setup clock desk before text (ended_lines w.has.stream) h t t' next.set w.has.ended stands answers closings
+    → p ≡ blank clock → StoreStands seen nothing s h → IsReadable h
+    → Halted seen (λ x k. CameSoFar seen s' setup clock desk before text h Memory x k) t t' s'
+fails_at seen s s' setup desk text lines desks was now t t' p page page' given g closings before clock count h next empty stands readable =
+    let w = has_served seen s s' setup clock count desk before text h lines desks was now p page page' given (Err WriteFault) g next empty stands readable in
+    let answers = unsaid seen s s' setup clock w.has.stream text h (page_seen page) (page_seen page') (text_is s setup g.set) w.page w.ends w.none w.serves in
+    unsaid_all seen s s' setup clock desk before text (ended_lines w.has.stream) h t t' next.set w.has.ended stands answers closings
 
 -- What the desks took.
 
@@ -176,13 +176,13 @@ read_there : (setup : Setup) (count : ℕ) (read : List (List ℕ)) (desks : Lis
     → slice_get desks place ≡ Some now → HasRead setup count read now → ReadAt setup count read desks place
 read_there setup count read desks place now there has = subst (λ (o : Option Desk.DeskValue). IfSome o (HasRead setup count read)) (sym there) has
 
-pub took_on : {D : Type 0} (told_of : D → Option Areas) (may_leave : D → Areas → Type 0) (faults : D → ℕ) (s s' : Stored D) (setup : List ℕ)
+pub took_on : {D : Type 0} (seen : D → DiskSeen) (s s' : Stored D) (setup : List ℕ)
     (desk : ℕ) (text : List ℕ) (lines : List Line.LineValue) (desks desks' : List Desk.DeskValue) (was now : Desk.DeskValue) (p : PortSeen)
-    (page page' : Page) (given : List ℕ) → IsGiven told_of may_leave faults s s' setup desk text desks was now p page page' given (Ok tt)
+    (page page' : Page) (given : List ℕ) → IsGiven seen s s' setup desk text desks was now p page page' given (Ok tt)
     → slice_get desks' (desk - 1) ≡ Some now → ((k : ℕ) → k ≢ desk - 1 → slice_get desks' k ≡ slice_get desks k)
     → (before : List Asked) (clock count : ℕ) → IsNext (meaning setup) clock count before (Command desk text) lines desks
     → HaveTakenWith (meaning setup) count before (Command desk text) lines desks'
-took_on told_of may_leave faults s s' setup desk text lines desks desks' was now p page page' given g there others before clock count next =
+took_on seen s s' setup desk text lines desks desks' was now p page page' given g there others before clock count next =
     let has = had_read (meaning setup) clock count desk before text lines desks was g.low g.there next in
     let same = text_is s setup g.set in
     let took = g.taken has.stream (subst (λ (t : List ℕ). Desk.TookStream (meaning t) has.stream was) (sym same) has.took) in
@@ -194,14 +194,14 @@ took_on told_of may_leave faults s s' setup desk text lines desks desks' was now
     (read_on (meaning setup) count desk text has.stream (desk_read desk before) was now has ends has.ended has.few on has.took.taken.goes_on))
     others
 
-pub took_quit : {D : Type 0} (told_of : D → Option Areas) (may_leave : D → Areas → Type 0) (faults : D → ℕ) (s s' : Stored D) (setup : List ℕ)
+pub took_quit : {D : Type 0} (seen : D → DiskSeen) (s s' : Stored D) (setup : List ℕ)
     (desk : ℕ) (text : List ℕ) (lines : List Line.LineValue) (desks desks' : List Desk.DeskValue) (was now new : Desk.DeskValue) (p : PortSeen)
-    (page page' : Page) (given : List ℕ) → IsGiven told_of may_leave faults s s' setup desk text desks was now p page page' given (Err Quit)
+    (page page' : Page) (given : List ℕ) → IsGiven seen s s' setup desk text desks was now p page page' given (Err Quit)
     → ((k : Setup) → Desk.TookStream k [] new)
     → slice_get desks' (desk - 1) ≡ Some new → ((k : ℕ) → k ≢ desk - 1 → slice_get desks' k ≡ slice_get desks k)
     → (before : List Asked) (clock count : ℕ) → IsNext (meaning setup) clock count before (Command desk text) lines desks
     → HaveTakenWith (meaning setup) count before (Command desk text) lines desks'
-took_quit told_of may_leave faults s s' setup desk text lines desks desks' was now new p page page' given g fresh there others before clock count next =
+took_quit seen s s' setup desk text lines desks desks' was now new p page page' given g fresh there others before clock count next =
     let has = had_read (meaning setup) clock count desk before text lines desks was g.low g.there next in
     let same = text_is s setup g.set in
     let took = g.taken has.stream (subst (λ (t : List ℕ). Desk.TookStream (meaning t) has.stream was) (sym same) has.took) in

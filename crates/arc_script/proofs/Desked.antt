@@ -8,7 +8,7 @@ use Rattle.std.proofs.lemmas.Bool.{or_parts}
 use Rattle.std.proofs.lemmas.List.{append_assoc, length-append}
 use Rattle.std.proofs.lemmas.List.Folds.{list_any-append}
 use Rattle.alarm_rules.specs.Setups.{Setup, meaning}
-use Rattle.arc_io.specs.Areas.{Areas}
+use Rattle.arc_io.specs.Disks.{DiskSeen}
 use Rattle.arc_io.specs.Seen.{PortSeen}
 use Rattle.arc_io.proofs.KnownMore.{known_both}
 use Rattle.arc_text.specs.Lines.{ended_lines, is_feed}
@@ -104,14 +104,14 @@ commands_of setup clock number desk before text lines h x turn set same w =
       text = refl;
     }
 
-pub commanded : {D : Type 0} (told_of : D → Option Areas) (may_leave : D → Areas → Type 0) (faults : D → ℕ) (s s' : Stored D) (setup : List ℕ)
+pub commanded : {D : Type 0} (seen : D → DiskSeen) (s s' : Stored D) (setup : List ℕ)
     (clock number desk : ℕ) (before : List Asked) (text : List ℕ) (lines : List (List ℕ)) (h : List Entry) (t t' : Tally) (p q p' : PortSeen)
-    → clock_of before ≡ Some clock → lines ≡ desk_read desk before → StoreStands told_of may_leave faults nothing s h
-    → Said told_of may_leave faults s' setup (acts_over (meaning setup) None lines) clock text h q p'
+    → clock_of before ≡ Some clock → lines ≡ desk_read desk before → StoreStands seen nothing s h
+    → Said seen s' setup (acts_over (meaning setup) None lines) clock text h q p'
     → q.written ≡ append_known p.written (head_of 68 desk ++ 32 ∷ []) → Closings s.state s'.state t t'
-    → Carried told_of may_leave faults (λ x s. Commands setup before desk text h x s) number (Command desk text) t t' p p' s'
+    → Carried seen (λ x s. Commands setup before desk text h x s) number (Command desk text) t t' p p' s'
 unfolding step_of
-commanded told_of may_leave faults s s' setup clock number desk before text lines h t t' p q p' set same stands w head closings =
+commanded seen s s' setup clock number desk before text lines h t t' p q p' set same stands w head closings =
     let a = w.answers in
     let entries = option_to_list a.turn.entry in
     let step = step_of number desk text a.turn.reply entries in
@@ -131,20 +131,20 @@ commanded told_of may_leave faults s s' setup clock number desk before text line
     }
 
 -- how far it came, in the words of its contract
-abbrev pub CameSoFar : {D : Type 0} → (D → Option Areas) → (D → Areas → Type 0) → (D → ℕ) → Stored D → List ℕ → ℕ → ℕ → List Asked → List ℕ → List Entry
+abbrev pub CameSoFar : {D : Type 0} → (D → DiskSeen) → Stored D → List ℕ → ℕ → ℕ → List Asked → List ℕ → List Entry
     → Stop → List Entry → Step → Type 0
-CameSoFar told_of may_leave faults s' setup clock desk before text h stop x s =
-    ((x ≡ h) × AddedBy h x s × HasShown told_of may_leave faults s' stop clock (IsOfCommand setup before desk text))
+CameSoFar seen s' setup clock desk before text h stop x s =
+    ((x ≡ h) × AddedBy h x s × HasShown seen s' stop clock (IsOfCommand setup before desk text))
     ⊎ ((stop ≡ Memory) × Commands setup before desk text h x s)
 
 -- the desk had answered, and memory was wanted for it
-pub unsaid_all : {D : Type 0} (told_of : D → Option Areas) (may_leave : D → Areas → Type 0) (faults : D → ℕ) (s s' : Stored D) (setup : List ℕ)
+pub unsaid_all : {D : Type 0} (seen : D → DiskSeen) (s s' : Stored D) (setup : List ℕ)
     (clock desk : ℕ) (before : List Asked) (text : List ℕ) (lines : List (List ℕ)) (h : List Entry) (t t' : Tally)
-    → clock_of before ≡ Some clock → lines ≡ desk_read desk before → StoreStands told_of may_leave faults nothing s h
-    → Answers told_of may_leave faults s' setup (acts_over (meaning setup) None lines) clock text h → Closings s.state s'.state t t'
-    → Halted told_of may_leave faults (λ x s. CameSoFar told_of may_leave faults s' setup clock desk before text h Memory x s) t t' s'
+    → clock_of before ≡ Some clock → lines ≡ desk_read desk before → StoreStands seen nothing s h
+    → Answers seen s' setup (acts_over (meaning setup) None lines) clock text h → Closings s.state s'.state t t'
+    → Halted seen (λ x s. CameSoFar seen s' setup clock desk before text h Memory x s) t t' s'
 unfolding step_of
-unsaid_all told_of may_leave faults s s' setup clock desk before text lines h t t' set same stands a closings =
+unsaid_all seen s s' setup clock desk before text lines h t t' set same stands a closings =
     let entries = option_to_list a.turn.entry in
     let step = step_of 0 desk text a.turn.reply entries in
     let counted = counted_turn setup (acts_over (meaning setup) None lines) clock text h a.history a.turn a.turned in
@@ -165,13 +165,13 @@ none_counted : (h : List Entry) → IsCounted h h []
 none_counted h = record { repeats = refl; closed = omega arith }
 
 -- nothing was done for it
-pub halted_before : {D : Type 0} (told_of : D → Option Areas) (may_leave : D → Areas → Type 0) (faults : D → ℕ) (s s' : Stored D) (setup : List ℕ)
+pub halted_before : {D : Type 0} (seen : D → DiskSeen) (s s' : Stored D) (setup : List ℕ)
     (clock desk : ℕ) (before : List Asked) (text : List ℕ) (h : List Entry) (t t' : Tally) (stop : Stop)
-    → StoreStands told_of may_leave faults nothing s h → StoreStands told_of may_leave faults nothing s' h → IsReadable h
-    → HasShown told_of may_leave faults s' stop clock (IsOfCommand setup before desk text) → Closings s.state s'.state t t'
-    → Halted told_of may_leave faults (λ x s. CameSoFar told_of may_leave faults s' setup clock desk before text h stop x s) t t' s'
+    → StoreStands seen nothing s h → StoreStands seen nothing s' h → IsReadable h
+    → HasShown seen s' stop clock (IsOfCommand setup before desk text) → Closings s.state s'.state t t'
+    → Halted seen (λ x s. CameSoFar seen s' setup clock desk before text h stop x s) t t' s'
 unfolding step_of
-halted_before told_of may_leave faults s s' setup clock desk before text h t t' stop was stands readable shown closings =
+halted_before seen s s' setup clock desk before text h t t' stop was stands readable shown closings =
     let step = step_of 0 desk text [] [] in
     record {
       partial = step;

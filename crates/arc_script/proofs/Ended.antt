@@ -1,6 +1,7 @@
 -- What is handed back of a script: what the area holds, the tally, and what was played.
 use Rattle.std.proofs.Common.{◌≡◌, ◌≤◌, ◌+◌, ◌-◌, ◌++◌, ◌∷◌, ℕ, List, [], Option, Some, None, IfSome, Bool, false, filter, map, length, inr, refl, sym, ap, subst, ◌∙◌, append-nil, length-append, arith}
 use Rattle.arc_io.specs.Areas.{Areas}
+use Rattle.arc_io.specs.Disks.{DiskSeen}
 use Rattle.arc_io.specs.Seen.{PortSeen}
 use Rattle.arc_data.specs.declared.incident.Incident.{Incident}
 use Rattle.arc_data.specs.declared.reply.Reply.{Reply}
@@ -15,7 +16,7 @@ use Rattle.disk_journal.specs.Records.{AtRest, Stands}
 use Rattle.script_lines.specs.Lines.{Asked, Time, Feed, Message, Command, Reopen, Asks}
 use Rattle.arc_script.specs.Between.{Begun, CountsSteps, IsClock, SoFar}
 use Rattle.arc_script.specs.Carrying.{CountsMore}
-use Rattle.arc_script.specs.Ends.{DiskWords, Tells, HasRecorded, Played}
+use Rattle.arc_script.specs.Ends.{Tells, HasRecorded, Played}
 use Rattle.arc_script.specs.Fed.{clock_of}
 use Rattle.arc_script.specs.Halting.{Halts, Whole, closing}
 use Rattle.arc_script.specs.Playing.{moment_at}
@@ -35,11 +36,11 @@ at_rest None bodies rests = rests
 at_rest (Some s) bodies rests = inr rests
 
 -- the disk of a journal that holds the bodies of the recorded entries
-pub recorded_in : {D : Type 0} (w : DiskWords D) (s : Stored D) (h : List Entry) (disk : D) → Holds w.told w.may_leave s.journal (bodies_of h)
-    → disk ≡ s.journal.disk → HasRecorded w disk h
-recorded_in w s h disk holds is =
-    subst (λ d. HasRecorded w d h) (sym is) (record {
-      area = at_rest (w.told s.journal.disk) (bodies_of h) holds.kept.file;
+pub recorded_in : {D : Type 0} (seen : D → DiskSeen) (s : Stored D) (h : List Entry) (disk : D) → Holds seen s.journal (bodies_of h)
+    → disk ≡ s.journal.disk → HasRecorded (seen disk) h
+recorded_in seen s h disk holds is =
+    subst (λ d. HasRecorded (seen d) h) (sym is) (record {
+      area = at_rest (seen s.journal.disk).told (bodies_of h) holds.kept.file;
       images = λ c left. inr (holds.kept.images c left);
     })
 
@@ -103,17 +104,17 @@ may_follow clock [] (Command desk text) moment is set = none_set clock moment is
 may_follow clock [] Reopen moment is set = none_set clock moment is set
 may_follow clock (first ∷ before) a moment is set = tt
 
-module _ {D : Type 0} (w : DiskWords D) (b : Begun D) (lines : List (List ℕ)) (script : Script) (s : Stored D) (p : PortSeen)
-    (so : SoFar w b lines script s p) (disk : D) (tally : Tally) (disk_is : disk ≡ s.journal.disk)
+module _ {D : Type 0} (seen : D → DiskSeen) (b : Begun D) (lines : List (List ℕ)) (script : Script) (s : Stored D) (p : PortSeen)
+    (so : SoFar seen b lines script s p) (disk : D) (tally : Tally) (disk_is : disk ≡ s.journal.disk)
     (tally_as : tally ≡ closing script.tally script.opened_before s.state.sum) where
-  area : HasRecorded w disk so.history
-  area = recorded_in w s so.history disk so.held disk_is
+  area : HasRecorded (seen disk) so.history
+  area = recorded_in seen s so.history disk so.held disk_is
 
   counts : IsTally b.past so.steps so.history tally
   counts = tally_is s b.past so.history so.steps script.tally tally script.opened_before so.opened_before so.counts so.between.store.stands.centre tally_as
 
   -- all of them were carried out
-  pub whole : Whole w b lines p disk tally
+  pub whole : Whole seen b lines p disk tally
   whole = record {
     played = record {
       front = counted lines;
@@ -136,7 +137,7 @@ module _ {D : Type 0} (w : DiskWords D) (b : Begun D) (lines : List (List ℕ)) 
   next_split line more is = counted_next lines line more is
 
   -- those before a line
-  abbrev before_line : (line : List ℕ) (more : List (List ℕ)) → is_passed line ≡ false → Played (Tells w b.disk) b.setup b.past (counted (lines ++ line ∷ more))
+  abbrev before_line : (line : List ℕ) (more : List (List ℕ)) → is_passed line ≡ false → Played (Tells (seen b.disk)) b.setup b.past (counted (lines ++ line ∷ more))
   before_line line more is = record {
     front = counted lines;
     behind = (1 + length lines, line) ∷ behind more;
@@ -150,7 +151,7 @@ module _ {D : Type 0} (w : DiskWords D) (b : Begun D) (lines : List (List ℕ)) 
   -- the next line asks for nothing
   pub bad : (line : List ℕ) (more : List (List ℕ)) (number : ℕ) → is_passed line ≡ false → number ≡ 1 + length lines
       → ((a : Asked) (moment : ℕ) → length line ≤ line_limit → Asks line a → moment_at script.clock a ≡ Some moment → ⊥)
-      → Halts w b lines (lines ++ line ∷ more) (BadScript number) p disk tally
+      → Halts seen b lines (lines ++ line ∷ more) (BadScript number) p disk tally
   bad line more number is at none = record {
     played = before_line line more is;
     ends = record {

@@ -2,7 +2,7 @@
 use Rattle.std.proofs.Common.{◌≡◌, ◌<◌, ◌-◌, ◌+◌, ◌++◌, ◌^◌, ℕ, List, [], Option, Some, None, Result, Ok, Err, inl, length, set, refl, ap, subst, ◌∙◌, arith}
 use Rattle.std.specs.Prelude.{min, unwrap_or}
 use Rattle.std.specs.List.{slice_get}
-use Rattle.arc_io.specs.Areas.{Areas}
+use Rattle.arc_io.specs.Disks.{DiskSeen}
 use Rattle.arc_io.specs.Memory.{clock_calls, sink_bytes}
 use Rattle.centre_core.specs.Setting.{IsSetting}
 use Rattle.centre_core.specs.declared.hall.Stop.{Stop}
@@ -47,26 +47,26 @@ pub still_set : (o : Option (List ℕ)) (setup : List ℕ) → IsSetting o → u
 still_set None setup ready same = absurd ready
 still_set (Some text) setup ready same = ap Some same
 
-module _ {D : Type 0} (told_of : D → Option Areas) (may_leave : D → Areas → Type 0) (faults : D → ℕ) (s s' : Stored D) (setup : List ℕ)
+module _ {D : Type 0} (seen : D → DiskSeen) (s s' : Stored D) (setup : List ℕ)
     (moment place : ℕ) (lines : List Line.LineValue) (was : Line.LineValue) (page page' : Page) (given : List ℕ) (t t' : Tally)
     (sums : Tallied (clock_calls page'.port.clock) s.state s'.state t t') (r : Result (Unit {0}) LineEnd)
-    (taking : IsTaking told_of may_leave faults s s' setup moment place lines was page page' given r) where
-  taking_as : (q : Result (Unit {0}) LineEnd) → r ≡ q → IsTaking told_of may_leave faults s s' setup moment place lines was page page' given q
-  taking_as q is = subst (λ (q : Result (Unit {0}) LineEnd). IsTaking told_of may_leave faults s s' setup moment place lines was page page' given q) is taking
+    (taking : IsTaking seen s s' setup moment place lines was page page' given r) where
+  taking_as : (q : Result (Unit {0}) LineEnd) → r ≡ q → IsTaking seen s s' setup moment place lines was page page' given q
+  taking_as q is = subst (λ (q : Result (Unit {0}) LineEnd). IsTaking seen s s' setup moment place lines was page page' given q) is taking
 
   pub ended_fed : r ≡ Ok tt → (stream : List ℕ) (h : List Entry) → TookAt stream lines place → length (stream ++ given) < input_limit
-      → StoreStands told_of may_leave faults nothing s h → IsReadable h
-      → HasFed told_of may_leave faults setup moment stream given h t t' (sink_bytes page'.port.sink) s'
-  ended_fed is = all_fed told_of may_leave faults s s' setup moment place lines was page page' given t t' sums (taking_as (Ok tt) is)
+      → StoreStands seen nothing s h → IsReadable h
+      → HasFed seen setup moment stream given h t t' (sink_bytes page'.port.sink) s'
+  ended_fed is = all_fed seen s s' setup moment place lines was page page' given t t' sums (taking_as (Ok tt) is)
 
   pub ended_stopped : (stop : Stop) → r ≡ Err (Stopped stop) → (stream : List ℕ) (h : List Entry) → TookAt stream lines place
-      → length (stream ++ given) < input_limit → StoreStands told_of may_leave faults nothing s h → IsReadable h
-      → FeedStops told_of may_leave faults setup moment stream given h t t' stop s'
+      → length (stream ++ given) < input_limit → StoreStands seen nothing s h → IsReadable h
+      → FeedStops seen setup moment stream given h t t' stop s'
   ended_stopped stop is =
-      fed_stopped told_of may_leave faults s s' setup moment place lines was page page' given t t' sums stop (taking_as (Err (Stopped stop)) is)
+      fed_stopped seen s s' setup moment place lines was page page' given t t' sums stop (taking_as (Err (Stopped stop)) is)
 
-  wanting : (stream : List ℕ) (h : List Entry) (stop : Stop) → FeedStops told_of may_leave faults setup moment stream given h t t' stop s'
-      → FeedStops told_of may_leave faults setup moment stream given h t t' Memory s'
+  wanting : (stream : List ℕ) (h : List Entry) (stop : Stop) → FeedStops seen setup moment stream given h t t' stop s'
+      → FeedStops seen setup moment stream given h t t' Memory s'
   wanting stream h stop w = record {
     turns = w.turns;
     more = w.more;
@@ -84,12 +84,12 @@ module _ {D : Type 0} (told_of : D → Option Areas) (may_leave : D → Areas �
   otherwise : (end : LineEnd) (now : Line.LineValue) → ReadsNothing (Err end)
       → ((stream : List ℕ) → Line.TookStream stream was → Line.IsTaken (Err end) stream given now) → r ≡ Err end
       → (stream : List ℕ) (h : List Entry) → TookAt stream lines place → length (stream ++ given) < input_limit
-      → StoreStands told_of may_leave faults nothing s h → IsReadable h
-      → FeedStops told_of may_leave faults setup moment stream given h t t' Memory s'
+      → StoreStands seen nothing s h → IsReadable h
+      → FeedStops seen setup moment stream given h t t' Memory s'
   otherwise InputEnded now reads taken is stream h took short stands readable = absurd reads
   otherwise ReadFault now reads taken is stream h took short stands readable = absurd reads
   otherwise WriteFault now reads taken is stream h took short stands readable =
-      fed_failed told_of may_leave faults s s' setup moment place lines was page page' given t t' sums (taking_as (Err WriteFault) is) stream h took short
+      fed_failed seen s s' setup moment place lines was page page' given t t' sums (taking_as (Err WriteFault) is) stream h took short
       stands readable
   otherwise Spent now reads taken is stream h took short stands readable =
       let over = taken stream (took_was stream lines place was taking.there took) in
@@ -100,8 +100,8 @@ module _ {D : Type 0} (told_of : D → Option Areas) (may_leave : D → Areas �
   pub ended_otherwise : (end : LineEnd) (now : Line.LineValue) → r ≡ Err end → ReadsNothing r
       → ((stream : List ℕ) → Line.TookStream stream was → Line.IsTaken r stream given now)
       → (stream : List ℕ) (h : List Entry) → TookAt stream lines place → length (stream ++ given) < input_limit
-      → StoreStands told_of may_leave faults nothing s h → IsReadable h
-      → FeedStops told_of may_leave faults setup moment stream given h t t' Memory s'
+      → StoreStands seen nothing s h → IsReadable h
+      → FeedStops seen setup moment stream given h t t' Memory s'
   ended_otherwise end now is reads taken =
       otherwise end now (subst ReadsNothing is reads)
       (λ stream took. subst (λ (q : Result (Unit {0}) LineEnd). Line.IsTaken q stream given now) is (taken stream took)) is

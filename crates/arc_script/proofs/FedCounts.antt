@@ -3,7 +3,7 @@ use Rattle.std.proofs.Common.{◌≡◌, ◌-◌, ◌+◌, ◌++◌, ◌^◌, �
 use Rattle.std.specs.Prelude.{min, unwrap_or}
 use Rattle.std.specs.Io.KnownBytes.{append_known}
 use Rattle.alarm_rules.specs.Setups.{meaning}
-use Rattle.arc_io.specs.Areas.{Areas}
+use Rattle.arc_io.specs.Disks.{DiskSeen}
 use Rattle.arc_io.specs.Lists.{noise_of as noise_given}
 use Rattle.arc_io.specs.Memory.{clock_calls, clock_list, noise_calls, noise_list, sink_bytes}
 use Rattle.centre_core.specs.declared.hall.Stop.{Stop}
@@ -58,13 +58,13 @@ counts_fed setup calls sent s s' t t' h x turns before behind are own count w = 
   rest = w.rest;
 }
 
-pub has_fed : {D : Type 0} (told_of : D → Option Areas) (may_leave : D → Areas → Type 0) (faults : D → ℕ) (s s' : Stored D)
+pub has_fed : {D : Type 0} (seen : D → DiskSeen) (s s' : Stored D)
     (setup : List ℕ) (clock : ℕ) (stream bytes : List ℕ) (h : List Entry) (t t' : Tally) (page page' : Page) (calls : ℕ)
-    → StoreStands told_of may_leave faults nothing s h → (page_seen page).written ≡ Some []
-    → FedBy told_of may_leave faults s' setup clock stream bytes h (page_seen page) (page_seen page') calls
+    → StoreStands seen nothing s h → (page_seen page).written ≡ Some []
+    → FedBy seen s' setup clock stream bytes h (page_seen page) (page_seen page') calls
     → Tallied calls s.state s'.state t t'
-    → HasFed told_of may_leave faults setup clock stream bytes h t t' (sink_bytes page'.port.sink) s'
-has_fed told_of may_leave faults s s' setup clock stream bytes h t t' page page' calls before empty w tallied = record {
+    → HasFed seen setup clock stream bytes h t t' (sink_bytes page'.port.sink) s'
+has_fed seen s s' setup clock stream bytes h t t' page page' calls before empty w tallied = record {
   turns = w.turns;
   history = w.history;
   fed = w.fed;
@@ -75,11 +75,11 @@ has_fed told_of may_leave faults s s' setup clock stream bytes h t t' page page'
       tallied;
 }
 
-pub feed_stops : {D : Type 0} (told_of : D → Option Areas) (may_leave : D → Areas → Type 0) (faults : D → ℕ) (s s' : Stored D)
+pub feed_stops : {D : Type 0} (seen : D → DiskSeen) (s s' : Stored D)
     (setup : List ℕ) (clock : ℕ) (stream bytes : List ℕ) (h : List Entry) (t t' : Tally) (stop : Stop) (calls : ℕ)
-    → StoreStands told_of may_leave faults nothing s h → FedUpTo told_of may_leave faults s' setup clock stream bytes h stop calls
-    → Tallied calls s.state s'.state t t' → FeedStops told_of may_leave faults setup clock stream bytes h t t' stop s'
-feed_stops told_of may_leave faults s s' setup clock stream bytes h t t' stop calls before w tallied = record {
+    → StoreStands seen nothing s h → FedUpTo seen s' setup clock stream bytes h stop calls
+    → Tallied calls s.state s'.state t t' → FeedStops seen setup clock stream bytes h t t' stop s'
+feed_stops seen s s' setup clock stream bytes h t t' stop calls before w tallied = record {
   turns = w.turns;
   more = w.more;
   history = w.history;
@@ -93,10 +93,10 @@ feed_stops told_of may_leave faults s s' setup clock stream bytes h t t' stop ca
 }
 
 -- Memory was wanted before anything was fed.
-pub none_fed : {D : Type 0} (told_of : D → Option Areas) (may_leave : D → Areas → Type 0) (faults : D → ℕ) (s : Stored D) (setup : List ℕ)
-    (clock : ℕ) (stream bytes : List ℕ) (h : List Entry) (t : Tally) → StoreStands told_of may_leave faults nothing s h → IsReadable h
-    → FeedStops told_of may_leave faults setup clock stream bytes h t t Memory s
-none_fed told_of may_leave faults s setup clock stream bytes h t stands readable =
+pub none_fed : {D : Type 0} (seen : D → DiskSeen) (s : Stored D) (setup : List ℕ)
+    (clock : ℕ) (stream bytes : List ℕ) (h : List Entry) (t : Tally) → StoreStands seen nothing s h → IsReadable h
+    → FeedStops seen setup clock stream bytes h t t Memory s
+none_fed seen s setup clock stream bytes h t stands readable =
     let more = bodies_more stream bytes in
     record {
       turns = [];

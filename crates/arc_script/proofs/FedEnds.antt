@@ -2,7 +2,7 @@
 use Rattle.std.proofs.Common.{◌≡◌, ◌<◌, ◌++◌, ℕ, List, [], Option, Some, Result, Ok, Err, length, ap, subst}
 use Rattle.std.specs.Prelude.{IfSome, unwrap_or}
 use Rattle.std.specs.List.{slice_get}
-use Rattle.arc_io.specs.Areas.{Areas}
+use Rattle.arc_io.specs.Disks.{DiskSeen}
 use Rattle.arc_io.specs.Memory.{clock_calls, clock_list, noise_list, sink_bytes}
 use Rattle.arc_io.specs.Seen.{PortSeen}
 use Rattle.centre_core.specs.Setting.{IsSetting, text_of}
@@ -27,7 +27,7 @@ use Rattle.arc_script.proofs.Feeds.{feeds, PageTells}
 use Rattle.arc_script.proofs.Halts.{cut_short, stopped_at}
 
 -- the line at this place was fed these bytes over a page at this moment
-pub record IsTaking {D : Type 0} (told_of : D → Option Areas) (may_leave : D → Areas → Type 0) (faults : D → ℕ) (s s' : Stored D) (setup : List ℕ)
+pub record IsTaking {D : Type 0} (seen : D → DiskSeen) (s s' : Stored D) (setup : List ℕ)
     (moment place : ℕ) (lines : List Line.LineValue) (was : Line.LineValue) (page page' : Page) (given : List ℕ) (r : Result (Unit {0}) LineEnd) : Type 0 where
   pub there : slice_get lines place ≡ Some was
   pub set : s.state.sum.text ≡ Some setup
@@ -35,51 +35,51 @@ pub record IsTaking {D : Type 0} (told_of : D → Option Areas) (may_leave : D �
   pub empty : page_seen page ≡ blank moment
   pub one : length (clock_list page'.port.clock) ≡ 1
   pub silent : noise_list page'.port.noise ≡ []
-  pub served : (stream : List ℕ) (h : List Entry) → Line.TookStream stream was → IsStoreFor told_of may_leave faults nothing s h → IsReadable h
-      → Line.ServesBytes r stream (in_limit stream given) nothing h (script_seen told_of may_leave faults s) (script_seen told_of may_leave faults s')
+  pub served : (stream : List ℕ) (h : List Entry) → Line.TookStream stream was → IsStoreFor seen nothing s h → IsReadable h
+      → Line.ServesBytes r stream (in_limit stream given) nothing h (script_seen seen s) (script_seen seen s')
       (page_seen page) (page_seen page')
 
 pub took_was : (stream : List ℕ) (lines : List Line.LineValue) (place : ℕ) (was : Line.LineValue) → slice_get lines place ≡ Some was
     → TookAt stream lines place → Line.TookStream stream was
 took_was stream lines place was there took = subst (λ (o : Option Line.LineValue). IfSome o (Line.TookStream stream)) there took
 
-module _ {D : Type 0} (told_of : D → Option Areas) (may_leave : D → Areas → Type 0) (faults : D → ℕ) (s s' : Stored D) (setup : List ℕ)
+module _ {D : Type 0} (seen : D → DiskSeen) (s s' : Stored D) (setup : List ℕ)
     (moment place : ℕ) (lines : List Line.LineValue) (was : Line.LineValue) (page page' : Page) (given : List ℕ) (t t' : Tally)
     (tallied : Tallied (clock_calls page'.port.clock) s.state s'.state t t') where
-  same_text : (r : Result (Unit {0}) LineEnd) → IsTaking told_of may_leave faults s s' setup moment place lines was page page' given r → text_of s.state ≡ setup
+  same_text : (r : Result (Unit {0}) LineEnd) → IsTaking seen s s' setup moment place lines was page page' given r → text_of s.state ≡ setup
   same_text r g = ap (λ (o : Option (List ℕ)). unwrap_or o []) g.set
 
-  abbrev tells : (r : Result (Unit {0}) LineEnd) → IsTaking told_of may_leave faults s s' setup moment place lines was page page' given r
+  abbrev tells : (r : Result (Unit {0}) LineEnd) → IsTaking seen s s' setup moment place lines was page page' given r
       → PageTells moment (page_seen page) (page_seen page')
   tells r g = page_tells moment page page' (ap (λ (q : PortSeen). q.readings) g.empty) (ap (λ (q : PortSeen). q.noise) g.empty) g.one g.silent
 
-  pub all_fed : IsTaking told_of may_leave faults s s' setup moment place lines was page page' given (Ok tt)
+  pub all_fed : IsTaking seen s s' setup moment place lines was page page' given (Ok tt)
       → (stream : List ℕ) (h : List Entry) → TookAt stream lines place → length (stream ++ given) < input_limit
-      → StoreStands told_of may_leave faults nothing s h → IsReadable h
-      → HasFed told_of may_leave faults setup moment stream given h t t' (sink_bytes page'.port.sink) s'
+      → StoreStands seen nothing s h → IsReadable h
+      → HasFed seen setup moment stream given h t t' (sink_bytes page'.port.sink) s'
   all_fed g stream h took short stands readable =
       let serves = g.served stream h (took_was stream lines place was g.there took) (record { stands = stands; setting = g.setting }) readable in
-      has_fed told_of may_leave faults s s' setup moment stream given h t t' page page' (clock_calls page'.port.clock) stands
+      has_fed seen s s' setup moment stream given h t t' page page' (clock_calls page'.port.clock) stands
       (ap (λ (q : PortSeen). q.written) g.empty)
-      (feeds told_of may_leave faults s s' setup moment stream given h (page_seen page) (page_seen page') (same_text (Ok tt) g) short (tells (Ok tt) g) serves)
+      (feeds seen s s' setup moment stream given h (page_seen page) (page_seen page') (same_text (Ok tt) g) short (tells (Ok tt) g) serves)
       tallied
 
-  pub fed_stopped : (stop : Stop) → IsTaking told_of may_leave faults s s' setup moment place lines was page page' given (Err (Stopped stop))
+  pub fed_stopped : (stop : Stop) → IsTaking seen s s' setup moment place lines was page page' given (Err (Stopped stop))
       → (stream : List ℕ) (h : List Entry) → TookAt stream lines place → length (stream ++ given) < input_limit
-      → StoreStands told_of may_leave faults nothing s h → IsReadable h
-      → FeedStops told_of may_leave faults setup moment stream given h t t' stop s'
+      → StoreStands seen nothing s h → IsReadable h
+      → FeedStops seen setup moment stream given h t t' stop s'
   fed_stopped stop g stream h took short stands readable =
       let serves = g.served stream h (took_was stream lines place was g.there took) (record { stands = stands; setting = g.setting }) readable in
-      feed_stops told_of may_leave faults s s' setup moment stream given h t t' stop (clock_calls page'.port.clock) stands
-      (stopped_at told_of may_leave faults s s' setup moment stream given h (page_seen page) (page_seen page') stop (same_text (Err (Stopped stop)) g) short
+      feed_stops seen s s' setup moment stream given h t t' stop (clock_calls page'.port.clock) stands
+      (stopped_at seen s s' setup moment stream given h (page_seen page) (page_seen page') stop (same_text (Err (Stopped stop)) g) short
       (tells (Err (Stopped stop)) g) serves) tallied
 
-  pub fed_failed : IsTaking told_of may_leave faults s s' setup moment place lines was page page' given (Err WriteFault)
+  pub fed_failed : IsTaking seen s s' setup moment place lines was page page' given (Err WriteFault)
       → (stream : List ℕ) (h : List Entry) → TookAt stream lines place → length (stream ++ given) < input_limit
-      → StoreStands told_of may_leave faults nothing s h → IsReadable h
-      → FeedStops told_of may_leave faults setup moment stream given h t t' Memory s'
+      → StoreStands seen nothing s h → IsReadable h
+      → FeedStops seen setup moment stream given h t t' Memory s'
   fed_failed g stream h took short stands readable =
       let serves = g.served stream h (took_was stream lines place was g.there took) (record { stands = stands; setting = g.setting }) readable in
-      feed_stops told_of may_leave faults s s' setup moment stream given h t t' Memory (clock_calls page'.port.clock) stands
-      (cut_short told_of may_leave faults s s' setup moment stream given h (page_seen page) (page_seen page') (same_text (Err WriteFault) g) short
+      feed_stops seen s s' setup moment stream given h t t' Memory (clock_calls page'.port.clock) stands
+      (cut_short seen s s' setup moment stream given h (page_seen page) (page_seen page') (same_text (Err WriteFault) g) short
       (tells (Err WriteFault) g) serves) tallied

@@ -1,11 +1,11 @@
 -- What feeding bytes or a frame answers, by the results of its two calls.
-use Rattle.std.proofs.Common.{◌≡◌, ◌⊎◌, ◌<◌, ◌≤◌, ◌-◌, ◌++◌, ℕ, List, [], ◌∷◌, Option, Some, Result, Ok, Err, OnOk, IfErr, IfOk, inl, inr, length, refl, sym, subst}
+use Rattle.std.proofs.Common.{◌≡◌, ◌⊎◌, ◌<◌, ◌≤◌, ◌-◌, ◌++◌, ℕ, List, [], ◌∷◌, Some, Result, Ok, Err, OnOk, IfErr, IfOk, inl, inr, length, refl, sym, subst}
 use Rattle.std.specs.Prelude.{IsOk}
 use Rattle.std.specs.Io.KnownBytes.{append_known}
 use Rattle.std.proofs.lemmas.Bool.{false≢true}
 use Rattle.alarm_rules.specs.Setups.{meaning}
 use Rattle.arc_data.specs.Moments.{IsMoment}
-use Rattle.arc_io.specs.Areas.{Areas}
+use Rattle.arc_io.specs.Disks.{DiskSeen}
 use Rattle.arc_io.specs.Memory.{sink_bytes}
 use Rattle.arc_io.specs.Seen.{PortSeen}
 use Rattle.centre_core.specs.declared.hall.Stop.{Stop}
@@ -38,33 +38,33 @@ pub record IsFeed (setup : List ℕ) (moment line : ℕ) (asked : Asked) (bytes 
   pub short : (before : List Asked) (count : ℕ) → IsNext (meaning setup) moment count before asked lines desks
       → length (line_fed line before ++ bytes) < input_limit
 
-pub fed_ok : {D : Type 0} (told_of : D → Option Areas) (may_leave : D → Areas → Type 0) (faults : D → ℕ) (s s' : Stored D) (setup : List ℕ)
+pub fed_ok : {D : Type 0} (seen : D → DiskSeen) (s s' : Stored D) (setup : List ℕ)
     (moment letter line : ℕ) (asked : Asked) (given bytes : List ℕ) (lines : List Line.LineValue) (desks : List Desk.DeskValue) (t t' : Tally)
     (p p' : PortSeen) (r : Result (Unit {0}) Stop) (frames : Result Page Stop) → given ≡ bytes → IsFeed setup moment line asked bytes lines desks
     → OnOk r (IsOk frames)
     → OnOk r (IfOk frames (λ f. p'.written ≡ append_known p.written (head_of letter line ++ replied (sink_bytes f.port.sink) ++ 10 ∷ [])))
     → IfOk frames (λ f. (stream : List ℕ) (h : List Entry) → TookAt stream lines (line - 1) → length (stream ++ given) < input_limit
-    → StoreStands told_of may_leave faults nothing s h → IsReadable h
-    → HasFed told_of may_leave faults setup moment stream given h t t' (sink_bytes f.port.sink) s')
+    → StoreStands seen nothing s h → IsReadable h
+    → HasFed seen setup moment stream given h t t' (sink_bytes f.port.sink) s')
     → OnOk r ((before : List Asked) (count number : ℕ) (h : List Entry) → IsNext (meaning setup) moment count before asked lines desks
-    → StoreStands told_of may_leave faults nothing s h → IsReadable h
-    → Carried told_of may_leave faults (λ x k. Feeds setup before letter line bytes h x k) number asked t t' p p' s')
-fed_ok told_of may_leave faults s s' setup moment letter line asked given bytes lines desks t t' p p' (Ok done) (Ok page) same is ok put fed =
+    → StoreStands seen nothing s h → IsReadable h
+    → Carried seen (λ x k. Feeds setup before letter line bytes h x k) number asked t t' p p' s')
+fed_ok seen s s' setup moment letter line asked given bytes lines desks t t' p p' (Ok done) (Ok page) same is ok put fed =
     λ before count number h next stands readable.
     let stream = line_fed line before in
     let took = took_before (meaning setup) moment count line before asked lines desks is.low next in
     let short = subst (λ (l : List ℕ). length (stream ++ l) < input_limit) (sym same) (is.short before count next) in
-    let has = subst (λ (l : List ℕ). HasFed told_of may_leave faults setup moment stream l h t t' (sink_bytes page.port.sink) s') same
+    let has = subst (λ (l : List ℕ). HasFed seen setup moment stream l h t t' (sink_bytes page.port.sink) s') same
     (fed stream h took short stands readable) in
-    carried told_of may_leave faults s' setup moment number letter line asked before bytes h t t' p p' (sink_bytes page.port.sink) is.at
+    carried seen s' setup moment number letter line asked before bytes h t t' p p' (sink_bytes page.port.sink) is.at
     (is.set before count next) has put
-fed_ok told_of may_leave faults s s' setup moment letter line asked given bytes lines desks t t' p p' (Ok done) (Err stop) same is ok put fed = absurd (false≢true ok)
-fed_ok told_of may_leave faults s s' setup moment letter line asked given bytes lines desks t t' p p' (Err stop) frames same is ok put fed = tt
+fed_ok seen s s' setup moment letter line asked given bytes lines desks t t' p p' (Ok done) (Err stop) same is ok put fed = absurd (false≢true ok)
+fed_ok seen s s' setup moment letter line asked given bytes lines desks t t' p p' (Err stop) frames same is ok put fed = tt
 
 -- where memory was wanted, that is the cause
-wanting : {D : Type 0} {told_of : D → Option Areas} {may_leave : D → Areas → Type 0} {faults : D → ℕ} {s' : Stored D} {setup : List ℕ} {moment : ℕ}
+wanting : {D : Type 0} {seen : D → DiskSeen} {s' : Stored D} {setup : List ℕ} {moment : ℕ}
     {stream bytes : List ℕ} {h : List Entry} {t t' : Tally} (stop other : Stop) → (stop ≡ Memory) ⊎ (other ≡ stop)
-    → FeedStops told_of may_leave faults setup moment stream bytes h t t' other s' → FeedStops told_of may_leave faults setup moment stream bytes h t t' stop s'
+    → FeedStops seen setup moment stream bytes h t t' other s' → FeedStops seen setup moment stream bytes h t t' stop s'
 wanting stop other (inl is) w = record {
   turns = w.turns;
   more = w.more;
@@ -77,8 +77,8 @@ wanting stop other (inl is) w = record {
   sent_is = w.sent_is;
   counts = w.counts;
 }
-wanting {D} {told_of} {may_leave} {faults} {s'} {setup} {moment} {stream} {bytes} {h} {t} {t'} stop other (inr same) w =
-    subst (λ (k : Stop). FeedStops told_of may_leave faults setup moment stream bytes h t t' k s') same w
+wanting {D} {seen} {s'} {setup} {moment} {stream} {bytes} {h} {t} {t'} stop other (inr same) w =
+    subst (λ (k : Stop). FeedStops seen setup moment stream bytes h t t' k s') same w
 
 stop_or : (stop other : Stop) (frames : Result Page Stop) → frames ≡ Err other → (stop ≡ Memory) ⊎ (frames ≡ Err stop) → (stop ≡ Memory) ⊎ (other ≡ stop)
 stop_or stop other frames at (inl is) = inl is
@@ -88,40 +88,40 @@ memory_of : (page : Page) (stop : Stop) (frames : Result Page Stop) → frames �
 memory_of page stop frames at (inl is) = is
 memory_of page stop frames at (inr same) = absurd cc
 
-pub fed_stops : {D : Type 0} (told_of : D → Option Areas) (may_leave : D → Areas → Type 0) (faults : D → ℕ) (s s' : Stored D) (setup : List ℕ)
+pub fed_stops : {D : Type 0} (seen : D → DiskSeen) (s s' : Stored D) (setup : List ℕ)
     (moment letter line : ℕ) (asked : Asked) (given bytes : List ℕ) (lines : List Line.LineValue) (desks : List Desk.DeskValue) (t t' : Tally)
     (r : Result (Unit {0}) Stop) (frames : Result Page Stop) → given ≡ bytes → IsFeed setup moment line asked bytes lines desks
     → IfErr r (λ stop. (stop ≡ Memory) ⊎ (frames ≡ Err stop))
     → IfOk frames (λ f. (stream : List ℕ) (h : List Entry) → TookAt stream lines (line - 1) → length (stream ++ given) < input_limit
-    → StoreStands told_of may_leave faults nothing s h → IsReadable h
-    → HasFed told_of may_leave faults setup moment stream given h t t' (sink_bytes f.port.sink) s')
+    → StoreStands seen nothing s h → IsReadable h
+    → HasFed seen setup moment stream given h t t' (sink_bytes f.port.sink) s')
     → IfErr frames (λ stop. (stream : List ℕ) (h : List Entry) → TookAt stream lines (line - 1) → length (stream ++ given) < input_limit
-    → StoreStands told_of may_leave faults nothing s h → IsReadable h
-    → FeedStops told_of may_leave faults setup moment stream given h t t' stop s')
+    → StoreStands seen nothing s h → IsReadable h
+    → FeedStops seen setup moment stream given h t t' stop s')
     → IfErr r (λ stop. (before : List Asked) (count : ℕ) (h : List Entry) → IsNext (meaning setup) moment count before asked lines desks
-    → StoreStands told_of may_leave faults nothing s h → IsReadable h
-    → Halted told_of may_leave faults (λ x k.
+    → StoreStands seen nothing s h → IsReadable h
+    → Halted seen (λ x k.
     ((waiting : List (List ℕ)) × FedUntil setup before line bytes waiting h x k
-    × HasShown told_of may_leave faults s' stop moment (IsOfFrame setup moment waiting))
+    × HasShown seen s' stop moment (IsOfFrame setup moment waiting))
     ⊎ ((stop ≡ Memory) × Feeds setup before letter line bytes h x k)) t t' s')
-fed_stops told_of may_leave faults s s' setup moment letter line asked given bytes lines desks t t' (Ok done) frames same is stops fed stopped = tt
-fed_stops told_of may_leave faults s s' setup moment letter line asked given bytes lines desks t t' (Err stop) (Ok page) same is stops fed stopped =
+fed_stops seen s s' setup moment letter line asked given bytes lines desks t t' (Ok done) frames same is stops fed stopped = tt
+fed_stops seen s s' setup moment letter line asked given bytes lines desks t t' (Err stop) (Ok page) same is stops fed stopped =
     λ before count h next stands readable.
     let stream = line_fed line before in
     let took = took_before (meaning setup) moment count line before asked lines desks is.low next in
     let short = subst (λ (l : List ℕ). length (stream ++ l) < input_limit) (sym same) (is.short before count next) in
-    let has = subst (λ (l : List ℕ). HasFed told_of may_leave faults setup moment stream l h t t' (sink_bytes page.port.sink) s') same
+    let has = subst (λ (l : List ℕ). HasFed seen setup moment stream l h t t' (sink_bytes page.port.sink) s') same
     (fed stream h took short stands readable) in
-    finished told_of may_leave faults s' setup moment letter line asked before bytes h t t' (sink_bytes page.port.sink) stop
+    finished seen s' setup moment letter line asked before bytes h t t' (sink_bytes page.port.sink) stop
     (memory_of page stop (Ok page) refl stops) (is.set before count next) has
-fed_stops told_of may_leave faults s s' setup moment letter line asked given bytes lines desks t t' (Err stop) (Err other) same is stops fed stopped =
+fed_stops seen s s' setup moment letter line asked given bytes lines desks t t' (Err stop) (Err other) same is stops fed stopped =
     λ before count h next stands readable.
     let stream = line_fed line before in
     let took = took_before (meaning setup) moment count line before asked lines desks is.low next in
     let short = subst (λ (l : List ℕ). length (stream ++ l) < input_limit) (sym same) (is.short before count next) in
-    let has = subst (λ (l : List ℕ). FeedStops told_of may_leave faults setup moment stream l h t t' other s') same
+    let has = subst (λ (l : List ℕ). FeedStops seen setup moment stream l h t t' other s') same
     (stopped stream h took short stands readable) in
-    halted_at told_of may_leave faults s' setup moment letter line asked before bytes h t t' stop (is.set before count next)
+    halted_at seen s' setup moment letter line asked before bytes h t t' stop (is.set before count next)
     (wanting stop other (stop_or stop other (Err other) refl stops) has)
 
 -- where all was fed, the lines and desks took it

@@ -1,9 +1,9 @@
 -- What a line did that was fed bytes over a store.
-use Rattle.std.proofs.Common.{◌≡◌, ◌<◌, ◌≤◌, ◌-◌, ◌+◌, ◌++◌, ℕ, suc, List, [], ◌∷◌, Option, Some, Ok, length, map, replicate, refl, ap, sym, subst, ◌∙◌, arith}
+use Rattle.std.proofs.Common.{◌≡◌, ◌<◌, ◌≤◌, ◌-◌, ◌+◌, ◌++◌, ℕ, suc, List, [], ◌∷◌, Some, Ok, length, map, replicate, refl, ap, sym, subst, ◌∙◌, arith}
 use Rattle.std.specs.Io.KnownBytes.{append_known}
 use Rattle.std.proofs.lemmas.List.{append_assoc, length-append}
 use Rattle.alarm_rules.specs.Setups.{meaning}
-use Rattle.arc_io.specs.Areas.{Areas}
+use Rattle.arc_io.specs.Disks.{DiskSeen}
 use Rattle.arc_io.specs.Lists.{readings_of as given_of, noise_of as noise_given}
 use Rattle.arc_io.specs.Seen.{PortSeen}
 use Rattle.centre_core.specs.Setting.{text_of as text_in}
@@ -32,12 +32,12 @@ pub record PageTells (clock : ℕ) (p p' : PortSeen) : Type 0 where
   pub noise : Some (noise_given [] tens) ≡ p'.noise
 
 -- all frames have their turns
-pub record FedBy {D : Type 0} (told : D → Option Areas) (may_leave : D → Areas → Type 0) (faults : D → ℕ) (s' : Stored D)
+pub record FedBy {D : Type 0} (seen : D → DiskSeen) (s' : Stored D)
     (setup : List ℕ) (clock : ℕ) (stream bytes : List ℕ) (h : List Entry) (p p' : PortSeen) (calls : ℕ) : Type 0 where
   pub turns : List Turn
   pub history : List Entry
   pub fed : FeedsBehind setup clock stream bytes h history turns []
-  pub stands : StoreStands told may_leave faults nothing s' history
+  pub stands : StoreStands seen nothing s' history
   pub readable : IsReadable history
   pub written : p'.written ≡ append_known p.written (text_of line_turns turns)
   pub count : calls ≡ length turns + 1
@@ -46,12 +46,12 @@ pub readings_count : (turns : List Turn) → length (readings_of line_turns turn
 readings_count [] = refl
 readings_count (t ∷ ts) = ap suc (readings_count ts)
 
-pub feeds : {D : Type 0} (told : D → Option Areas) (may_leave : D → Areas → Type 0) (faults : D → ℕ) (s s' : Stored D)
+pub feeds : {D : Type 0} (seen : D → DiskSeen) (s s' : Stored D)
     (setup : List ℕ) (clock : ℕ) (stream bytes : List ℕ) (h : List Entry) (p p' : PortSeen) → text_in s.state ≡ setup
     → length (stream ++ bytes) < input_limit → (page : PageTells clock p p')
-    → ServesBytes (Ok tt) stream (in_limit stream bytes) nothing h (script_seen told may_leave faults s) (script_seen told may_leave faults s') p p'
-    → FedBy told may_leave faults s' setup clock stream bytes h p p' page.calls
-feeds told may_leave faults s s' setup clock stream bytes h p p' same short page serves =
+    → ServesBytes (Ok tt) stream (in_limit stream bytes) nothing h (script_seen seen s) (script_seen seen s') p p'
+    → FedBy seen s' setup clock stream bytes h p p' page.calls
+feeds seen s s' setup clock stream bytes h p p' same short page serves =
     let session = serves.session in
     let turns = session.turns in
     let fits : length bytes ≤ input_limit - length stream = (let long = length-append stream bytes in omega (arith, long, short)) in

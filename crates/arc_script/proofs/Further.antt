@@ -4,6 +4,7 @@ use Rattle.std.specs.Prelude.{unwrap_or}
 use Rattle.std.specs.Io.KnownBytes.{append_known}
 use Rattle.arc_io.proofs.KnownMore.{known_both}
 use Rattle.arc_io.specs.Causes.{Rose}
+use Rattle.arc_io.specs.Disks.{DiskSeen}
 use Rattle.arc_io.specs.Seen.{PortSeen}
 use Rattle.centre_core.specs.declared.hall.Stop.{Stop}
 use Rattle.centre_rules.specs.History.{Entry}
@@ -14,7 +15,7 @@ use Rattle.disk_journal.specs.Journal.{Holds}
 use Rattle.disk_journal.specs.declared.fault.OpenFault.{OpenFault}
 use Rattle.script_lines.specs.Lines.{Asked, Reopen, spelling}
 use Rattle.arc_script.specs.Between.{Begun, Between, CarriedOut, StoppedAt, ShutAt, SoFar, size_of}
-use Rattle.arc_script.specs.Ends.{DiskWords, Tells, Played}
+use Rattle.arc_script.specs.Ends.{Tells, Played}
 use Rattle.arc_script.specs.Halting.{Halts, closing}
 use Rattle.arc_script.specs.Steps.{Step, IsStepOf, asked_after, output_of}
 use Rattle.arc_script.specs.Texts.{AreOf, IsPlayable, counted, is_passed, numbered_from}
@@ -27,10 +28,10 @@ use Rattle.arc_script.proofs.Ended.{recorded_in, tally_is, counts_last}
 use Rattle.arc_script.proofs.Sizes.{size_last}
 
 -- a store whose disk has not failed
-held_up : {D : Type 0} (w : DiskWords D) (s : Stored D) (h : List Entry) → StoreStands w.told w.may_leave w.faults nothing s h
-    → (HasFailed w.faults s → ⊥) → Holds w.told w.may_leave s.journal (bodies_of h)
-held_up w s h stands up =
-    elim stands.journal as (λ j. Holds w.told w.may_leave s.journal (bodies_of h)) [
+held_up : {D : Type 0} (seen : D → DiskSeen) (s : Stored D) (h : List Entry) → StoreStands seen nothing s h
+    → (HasFailed seen s → ⊥) → Holds seen s.journal (bodies_of h)
+held_up seen s h stands up =
+    elim stands.journal as (λ j. Holds seen s.journal (bodies_of h)) [
       | inl holds ↦ holds
       | inr torn ↦ absurd (up torn.0)
     ]
@@ -39,8 +40,8 @@ pub rose_since : (before mid now : ℕ) → before ≤ mid → Rose mid now → 
 rose_since before mid now later rose = omega (arith, later, rose)
 
 -- Behind these lines comes one that asks for this, with its number.
-module _ {D : Type 0} (w : DiskWords D) (b : Begun D) (lines : List (List ℕ)) (script : Script) (s : Stored D) (p : PortSeen)
-    (so : SoFar w b lines script s p) (line : List ℕ) (asked : Asked) (passed : is_passed line ≡ false)
+module _ {D : Type 0} (seen : D → DiskSeen) (b : Begun D) (lines : List (List ℕ)) (script : Script) (s : Stored D) (p : PortSeen)
+    (so : SoFar seen b lines script s p) (line : List ℕ) (asked : Asked) (passed : is_passed line ≡ false)
     (asks : IsPlayable (asked_after [] so.steps) line asked) where
   abbrev number : ℕ
   number = 1 + length lines
@@ -48,7 +49,7 @@ module _ {D : Type 0} (w : DiskWords D) (b : Begun D) (lines : List (List ℕ)) 
   abbrev behind : List (List ℕ) → List (ℕ × List ℕ)
   behind more = filter is_played (numbered_from (1 + length lines + 1) more)
 
-  abbrev before_line : (more : List (List ℕ)) → Played (Tells w b.disk) b.setup b.past (counted (lines ++ line ∷ more))
+  abbrev before_line : (more : List (List ℕ)) → Played (Tells (seen b.disk)) b.setup b.past (counted (lines ++ line ∷ more))
   before_line more = record {
     front = counted lines;
     behind = (number, line) ∷ behind more;
@@ -61,9 +62,9 @@ module _ {D : Type 0} (w : DiskWords D) (b : Begun D) (lines : List (List ℕ)) 
 
   -- it was stopped
   pub stopped : (more : List (List ℕ)) (stop : Stop) (script' : Script) (s' : Stored D) (disk : D) (tally : Tally)
-      → StoppedAt w b (asked_after [] so.steps) so.history asked stop script.tally script'.tally s' → script'.opened_before ≡ script.opened_before
+      → StoppedAt seen b (asked_after [] so.steps) so.history asked stop script.tally script'.tally s' → script'.opened_before ≡ script.opened_before
       → disk ≡ s'.journal.disk → tally ≡ closing script'.tally script'.opened_before s'.state.sum
-      → Halts w b lines (lines ++ line ∷ more) (Stopped stop) p disk tally
+      → Halts seen b lines (lines ++ line ∷ more) (Stopped stop) p disk tally
   stopped more stop script' s' disk tally at kept disk_is tally_as = record {
     played = before_line more;
     ends = record {
@@ -94,8 +95,8 @@ module _ {D : Type 0} (w : DiskWords D) (b : Begun D) (lines : List (List ℕ)) 
   }
 
   -- the journal was not opened again
-  pub shut : (more : List (List ℕ)) (fault : OpenFault) (disk : D) (tally : Tally) → asked ≡ Reopen → ShutAt w b so.history fault disk
-      → tally ≡ closing script.tally script.opened_before s.state.sum → Halts w b lines (lines ++ line ∷ more) (Refused fault) p disk tally
+  pub shut : (more : List (List ℕ)) (fault : OpenFault) (disk : D) (tally : Tally) → asked ≡ Reopen → ShutAt seen b so.history fault disk
+      → tally ≡ closing script.tally script.opened_before s.state.sum → Halts seen b lines (lines ++ line ∷ more) (Refused fault) p disk tally
   shut more fault disk tally is at tally_as = record {
     played = before_line more;
     ends = record {
@@ -118,8 +119,8 @@ module _ {D : Type 0} (w : DiskWords D) (b : Begun D) (lines : List (List ℕ)) 
 
   -- It was carried out.
   module _ (script' : Script) (s' : Stored D) (q q' : PortSeen) (none : q.written ≡ Some [])
-      (out : CarriedOut w b (asked_after [] so.steps) (size_of lines) number so.history asked script.tally script' s' q q')
-      (kept : script'.opened_before ≡ script.opened_before) (up : HasFailed w.faults s' → ⊥) where
+      (out : CarriedOut seen b (asked_after [] so.steps) (size_of lines) number so.history asked script.tally script' s' q q')
+      (kept : script'.opened_before ≡ script.opened_before) (up : HasFailed seen s' → ⊥) where
     abbrev steps : List Step
     steps = so.steps ++ out.step ∷ []
 
@@ -129,8 +130,8 @@ module _ {D : Type 0} (w : DiskWords D) (b : Begun D) (lines : List (List ℕ)) 
     of : AreOf [] (counted lines ++ (number, line) ∷ []) steps
     of = of_last [] (counted lines) so.steps (number, line) out.step so.of out.number_is playable
 
-    held : Holds w.told w.may_leave s'.journal (bodies_of out.history)
-    held = held_up w s' out.history out.between.store.stands up
+    held : Holds seen s'.journal (bodies_of out.history)
+    held = held_up seen s' out.history out.between.store.stands up
 
     -- what the page has
     pub text_is : (text : List ℕ) → q'.written ≡ Some text → text ≡ out.step.text
@@ -140,16 +141,16 @@ module _ {D : Type 0} (w : DiskWords D) (b : Begun D) (lines : List (List ℕ)) 
 
     -- and its output was written
     pub further : (p' : PortSeen) (text : List ℕ) → q'.written ≡ Some text → p'.written ≡ append_known p.written text
-        → p.write_faults ≤ p'.write_faults → line ≡ spelling asked → SoFar w b (lines ++ line ∷ []) script' s' p'
+        → p.write_faults ≤ p'.write_faults → line ≡ spelling asked → SoFar seen b (lines ++ line ∷ []) script' s' p'
     further p' text is put later spelled = record {
       steps = steps;
       history = out.history;
       of = subst (λ (l : List (ℕ × List ℕ)). AreOf [] l steps) (sym (counted_next lines line [] passed)) of;
-      are = are_last (Tells w b.disk) b.setup [] b.past so.history out.history so.steps out.step so.are
-          (subst (λ (a : Asked). IsStepOf (Tells w b.disk) b.setup (asked_after [] so.steps) so.history out.history out.step a) (sym out.asked_is) out.is);
-      between = subst (λ (n : ℕ). Between w b (asked_after [] steps) n out.history script' s')
+      are = are_last (Tells (seen b.disk)) b.setup [] b.past so.history out.history so.steps out.step so.are
+          (subst (λ (a : Asked). IsStepOf (Tells (seen b.disk)) b.setup (asked_after [] so.steps) so.history out.history out.step a) (sym out.asked_is) out.is);
+      between = subst (λ (n : ℕ). Between seen b (asked_after [] steps) n out.history script' s')
           (ap (λ (l : List ℕ). size_of lines + length l) (sym spelled) ∙ sym (size_last lines line))
-          (subst (λ (before : List Asked). Between w b before (size_of lines + length (spelling asked)) out.history script' s')
+          (subst (λ (before : List Asked). Between seen b before (size_of lines + length (spelling asked)) out.history script' s')
           (ap (λ (a : Asked). a ∷ asked_after [] so.steps) (sym out.asked_is) ∙ sym (asked_last [] so.steps out.step)) out.between);
       held = held;
       counts = counts_last so.steps out.step script.tally script'.tally so.counts out.counts;
@@ -163,7 +164,7 @@ module _ {D : Type 0} (w : DiskWords D) (b : Begun D) (lines : List (List ℕ)) 
     pub cut_off : (more : List (List ℕ)) (p' : PortSeen) (text : List ℕ) (n : ℕ) (disk : D) (tally : Tally) → q'.written ≡ Some text → n < length text
         → p'.written ≡ append_known p.written (take n text) → Rose p.write_faults p'.write_faults → disk ≡ s'.journal.disk
         → tally ≡ closing script'.tally script'.opened_before s'.state.sum
-        → Halts w b lines (lines ++ line ∷ more) WriteFault p' disk tally
+        → Halts seen b lines (lines ++ line ∷ more) WriteFault p' disk tally
     cut_off more p' text n disk tally is short put rose disk_is tally_as = record {
       played = record {
         front = counted lines ++ (number, line) ∷ [];
@@ -172,8 +173,8 @@ module _ {D : Type 0} (w : DiskWords D) (b : Begun D) (lines : List (List ℕ)) 
         history = out.history;
         split = counted_next lines line more passed ∙ sym (append_assoc (counted lines) ((number, line) ∷ []) (behind more));
         of = of;
-        are = are_last (Tells w b.disk) b.setup [] b.past so.history out.history so.steps out.step so.are
-            (subst (λ (a : Asked). IsStepOf (Tells w b.disk) b.setup (asked_after [] so.steps) so.history out.history out.step a) (sym out.asked_is) out.is);
+        are = are_last (Tells (seen b.disk)) b.setup [] b.past so.history out.history so.steps out.step so.are
+            (subst (λ (a : Asked). IsStepOf (Tells (seen b.disk)) b.setup (asked_after [] so.steps) so.history out.history out.step a) (sym out.asked_is) out.is);
       };
       ends = (
         rose_since b.port.write_faults p.write_faults p'.write_faults so.writes rose,
@@ -186,7 +187,7 @@ module _ {D : Type 0} (w : DiskWords D) (b : Begun D) (lines : List (List ℕ)) 
           output = put ∙ ap (λ k. append_known k (take n text)) so.written
               ∙ ap (λ l. append_known (append_known b.port.written (output_of so.steps)) (take n l)) (text_is text is)
               ∙ known_both b.port.written (output_of so.steps) (take n out.step.text);
-          area = recorded_in w s' out.history disk held disk_is;
+          area = recorded_in seen s' out.history disk held disk_is;
           counts = tally_is s' b.past out.history steps script'.tally tally script'.opened_before (kept ∙ so.opened_before)
               (counts_last so.steps out.step script.tally script'.tally so.counts out.counts) out.between.store.stands.centre tally_as;
         },

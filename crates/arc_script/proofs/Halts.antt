@@ -1,10 +1,10 @@
 -- What a line did that was fed bytes over a store and was stopped.
-use Rattle.std.proofs.Common.{◌≡◌, ◌⊎◌, ◌<◌, ◌≤◌, ◌-◌, ◌+◌, ◌++◌, ℕ, zero, suc, List, [], ◌∷◌, Option, Some, Err, inl, inr, length, map, replicate, drop, refl, ap, sym, subst, ◌∙◌, arith}
+use Rattle.std.proofs.Common.{◌≡◌, ◌⊎◌, ◌<◌, ◌≤◌, ◌-◌, ◌+◌, ◌++◌, ℕ, zero, suc, List, [], ◌∷◌, Some, Err, inl, inr, length, map, replicate, drop, refl, ap, sym, subst, ◌∙◌, arith}
 use Rattle.std.specs.Prelude.{slice_index}
 use Rattle.std.specs.Io.KnownBytes.{append_known}
 use Rattle.std.proofs.lemmas.List.{append_assoc, append-nil, length-append}
 use Rattle.alarm_rules.specs.Setups.{meaning}
-use Rattle.arc_io.specs.Areas.{Areas}
+use Rattle.arc_io.specs.Disks.{DiskSeen}
 use Rattle.arc_io.specs.Lists.{readings_of as given_of, noise_of as noise_given}
 use Rattle.arc_io.specs.Seen.{PortSeen}
 use Rattle.centre_core.specs.Setting.{text_of as text_in}
@@ -29,16 +29,16 @@ use Rattle.arc_script.specs.Standing.{IsReadable, script_seen}
 use Rattle.arc_script.specs.Steps.{FeedsBehind}
 
 -- the frames before the one that was stopped have their turns; that one may have taken its reading
-pub record FedUpTo {D : Type 0} (told : D → Option Areas) (may_leave : D → Areas → Type 0) (faults : D → ℕ) (s' : Stored D)
+pub record FedUpTo {D : Type 0} (seen : D → DiskSeen) (s' : Stored D)
     (setup : List ℕ) (clock : ℕ) (stream bytes : List ℕ) (h : List Entry) (stop : Stop) (calls : ℕ) : Type 0 where
   pub turns : List Turn
   pub more : List (List ℕ)
   pub history : List Entry
   pub sent : ℕ
   pub fed : FeedsBehind setup clock stream bytes h history turns more
-  pub stands : StoreStands told may_leave faults nothing s' history
+  pub stands : StoreStands seen nothing s' history
   pub readable : IsReadable history
-  pub cause : HasShown told may_leave faults s' stop clock (IsOfFrame setup clock more)
+  pub cause : HasShown seen s' stop clock (IsOfFrame setup clock more)
   pub sent_is : (sent ≡ length turns) ⊎ (sent ≡ suc (length turns))
   pub count : calls ≡ sent + 1
 
@@ -55,12 +55,12 @@ without_behind : (turns front behind : List Turn) → turns ≡ front ++ behind 
 without_behind turns front behind split none = sym (split ∙ ap (λ l. front ++ l) none ∙ append-nil front)
 
 -- a write failed within a reply
-pub cut_short : {D : Type 0} (told : D → Option Areas) (may_leave : D → Areas → Type 0) (faults : D → ℕ) (s s' : Stored D)
+pub cut_short : {D : Type 0} (seen : D → DiskSeen) (s s' : Stored D)
     (setup : List ℕ) (clock : ℕ) (stream bytes : List ℕ) (h : List Entry) (p p' : PortSeen) → text_in s.state ≡ setup
     → length (stream ++ bytes) < input_limit → (page : PageTells clock p p')
-    → ServesBytes (Err WriteFault) stream (in_limit stream bytes) nothing h (script_seen told may_leave faults s) (script_seen told may_leave faults s') p p'
-    → FedUpTo told may_leave faults s' setup clock stream bytes h Memory page.calls
-cut_short told may_leave faults s s' setup clock stream bytes h p p' same short page serves =
+    → ServesBytes (Err WriteFault) stream (in_limit stream bytes) nothing h (script_seen seen s) (script_seen seen s') p p'
+    → FedUpTo seen s' setup clock stream bytes h Memory page.calls
+cut_short seen s s' setup clock stream bytes h p p' same short page serves =
     let session = serves.session in
     let turns = session.turns in
     let ended = session.ended in
@@ -106,26 +106,26 @@ all_at (r ∷ rs) reading clock (suc n) is =
     let more = all_at rs reading clock n (ap (λ (l : List ℕ). drop 1 l) is) in
     record { last = more.last; rest = ap (λ x. x ∷ rs) (ap (λ (l : List ℕ). slice_index l 0) is) ∙ ap (λ l. clock ∷ l) more.rest }
 
-caused : {D : Type 0} (told : D → Option Areas) (may_leave : D → Areas → Type 0) (faults : D → ℕ) (s s' : Stored D)
+caused : {D : Type 0} (seen : D → DiskSeen) (s s' : Stored D)
     (setup : List ℕ) (clock reading : ℕ) (stop : Stop) (body : List ℕ) (more : List (List ℕ)) → text_in s.state ≡ setup → reading ≡ clock
-    → HasStopped (script_seen told may_leave faults s) (script_seen told may_leave faults s') stop body reading
-    → HasShown told may_leave faults s' stop clock (IsOfFrame setup clock (body ∷ more))
-caused told may_leave faults s s' setup clock reading stop body more same at (inl wanted) = inl wanted.0
-caused told may_leave faults s s' setup clock reading stop body more same at (inr w) = inr (
+    → HasStopped (script_seen seen s) (script_seen seen s') stop body reading
+    → HasShown seen s' stop clock (IsOfFrame setup clock (body ∷ more))
+caused seen s s' setup clock reading stop body more same at (inl wanted) = inl wanted.0
+caused seen s s' setup clock reading stop body more same at (inr w) = inr (
   w.0,
   sym (ap (λ (r : ℕ). event_of (verdict_of (meaning (text_in s.state)) r body)) at ∙ ap (λ (text : List ℕ). event_of (verdict_of (meaning text) clock body)) same)
       ∙ w.1,
-  subst (λ (r : ℕ). Shows told may_leave faults s' stop w.0 r) at w.2,
+  subst (λ (r : ℕ). Shows seen s' stop w.0 r) at w.2,
 )
 
 -- the store stopped for a frame
-pub stopped_at : {D : Type 0} (told : D → Option Areas) (may_leave : D → Areas → Type 0) (faults : D → ℕ) (s s' : Stored D)
+pub stopped_at : {D : Type 0} (seen : D → DiskSeen) (s s' : Stored D)
     (setup : List ℕ) (clock : ℕ) (stream bytes : List ℕ) (h : List Entry) (p p' : PortSeen) (stop : Stop) → text_in s.state ≡ setup
     → length (stream ++ bytes) < input_limit → (page : PageTells clock p p')
-    → ServesBytes (Err (Stopped stop)) stream (in_limit stream bytes) nothing h (script_seen told may_leave faults s)
-    (script_seen told may_leave faults s') p p'
-    → FedUpTo told may_leave faults s' setup clock stream bytes h stop page.calls
-stopped_at told may_leave faults s s' setup clock stream bytes h p p' stop same short page serves =
+    → ServesBytes (Err (Stopped stop)) stream (in_limit stream bytes) nothing h (script_seen seen s)
+    (script_seen seen s') p p'
+    → FedUpTo seen s' setup clock stream bytes h stop page.calls
+stopped_at seen s s' setup clock stream bytes h p p' stop same short page serves =
     let session = serves.session in
     let turns = session.turns in
     let ended = session.ended in
@@ -158,7 +158,7 @@ stopped_at told may_leave faults s s' setup clock stream bytes h p p' stop same 
       };
       stands = session.holds.0.stands;
       readable = session.holds.1 refl;
-      cause = caused told may_leave faults s s' setup clock ended.reading stop ended.piece ended.more same at.last ended.cause;
+      cause = caused seen s s' setup clock ended.reading stop ended.piece ended.more same at.last ended.cause;
       sent_is = inr refl;
       count = omega (arith, stands.count, size, count);
     }

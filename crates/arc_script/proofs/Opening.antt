@@ -3,6 +3,7 @@ use Rattle.std.proofs.Common.{◌≡◌, ◌≤◌, ◌∷◌, ℕ, zero, suc, L
 use Rattle.std.specs.Prelude.{All, slice_get}
 use Rattle.alarm_rules.specs.Setups.{meaning}
 use Rattle.arc_io.proofs.KnownMore.{known_none}
+use Rattle.arc_io.specs.Disks.{DiskSeen}
 use Rattle.centre_rules.specs.History.{IsMoment}
 use Rattle.centre_store.specs.Bodies.{bodies_of}
 use Rattle.centre_store.specs.Openings.{IsOpened}
@@ -13,7 +14,7 @@ use Rattle.disk_journal.specs.Journal.{Holds}
 use Rattle.line_session.specs.Lines as Line
 use Rattle.arc_script.specs.Between.{Begun, IsStoreSoFar, SoFar}
 use Rattle.arc_script.specs.Carrying.{HasRead, HaveTaken}
-use Rattle.arc_script.specs.Ends.{DiskWords, BeginsWith}
+use Rattle.arc_script.specs.Ends.{BeginsWith}
 use Rattle.arc_script.specs.Playing.{IsNewDesk}
 use Rattle.arc_script.specs.Standing.{is_told}
 use Rattle.arc_script.specs.declared.script.Script.{Script}
@@ -39,10 +40,10 @@ taken_none setup lines desks new_lines new_desks = record {
 }
 
 -- what a store that was opened stands for
-pub store_opened : {D : Type 0} (w : DiskWords D) (b : Begun D) (s : Stored D) (o : IsOpened w.told w.may_leave w.faults b.disk s)
-    → is_told (w.told s.journal.disk) ≡ is_told (w.told b.disk) → s.journal.limits ≡ b.limits → w.faults b.disk ≤ s.at_open
-    → IsStoreSoFar w b o.past s
-store_opened w b s o tells limits later = record {
+pub store_opened : {D : Type 0} (seen : D → DiskSeen) (b : Begun D) (s : Stored D) (o : IsOpened seen b.disk s)
+    → is_told (seen s.journal.disk).told ≡ is_told (seen b.disk).told → s.journal.limits ≡ b.limits → (seen b.disk).faults ≤ s.at_open
+    → IsStoreSoFar seen b o.past s
+store_opened seen b s o tells limits later = record {
   stands = o.stands;
   readable = subst AreKept (sym (kept_recorded o.past o.is_past.kept)) o.is_past.kept;
   tells = tells;
@@ -50,19 +51,19 @@ store_opened w b s o tells limits later = record {
   later = later;
 }
 
-pub held_opened : {D : Type 0} (w : DiskWords D) (disk : D) (s : Stored D) (o : IsOpened w.told w.may_leave w.faults disk s)
-    → Holds w.told w.may_leave s.journal (bodies_of o.past)
-held_opened w disk s o = subst (λ (l : List (List ℕ)). Holds w.told w.may_leave s.journal l) o.is_past.is o.held
+pub held_opened : {D : Type 0} (seen : D → DiskSeen) (disk : D) (s : Stored D) (o : IsOpened seen disk s)
+    → Holds seen s.journal (bodies_of o.past)
+held_opened seen disk s o = subst (λ (l : List (List ℕ)). Holds seen s.journal l) o.is_past.is o.held
 
-pub begins_with : {D : Type 0} (w : DiskWords D) (disk : D) (s : Stored D) (o : IsOpened w.told w.may_leave w.faults disk s) → BeginsWith w disk o.past
-begins_with w disk s o = record { bodies = o.bodies; is_past = o.is_past; area = o.area }
+pub begins_with : {D : Type 0} (seen : D → DiskSeen) (disk : D) (s : Stored D) (o : IsOpened seen disk s) → BeginsWith (seen disk) o.past
+begins_with seen disk s o = record { bodies = o.bodies; is_past = o.is_past; area = o.area }
 
 -- no line was carried out
-pub so_far_none : {D : Type 0} (w : DiskWords D) (b : Begun D) (script : Script) (s : Stored D) → script.setup ≡ b.setup → script.limits ≡ b.limits
+pub so_far_none : {D : Type 0} (seen : D → DiskSeen) (b : Begun D) (script : Script) (s : Stored D) → script.setup ≡ b.setup → script.limits ≡ b.limits
     → All (Line.TookStream []) script.lines.items → All IsNewDesk script.desks.items → script.clock ≡ None
     → script.opened_before ≡ s.state.sum.opened → script.tally.sent ≡ 0 → script.tally.repeats ≡ 0 → script.tally.closed ≡ 0
-    → IsStoreSoFar w b b.past s → Holds w.told w.may_leave s.journal (bodies_of b.past) → SoFar w b [] script s b.port
-so_far_none w b script s setup limits new_lines new_desks none opened sent repeats closed store held = record {
+    → IsStoreSoFar seen b b.past s → Holds seen s.journal (bodies_of b.past) → SoFar seen b [] script s b.port
+so_far_none seen b script s setup limits new_lines new_desks none opened sent repeats closed store held = record {
   steps = [];
   history = b.past;
   of = tt;

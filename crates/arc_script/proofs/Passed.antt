@@ -2,6 +2,7 @@
 use Rattle.std.proofs.Common.{◌≡◌, ◌≤◌, ◌+◌, ◌++◌, ◌∷◌, ℕ, List, [], Option, Some, None, IfSome, true, sym, subst, arith}
 use Rattle.std.specs.Prelude.{slice_get}
 use Rattle.alarm_rules.specs.Setups.{Setup}
+use Rattle.arc_io.specs.Disks.{DiskSeen}
 use Rattle.arc_io.specs.Seen.{PortSeen}
 use Rattle.centre_store.specs.Stores.{Stored}
 use Rattle.desk_session.specs.Desks as Desk
@@ -9,7 +10,6 @@ use Rattle.line_session.specs.Lines as Line
 use Rattle.script_lines.specs.Lines.{Asked}
 use Rattle.arc_script.specs.Between.{Begun, SoFar, size_of}
 use Rattle.arc_script.specs.Carrying.{HasRead, HaveTaken}
-use Rattle.arc_script.specs.Ends.{DiskWords}
 use Rattle.arc_script.specs.Fed.{desk_read}
 use Rattle.arc_script.specs.Steps.{asked_after}
 use Rattle.arc_script.specs.Texts.{AreOf, is_passed}
@@ -32,9 +32,9 @@ taken_more setup count more before lines desks grows taken = record {
       (taken.read i);
 }
 
-pub skipped : {D : Type 0} (w : DiskWords D) (b : Begun D) (lines : List (List ℕ)) (line : List ℕ) (script : Script) (number : ℕ) (s : Stored D)
-    (p : PortSeen) → is_passed line ≡ true → SoFar w b lines script s p → SoFar w b (lines ++ line ∷ []) (record script { number = number }) s p
-skipped w b lines line script number s p passed so =
+pub skipped : {D : Type 0} (seen : D → DiskSeen) (b : Begun D) (lines : List (List ℕ)) (line : List ℕ) (script : Script) (number : ℕ) (s : Stored D)
+    (p : PortSeen) → is_passed line ≡ true → SoFar seen b lines script s p → SoFar seen b (lines ++ line ∷ []) (record script { number = number }) s p
+skipped seen b lines line script number s p passed so =
     let between = so.between in
     let size = size_last lines line in
     record {

@@ -2,6 +2,7 @@
 use Rattle.std.proofs.Common.{◌≡◌, ◌≤◌, ◌∷◌, ◌^◌, ℕ, List, [], Bool, true, false, cond, map, reverse, length, Option, Some, None, IfSome, inr, refl, sym, ap, subst, ◌∙◌}
 use Rattle.std.proofs.lemmas.List.{length-map, length-reverse}
 use Rattle.arc_io.specs.Areas.{Areas}
+use Rattle.arc_io.specs.Disks.{DiskSeen}
 use Rattle.centre_rules.proofs.Quiet.{legal_recorded}
 use Rattle.centre_rules.specs.Answers.{IsLegal}
 use Rattle.centre_rules.specs.History.{Entry, is_recorded, recorded}
@@ -15,7 +16,7 @@ use Rattle.disk_journal.proofs.Once.{one_answer}
 use Rattle.disk_journal.specs.Journal.{Holds}
 use Rattle.disk_journal.specs.Records.{AtRest, Stands}
 use Rattle.arc_script.specs.Between.{Begun}
-use Rattle.arc_script.specs.Ends.{DiskWords, Tells}
+use Rattle.arc_script.specs.Ends.{Tells}
 use Rattle.arc_script.specs.Standing.{IsReadable, is_told}
 use Rattle.arc_script.specs.Steps.{Keeps}
 
@@ -63,13 +64,13 @@ is_true : (o : Option Areas) (areas : Areas) → o ≡ Some areas → is_told o 
 is_true o areas is = ap is_told is
 
 -- opening the journal of a history again gives its recorded entries
-pub keeps_recorded : {D : Type 0} (w : DiskWords D) (b : Begun D) (h : List Entry) (s s' : Stored D) → IsLegal nothing h → IsReadable h
-    → is_told (w.told s.journal.disk) ≡ is_told (w.told b.disk) → Holds w.told w.may_leave s.journal (bodies_of h)
-    → (o : IsOpened w.told w.may_leave w.faults s.journal.disk s') → Keeps (Tells w b.disk) h o.past
-keeps_recorded w b h s s' legal readable tells holds o = record {
+pub keeps_recorded : {D : Type 0} (seen : D → DiskSeen) (b : Begun D) (h : List Entry) (s s' : Stored D) → IsLegal nothing h → IsReadable h
+    → is_told (seen s.journal.disk).told ≡ is_told (seen b.disk).told → Holds seen s.journal (bodies_of h)
+    → (o : IsOpened seen s.journal.disk s') → Keeps (Tells (seen b.disk)) h o.past
+keeps_recorded seen b h s s' legal readable tells holds o = record {
   past = subst (λ (l : List (List ℕ)). IsPast l o.past) o.is_past.is o.is_past;
   same = λ told.
       let bodies : o.bodies ≡ bodies_of h =
-      told_same (w.told s.journal.disk) o.bodies (bodies_of h) (tells ∙ is_true (w.told b.disk) told.0 told.1) o.area holds.kept.file in
+      told_same (seen s.journal.disk).told o.bodies (bodies_of h) (tells ∙ is_true (seen b.disk).told told.0 told.1) o.area holds.kept.file in
       same_past h o.past legal readable (subst (λ (l : List (List ℕ)). IsPast l o.past) bodies o.is_past);
 }

@@ -3,6 +3,7 @@ use Rattle.std.proofs.Common.{◌≡◌, ◌⊎◌, ◌∷◌, ℕ, List, [], Op
 use Rattle.std.specs.Prelude.{unwrap_or}
 use Rattle.std.proofs.lemmas.Result.{on_ok_weaker, IfErr-weaker}
 use Rattle.alarm_rules.specs.Setups.{meaning}
+use Rattle.arc_io.specs.Disks.{DiskSeen}
 use Rattle.arc_io.specs.Seen.{PortSeen}
 use Rattle.centre_core.specs.declared.hall.Stop.{Stop}
 use Rattle.centre_core.specs.declared.hall.Stop.TheVariants.{Memory}
@@ -15,7 +16,7 @@ use Rattle.script_lines.specs.Lines.{Asked, Time, Command, Reopen}
 use Rattle.arc_script.specs.Between.{Begun, Between, CarriedOut, Carries, StoppedAt, Stops}
 use Rattle.arc_script.specs.Carrying.{Carried, Halted, HaveTakenWith, IsNext}
 use Rattle.arc_script.specs.Causes.{HasShown, IsOfCommand, IsOfTime, Submits}
-use Rattle.arc_script.specs.Ends.{DiskWords, Tells, AddedBy, CameTo}
+use Rattle.arc_script.specs.Ends.{Tells, AddedBy, CameTo}
 use Rattle.arc_script.specs.Fed.{clock_of}
 use Rattle.arc_script.specs.Playing.{TickStops, Ticked, moment_at}
 use Rattle.arc_script.specs.Standing.{IsReadable}
@@ -35,54 +36,54 @@ own_moment clock a at moment is set =
 
 -- A `T`.
 
-module _ {D : Type 0} (w : DiskWords D) (script script' : Script) (s s' : Stored D) (a : Asked) (at moment : ℕ) (stays : Stays w script script' s s')
+module _ {D : Type 0} (seen : D → DiskSeen) (script script' : Script) (s s' : Stored D) (a : Asked) (at moment : ℕ) (stays : Stays seen script script' s s')
     (rest : script' ≡ record script { clock = script'.clock }) (fits : IsMoment moment) (is : a ≡ Time at) (same : at ≡ moment) where
   whose : a ≡ Time moment
   whose = is ∙ ap Time same
 
   pub time_carries : (p p' : PortSeen) (r : Result (Unit {0}) Stop)
-      → OnOk r ((h : List Entry) → StoreStands w.told w.may_leave w.faults nothing s h
-      → Ticked w.told w.may_leave w.faults (before_tick script.clock script.setup at h) at s' p p')
+      → OnOk r ((h : List Entry) → StoreStands seen nothing s h
+      → Ticked seen (before_tick script.clock script.setup at h) at s' p p')
       → OnOk r (s'.state.sum.text ≡ Some script.setup) → OnOk r (script'.clock ≡ Some at)
-      → OnOk r (Carries w moment a script script' s s' p p')
+      → OnOk r (Carries seen moment a script script' s s' p p')
   time_carries p p' (Ok done) ticked text clock = λ b before count number h between next holds.
       let tally : script'.tally ≡ script.tally = ap (λ (k : Script). k.tally) rest in
-      let there = subst (λ (n : ℕ). Ticked w.told w.may_leave w.faults (before_tick script.clock script.setup n h) n s' p p') same
+      let there = subst (λ (n : ℕ). Ticked seen (before_tick script.clock script.setup n h) n s' p p') same
       (ticked h between.store.stands) in
-      let out = time_carried w b before count h moment script script' s s' between fits tally number p p' there in
+      let out = time_carried seen b before count h moment script script' s s' between fits tally number p p' there in
       let set : clock_of (Time moment ∷ before) ≡ Some moment = refl in
-      subst (λ (k : Asked). CarriedOut w b before count number h k script.tally script' s' p p') (sym whose)
-      (carried_out w b before count h (Time moment) moment script script' s s' between stays fits set number p p' out
+      subst (λ (k : Asked). CarriedOut seen b before count number h k script.tally script' s' p p') (sym whose)
+      (carried_out seen b before count h (Time moment) moment script script' s s' between stays fits set number p p' out
       (time_taken b.setup count moment before script script' between.taken rest) (clock ∙ ap Some same) (text ∙ ap Some between.setup))
   time_carries p p' (Err stop) ticked text clock = tt
 
   pub time_stops : (r : Result (Unit {0}) Stop)
-      → IfErr r (λ stop. (h : List Entry) → StoreStands w.told w.may_leave w.faults nothing s h
-      → TickStops w.told w.may_leave w.faults script.clock script.setup at h stop s')
-      → IfErr r (λ stop. HasShown w.told w.may_leave w.faults s' stop at (IsOfTime script.clock script.setup))
-      → IfErr r (λ stop. Stops w moment a script script' s s' stop)
+      → IfErr r (λ stop. (h : List Entry) → StoreStands seen nothing s h
+      → TickStops seen script.clock script.setup at h stop s')
+      → IfErr r (λ stop. HasShown seen s' stop at (IsOfTime script.clock script.setup))
+      → IfErr r (λ stop. Stops seen moment a script script' s s' stop)
   time_stops (Ok done) stops shown = tt
   time_stops (Err stop) stops shown = λ b before count h between next holds.
       let tally : script'.tally ≡ script.tally = ap (λ (k : Script). k.tally) rest in
-      let there = subst (λ (n : ℕ). TickStops w.told w.may_leave w.faults script.clock script.setup n h stop s') same
+      let there = subst (λ (n : ℕ). TickStops seen script.clock script.setup n h stop s') same
       (stops h between.store.stands) in
-      let by = subst (λ (n : ℕ). HasShown w.told w.may_leave w.faults s' stop n (IsOfTime script.clock script.setup)) same shown in
-      subst (λ (k : Asked). StoppedAt w b before h k stop script.tally script'.tally s') (sym whose)
-      (time_stopped w b before count h moment script script' s s' between fits tally stop stays there by)
+      let by = subst (λ (n : ℕ). HasShown seen s' stop n (IsOfTime script.clock script.setup)) same shown in
+      subst (λ (k : Asked). StoppedAt seen b before h k stop script.tally script'.tally s') (sym whose)
+      (time_stopped seen b before count h moment script script' s s' between fits tally stop stays there by)
 
 -- The other lines over the store.
 
 -- how far such a line came
-abbrev pub CameSoFar : {D : Type 0} → DiskWords D → Type 0 → List ℕ → ℕ → List Asked → Asked → List Entry → Stored D → Stop → List Entry → Step
+abbrev pub CameSoFar : {D : Type 0} → (D → DiskSeen) → Type 0 → List ℕ → ℕ → List Asked → Asked → List Entry → Stored D → Stop → List Entry → Step
     → Type 0
-CameSoFar w Told setup moment before asked h s' stop x st =
+CameSoFar seen Told setup moment before asked h s' stop x st =
     ((waiting : List (List ℕ)) × CameTo Told setup before waiting h x st asked
-    × HasShown w.told w.may_leave w.faults s' stop moment (Submits setup before moment waiting asked))
+    × HasShown seen s' stop moment (Submits setup before moment waiting asked))
     ⊎ ((stop ≡ Memory) × IsStepOf Told setup before h x st asked)
 
-module _ {D : Type 0} (w : DiskWords D) (script script' : Script) (s s' : Stored D) (a : Asked) (moment : ℕ) (stays : Stays w script script' s s')
+module _ {D : Type 0} (seen : D → DiskSeen) (script script' : Script) (s s' : Stored D) (a : Asked) (moment : ℕ) (stays : Stays seen script script' s s')
     (fits : IsMoment moment) where
-  next_with : (b : Begun D) (before : List Asked) (count : ℕ) (h : List Entry) → Between w b before count h script s
+  next_with : (b : Begun D) (before : List Asked) (count : ℕ) (h : List Entry) → Between seen b before count h script s
       → IsNext (meaning b.setup) moment count before a script.lines.items script.desks.items
       → IsNext (meaning script.setup) moment count before a script.lines.items script.desks.items
   next_with b before count h between next =
@@ -91,36 +92,36 @@ module _ {D : Type 0} (w : DiskWords D) (script script' : Script) (s s' : Stored
   pub line_carries : (p p' : PortSeen) (r : Result (Unit {0}) Stop) → script'.clock ≡ Some moment
       → ((Told : Type 0) → OnOk r ((before : List Asked) (count number : ℕ) (h : List Entry)
       → IsNext (meaning script.setup) moment count before a script.lines.items script.desks.items
-      → StoreStands w.told w.may_leave w.faults nothing s h → IsReadable h
-      → Carried w.told w.may_leave w.faults (λ x st. IsStepOf Told script.setup before h x st a) number a script.tally script'.tally p p' s'))
+      → StoreStands seen nothing s h → IsReadable h
+      → Carried seen (λ x st. IsStepOf Told script.setup before h x st a) number a script.tally script'.tally p p' s'))
       → OnOk r ((before : List Asked) (count : ℕ) → IsNext (meaning script.setup) moment count before a script.lines.items script.desks.items
       → HaveTakenWith (meaning script.setup) count before a script'.lines.items script'.desks.items)
       → s'.state.sum.text ≡ Some script.setup
-      → OnOk r (Carries w moment a script script' s s' p p')
+      → OnOk r (Carries seen moment a script script' s s' p p')
   line_carries p p' (Ok done) clock fed took text = λ b before count number h between next holds.
       let n = next_with b before count h between next in
-      let out = subst (λ (l : List ℕ). Carried w.told w.may_leave w.faults (λ x st. IsStepOf (Tells w b.disk) l before h x st a) number a
-      script.tally script'.tally p p' s') between.setup (fed (Tells w b.disk) before count number h n between.store.stands between.store.readable) in
+      let out = subst (λ (l : List ℕ). Carried seen (λ x st. IsStepOf (Tells (seen b.disk)) l before h x st a) number a
+      script.tally script'.tally p p' s') between.setup (fed (Tells (seen b.disk)) before count number h n between.store.stands between.store.readable) in
       let taken = subst (λ (l : List ℕ). HaveTakenWith (meaning l) count before a script'.lines.items script'.desks.items) between.setup
       (took before count n) in
-      carried_out w b before count h a moment script script' s s' between stays fits next.set number p p' out taken clock
+      carried_out seen b before count h a moment script script' s s' between stays fits next.set number p p' out taken clock
       (text ∙ ap Some between.setup)
   line_carries p p' (Err stop) clock fed took text = tt
 
   pub line_stops : (r : Result (Unit {0}) Stop)
       → ((Told : Type 0) → IfErr r (λ stop. (before : List Asked) (count : ℕ) (h : List Entry)
       → IsNext (meaning script.setup) moment count before a script.lines.items script.desks.items
-      → StoreStands w.told w.may_leave w.faults nothing s h → IsReadable h
-      → Halted w.told w.may_leave w.faults (λ x st. CameSoFar w Told script.setup moment before a h s' stop x st) script.tally script'.tally s'))
-      → IfErr r (λ stop. Stops w moment a script script' s s' stop)
+      → StoreStands seen nothing s h → IsReadable h
+      → Halted seen (λ x st. CameSoFar seen Told script.setup moment before a h s' stop x st) script.tally script'.tally s'))
+      → IfErr r (λ stop. Stops seen moment a script script' s s' stop)
   line_stops (Ok done) stops = tt
   line_stops (Err stop) stops = λ b before count h between next holds.
-      let Told = Tells w b.disk in
+      let Told = Tells (seen b.disk) in
       let n = next_with b before count h between next in
-      let out = subst (λ (l : List ℕ). Halted w.told w.may_leave w.faults (λ x st. CameSoFar w Told l moment before a h s' stop x st)
+      let out = subst (λ (l : List ℕ). Halted seen (λ x st. CameSoFar seen Told l moment before a h s' stop x st)
       script.tally script'.tally s') between.setup (stops Told before count h n between.store.stands between.store.readable) in
-      elim out.came as (λ came. StoppedAt w b before h a stop script.tally script'.tally s') [
-        | inl until ↦ stopped_at w b before count h a moment script script' s s' between stays fits next.set stop until.0 (record {
+      elim out.came as (λ came. StoppedAt seen b before h a stop script.tally script'.tally s') [
+        | inl until ↦ stopped_at seen b before count h a moment script script' s s' between stays fits next.set stop until.0 (record {
           partial = out.partial;
           history = out.history;
           came = inl (until.1, until.2);
@@ -128,7 +129,7 @@ module _ {D : Type 0} (w : DiskWords D) (script script' : Script) (s s' : Stored
           readable = out.readable;
           counts = out.counts;
         })
-        | inr whole ↦ stopped_at w b before count h a moment script script' s s' between stays fits next.set stop [] (record {
+        | inr whole ↦ stopped_at seen b before count h a moment script script' s s' between stays fits next.set stop [] (record {
           partial = out.partial;
           history = out.history;
           came = inr whole;
@@ -145,10 +146,10 @@ still_ok r (Ok done) P is holds = subst (λ (k : Result (Unit {0}) Stop). OnOk k
 still_ok r (Err stop) P is holds = tt
 
 -- it was carried out, and memory is said to be wanted
-failed_at : {D : Type 0} (w : DiskWords D) (b : Begun D) (before : List Asked) (count number : ℕ) (h : List Entry) (a : Asked) (moment : ℕ)
+failed_at : {D : Type 0} (seen : D → DiskSeen) (b : Begun D) (before : List Asked) (count number : ℕ) (h : List Entry) (a : Asked) (moment : ℕ)
     (stop : Stop) (t : Tally) (script' : Script) (s' : Stored D) (p p' : PortSeen) → stop ≡ Memory → moment_at (clock_of before) a ≡ Some moment
-    → CarriedOut w b before count number h a t script' s' p p' → StoppedAt w b before h a stop t script'.tally s'
-failed_at w b before count number h a moment stop t script' s' p p' is set out = record {
+    → CarriedOut seen b before count number h a t script' s' p p' → StoppedAt seen b before h a stop t script'.tally s'
+failed_at seen b before count number h a moment stop t script' s' p p' is set out = record {
   waiting = [];
   partial = out.step;
   history = out.history;
@@ -162,29 +163,29 @@ failed_at w b before count number h a moment stop t script' s' p p' is set out =
   counts = out.counts;
 }
 
-pub still_stops : {D : Type 0} (w : DiskWords D) (moment : ℕ) (a : Asked) (script script' : Script) (s s' : Stored D) (p p' : PortSeen)
+pub still_stops : {D : Type 0} (seen : D → DiskSeen) (moment : ℕ) (a : Asked) (script script' : Script) (s s' : Stored D) (p p' : PortSeen)
     (r r' : Result (Unit {0}) Stop) → IfErr r' (λ stop. (r ≡ Err stop) ⊎ ((r ≡ Ok tt) × (stop ≡ Memory)))
-    → OnOk r (Carries w moment a script script' s s' p p') → IfErr r (λ stop. Stops w moment a script script' s s' stop)
-    → IfErr r' (λ stop. Stops w moment a script script' s s' stop)
-still_stops w moment a script script' s s' p p' r (Ok done) how carries stops = tt
-still_stops w moment a script script' s s' p p' r (Err stop) how carries stops =
-    elim how as (λ k. Stops w moment a script script' s s' stop) [
-      | inl is ↦ subst (λ (k : Result (Unit {0}) Stop). IfErr k (λ other. Stops w moment a script script' s s' other)) is stops
+    → OnOk r (Carries seen moment a script script' s s' p p') → IfErr r (λ stop. Stops seen moment a script script' s s' stop)
+    → IfErr r' (λ stop. Stops seen moment a script script' s s' stop)
+still_stops seen moment a script script' s s' p p' r (Ok done) how carries stops = tt
+still_stops seen moment a script script' s s' p p' r (Err stop) how carries stops =
+    elim how as (λ k. Stops seen moment a script script' s s' stop) [
+      | inl is ↦ subst (λ (k : Result (Unit {0}) Stop). IfErr k (λ other. Stops seen moment a script script' s s' other)) is stops
       | inr both ↦ λ b before count h between next holds.
-          let out = subst (λ (k : Result (Unit {0}) Stop). OnOk k (Carries w moment a script script' s s' p p')) both.0 carries in
-          failed_at w b before count 0 h a moment stop script.tally script' s' p p' both.1 next.set (out b before count 0 h between next holds)
+          let out = subst (λ (k : Result (Unit {0}) Stop). OnOk k (Carries seen moment a script script' s s' p p')) both.0 carries in
+          failed_at seen b before count 0 h a moment stop script.tally script' s' p p' both.1 next.set (out b before count 0 h between next holds)
     ]
 
 -- a command that was stopped added nothing
-pub command_came : {D : Type 0} (w : DiskWords D) (Told : Type 0) (setup : List ℕ) (moment : ℕ) (before : List Asked) (desk : ℕ) (text : List ℕ)
+pub command_came : {D : Type 0} (seen : D → DiskSeen) (Told : Type 0) (setup : List ℕ) (moment : ℕ) (before : List Asked) (desk : ℕ) (text : List ℕ)
     (h : List Entry) (s' : Stored D) (stop : Stop) (t t' : Tally)
-    → Halted w.told w.may_leave w.faults (λ x st. ((x ≡ h) × AddedBy h x st
-    × HasShown w.told w.may_leave w.faults s' stop moment (IsOfCommand setup before desk text))
+    → Halted seen (λ x st. ((x ≡ h) × AddedBy h x st
+    × HasShown seen s' stop moment (IsOfCommand setup before desk text))
     ⊎ ((stop ≡ Memory) × Commands setup before desk text h x st)) t t' s'
-    → Halted w.told w.may_leave w.faults (λ x st. CameSoFar w Told setup moment before (Command desk text) h s' stop x st) t t' s'
-command_came {D} w Told setup moment before desk text h s' stop t t' out =
-    let IsIt = λ (x : List Entry) (st : Step). CameSoFar w Told setup moment before (Command desk text) h s' stop x st in
-    elim out.came as (λ came. Halted w.told w.may_leave w.faults IsIt t t' s') [
+    → Halted seen (λ x st. CameSoFar seen Told setup moment before (Command desk text) h s' stop x st) t t' s'
+command_came {D} seen Told setup moment before desk text h s' stop t t' out =
+    let IsIt = λ (x : List Entry) (st : Step). CameSoFar seen Told setup moment before (Command desk text) h s' stop x st in
+    elim out.came as (λ came. Halted seen IsIt t t' s') [
       | inl until ↦ record {
         partial = out.partial;
         history = out.history;
@@ -208,28 +209,28 @@ command_came {D} w Told setup moment before desk text h s' stop t t' out =
 set_before : (before : List Asked) (a : Asked) (moment : ℕ) → a ≡ Reopen → moment_at (clock_of before) a ≡ Some moment → clock_of before ≡ Some moment
 set_before before a moment is set = ap (moment_at (clock_of before)) (sym is) ∙ set
 
-pub reopen_carries : {D E : Type 0} (w : DiskWords D) (moment : ℕ) (a : Asked) (script script' : Script) (s : Stored D) (p p' : PortSeen)
+pub reopen_carries : {D E : Type 0} (seen : D → DiskSeen) (moment : ℕ) (a : Asked) (script script' : Script) (s : Stored D) (p p' : PortSeen)
     (r : Result (Stored D × Result (Unit {0}) Stop) E) → a ≡ Reopen
-    → IfOk r (λ x. OnOk x.1 ((b : Begun D) (before : List Asked) (count number : ℕ) (h : List Entry) → Between w b before count h script s
-    → Holds w.told w.may_leave s.journal (bodies_of h) → clock_of before ≡ Some moment
-    → CarriedOut w b before count number h Reopen script.tally script' x.0 p p'))
-    → IfOk r (λ x. OnOk x.1 (Carries w moment a script script' s x.0 p p'))
-reopen_carries w moment a script script' s p p' (Ok x) is out = on_ok_weaker x.1 (λ all b before count number h between next holds.
-    subst (λ (k : Asked). CarriedOut w b before count number h k script.tally script' x.0 p p') (sym is)
+    → IfOk r (λ x. OnOk x.1 ((b : Begun D) (before : List Asked) (count number : ℕ) (h : List Entry) → Between seen b before count h script s
+    → Holds seen s.journal (bodies_of h) → clock_of before ≡ Some moment
+    → CarriedOut seen b before count number h Reopen script.tally script' x.0 p p'))
+    → IfOk r (λ x. OnOk x.1 (Carries seen moment a script script' s x.0 p p'))
+reopen_carries seen moment a script script' s p p' (Ok x) is out = on_ok_weaker x.1 (λ all b before count number h between next holds.
+    subst (λ (k : Asked). CarriedOut seen b before count number h k script.tally script' x.0 p p') (sym is)
     (all b before count number h between holds (set_before before a moment is next.set))) out
-reopen_carries w moment a script script' s p p' (Err e) is out = tt
+reopen_carries seen moment a script script' s p p' (Err e) is out = tt
 
-pub reopen_stops : {D E : Type 0} (w : DiskWords D) (moment : ℕ) (a : Asked) (script script' : Script) (s : Stored D)
+pub reopen_stops : {D E : Type 0} (seen : D → DiskSeen) (moment : ℕ) (a : Asked) (script script' : Script) (s : Stored D)
     (r : Result (Stored D × Result (Unit {0}) Stop) E) → a ≡ Reopen
-    → IfOk r (λ x. IfErr x.1 (λ stop. (b : Begun D) (before : List Asked) (count : ℕ) (h : List Entry) → Between w b before count h script s
-    → Holds w.told w.may_leave s.journal (bodies_of h) → clock_of before ≡ Some moment
-    → StoppedAt w b before h Reopen stop script.tally script'.tally x.0))
-    → IfOk r (λ x. IfErr x.1 (λ stop. Stops w moment a script script' s x.0 stop))
-reopen_stops {D} w moment a script script' s (Ok x) is out =
-    IfErr-weaker x.1 (λ stop. (b : Begun D) (before : List Asked) (count : ℕ) (h : List Entry) → Between w b before count h script s
-    → Holds w.told w.may_leave s.journal (bodies_of h) → clock_of before ≡ Some moment
-    → StoppedAt w b before h Reopen stop script.tally script'.tally x.0) (λ stop. Stops w moment a script script' s x.0 stop)
+    → IfOk r (λ x. IfErr x.1 (λ stop. (b : Begun D) (before : List Asked) (count : ℕ) (h : List Entry) → Between seen b before count h script s
+    → Holds seen s.journal (bodies_of h) → clock_of before ≡ Some moment
+    → StoppedAt seen b before h Reopen stop script.tally script'.tally x.0))
+    → IfOk r (λ x. IfErr x.1 (λ stop. Stops seen moment a script script' s x.0 stop))
+reopen_stops {D} seen moment a script script' s (Ok x) is out =
+    IfErr-weaker x.1 (λ stop. (b : Begun D) (before : List Asked) (count : ℕ) (h : List Entry) → Between seen b before count h script s
+    → Holds seen s.journal (bodies_of h) → clock_of before ≡ Some moment
+    → StoppedAt seen b before h Reopen stop script.tally script'.tally x.0) (λ stop. Stops seen moment a script script' s x.0 stop)
     (λ stop all b before count h between next holds.
-    subst (λ (k : Asked). StoppedAt w b before h k stop script.tally script'.tally x.0) (sym is)
+    subst (λ (k : Asked). StoppedAt seen b before h k stop script.tally script'.tally x.0) (sym is)
     (all b before count h between holds (set_before before a moment is next.set))) out
-reopen_stops w moment a script script' s (Err e) is out = tt
+reopen_stops seen moment a script script' s (Err e) is out = tt

@@ -2,6 +2,7 @@
 use Rattle.std.proofs.Common.{◌≡◌, ◌∷◌, ℕ, List, [], Bool, true, false, cond, Option, Some, None, refl, sym, ap, subst, ◌∙◌, arith}
 use Rattle.arc_data.specs.WellFormed.{IsWellFormed}
 use Rattle.arc_io.specs.Areas.{Areas}
+use Rattle.arc_io.specs.Disks.{DiskSeen}
 use Rattle.arc_io.specs.Crashes.{Becomes}
 use Rattle.centre_rules.specs.Answers.{answer}
 use Rattle.centre_rules.specs.History.{Entry, IsMoment, is_recorded, last, moment_after, recorded}
@@ -17,9 +18,8 @@ becomes_told None (Some t) R is = absurd is
 becomes_told (Some s) None R is = absurd is
 becomes_told (Some s) (Some t) R is = refl
 
-pub spared_tells : {D : Type 0} {told : D → Option Areas} {may_leave : D → Areas → Type 0} {moment : D → ℕ} {left_since : D → ℕ → Areas → Type 0}
-    {old new : D} → SparesB told may_leave moment left_since old new → is_told (told new) ≡ is_told (told old)
-spared_tells {D} {told} {may_leave} {moment} {left_since} {old} {new} spared = becomes_told (told old) (told new) (λ s t. t.b ≡ s.b) spared.same
+pub spared_tells : {old new : DiskSeen} → SparesB old new → is_told new.told ≡ is_told old.told
+spared_tells {old} {new} spared = becomes_told old.told new.told (λ s t. t.b ≡ s.b) spared.same
 
 last_step : (e : Entry) (h : List Entry) (t : Bool) → is_recorded e.reply ≡ t → AreKept (cond t (e ∷ recorded h) (recorded h))
     → (AreKept (recorded h) → IsMoment (last nothing h)) → IsMoment (cond t e.at (last nothing h))

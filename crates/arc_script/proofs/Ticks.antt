@@ -5,7 +5,7 @@ use Rattle.std.specs.Io.KnownBytes.{append_known}
 use Rattle.arc_data.specs.declared.event.Event.{Event}
 use Rattle.arc_data.specs.declared.event.Event.TheVariants.{Tick}
 use Rattle.arc_data.specs.declared.reply.Reply.{Reply}
-use Rattle.arc_io.specs.Areas.{Areas}
+use Rattle.arc_io.specs.Disks.{DiskSeen}
 use Rattle.arc_io.specs.Seen.{PortSeen}
 use Rattle.centre_core.specs.declared.hall.Stop.{Stop}
 use Rattle.centre_core.specs.declared.hall.Stop.TheVariants.{Memory}
@@ -34,10 +34,10 @@ until_before None setup moment h = inr (inr refl)
 until_before (Some last) setup moment h = refl
 
 -- the run did not begin
-first_until : {D : Type 0} {told : D → Option Areas} {may_leave : D → Areas → Type 0} {faults : D → ℕ} {s' : Stored D}
+first_until : {D : Type 0} {seen : D → DiskSeen} {s' : Stored D}
     (clock : Option ℕ) (setup : List ℕ) (moment : ℕ) (h : List Entry) → clock ≡ None
-    → StoreStands told may_leave faults nothing s' h ⊎ StoreStands told may_leave faults nothing s' (adopted_after nothing h setup moment)
-    → (x : List Entry) × StoreStands told may_leave faults nothing s' x × BegunUntil clock setup moment h x
+    → StoreStands seen nothing s' h ⊎ StoreStands seen nothing s' (adopted_after nothing h setup moment)
+    → (x : List Entry) × StoreStands seen nothing s' x × BegunUntil clock setup moment h x
 first_until clock setup moment h is (inl w) = (h, w, subst (λ (k : Option ℕ). BegunUntil k setup moment h h) (sym is) (inl refl))
 first_until clock setup moment h is (inr w) = (
   adopted_after nothing h setup moment,
@@ -45,94 +45,93 @@ first_until clock setup moment h is (inr w) = (
   subst (λ (k : Option ℕ). BegunUntil k setup moment h (adopted_after nothing h setup moment)) (sym is) (inr (inl refl)),
 )
 
-pub first_stops : {D : Type 0} (told : D → Option Areas) (may_leave : D → Areas → Type 0) (faults : D → ℕ) (s s' : Stored D)
+pub first_stops : {D : Type 0} (seen : D → DiskSeen) (s s' : Stored D)
     {A : Type 0} (r : Result A Stop) (clock : Option ℕ) (setup : List ℕ) (moment : ℕ) → clock ≡ None
-    → OnErr r ((h : List Entry) → StoreStands told may_leave faults nothing s h
-    → StoreStands told may_leave faults nothing s' h ⊎ StoreStands told may_leave faults nothing s' (adopted_after nothing h setup moment))
-    → OnErr r ((h : List Entry) → StoreStands told may_leave faults nothing s h
-    → (x : List Entry) × StoreStands told may_leave faults nothing s' x × BegunUntil clock setup moment h x)
-first_stops told may_leave faults s s' (Ok done) clock setup moment is w = tt
-first_stops told may_leave faults s s' (Err stop) clock setup moment is w = λ h over. first_until clock setup moment h is (w h over)
+    → OnErr r ((h : List Entry) → StoreStands seen nothing s h
+    → StoreStands seen nothing s' h ⊎ StoreStands seen nothing s' (adopted_after nothing h setup moment))
+    → OnErr r ((h : List Entry) → StoreStands seen nothing s h
+    → (x : List Entry) × StoreStands seen nothing s' x × BegunUntil clock setup moment h x)
+first_stops seen s s' (Ok done) clock setup moment is w = tt
+first_stops seen s s' (Err stop) clock setup moment is w = λ h over. first_until clock setup moment h is (w h over)
 
-ticked_by : {D : Type 0} {told : D → Option Areas} {may_leave : D → Areas → Type 0} {faults : D → ℕ} {s' : Stored D} {p p' : PortSeen}
-    (before : List Entry) (moment at : ℕ) (reply : Reply) → Takes told may_leave faults nothing s' before moment (entry_with Tick at reply)
-    → p'.written ≡ append_known p.written (codes "T " ++ line_of reply) → Ticked told may_leave faults before moment s' p p'
-ticked_by {D} {told} {may_leave} {faults} {s'} {p} {p'} before moment at reply takes put =
+ticked_by : {D : Type 0} {seen : D → DiskSeen} {s' : Stored D} {p p' : PortSeen}
+    (before : List Entry) (moment at : ℕ) (reply : Reply) → Takes seen nothing s' before moment (entry_with Tick at reply)
+    → p'.written ≡ append_known p.written (codes "T " ++ line_of reply) → Ticked seen before moment s' p p'
+ticked_by {D} {seen} {s'} {p} {p'} before moment at reply takes put =
     let is = entry_is before Tick moment at reply takes.at takes.reply in
     record {
-      stands = subst (λ (e : Entry). StoreStands told may_leave faults nothing s' (e ∷ before)) is takes.stands;
+      stands = subst (λ (e : Entry). StoreStands seen nothing s' (e ∷ before)) is takes.stands;
       text = put ∙ ap (λ (e : Entry). append_known p.written (codes "T " ++ line_of e.reply)) is;
     }
 
 -- the Tick was taken, and its reply put
-pub ticks : {D : Type 0} (told : D → Option Areas) (may_leave : D → Areas → Type 0) (faults : D → ℕ) (s s' : Stored D) (p p' : PortSeen)
+pub ticks : {D : Type 0} (seen : D → DiskSeen) (s s' : Stored D) (p p' : PortSeen)
     {A : Type 0} (r : Result A Stop) (before : List Entry → List Entry) (moment at : ℕ) (reply : Reply)
-    → ((h : List Entry) → StoreStands told may_leave faults nothing s h
-    → Takes told may_leave faults nothing s' (before h) moment (entry_with Tick at reply))
+    → ((h : List Entry) → StoreStands seen nothing s h
+    → Takes seen nothing s' (before h) moment (entry_with Tick at reply))
     → OnOk r (p'.written ≡ append_known p.written (codes "T " ++ line_of reply))
-    → OnOk r ((h : List Entry) → StoreStands told may_leave faults nothing s h → Ticked told may_leave faults (before h) moment s' p p')
-ticks told may_leave faults s s' p p' (Ok done) before moment at reply takes put = λ h over. ticked_by (before h) moment at reply (takes h over) put
-ticks told may_leave faults s s' p p' (Err stop) before moment at reply takes put = tt
+    → OnOk r ((h : List Entry) → StoreStands seen nothing s h → Ticked seen (before h) moment s' p p')
+ticks seen s s' p p' (Ok done) before moment at reply takes put = λ h over. ticked_by (before h) moment at reply (takes h over) put
+ticks seen s s' p p' (Err stop) before moment at reply takes put = tt
 
 -- the Tick was taken, and memory was wanted behind it
-unsaid : {D : Type 0} {told : D → Option Areas} {may_leave : D → Areas → Type 0} {faults : D → ℕ} {s' : Stored D}
+unsaid : {D : Type 0} {seen : D → DiskSeen} {s' : Stored D}
     (clock : Option ℕ) (setup : List ℕ) (moment at : ℕ) (reply : Reply) (h : List Entry)
-    → Takes told may_leave faults nothing s' (before_tick clock setup moment h) moment (entry_with Tick at reply)
-    → TickStops told may_leave faults clock setup moment h Memory s'
-unsaid {D} {told} {may_leave} {faults} {s'} clock setup moment at reply h takes =
+    → Takes seen nothing s' (before_tick clock setup moment h) moment (entry_with Tick at reply)
+    → TickStops seen clock setup moment h Memory s'
+unsaid {D} {seen} {s'} clock setup moment at reply h takes =
     let before = before_tick clock setup moment h in
     let is = entry_is before Tick moment at reply takes.at takes.reply in
     record {
       history = entry_after before Tick moment ∷ before;
-      stands = subst (λ (e : Entry). StoreStands told may_leave faults nothing s' (e ∷ before)) is takes.stands;
+      stands = subst (λ (e : Entry). StoreStands seen nothing s' (e ∷ before)) is takes.stands;
       came = inr (refl, refl);
     }
 
-pub stops_unsaid : {D : Type 0} (told : D → Option Areas) (may_leave : D → Areas → Type 0) (faults : D → ℕ) (s s' : Stored D)
+pub stops_unsaid : {D : Type 0} (seen : D → DiskSeen) (s s' : Stored D)
     {A : Type 0} (r : Result A Stop) (clock : Option ℕ) (setup : List ℕ) (moment at : ℕ) (reply : Reply) → OnErr r (r ≡ Err Memory)
-    → ((h : List Entry) → StoreStands told may_leave faults nothing s h
-    → Takes told may_leave faults nothing s' (before_tick clock setup moment h) moment (entry_with Tick at reply))
-    → IfErr r (λ stop. (h : List Entry) → StoreStands told may_leave faults nothing s h
-    → TickStops told may_leave faults clock setup moment h stop s')
-stops_unsaid told may_leave faults s s' r clock setup moment at reply is takes =
-    of_memory r (λ stop. (h : List Entry) → StoreStands told may_leave faults nothing s h → TickStops told may_leave faults clock setup moment h stop s')
+    → ((h : List Entry) → StoreStands seen nothing s h
+    → Takes seen nothing s' (before_tick clock setup moment h) moment (entry_with Tick at reply))
+    → IfErr r (λ stop. (h : List Entry) → StoreStands seen nothing s h
+    → TickStops seen clock setup moment h stop s')
+stops_unsaid seen s s' r clock setup moment at reply is takes =
+    of_memory r (λ stop. (h : List Entry) → StoreStands seen nothing s h → TickStops seen clock setup moment h stop s')
     is (λ h over. unsaid clock setup moment at reply h (takes h over))
 
 -- the run stands begun, and the Tick was stopped
-until_stops : {D : Type 0} {told : D → Option Areas} {may_leave : D → Areas → Type 0} {faults : D → ℕ} {s' : Stored D}
+until_stops : {D : Type 0} {seen : D → DiskSeen} {s' : Stored D}
     (clock : Option ℕ) (setup : List ℕ) (moment : ℕ) (h : List Entry) (stop : Stop)
-    → StoreStands told may_leave faults nothing s' (before_tick clock setup moment h) → TickStops told may_leave faults clock setup moment h stop s'
+    → StoreStands seen nothing s' (before_tick clock setup moment h) → TickStops seen clock setup moment h stop s'
 until_stops clock setup moment h stop stands = record {
   history = before_tick clock setup moment h;
   stands = stands;
   came = inl (until_before clock setup moment h);
 }
 
-pub stops_before : {D : Type 0} (told : D → Option Areas) (may_leave : D → Areas → Type 0) (faults : D → ℕ) (s s' : Stored D)
+pub stops_before : {D : Type 0} (seen : D → DiskSeen) (s s' : Stored D)
     {A : Type 0} (r : Result A Stop) (clock : Option ℕ) (setup : List ℕ) (moment : ℕ)
-    → ((h : List Entry) → StoreStands told may_leave faults nothing s h → StoreStands told may_leave faults nothing s' (before_tick clock setup moment h))
-    → IfErr r (λ stop. (h : List Entry) → StoreStands told may_leave faults nothing s h
-    → TickStops told may_leave faults clock setup moment h stop s')
-stops_before told may_leave faults s s' r clock setup moment stands =
-    of_each r (λ stop. (h : List Entry) → StoreStands told may_leave faults nothing s h → TickStops told may_leave faults clock setup moment h stop s')
+    → ((h : List Entry) → StoreStands seen nothing s h → StoreStands seen nothing s' (before_tick clock setup moment h))
+    → IfErr r (λ stop. (h : List Entry) → StoreStands seen nothing s h
+    → TickStops seen clock setup moment h stop s')
+stops_before seen s s' r clock setup moment stands =
+    of_each r (λ stop. (h : List Entry) → StoreStands seen nothing s h → TickStops seen clock setup moment h stop s')
     (λ stop h over. until_stops clock setup moment h stop (stands h over))
 
 -- a run was to begin anew, and did not
-pub again_stops : {D : Type 0} (told : D → Option Areas) (may_leave : D → Areas → Type 0) (faults : D → ℕ) (s s' : Stored D)
+pub again_stops : {D : Type 0} (seen : D → DiskSeen) (s s' : Stored D)
     {A : Type 0} (r : Result A Stop) (setup : List ℕ) (moment : ℕ)
-    → ((h : List Entry) → StoreStands told may_leave faults nothing s h
-    → StoreStands told may_leave faults nothing s' h ⊎ StoreStands told may_leave faults nothing s' (adopted_after nothing h setup moment))
-    → OnErr r ((h : List Entry) → StoreStands told may_leave faults nothing s h
-    → (x : List Entry) × StoreStands told may_leave faults nothing s' x × BegunUntil None setup moment h x)
-again_stops told may_leave faults s s' (Ok done) setup moment stops = tt
-again_stops told may_leave faults s s' (Err stop) setup moment stops = λ h over. first_until None setup moment h refl (stops h over)
+    → ((h : List Entry) → StoreStands seen nothing s h
+    → StoreStands seen nothing s' h ⊎ StoreStands seen nothing s' (adopted_after nothing h setup moment))
+    → OnErr r ((h : List Entry) → StoreStands seen nothing s h
+    → (x : List Entry) × StoreStands seen nothing s' x × BegunUntil None setup moment h x)
+again_stops seen s s' (Ok done) setup moment stops = tt
+again_stops seen s s' (Err stop) setup moment stops = λ h over. first_until None setup moment h refl (stops h over)
 
 -- it did, and memory was wanted behind it
-pub again_unsaid : {D : Type 0} (told : D → Option Areas) (may_leave : D → Areas → Type 0) (faults : D → ℕ) (s s' : Stored D)
+pub again_unsaid : {D : Type 0} (seen : D → DiskSeen) (s s' : Stored D)
     {A : Type 0} (r : Result A Stop) (setup : List ℕ) (moment : ℕ)
-    → ((h : List Entry) → StoreStands told may_leave faults nothing s h → StoreStands told may_leave faults nothing s' (begun_after nothing h setup moment))
-    → OnErr r ((h : List Entry) → StoreStands told may_leave faults nothing s h
-    → (x : List Entry) × StoreStands told may_leave faults nothing s' x × BegunUntil None setup moment h x)
-again_unsaid told may_leave faults s s' (Ok done) setup moment begun = tt
-again_unsaid told may_leave faults s s' (Err stop) setup moment begun =
-    λ h over. (begun_after nothing h setup moment, begun h over, inr (inr refl))
+    → ((h : List Entry) → StoreStands seen nothing s h → StoreStands seen nothing s' (begun_after nothing h setup moment))
+    → OnErr r ((h : List Entry) → StoreStands seen nothing s h
+    → (x : List Entry) × StoreStands seen nothing s' x × BegunUntil None setup moment h x)
+again_unsaid seen s s' (Ok done) setup moment begun = tt
+again_unsaid seen s s' (Err stop) setup moment begun = λ h over. (begun_after nothing h setup moment, begun h over, inr (inr refl))

@@ -3,6 +3,7 @@ use Rattle.std.proofs.Common.{◌≡◌, ◌≤◌, ◌+◌, ◌++◌, ◌∷◌
 use Rattle.std.specs.Prelude.{codes}
 use Rattle.alarm_rules.specs.Setups.{meaning}
 use Rattle.arc_data.specs.declared.event.Event.TheVariants.{Tick}
+use Rattle.arc_io.specs.Disks.{DiskSeen}
 use Rattle.arc_io.specs.Seen.{PortSeen}
 use Rattle.centre_core.specs.declared.hall.Stop.{Stop}
 use Rattle.centre_rules.specs.Answers.{IsLegal}
@@ -14,7 +15,7 @@ use Rattle.script_lines.specs.Lines.{Asked, Time, spelling}
 use Rattle.arc_script.specs.Between.{Begun, Between, StoppedAt}
 use Rattle.arc_script.specs.Carrying.{Carried, CountsStep, HaveTaken, HaveTakenWith}
 use Rattle.arc_script.specs.Causes.{HasShown, IsOfTime}
-use Rattle.arc_script.specs.Ends.{DiskWords, Tells, BegunUntil, CameFor}
+use Rattle.arc_script.specs.Ends.{Tells, BegunUntil, CameFor}
 use Rattle.arc_script.specs.Fed.{clock_of}
 use Rattle.arc_script.specs.Playing.{TickStops, Ticked}
 use Rattle.arc_script.specs.Standing.{IsReadable}
@@ -75,19 +76,19 @@ time_taken setup count moment before script script' taken rest =
     subst (λ (k : Script). HaveTakenWith (meaning setup) count before (Time moment) k.lines.items k.desks.items) (sym rest)
     (record { fed = more.fed; few = more.few; read = more.read })
 
-module _ {D : Type 0} (w : DiskWords D) (b : Begun D) (before : List Asked) (count : ℕ) (h : List Entry) (moment : ℕ) (script script' : Script)
-    (s s' : Stored D) (between : Between w b before count h script s) (fits : IsMoment moment) (same : script'.tally ≡ script.tally) where
+module _ {D : Type 0} (seen : D → DiskSeen) (b : Begun D) (before : List Asked) (count : ℕ) (h : List Entry) (moment : ℕ) (script script' : Script)
+    (s s' : Stored D) (between : Between seen b before count h script s) (fits : IsMoment moment) (same : script'.tally ≡ script.tally) where
   first_is : before_tick script.clock script.setup moment h ≡ before_tick (clock_of before) b.setup moment h
   first_is =
       ap (λ (c : Option ℕ). before_tick c script.setup moment h) between.clock.is
       ∙ ap (λ (l : List ℕ). before_tick (clock_of before) l moment h) between.setup
 
   pub time_carried : (number : ℕ) (p p' : PortSeen)
-      → Ticked w.told w.may_leave w.faults (before_tick script.clock script.setup moment h) moment s' p p'
-      → Carried w.told w.may_leave w.faults (λ x st. IsStepOf (Tells w b.disk) b.setup before h x st (Time moment)) number (Time moment)
+      → Ticked seen (before_tick script.clock script.setup moment h) moment s' p p'
+      → Carried seen (λ x st. IsStepOf (Tells (seen b.disk)) b.setup before h x st (Time moment)) number (Time moment)
       script.tally script'.tally p p' s'
   time_carried number p p' ticked =
-      let t = subst (λ (x : List Entry). Ticked w.told w.may_leave w.faults x moment s' p p') first_is ticked in
+      let t = subst (λ (x : List Entry). Ticked seen x moment s' p p') first_is ticked in
       let adds = adds_tick (clock_of before) b.setup moment h in
       let st = step_of number moment (clock_of before) b.setup h adds.entries in
       record {
@@ -102,10 +103,10 @@ module _ {D : Type 0} (w : DiskWords D) (b : Begun D) (before : List Asked) (cou
         counts = counts_none st script.tally script'.tally refl adds.repeats adds.closed same;
       }
 
-  stop_with : (stop : Stop) → Stays w script script' s s' → HasShown w.told w.may_leave w.faults s' stop moment (IsOfTime (clock_of before) b.setup)
-      → (x : List Entry) → StoreStands w.told w.may_leave w.faults nothing s' x → (adds : Adds h x)
-      → CameFor stop (Tells w b.disk) b.setup before [] h x (step_of 0 moment (clock_of before) b.setup h adds.entries) (Time moment)
-      → StoppedAt w b before h (Time moment) stop script.tally script'.tally s'
+  stop_with : (stop : Stop) → Stays seen script script' s s' → HasShown seen s' stop moment (IsOfTime (clock_of before) b.setup)
+      → (x : List Entry) → StoreStands seen nothing s' x → (adds : Adds h x)
+      → CameFor stop (Tells (seen b.disk)) b.setup before [] h x (step_of 0 moment (clock_of before) b.setup h adds.entries) (Time moment)
+      → StoppedAt seen b before h (Time moment) stop script.tally script'.tally s'
   stop_with stop stays shown x stands adds came =
       let st = step_of 0 moment (clock_of before) b.setup h adds.entries in
       record {
@@ -118,17 +119,17 @@ module _ {D : Type 0} (w : DiskWords D) (b : Begun D) (before : List Asked) (cou
         cause = shown;
         stands = stands;
         limits_are = stays.journal ∙ between.store.limits_are;
-        later = subst (λ (n : ℕ). w.faults b.disk ≤ n) (sym stays.at_open) between.store.later;
+        later = subst (λ (n : ℕ). (seen b.disk).faults ≤ n) (sym stays.at_open) between.store.later;
         counts = (counts_none st script.tally script'.tally refl adds.repeats adds.closed same).more;
       }
 
-  pub time_stopped : (stop : Stop) → Stays w script script' s s' → TickStops w.told w.may_leave w.faults script.clock script.setup moment h stop s'
-      → HasShown w.told w.may_leave w.faults s' stop moment (IsOfTime script.clock script.setup)
-      → StoppedAt w b before h (Time moment) stop script.tally script'.tally s'
+  pub time_stopped : (stop : Stop) → Stays seen script script' s s' → TickStops seen script.clock script.setup moment h stop s'
+      → HasShown seen s' stop moment (IsOfTime script.clock script.setup)
+      → StoppedAt seen b before h (Time moment) stop script.tally script'.tally s'
   time_stopped stop stays stops shown =
-      let by = subst (λ (l : List ℕ). HasShown w.told w.may_leave w.faults s' stop moment (IsOfTime (clock_of before) l)) between.setup
-      (subst (λ (c : Option ℕ). HasShown w.told w.may_leave w.faults s' stop moment (IsOfTime c script.setup)) between.clock.is shown) in
-      elim stops.came as (λ came. StoppedAt w b before h (Time moment) stop script.tally script'.tally s') [
+      let by = subst (λ (l : List ℕ). HasShown seen s' stop moment (IsOfTime (clock_of before) l)) between.setup
+      (subst (λ (c : Option ℕ). HasShown seen s' stop moment (IsOfTime c script.setup)) between.clock.is shown) in
+      elim stops.came as (λ came. StoppedAt seen b before h (Time moment) stop script.tally script'.tally s') [
         | inl until ↦
             let begun = subst (λ (l : List ℕ). BegunUntil (clock_of before) l moment h stops.history) between.setup
             (subst (λ (c : Option ℕ). BegunUntil c script.setup moment h stops.history) between.clock.is until) in

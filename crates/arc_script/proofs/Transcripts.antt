@@ -3,6 +3,7 @@ use Rattle.std.proofs.Common.{◌≡◌, ◌≤◌, ◌<◌, ◌++◌, ℕ, List
 use Rattle.std.specs.Io.KnownBytes.{prepend_known, IsAtEnd}
 use Rattle.std.specs.Str.Lines.{lines}
 use Rattle.arc_io.specs.Causes.{Rose}
+use Rattle.arc_io.specs.Disks.{DiskSeen}
 use Rattle.arc_io.specs.Seen.{PortSeen}
 use Rattle.arc_io.specs.Told.{IsReadOut}
 use Rattle.arc_text.specs.LineCutting.{LineCutterValue, WasFed}
@@ -11,7 +12,7 @@ use Rattle.centre_store.specs.Stores.{Stored}
 use Rattle.desk_session.specs.Desks.{lines_read}
 use Rattle.session_rules.specs.Inputs.{input_limit}
 use Rattle.arc_script.specs.Between.{Begun, SoFar}
-use Rattle.arc_script.specs.Ends.{DiskWords, Tells, Played, EndsAs, IsNotAhead, ReadsNoFurther, IsTranscript}
+use Rattle.arc_script.specs.Ends.{Tells, Played, EndsAs, IsNotAhead, ReadsNoFurther, IsTranscript}
 use Rattle.arc_script.specs.Halting.{Halts, HaltsAs, Whole, Finishes}
 use Rattle.arc_script.specs.Texts.{counted}
 use Rattle.arc_script.specs.declared.script.Script.{Script}
@@ -30,54 +31,54 @@ pub record OnlyPorts (p p' : PortSeen) : Type 0 where
   }
 
 -- this stream was read, and all lines in it that a line feed ends were carried out
-pub record ReadSoFar {D : Type 0} (w : DiskWords D) (b : Begun D) (count : ℕ) (cutter : LineCutterValue) (script : Script) (s : Stored D)
+pub record ReadSoFar {D : Type 0} (seen : D → DiskSeen) (b : Begun D) (count : ℕ) (cutter : LineCutterValue) (script : Script) (s : Stored D)
     (p : PortSeen) : Type 0 where
   pub stream : List ℕ
   pub fed : WasFed stream cutter
   pub count_is : count ≡ length stream
   pub taken : b.port.left ≡ prepend_known stream p.left
   pub reads : b.port.read_faults ≤ p.read_faults
-  pub so : SoFar w b (ended_lines stream) script s p
+  pub so : SoFar seen b (ended_lines stream) script s p
   pub number : script.number ≡ length (ended_lines stream)
   pub others : OnlyPorts b.port p
 
-halted_ends : {D : Type 0} (w : DiskWords D) (b : Begun D) (read : List ℕ) (lines : List (ℕ × List ℕ))
-    (played : Played (Tells w b.disk) b.setup b.past lines) (end : ScriptEnd) (p : PortSeen) (disk : D) (tally : Tally)
-    → HaltsAs w b lines played end p disk tally
-    → EndsAs w (Tells w b.disk) b.setup b.past read lines played b.limits (w.faults b.disk) end b.port p disk tally
-halted_ends w b read lines played Done p disk tally halts = absurd halts
-halted_ends w b read lines played ReadFault p disk tally halts = absurd halts
-halted_ends w b read lines played Spent p disk tally halts = absurd halts
-halted_ends w b read lines played WriteFault p disk tally halts = halts
-halted_ends w b read lines played (BadScript number) p disk tally halts = halts
-halted_ends w b read lines played (Stopped stop) p disk tally halts = halts
-halted_ends w b read lines played (Refused fault) p disk tally halts = halts
+halted_ends : {D : Type 0} (seen : D → DiskSeen) (b : Begun D) (read : List ℕ) (lines : List (ℕ × List ℕ))
+    (played : Played (Tells (seen b.disk)) b.setup b.past lines) (end : ScriptEnd) (p : PortSeen) (disk : D) (tally : Tally)
+    → HaltsAs seen b lines played end p disk tally
+    → EndsAs seen (Tells (seen b.disk)) b.setup b.past read lines played b.limits (seen b.disk).faults end b.port p disk tally
+halted_ends seen b read lines played Done p disk tally halts = absurd halts
+halted_ends seen b read lines played ReadFault p disk tally halts = absurd halts
+halted_ends seen b read lines played Spent p disk tally halts = absurd halts
+halted_ends seen b read lines played WriteFault p disk tally halts = halts
+halted_ends seen b read lines played (BadScript number) p disk tally halts = halts
+halted_ends seen b read lines played (Stopped stop) p disk tally halts = halts
+halted_ends seen b read lines played (Refused fault) p disk tally halts = halts
 
-no_further : {D : Type 0} (w : DiskWords D) (b : Begun D) (read : List ℕ) (lines carried : List (ℕ × List ℕ))
-    (played : Played (Tells w b.disk) b.setup b.past lines) (end : ScriptEnd) (p : PortSeen) (disk : D) (tally : Tally)
-    → HaltsAs w b lines played end p disk tally → IsNotAhead read carried → ReadsNoFurther end read carried
-no_further w b read lines carried played Done p disk tally halts near = absurd halts
-no_further w b read lines carried played ReadFault p disk tally halts near = absurd halts
-no_further w b read lines carried played Spent p disk tally halts near = absurd halts
-no_further w b read lines carried played WriteFault p disk tally halts near = near
-no_further w b read lines carried played (BadScript number) p disk tally halts near = near
-no_further w b read lines carried played (Stopped stop) p disk tally halts near = near
-no_further w b read lines carried played (Refused fault) p disk tally halts near = near
+no_further : {D : Type 0} (seen : D → DiskSeen) (b : Begun D) (read : List ℕ) (lines carried : List (ℕ × List ℕ))
+    (played : Played (Tells (seen b.disk)) b.setup b.past lines) (end : ScriptEnd) (p : PortSeen) (disk : D) (tally : Tally)
+    → HaltsAs seen b lines played end p disk tally → IsNotAhead read carried → ReadsNoFurther end read carried
+no_further seen b read lines carried played Done p disk tally halts near = absurd halts
+no_further seen b read lines carried played ReadFault p disk tally halts near = absurd halts
+no_further seen b read lines carried played Spent p disk tally halts near = absurd halts
+no_further seen b read lines carried played WriteFault p disk tally halts near = near
+no_further seen b read lines carried played (BadScript number) p disk tally halts near = near
+no_further seen b read lines carried played (Stopped stop) p disk tally halts near = near
+no_further seen b read lines carried played (Refused fault) p disk tally halts near = near
 
 -- what was played of lines, and how that ended
-record Ended {D : Type 0} (w : DiskWords D) (b : Begun D) (read : List ℕ) (end : ScriptEnd) (p : PortSeen) (disk : D) (tally : Tally)
+record Ended {D : Type 0} (seen : D → DiskSeen) (b : Begun D) (read : List ℕ) (end : ScriptEnd) (p : PortSeen) (disk : D) (tally : Tally)
     (all : List (List ℕ)) : Type 0 where
-  played : Played (Tells w b.disk) b.setup b.past (counted all)
-  ends : EndsAs w (Tells w b.disk) b.setup b.past read (counted all) played b.limits (w.faults b.disk) end b.port p disk tally
+  played : Played (Tells (seen b.disk)) b.setup b.past (counted all)
+  ends : EndsAs seen (Tells (seen b.disk)) b.setup b.past read (counted all) played b.limits (seen b.disk).faults end b.port p disk tally
   ahead : ReadsNoFurther end read played.front
 
-module _ {D : Type 0} (w : DiskWords D) (b : Begun D) (read : List ℕ) (p : PortSeen) (disk : D) (tally : Tally)
+module _ {D : Type 0} (seen : D → DiskSeen) (b : Begun D) (read : List ℕ) (p : PortSeen) (disk : D) (tally : Tally)
     (taken : b.port.left ≡ prepend_known read p.left) (out : p.ended ≡ true → IsAtEnd p.left) (most : length read ≤ input_limit)
     (others : OnlyPorts b.port p) (all : List (List ℕ)) (these : all ≡ lines_read p.ended read) where
-  transcript : (end : ScriptEnd) → Ended w b read end p disk tally all
-      → IsTranscript w (Tells w b.disk) b.setup b.past b.limits (w.faults b.disk) end b.port p disk tally
+  transcript : (end : ScriptEnd) → Ended seen b read end p disk tally all
+      → IsTranscript seen (Tells (seen b.disk)) b.setup b.past b.limits (seen b.disk).faults end b.port p disk tally
   transcript end ended =
-      let e = subst (Ended w b read end p disk tally) these ended in
+      let e = subst (Ended seen b read end p disk tally) these ended in
       record {
         read = read;
         taken = taken;
@@ -89,25 +90,25 @@ module _ {D : Type 0} (w : DiskWords D) (b : Begun D) (read : List ℕ) (p : Por
         others = others.rest;
       }
 
-  pub read_fault : Whole w b all p disk tally → length read < input_limit → Rose b.port.read_faults p.read_faults
-      → IsTranscript w (Tells w b.disk) b.setup b.past b.limits (w.faults b.disk) ReadFault b.port p disk tally
+  pub read_fault : Whole seen b all p disk tally → length read < input_limit → Rose b.port.read_faults p.read_faults
+      → IsTranscript seen (Tells (seen b.disk)) b.setup b.past b.limits (seen b.disk).faults ReadFault b.port p disk tally
   read_fault whole short rose = transcript ReadFault (record { played = whole.played; ends = (rose, short, whole.whole); ahead = tt })
 
-  pub spent : Whole w b all p disk tally → length read ≡ input_limit
-      → IsTranscript w (Tells w b.disk) b.setup b.past b.limits (w.faults b.disk) Spent b.port p disk tally
+  pub spent : Whole seen b all p disk tally → length read ≡ input_limit
+      → IsTranscript seen (Tells (seen b.disk)) b.setup b.past b.limits (seen b.disk).faults Spent b.port p disk tally
   spent whole full = transcript Spent (record { played = whole.played; ends = (full, whole.whole); ahead = tt })
 
-  done : Whole w b all p disk tally → length read < input_limit → IsReadOut p
-      → IsTranscript w (Tells w b.disk) b.setup b.past b.limits (w.faults b.disk) Done b.port p disk tally
+  done : Whole seen b all p disk tally → length read < input_limit → IsReadOut p
+      → IsTranscript seen (Tells (seen b.disk)) b.setup b.past b.limits (seen b.disk).faults Done b.port p disk tally
   done whole short is = transcript Done (record { played = whole.played; ends = (is, short, whole.whole); ahead = tt })
 
   pub halted : (early last : List ℕ) (end : ScriptEnd) → read ≡ early ++ last → length last ≤ 4096
-      → Halts w b (ended_lines early) all end p disk tally
-      → IsTranscript w (Tells w b.disk) b.setup b.past b.limits (w.faults b.disk) end b.port p disk tally
+      → Halts seen b (ended_lines early) all end p disk tally
+      → IsTranscript seen (Tells (seen b.disk)) b.setup b.past b.limits (seen b.disk).faults end b.port p disk tally
   halted early last end parts short halts = transcript end (record {
     played = halts.played;
-    ends = halted_ends w b read (counted all) halts.played end p disk tally halts.ends;
-    ahead = no_further w b read (counted all) halts.played.front halts.played end p disk tally halts.ends (record {
+    ends = halted_ends seen b read (counted all) halts.played end p disk tally halts.ends;
+    ahead = no_further seen b read (counted all) halts.played.front halts.played end p disk tally halts.ends (record {
       early = early;
       last = last;
       more = halts.more;
@@ -117,10 +118,10 @@ module _ {D : Type 0} (w : DiskWords D) (b : Begun D) (read : List ℕ) (p : Por
     });
   })
 
-  pub finished : (end : ScriptEnd) → Finishes w b (ended_lines read) all end p disk tally → length read < input_limit → IsReadOut p
-      → IsTranscript w (Tells w b.disk) b.setup b.past b.limits (w.faults b.disk) end b.port p disk tally
+  pub finished : (end : ScriptEnd) → Finishes seen b (ended_lines read) all end p disk tally → length read < input_limit → IsReadOut p
+      → IsTranscript seen (Tells (seen b.disk)) b.setup b.past b.limits (seen b.disk).faults end b.port p disk tally
   finished end (inl d) short is =
-      subst (λ (e : ScriptEnd). IsTranscript w (Tells w b.disk) b.setup b.past b.limits (w.faults b.disk) e b.port p disk tally) (sym d.0) (done d.1 short is)
+      subst (λ (e : ScriptEnd). IsTranscript seen (Tells (seen b.disk)) b.setup b.past b.limits (seen b.disk).faults e b.port p disk tally) (sym d.0) (done d.1 short is)
   finished end (inr halts) short is = halted read [] end (sym (append-nil read)) (omega arith) halts
 
 -- Ports, one call behind another.

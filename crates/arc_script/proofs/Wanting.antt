@@ -1,11 +1,11 @@
 -- A line of a script for which memory was wanted before anything was done.
 use Rattle.std.proofs.Common.{◌≡◌, ◌+◌, ◌∷◌, ℕ, List, [], Some, inl, inr, refl, ap, ◌∙◌, arith}
+use Rattle.arc_io.specs.Disks.{DiskSeen}
 use Rattle.centre_core.specs.declared.hall.Stop.TheVariants.{Memory}
 use Rattle.centre_rules.specs.History.{Entry}
 use Rattle.centre_store.specs.Stores.{Stored}
 use Rattle.script_lines.specs.Lines.{Asked, Time, Feed, Message, Command, Reopen}
 use Rattle.arc_script.specs.Between.{Begun, Between, StoppedAt}
-use Rattle.arc_script.specs.Ends.{DiskWords}
 use Rattle.arc_script.specs.Fed.{clock_of}
 use Rattle.arc_script.specs.Playing.{moment_at}
 use Rattle.arc_script.specs.Steps.{Step}
@@ -28,10 +28,10 @@ clock_with before Reopen moment set = set
 same : (n : ℕ) → told n ≡ told (n + 0)
 same n = let e : n ≡ n + 0 = omega arith in ap told e
 
-pub nothing_done : {D : Type 0} (w : DiskWords D) (b : Begun D) (before : List Asked) (count : ℕ) (h : List Entry) (asked : Asked) (script : Script)
-    (s : Stored D) (moment : ℕ) (t : Tally) → moment_at (clock_of before) asked ≡ Some moment → Between w b before count h script s
-    → StoppedAt w b before h asked Memory t t s
-nothing_done w b before count h asked script s moment t set between = record {
+pub nothing_done : {D : Type 0} (seen : D → DiskSeen) (b : Begun D) (before : List Asked) (count : ℕ) (h : List Entry) (asked : Asked) (script : Script)
+    (s : Stored D) (moment : ℕ) (t : Tally) → moment_at (clock_of before) asked ≡ Some moment → Between seen b before count h script s
+    → StoppedAt seen b before h asked Memory t t s
+nothing_done seen b before count h asked script s moment t set between = record {
   waiting = [];
   partial = none asked;
   history = h;

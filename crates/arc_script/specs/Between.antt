@@ -3,7 +3,7 @@ use Rattle.std.specs.Prelude.{◌≡◌, ◌≤◌, ◌+◌, ℕ, List, [], ◌�
 use Rattle.std.specs.Io.KnownBytes.{append_known}
 use Rattle.std.specs.List.{list_any}
 use Rattle.alarm_rules.specs.Setups.{meaning}
-use Rattle.arc_io.specs.Areas.{Areas}
+use Rattle.arc_io.specs.Disks.{DiskSeen}
 use Rattle.arc_io.specs.Seen.{PortSeen}
 use Rattle.arc_text.specs.Lines.{is_feed}
 use Rattle.centre_core.specs.declared.hall.Stop.{Stop}
@@ -19,7 +19,7 @@ use Rattle.script_lines.specs.Lines.{Asked, spelling}
 use Rattle.session_rules.specs.Inputs.{input_limit}
 use Rattle.arc_script.specs.Carrying.{CountsMore, HaveTaken, IsNext}
 use Rattle.arc_script.specs.Causes.{HasShown, Submits}
-use Rattle.arc_script.specs.Ends.{DiskWords, Tells, HasRecorded, IsUnopened, CameFor}
+use Rattle.arc_script.specs.Ends.{Tells, HasRecorded, IsUnopened, CameFor}
 use Rattle.arc_script.specs.Fed.{clock_of}
 use Rattle.arc_script.specs.Standing.{IsReadable, is_told}
 use Rattle.arc_script.specs.Steps.{Step, IsStepOf, AreSteps, asked_after, output_of}
@@ -27,11 +27,6 @@ use Rattle.arc_script.specs.Tallies.{count_of, entries_of, is_closed, is_repeat,
 use Rattle.arc_script.specs.Texts.{AreOf, counted}
 use Rattle.arc_script.specs.declared.script.Script.{Script}
 use Rattle.arc_script.specs.declared.script_end.Tally.{Tally}
-
--- the words of a disk
-abbrev pub words : {D : Type 0} → (D → Option Areas) → (D → Areas → Type 0) → (D → ℕ) → (D → ℕ → Areas → Type 0) → (D → ℕ) → DiskWords D
-words told may_leave moment left_since faults =
-    record { told = told; may_leave = may_leave; moment = moment; left_since = left_since; faults = faults }
 
 -- how a script began: over which disk, with which setup and limits, over which past, and what its port told
 pub record Begun (D : Type 0) : Type 0 where
@@ -68,22 +63,22 @@ pub record IsReady (clock : Option ℕ) (setup : List ℕ) (text : Option (List 
   pub set : IfSome clock (λ last. text ≡ Some setup)
 
 -- The store stands for the history. It was opened later, with these limits, over a disk that tells as much.
-pub record IsStoreSoFar {D : Type 0} (w : DiskWords D) (b : Begun D) (h : List Entry) (s : Stored D) : Type 0 where
-  pub stands : StoreStands w.told w.may_leave w.faults nothing s h
+pub record IsStoreSoFar {D : Type 0} (seen : D → DiskSeen) (b : Begun D) (h : List Entry) (s : Stored D) : Type 0 where
+  pub stands : StoreStands seen nothing s h
   pub readable : IsReadable h
-  pub tells : is_told (w.told s.journal.disk) ≡ is_told (w.told b.disk)
+  pub tells : is_told (seen s.journal.disk).told ≡ is_told (seen b.disk).told
   pub limits_are : s.journal.limits ≡ b.limits
-  pub later : w.faults b.disk ≤ s.at_open
+  pub later : (seen b.disk).faults ≤ s.at_open
 
 -- behind what was asked so far, in so many bytes: lines, desks, the clock and the store
-pub record Between {D : Type 0} (w : DiskWords D) (b : Begun D) (before : List Asked) (count : ℕ) (h : List Entry) (script : Script)
+pub record Between {D : Type 0} (seen : D → DiskSeen) (b : Begun D) (before : List Asked) (count : ℕ) (h : List Entry) (script : Script)
     (s : Stored D) : Type 0 where
   pub setup : script.setup ≡ b.setup
   pub limits : script.limits ≡ b.limits
   pub clock : IsClock script.clock before
   pub set : IfSome script.clock (λ last. s.state.sum.text ≡ Some b.setup)
   pub taken : HaveTaken (meaning b.setup) count before script.lines.items script.desks.items
-  pub store : IsStoreSoFar w b h s
+  pub store : IsStoreSoFar seen b h s
 
 -- what was counted over steps so far
 pub record CountsSteps (steps : List Step) (t : Tally) : Type 0 where
@@ -92,73 +87,73 @@ pub record CountsSteps (steps : List Step) (t : Tally) : Type 0 where
   pub closed : t.closed ≡ told (count_of is_closed (entries_of steps))
 
 -- These lines were carried out, and no more: their steps, the history behind them, which the journal has, and their output.
-pub record SoFar {D : Type 0} (w : DiskWords D) (b : Begun D) (lines : List (List ℕ)) (script : Script) (s : Stored D) (p : PortSeen)
+pub record SoFar {D : Type 0} (seen : D → DiskSeen) (b : Begun D) (lines : List (List ℕ)) (script : Script) (s : Stored D) (p : PortSeen)
     : Type 0 where
   pub steps : List Step
   pub history : List Entry
   pub of : AreOf [] (counted lines) steps
-  pub are : AreSteps (Tells w b.disk) b.setup [] b.past history steps
-  pub between : Between w b (asked_after [] steps) (size_of lines) history script s
-  pub held : Holds w.told w.may_leave s.journal (bodies_of history)
+  pub are : AreSteps (Tells (seen b.disk)) b.setup [] b.past history steps
+  pub between : Between seen b (asked_after [] steps) (size_of lines) history script s
+  pub held : Holds seen s.journal (bodies_of history)
   pub counts : CountsSteps steps script.tally
   pub opened_before : script.opened_before ≡ opened nothing (marks nothing b.past)
   pub written : p.written ≡ append_known b.port.written (output_of steps)
   pub writes : b.port.write_faults ≤ p.write_faults
 
 -- A line that asks for this was carried out: its step, and its output on a page.
-pub record CarriedOut {D : Type 0} (w : DiskWords D) (b : Begun D) (before : List Asked) (count number : ℕ) (h : List Entry) (asked : Asked)
+pub record CarriedOut {D : Type 0} (seen : D → DiskSeen) (b : Begun D) (before : List Asked) (count number : ℕ) (h : List Entry) (asked : Asked)
     (t : Tally) (script : Script) (s : Stored D) (p p' : PortSeen) : Type 0 where
   pub step : Step
   pub history : List Entry
   pub number_is : step.number ≡ number
   pub asked_is : step.asked ≡ asked
-  pub is : IsStepOf (Tells w b.disk) b.setup before h history step asked
+  pub is : IsStepOf (Tells (seen b.disk)) b.setup before h history step asked
   pub text : p'.written ≡ append_known p.written step.text
   pub counts : CountsMore step t script.tally
-  pub between : Between w b (asked ∷ before) (count + length (spelling asked)) history script s
+  pub between : Between seen b (asked ∷ before) (count + length (spelling asked)) history script s
 
 -- It was stopped: how far it came, which is counted, and what the store shows.
-pub record StoppedAt {D : Type 0} (w : DiskWords D) (b : Begun D) (before : List Asked) (h : List Entry) (asked : Asked) (stop : Stop)
+pub record StoppedAt {D : Type 0} (seen : D → DiskSeen) (b : Begun D) (before : List Asked) (h : List Entry) (asked : Asked) (stop : Stop)
     (t t' : Tally) (s : Stored D) : Type 0 where
   pub waiting : List (List ℕ)
   pub partial : Step
   pub history : List Entry
   pub clock : ℕ
-  pub came : CameFor stop (Tells w b.disk) b.setup before waiting h history partial asked
+  pub came : CameFor stop (Tells (seen b.disk)) b.setup before waiting h history partial asked
   pub set : clock_of (asked ∷ before) ≡ Some clock
-  pub cause : HasShown w.told w.may_leave w.faults s stop clock (Submits b.setup before clock waiting asked)
-  pub stands : StoreStands w.told w.may_leave w.faults nothing s history
+  pub cause : HasShown seen s stop clock (Submits b.setup before clock waiting asked)
+  pub stands : StoreStands seen nothing s history
   pub limits_are : s.journal.limits ≡ b.limits
-  pub later : w.faults b.disk ≤ s.at_open
+  pub later : (seen b.disk).faults ≤ s.at_open
   pub counts : CountsMore partial t t'
 
 -- The journal was not opened again.
-pub record ShutAt {D : Type 0} (w : DiskWords D) (b : Begun D) (h : List Entry) (fault : OpenFault) (disk : D) : Type 0 where
+pub record ShutAt {D : Type 0} (seen : D → DiskSeen) (b : Begun D) (h : List Entry) (fault : OpenFault) (disk : D) : Type 0 where
   pub closed : D
-  pub later : w.faults b.disk ≤ w.faults closed
-  pub area : HasRecorded w closed h
-  pub unopened : IsUnopened w fault closed disk
+  pub later : (seen b.disk).faults ≤ (seen closed).faults
+  pub area : HasRecorded (seen closed) h
+  pub unopened : IsUnopened fault (seen closed) (seen disk)
 
 -- behind each script that comes to this line it is carried out
-abbrev pub Carries : {D : Type 0} → DiskWords D → ℕ → Asked → Script → Script → Stored D → Stored D → PortSeen → PortSeen → Type 0
-Carries {D} w moment asked script script' s s' p p' =
-    (b : Begun D) (before : List Asked) (count number : ℕ) (h : List Entry) → Between w b before count h script s
+abbrev pub Carries : {D : Type 0} → (D → DiskSeen) → ℕ → Asked → Script → Script → Stored D → Stored D → PortSeen → PortSeen → Type 0
+Carries {D} seen moment asked script script' s s' p p' =
+    (b : Begun D) (before : List Asked) (count number : ℕ) (h : List Entry) → Between seen b before count h script s
     → IsNext (meaning b.setup) moment count before asked script.lines.items script.desks.items
-    → Holds w.told w.may_leave s.journal (bodies_of h)
-    → CarriedOut w b before count number h asked script.tally script' s' p p'
+    → Holds seen s.journal (bodies_of h)
+    → CarriedOut seen b before count number h asked script.tally script' s' p p'
 
 -- or it is stopped
-abbrev pub Stops : {D : Type 0} → DiskWords D → ℕ → Asked → Script → Script → Stored D → Stored D → Stop → Type 0
-Stops {D} w moment asked script script' s s' stop =
-    (b : Begun D) (before : List Asked) (count : ℕ) (h : List Entry) → Between w b before count h script s
+abbrev pub Stops : {D : Type 0} → (D → DiskSeen) → ℕ → Asked → Script → Script → Stored D → Stored D → Stop → Type 0
+Stops {D} seen moment asked script script' s s' stop =
+    (b : Begun D) (before : List Asked) (count : ℕ) (h : List Entry) → Between seen b before count h script s
     → IsNext (meaning b.setup) moment count before asked script.lines.items script.desks.items
-    → Holds w.told w.may_leave s.journal (bodies_of h)
-    → StoppedAt w b before h asked stop script.tally script'.tally s'
+    → Holds seen s.journal (bodies_of h)
+    → StoppedAt seen b before h asked stop script.tally script'.tally s'
 
 -- or the journal is not opened again
-abbrev pub Shuts : {D : Type 0} → DiskWords D → ℕ → Asked → Script → Stored D → OpenFault → D → Type 0
-Shuts {D} w moment asked script s fault disk =
-    (b : Begun D) (before : List Asked) (count : ℕ) (h : List Entry) → Between w b before count h script s
+abbrev pub Shuts : {D : Type 0} → (D → DiskSeen) → ℕ → Asked → Script → Stored D → OpenFault → D → Type 0
+Shuts {D} seen moment asked script s fault disk =
+    (b : Begun D) (before : List Asked) (count : ℕ) (h : List Entry) → Between seen b before count h script s
     → IsNext (meaning b.setup) moment count before asked script.lines.items script.desks.items
-    → Holds w.told w.may_leave s.journal (bodies_of h)
-    → ShutAt w b h fault disk
+    → Holds seen s.journal (bodies_of h)
+    → ShutAt seen b h fault disk

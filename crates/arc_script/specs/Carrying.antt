@@ -1,9 +1,9 @@
 -- What carrying out one line of a script does: to the store, to the output, to the tally, and to the receiver's lines and desks.
-use Rattle.std.specs.Prelude.{◌≡◌, ◌≤◌, ◌+◌, ℕ, List, [], ◌∷◌, false, Option, Some, IfSome, length}
+use Rattle.std.specs.Prelude.{◌≡◌, ◌≤◌, ◌+◌, ℕ, List, [], ◌∷◌, false, Some, IfSome, length}
 use Rattle.std.specs.Io.KnownBytes.{append_known}
 use Rattle.std.specs.List.{list_any, slice_get}
 use Rattle.alarm_rules.specs.Setups.{Setup}
-use Rattle.arc_io.specs.Areas.{Areas}
+use Rattle.arc_io.specs.Disks.{DiskSeen}
 use Rattle.arc_io.specs.Seen.{PortSeen}
 use Rattle.arc_text.specs.Lines.{is_feed, ended_lines, rest_of}
 use Rattle.centre_rules.specs.History.{Entry}
@@ -67,24 +67,23 @@ pub record CountsStep (s : Step) (t t' : Tally) : Type 0 where
   pub rest : t' ≡ record t { sent = t'.sent; repeats = t'.repeats; closed = t'.closed }
 
 -- The line has its step: its output was put, it is counted, and the store stands for the history behind it.
-pub record Carried {D : Type 0} (told_of : D → Option Areas) (may_leave : D → Areas → Type 0) (faults : D → ℕ)
+pub record Carried {D : Type 0} (seen : D → DiskSeen)
     (IsStep : List Entry → Step → Type 0) (number : ℕ) (asked : Asked) (t t' : Tally) (p p' : PortSeen) (s : Stored D) : Type 0 where
   pub step : Step
   pub history : List Entry
   pub number_is : step.number ≡ number
   pub asked_is : step.asked ≡ asked
   pub is : IsStep history step
-  pub stands : StoreStands told_of may_leave faults nothing s history
+  pub stands : StoreStands seen nothing s history
   pub readable : IsReadable history
   pub text : p'.written ≡ append_known p.written step.text
   pub counts : CountsStep step t t'
 
 -- The line was stopped: it came so far, that is counted, and the store stands for it.
-pub record Halted {D : Type 0} (told_of : D → Option Areas) (may_leave : D → Areas → Type 0) (faults : D → ℕ)
-    (CameTo : List Entry → Step → Type 0) (t t' : Tally) (s : Stored D) : Type 0 where
+pub record Halted {D : Type 0} (seen : D → DiskSeen) (CameTo : List Entry → Step → Type 0) (t t' : Tally) (s : Stored D) : Type 0 where
   pub partial : Step
   pub history : List Entry
   pub came : CameTo history partial
-  pub stands : StoreStands told_of may_leave faults nothing s history
+  pub stands : StoreStands seen nothing s history
   pub readable : IsReadable history
   pub counts : CountsStep partial t t'

@@ -3,7 +3,7 @@ use Rattle.std.specs.Prelude.{◌≡◌, ◌⊎◌, ℕ, List, [], ◌∷◌, Op
 use Rattle.alarm_rules.specs.Setups.{meaning}
 use Rattle.arc_data.specs.declared.event.Event.{Event}
 use Rattle.arc_data.specs.declared.event.Event.TheVariants.{Tick}
-use Rattle.arc_io.specs.Areas.{Areas}
+use Rattle.arc_io.specs.Disks.{DiskSeen}
 use Rattle.centre_core.specs.declared.hall.Stop.{Stop}
 use Rattle.centre_core.specs.declared.hall.Stop.TheVariants.{Memory}
 use Rattle.centre_store.specs.Begins.{IsOfBegin}
@@ -17,9 +17,8 @@ use Rattle.script_lines.specs.Lines.{Asked, Time, Feed, Message, Command, Reopen
 use Rattle.arc_script.specs.Fed.{clock_of, desk_read}
 
 -- what a store shows of a stop at a moment, for an event that is one of these; unless memory was wanted
-abbrev pub HasShown : {D : Type 0} → (D → Option Areas) → (D → Areas → Type 0) → (D → ℕ) → Stored D → Stop → ℕ → (Event → Type 0) → Type 0
-HasShown told may_leave faults s stop moment IsOne =
-    (stop ≡ Memory) ⊎ ((event : Event) × IsOne event × Shows told may_leave faults s stop event moment)
+abbrev pub HasShown : {D : Type 0} → (D → DiskSeen) → Stored D → Stop → ℕ → (Event → Type 0) → Type 0
+HasShown seen s stop moment IsOne = (stop ≡ Memory) ⊎ ((event : Event) × IsOne event × Shows seen s stop event moment)
 
 -- a `T`, by the moment that was set before: the first begins a run, and each ticks
 abbrev pub IsOfTime : Option ℕ → List ℕ → Event → Type 0

@@ -3,6 +3,7 @@ use Rattle.std.specs.Prelude.{◌≡◌, ◌<◌, ◌≤◌, ◌⊎◌, ◌++◌
 use Rattle.std.specs.Io.KnownBytes.{prepend_known, append_known, IsAtEnd}
 use Rattle.arc_data.specs.Digits.{bytes_spelled}
 use Rattle.arc_io.specs.Areas.{Areas}
+use Rattle.arc_io.specs.Disks.{DiskSeen}
 use Rattle.arc_io.specs.Causes.{Rose}
 use Rattle.arc_io.specs.Crashes.{Becomes, IsQuiet, LeavesOnly}
 use Rattle.arc_io.specs.Seen.{PortSeen}
@@ -37,37 +38,29 @@ use Rattle.arc_script.specs.declared.script_end.ScriptEnd.{ScriptEnd}
 use Rattle.arc_script.specs.declared.script_end.ScriptEnd.TheVariants.{Done, ReadFault, WriteFault, Spent, BadScript, Refused, Stopped}
 use Rattle.arc_script.specs.declared.script_end.Tally.{Tally}
 
--- what a disk tells, and how it fails, in one place
-pub record DiskWords (D : Type 0) : Type 1 where
-  pub told : D → Option Areas
-  pub may_leave : D → Areas → Type 0
-  pub moment : D → ℕ
-  pub left_since : D → ℕ → Areas → Type 0
-  pub faults : D → ℕ
-
 -- the disk tells what it holds
-abbrev pub Tells : {D : Type 0} → DiskWords D → D → Type 0
-Tells w disk = (areas : Areas) × (w.told disk ≡ Some areas)
+abbrev pub Tells : DiskSeen → Type 0
+Tells disk = (areas : Areas) × (disk.told ≡ Some areas)
 
 -- what a read gives of the area stands for bodies that have this past
-pub record BeginsWith {D : Type 0} (w : DiskWords D) (disk : D) (past : List Entry) : Type 0 where
+pub record BeginsWith (disk : DiskSeen) (past : List Entry) : Type 0 where
   pub bodies : List (List ℕ)
   pub is_past : IsPast bodies past
-  pub area : IfSome (w.told disk) (λ s. Stands s.a bodies)
+  pub area : IfSome disk.told (λ s. Stands s.a bodies)
 
 -- what a read gives of the area, and all that a crash may leave there now, stands for the bodies of the recorded entries
-pub record HasRecorded {D : Type 0} (w : DiskWords D) (disk : D) (h : List Entry) : Type 0 where
-  pub area : IfSome (w.told disk) (λ s. Stands s.a (bodies_of h))
-  pub images : (c : Areas) → w.may_leave disk c → Stands c.a (bodies_of h)
+pub record HasRecorded (disk : DiskSeen) (h : List Entry) : Type 0 where
+  pub area : IfSome disk.told (λ s. Stands s.a (bodies_of h))
+  pub images : (c : Areas) → disk.may_leave c → Stands c.a (bodies_of h)
 
 -- The journal of a disk was not opened, for this fault: it shows what stands there, or that the disk failed. What the area stood for it
 -- stands for still, after a crash at any moment too.
-pub record IsUnopened {D : Type 0} (w : DiskWords D) (fault : OpenFault) (disk disk' : D) : Type 0 where
-  pub shown : IfSome (w.told disk) (λ s. IsRefused fault s.a)
-  pub counts : HasCounts fault (w.faults disk) (w.faults disk')
-  pub told : Becomes (w.told disk) (w.told disk') (λ s t. GoesOn s.a t.a)
-  pub any_moment : LeavesOnly w.moment w.left_since disk disk' (λ c. (d : Areas) × w.may_leave disk d × GoesOn d.a c.a)
-  pub unwritten : IsOfContent fault → IsQuiet w.told w.may_leave w.moment w.left_since disk disk'
+pub record IsUnopened (fault : OpenFault) (disk disk' : DiskSeen) : Type 0 where
+  pub shown : IfSome disk.told (λ s. IsRefused fault s.a)
+  pub counts : HasCounts fault disk.faults disk'.faults
+  pub told : Becomes disk.told disk'.told (λ s t. GoesOn s.a t.a)
+  pub any_moment : LeavesOnly disk disk' (λ c. (d : Areas) × disk.may_leave d × GoesOn d.a c.a)
+  pub unwritten : IsOfContent fault → IsQuiet disk disk'
 
 -- What a script did, of these lines, over a past: the first of them have their steps, which go on from the past to a history. Those
 -- behind were not carried out.
@@ -81,26 +74,26 @@ pub record Played (Told : Type 0) (setup : List ℕ) (past : List Entry) (lines 
   pub are : AreSteps Told setup [] past history steps
 
 -- all lines have their steps, the output is theirs, and the area stands for the history's recorded entries
-pub record IsWhole {D : Type 0} (w : DiskWords D) (Told : Type 0) (setup : List ℕ) (past : List Entry) (lines : List (ℕ × List ℕ))
+pub record IsWhole {D : Type 0} (seen : D → DiskSeen) (Told : Type 0) (setup : List ℕ) (past : List Entry) (lines : List (ℕ × List ℕ))
     (played : Played Told setup past lines) (p p' : PortSeen) (disk' : D) (tally : Tally) : Type 0 where
   pub none_behind : played.behind ≡ []
   pub output : p'.written ≡ append_known p.written (output_of played.steps)
-  pub area : HasRecorded w disk' played.history
+  pub area : HasRecorded (seen disk') played.history
   pub counts : IsTally past played.steps played.history tally
 
 -- the next line, of this number, asks for nothing; the output is that of the lines before it
-pub record IsBad {D : Type 0} (w : DiskWords D) (Told : Type 0) (setup : List ℕ) (past : List Entry) (lines : List (ℕ × List ℕ))
+pub record IsBad {D : Type 0} (seen : D → DiskSeen) (Told : Type 0) (setup : List ℕ) (past : List Entry) (lines : List (ℕ × List ℕ))
     (played : Played Told setup past lines) (number : ℕ) (p p' : PortSeen) (disk' : D) (tally : Tally) : Type 0 where
   pub line : List ℕ
   pub more : List (ℕ × List ℕ)
   pub next : played.behind ≡ (number, line) ∷ more
   pub wrong : (asked : Asked) → IsPlayable (asked_after [] played.steps) line asked → ⊥
   pub output : p'.written ≡ append_known p.written (output_of played.steps)
-  pub area : HasRecorded w disk' played.history
+  pub area : HasRecorded (seen disk') played.history
   pub counts : IsTally past played.steps played.history tally
 
 -- the output of the last step was cut short: it lacks a byte at least. All that the step recorded stands.
-pub record IsCutOff {D : Type 0} (w : DiskWords D) (Told : Type 0) (setup : List ℕ) (past : List Entry) (lines : List (ℕ × List ℕ))
+pub record IsCutOff {D : Type 0} (seen : D → DiskSeen) (Told : Type 0) (setup : List ℕ) (past : List Entry) (lines : List (ℕ × List ℕ))
     (played : Played Told setup past lines) (p p' : PortSeen) (disk' : D) (tally : Tally) : Type 0 where
   pub front : List Step
   pub last : Step
@@ -108,7 +101,7 @@ pub record IsCutOff {D : Type 0} (w : DiskWords D) (Told : Type 0) (setup : List
   pub split : played.steps ≡ front ++ last ∷ []
   pub short : count < length last.text
   pub output : p'.written ≡ append_known p.written (output_of front ++ take count last.text)
-  pub area : HasRecorded w disk' played.history
+  pub area : HasRecorded (seen disk') played.history
   pub counts : IsTally past played.steps played.history tally
 
 -- How far a line came that was stopped: the history that it left, from h on. A `T` may have begun the run, or adopted its setup, before; so
@@ -155,7 +148,7 @@ CameFor stop Told setup before waiting h x s asked =
 -- The next line was stopped. It has no output, and what it recorded before stands: the store that showed the stop, for an event of this
 -- line at the moment that is set, stands for it, and its disk is handed back. So the area stands for it, and after a fault of the disk for
 -- it with the one event that met the fault or without.
-pub record IsHalted {D : Type 0} (w : DiskWords D) (Told : Type 0) (setup : List ℕ) (past : List Entry) (lines : List (ℕ × List ℕ))
+pub record IsHalted {D : Type 0} (seen : D → DiskSeen) (Told : Type 0) (setup : List ℕ) (past : List Entry) (lines : List (ℕ × List ℕ))
     (played : Played Told setup past lines) (stop : Stop) (limits : Limits) (entry : ℕ) (p p' : PortSeen) (disk' : D)
     (tally : Tally) : Type 0 where
   pub number : ℕ
@@ -171,8 +164,8 @@ pub record IsHalted {D : Type 0} (w : DiskWords D) (Told : Type 0) (setup : List
   pub asks : IsPlayable (asked_after [] played.steps) line asked
   pub came : CameFor stop Told setup (asked_after [] played.steps) waiting played.history history partial asked
   pub set : clock_of (asked ∷ asked_after [] played.steps) ≡ Some clock
-  pub cause : HasShown w.told w.may_leave w.faults last stop clock (Submits setup (asked_after [] played.steps) clock waiting asked)
-  pub stands : StoreStands w.told w.may_leave w.faults nothing last history
+  pub cause : HasShown seen last stop clock (Submits setup (asked_after [] played.steps) clock waiting asked)
+  pub stands : StoreStands seen nothing last history
   pub limits_are : last.journal.limits ≡ limits
   pub later : entry ≤ last.at_open
   pub handed : disk' ≡ last.journal.disk
@@ -180,13 +173,13 @@ pub record IsHalted {D : Type 0} (w : DiskWords D) (Told : Type 0) (setup : List
   pub counts : IsTally past (played.steps ++ partial ∷ []) history tally
 
 -- Memory was wanted before the script was read: nothing was done.
-pub record IsUnread {D : Type 0} (w : DiskWords D) (past : List Entry) (p p' : PortSeen) (disk' : D) (tally : Tally) : Type 0 where
+pub record IsUnread {D : Type 0} (seen : D → DiskSeen) (past : List Entry) (p p' : PortSeen) (disk' : D) (tally : Tally) : Type 0 where
   pub untouched : p' ≡ p
-  pub area : HasRecorded w disk' past
+  pub area : HasRecorded (seen disk') past
   pub counts : IsTally past [] past tally
 
 -- The next line, an `X`, could not open the journal again.
-pub record IsShut {D : Type 0} (w : DiskWords D) (Told : Type 0) (setup : List ℕ) (past : List Entry) (lines : List (ℕ × List ℕ))
+pub record IsShut {D : Type 0} (seen : D → DiskSeen) (Told : Type 0) (setup : List ℕ) (past : List Entry) (lines : List (ℕ × List ℕ))
     (played : Played Told setup past lines) (fault : OpenFault) (entry : ℕ) (p p' : PortSeen) (disk' : D) (tally : Tally) : Type 0 where
   pub number : ℕ
   pub line : List ℕ
@@ -194,29 +187,29 @@ pub record IsShut {D : Type 0} (w : DiskWords D) (Told : Type 0) (setup : List �
   pub next : played.behind ≡ (number, line) ∷ more
   pub asks : IsPlayable (asked_after [] played.steps) line Reopen
   pub closed : D
-  pub later : entry ≤ w.faults closed
-  pub area : HasRecorded w closed played.history
-  pub unopened : IsUnopened w fault closed disk'
+  pub later : entry ≤ (seen closed).faults
+  pub area : HasRecorded (seen closed) played.history
+  pub unopened : IsUnopened fault (seen closed) (seen disk')
   pub output : p'.written ≡ append_known p.written (output_of played.steps)
   pub counts : IsTally past played.steps played.history tally
 
 -- What a script's end says of what was played, of the bytes that were read.
-abbrev pub EndsAs : {D : Type 0} → DiskWords D → (Told : Type 0) (setup : List ℕ) (past : List Entry) → List ℕ → (lines : List (ℕ × List ℕ))
+abbrev pub EndsAs : {D : Type 0} → (D → DiskSeen) → (Told : Type 0) (setup : List ℕ) (past : List Entry) → List ℕ → (lines : List (ℕ × List ℕ))
     → Played Told setup past lines → Limits → ℕ → ScriptEnd → PortSeen → PortSeen → D → Tally → Type 0
-EndsAs w Told setup past read lines played limits entry Done p p' disk' tally =
-    IsReadOut p' × (length read < input_limit) × IsWhole w Told setup past lines played p p' disk' tally
-EndsAs w Told setup past read lines played limits entry ReadFault p p' disk' tally =
-    Rose p.read_faults p'.read_faults × (length read < input_limit) × IsWhole w Told setup past lines played p p' disk' tally
-EndsAs w Told setup past read lines played limits entry Spent p p' disk' tally =
-    (length read ≡ input_limit) × IsWhole w Told setup past lines played p p' disk' tally
-EndsAs w Told setup past read lines played limits entry WriteFault p p' disk' tally =
-    Rose p.write_faults p'.write_faults × IsCutOff w Told setup past lines played p p' disk' tally
-EndsAs w Told setup past read lines played limits entry (BadScript number) p p' disk' tally =
-    IsBad w Told setup past lines played number p p' disk' tally
-EndsAs w Told setup past read lines played limits entry (Stopped stop) p p' disk' tally =
-    IsHalted w Told setup past lines played stop limits entry p p' disk' tally
-EndsAs w Told setup past read lines played limits entry (Refused fault) p p' disk' tally =
-    IsShut w Told setup past lines played fault entry p p' disk' tally
+EndsAs seen Told setup past read lines played limits entry Done p p' disk' tally =
+    IsReadOut p' × (length read < input_limit) × IsWhole seen Told setup past lines played p p' disk' tally
+EndsAs seen Told setup past read lines played limits entry ReadFault p p' disk' tally =
+    Rose p.read_faults p'.read_faults × (length read < input_limit) × IsWhole seen Told setup past lines played p p' disk' tally
+EndsAs seen Told setup past read lines played limits entry Spent p p' disk' tally =
+    (length read ≡ input_limit) × IsWhole seen Told setup past lines played p p' disk' tally
+EndsAs seen Told setup past read lines played limits entry WriteFault p p' disk' tally =
+    Rose p.write_faults p'.write_faults × IsCutOff seen Told setup past lines played p p' disk' tally
+EndsAs seen Told setup past read lines played limits entry (BadScript number) p p' disk' tally =
+    IsBad seen Told setup past lines played number p p' disk' tally
+EndsAs seen Told setup past read lines played limits entry (Stopped stop) p p' disk' tally =
+    IsHalted seen Told setup past lines played stop limits entry p p' disk' tally
+EndsAs seen Told setup past read lines played limits entry (Refused fault) p p' disk' tally =
+    IsShut seen Told setup past lines played fault entry p p' disk' tally
 
 -- Not far ahead: all lines but those that end in the last bytes read, at most 4,096 of them, were carried out.
 pub record IsNotAhead (read : List ℕ) (carried : List (ℕ × List ℕ)) : Type 0 where
@@ -239,14 +232,14 @@ ReadsNoFurther (Refused fault) read carried = IsNotAhead read carried
 
 -- The transcript of a script over a past, of the bytes that were read of the port: their lines and what was played of them. Where a read
 -- has met the input's end, that is all of it. All but what is about reading and writing stayed.
-pub record IsTranscript {D : Type 0} (w : DiskWords D) (Told : Type 0) (setup : List ℕ) (past : List Entry) (limits : Limits)
+pub record IsTranscript {D : Type 0} (seen : D → DiskSeen) (Told : Type 0) (setup : List ℕ) (past : List Entry) (limits : Limits)
     (entry : ℕ) (end : ScriptEnd) (p p' : PortSeen) (disk' : D) (tally : Tally) : Type 0 where
   pub read : List ℕ
   pub taken : p.left ≡ prepend_known read p'.left
   pub out : p'.ended ≡ true → IsAtEnd p'.left
   pub most : length read ≤ input_limit
   pub played : Played Told setup past (counted (lines_read p'.ended read))
-  pub ends : EndsAs w Told setup past read (counted (lines_read p'.ended read)) played limits entry end p p' disk' tally
+  pub ends : EndsAs seen Told setup past read (counted (lines_read p'.ended read)) played limits entry end p p' disk' tally
   pub ahead : ReadsNoFurther end read played.front
   pub others : p' ≡ record p {
     left = p'.left;
@@ -258,9 +251,9 @@ pub record IsTranscript {D : Type 0} (w : DiskWords D) (Told : Type 0) (setup : 
 
 -- What a script did over a disk: the journal was not opened, and nothing was read or written; or the area stood for a past, and the
 -- script is a transcript over it, or memory was wanted before it was read.
-abbrev pub IsScript : {D : Type 0} → DiskWords D → List ℕ → Limits → ScriptEnd → PortSeen → PortSeen → D → D → Tally → Type 0
-IsScript w setup limits end p p' disk disk' tally =
-    ((fault : OpenFault) × (end ≡ Refused fault) × IsUnopened w fault disk disk' × (p' ≡ p) × (tally ≡ no_tally))
-    ⊎ ((past : List Entry) × BeginsWith w disk past
-    × (IsTranscript w (Tells w disk) setup past limits (w.faults disk) end p p' disk' tally
-    ⊎ ((end ≡ Stopped Memory) × IsUnread w past p p' disk' tally)))
+abbrev pub IsScript : {D : Type 0} → (D → DiskSeen) → List ℕ → Limits → ScriptEnd → PortSeen → PortSeen → D → D → Tally → Type 0
+IsScript seen setup limits end p p' disk disk' tally =
+    ((fault : OpenFault) × (end ≡ Refused fault) × IsUnopened fault (seen disk) (seen disk') × (p' ≡ p) × (tally ≡ no_tally))
+    ⊎ ((past : List Entry) × BeginsWith (seen disk) past
+    × (IsTranscript seen (Tells (seen disk)) setup past limits (seen disk).faults end p p' disk' tally
+    ⊎ ((end ≡ Stopped Memory) × IsUnread seen past p p' disk' tally)))

@@ -2,7 +2,7 @@
 use Rattle.std.specs.Prelude.{◌≡◌, ◌≤◌, ◌⊎◌, ◌++◌, ℕ, List, [], ◌∷◌, Option, Some, None, codes, length}
 use Rattle.std.specs.Io.KnownBytes.{append_known}
 use Rattle.arc_data.specs.declared.event.Event.TheVariants.{Tick}
-use Rattle.arc_io.specs.Areas.{Areas}
+use Rattle.arc_io.specs.Disks.{DiskSeen}
 use Rattle.arc_io.specs.Seen.{PortSeen}
 use Rattle.centre_core.specs.declared.hall.Stop.{Stop}
 use Rattle.centre_core.specs.declared.hall.Stop.TheVariants.{Memory}
@@ -37,15 +37,14 @@ pub record IsNewDesk (desk : DeskValue) : Type 0 where
   pub took : (setup : Setup) → TookStream setup [] desk
 
 -- A `T` was stopped: before its Tick; or, where memory was wanted for its output, behind it. The store stands for what was recorded.
-pub record TickStops {D : Type 0} (told : D → Option Areas) (may_leave : D → Areas → Type 0) (faults : D → ℕ)
+pub record TickStops {D : Type 0} (seen : D → DiskSeen)
     (clock : Option ℕ) (setup : List ℕ) (moment : ℕ) (h : List Entry) (stop : Stop) (s : Stored D) : Type 0 where
   pub history : List Entry
-  pub stands : StoreStands told may_leave faults nothing s history
+  pub stands : StoreStands seen nothing s history
   pub came : BegunUntil clock setup moment h history
       ⊎ ((stop ≡ Memory) × (history ≡ entry_after (before_tick clock setup moment h) Tick moment ∷ before_tick clock setup moment h))
 
 -- the store stands for the history with the Tick, whose reply was put behind the letter
-pub record Ticked {D : Type 0} (told : D → Option Areas) (may_leave : D → Areas → Type 0) (faults : D → ℕ)
-    (before : List Entry) (moment : ℕ) (s : Stored D) (p p' : PortSeen) : Type 0 where
-  pub stands : StoreStands told may_leave faults nothing s (entry_after before Tick moment ∷ before)
+pub record Ticked {D : Type 0} (seen : D → DiskSeen) (before : List Entry) (moment : ℕ) (s : Stored D) (p p' : PortSeen) : Type 0 where
+  pub stands : StoreStands seen nothing s (entry_after before Tick moment ∷ before)
   pub text : p'.written ≡ append_known p.written (codes "T " ++ line_of (entry_after before Tick moment).reply)

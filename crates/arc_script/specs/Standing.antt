@@ -1,6 +1,7 @@
 -- What stays of a script's store beside its history: whether its disk tells what it holds, and that what was recorded can be read again.
 use Rattle.std.specs.Prelude.{◌≡◌, ℕ, List, Bool, true, false, Option, Some, None}
 use Rattle.arc_io.specs.Areas.{Areas}
+use Rattle.arc_io.specs.Disks.{DiskSeen}
 use Rattle.centre_core.specs.Halls.{HallSeen}
 use Rattle.centre_rules.specs.History.{Entry, recorded}
 use Rattle.centre_rules.specs.Summary.{nothing}
@@ -18,7 +19,7 @@ abbrev pub IsReadable : List Entry → Type 0
 IsReadable h = AreKept (recorded h)
 
 -- What the store tells as the hall of a script: of the histories from the beginning on also that they can be read again.
-abbrev pub script_seen : {D : Type 0} → (D → Option Areas) → (D → Areas → Type 0) → (D → ℕ) → Stored D → HallSeen
-script_seen told may_leave faults s = record (store_seen told may_leave faults s) {
-  stands = λ b h. IsStoreFor told may_leave faults b s h × (b ≡ nothing → IsReadable h);
+abbrev pub script_seen : {D : Type 0} → (D → DiskSeen) → Stored D → HallSeen
+script_seen seen s = record (store_seen seen s) {
+  stands = λ b h. IsStoreFor seen b s h × (b ≡ nothing → IsReadable h);
 }

@@ -22,17 +22,17 @@ pub(crate) fn begin<D: Disk>(
     moment: u64,
 ) -> Result<(), Stop>
     requires { moment < 253_402_300_800 }
-    ensures begun { OnOk result ((h : List Entry) → StoreStands D.told D.may_leave D.fault_count nothing store.old h
-        → StoreStands D.told D.may_leave D.fault_count nothing store.new (begun_after nothing h script.now.setup moment)) }
+    ensures begun { OnOk result ((h : List Entry) → StoreStands D.seen nothing store.old h
+        → StoreStands D.seen nothing store.new (begun_after nothing h script.now.setup moment)) }
     ensures text { OnOk result (store.new.state.sum.text ≡ Some script.now.setup) }
-    ensures stop { OnErr result ((h : List Entry) → StoreStands D.told D.may_leave D.fault_count nothing store.old h
-        → StoreStands D.told D.may_leave D.fault_count nothing store.new h
-        ⊎ StoreStands D.told D.may_leave D.fault_count nothing store.new (adopted_after nothing h script.now.setup moment)) }
-    ensures cause { IfErr result (λ s. HasShown D.told D.may_leave D.fault_count store.new s moment (IsOfBegin script.now.setup)) }
-    ensures tells { is_told (D.told store.new.journal.disk) ≡ is_told (D.told store.old.journal.disk) }
+    ensures stop { OnErr result ((h : List Entry) → StoreStands D.seen nothing store.old h
+        → StoreStands D.seen nothing store.new h
+        ⊎ StoreStands D.seen nothing store.new (adopted_after nothing h script.now.setup moment)) }
+    ensures cause { IfErr result (λ s. HasShown D.seen store.new s moment (IsOfBegin script.now.setup)) }
+    ensures tells { is_told (D.seen store.new.journal.disk).told ≡ is_told (D.seen store.old.journal.disk).told }
     ensures at_open { store.new.at_open ≡ store.old.at_open }
     ensures limits { store.new.journal.limits ≡ store.old.journal.limits }
-    ensures later { D.fault_count store.old.journal.disk ≤ D.fault_count store.new.journal.disk }
+    ensures later { (D.seen store.old.journal.disk).faults ≤ (D.seen store.new.journal.disk).faults }
 {
     match script.setup.copy(alloc) {
         Ok(setup) => store.begin(alloc, setup, moment),

@@ -42,17 +42,17 @@ pub(crate) fn command<D: Disk>(
     requires set { store.state.sum.text ≡ Some script.old.setup }
     ensures answered { OnOk result.1 ((before : List Asked) (clock count number : ℕ) (h : List Entry)
         → IsNext (meaning script.old.setup) clock count before (Command desk text.now) script.old.lines.items script.old.desks.items
-        → page_seen page.old ≡ blank clock → StoreStands D.told D.may_leave D.fault_count nothing store h → IsReadable h
-        → Carried D.told D.may_leave D.fault_count (λ x s. Commands script.old.setup before desk text.now h x s)
+        → page_seen page.old ≡ blank clock → StoreStands D.seen nothing store h → IsReadable h
+        → Carried D.seen (λ x s. Commands script.old.setup before desk text.now h x s)
         number (Command desk text.now) script.old.tally script.new.tally (page_seen page.old) (page_seen page.new) result.0) }
     ensures took { OnOk result.1 ((before : List Asked) (clock count : ℕ)
         → IsNext (meaning script.old.setup) clock count before (Command desk text.now) script.old.lines.items script.old.desks.items
         → HaveTakenWith (meaning script.old.setup) count before (Command desk text.now) script.new.lines.items script.new.desks.items) }
     ensures stop { IfErr result.1 (λ stop. (before : List Asked) (clock count : ℕ) (h : List Entry)
         → IsNext (meaning script.old.setup) clock count before (Command desk text.now) script.old.lines.items script.old.desks.items
-        → page_seen page.old ≡ blank clock → StoreStands D.told D.may_leave D.fault_count nothing store h → IsReadable h
-        → Halted D.told D.may_leave D.fault_count (λ x s. ((x ≡ h) × AddedBy h x s
-        × HasShown D.told D.may_leave D.fault_count result.0 stop clock (IsOfCommand script.old.setup before desk text.now))
+        → page_seen page.old ≡ blank clock → StoreStands D.seen nothing store h → IsReadable h
+        → Halted D.seen (λ x s. ((x ≡ h) × AddedBy h x s
+        × HasShown D.seen result.0 stop clock (IsOfCommand script.old.setup before desk text.now))
         ⊎ ((stop ≡ Stop.Memory) × Commands script.old.setup before desk text.now h x s))
         script.old.tally script.new.tally result.0) }
     ensures set { result.0.state.sum.text ≡ Some script.old.setup }
@@ -61,7 +61,7 @@ pub(crate) fn command<D: Disk>(
       eight = script.new.eight;
       tally = script.new.tally;
     } }
-    ensures tells { is_told (D.told result.0.journal.disk) ≡ is_told (D.told store.journal.disk) }
+    ensures tells { is_told (D.seen result.0.journal.disk).told ≡ is_told (D.seen store.journal.disk).told }
     ensures at_open { result.0.at_open ≡ store.at_open }
     ensures limits { result.0.journal.limits ≡ store.journal.limits }
 {

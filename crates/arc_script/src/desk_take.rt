@@ -33,13 +33,13 @@ pub(crate) fn take_desk<D: Disk, P: Port>(
     ensures ready { IsSetting result.1.state.sum.text }
     ensures text { text_of result.1.state ≡ text_of store.state }
     ensures served { (stream : List ℕ) (h : List Entry) → TookStream (meaning (text_of store.state)) stream desk.old
-        → IsStoreFor D.told D.may_leave D.fault_count nothing store h → IsReadable h
-        → ServesBytes result.0 stream (in_limit stream bytes.now) nothing h (script_seen D.told D.may_leave D.fault_count store)
-        (script_seen D.told D.may_leave D.fault_count result.1) (P.seen port.old) (P.seen port.new) }
+        → IsStoreFor D.seen nothing store h → IsReadable h
+        → ServesBytes result.0 stream (in_limit stream bytes.now) nothing h (script_seen D.seen store)
+        (script_seen D.seen result.1) (P.seen port.old) (P.seen port.new) }
     ensures ends { ReadsNothing result.0 }
-    ensures stop { HasShown (script_seen D.told D.may_leave D.fault_count result.1) (ending_of result.0) }
+    ensures stop { HasShown (script_seen D.seen result.1) (ending_of result.0) }
     ensures port { Answers (result.0 ≡ Err DeskEnd.WriteFault) (P.seen port.old) (P.seen port.new) }
-    ensures tells { is_told (D.told result.1.journal.disk) ≡ is_told (D.told store.journal.disk) }
+    ensures tells { is_told (D.seen result.1.journal.disk).told ≡ is_told (D.seen store.journal.disk).told }
     ensures at_open { result.1.at_open ≡ store.at_open }
     ensures limits { result.1.journal.limits ≡ store.journal.limits }
 {
@@ -55,7 +55,7 @@ fn take_opened<D: Disk, P: Port, K: Lasting>(
     bytes: &[u8],
 ) -> (Result<(), DeskEnd>, Store<D>)
     requires ready { IsSetting store.state.sum.text }
-    requires tells { is_told (D.told store.journal.disk) ≡ K.tells }
+    requires tells { is_told (D.seen store.journal.disk).told ≡ K.tells }
     requires at_open { store.at_open ≡ K.at_open }
     requires limits { store.journal.limits ≡ K.limits }
     ensures taken { (stream : List ℕ) → TookStream (meaning (text_of store.state)) stream desk.old
@@ -63,13 +63,13 @@ fn take_opened<D: Disk, P: Port, K: Lasting>(
     ensures ready { IsSetting result.1.state.sum.text }
     ensures text { text_of result.1.state ≡ text_of store.state }
     ensures served { (stream : List ℕ) (h : List Entry) → TookStream (meaning (text_of store.state)) stream desk.old
-        → IsStoreFor D.told D.may_leave D.fault_count nothing store h → IsReadable h
-        → ServesBytes result.0 stream (in_limit stream bytes.now) nothing h (script_seen D.told D.may_leave D.fault_count store)
-        (script_seen D.told D.may_leave D.fault_count result.1) (P.seen port.old) (P.seen port.new) }
+        → IsStoreFor D.seen nothing store h → IsReadable h
+        → ServesBytes result.0 stream (in_limit stream bytes.now) nothing h (script_seen D.seen store)
+        (script_seen D.seen result.1) (P.seen port.old) (P.seen port.new) }
     ensures ends { ReadsNothing result.0 }
-    ensures stop { HasShown (script_seen D.told D.may_leave D.fault_count result.1) (ending_of result.0) }
+    ensures stop { HasShown (script_seen D.seen result.1) (ending_of result.0) }
     ensures port { Answers (result.0 ≡ Err DeskEnd.WriteFault) (P.seen port.old) (P.seen port.new) }
-    ensures tells { is_told (D.told result.1.journal.disk) ≡ K.tells }
+    ensures tells { is_told (D.seen result.1.journal.disk).told ≡ K.tells }
     ensures at_open { result.1.at_open ≡ K.at_open }
     ensures limits { result.1.journal.limits ≡ K.limits }
 {

@@ -48,18 +48,18 @@ pub(crate) fn feed<D: Disk>(
     requires set { store.state.sum.text ≡ Some script.old.setup }
     ensures fed { OnOk result.1 ((before : List Asked) (count number : ℕ) (h : List Entry)
         → IsNext (meaning script.old.setup) moment count before (Feed line digits.now) script.old.lines.items script.old.desks.items
-        → StoreStands D.told D.may_leave D.fault_count nothing store h → IsReadable h
-        → Carried D.told D.may_leave D.fault_count (λ x s. Feeds script.old.setup before 76 line (bytes_spelled digits.now) h x s)
+        → StoreStands D.seen nothing store h → IsReadable h
+        → Carried D.seen (λ x s. Feeds script.old.setup before 76 line (bytes_spelled digits.now) h x s)
         number (Feed line digits.now) script.old.tally script.new.tally (page_seen page.old) (page_seen page.new) result.0) }
     ensures took { OnOk result.1 ((before : List Asked) (count : ℕ)
         → IsNext (meaning script.old.setup) moment count before (Feed line digits.now) script.old.lines.items script.old.desks.items
         → HaveTakenWith (meaning script.old.setup) count before (Feed line digits.now) script.new.lines.items script.new.desks.items) }
     ensures stop { IfErr result.1 (λ stop. (before : List Asked) (count : ℕ) (h : List Entry)
         → IsNext (meaning script.old.setup) moment count before (Feed line digits.now) script.old.lines.items script.old.desks.items
-        → StoreStands D.told D.may_leave D.fault_count nothing store h → IsReadable h
-        → Halted D.told D.may_leave D.fault_count (λ x s.
+        → StoreStands D.seen nothing store h → IsReadable h
+        → Halted D.seen (λ x s.
         ((waiting : List (List ℕ)) × FedUntil script.old.setup before line (bytes_spelled digits.now) waiting h x s
-        × HasShown D.told D.may_leave D.fault_count result.0 stop moment (IsOfFrame script.old.setup moment waiting))
+        × HasShown D.seen result.0 stop moment (IsOfFrame script.old.setup moment waiting))
         ⊎ ((stop ≡ Stop.Memory) × Feeds script.old.setup before 76 line (bytes_spelled digits.now) h x s))
         script.old.tally script.new.tally result.0) }
     ensures set { result.0.state.sum.text ≡ Some script.old.setup }
@@ -68,7 +68,7 @@ pub(crate) fn feed<D: Disk>(
       sixteen = script.new.sixteen;
       tally = script.new.tally;
     } }
-    ensures tells { is_told (D.told result.0.journal.disk) ≡ is_told (D.told store.journal.disk) }
+    ensures tells { is_told (D.seen result.0.journal.disk).told ≡ is_told (D.seen store.journal.disk).told }
     ensures at_open { result.0.at_open ≡ store.at_open }
     ensures limits { result.0.journal.limits ≡ store.journal.limits }
 {
@@ -94,18 +94,18 @@ pub(crate) fn message<D: Disk>(
     requires set { store.state.sum.text ≡ Some script.old.setup }
     ensures fed { OnOk result.1 ((before : List Asked) (count number : ℕ) (h : List Entry)
         → IsNext (meaning script.old.setup) moment count before (Message line body.now) script.old.lines.items script.old.desks.items
-        → StoreStands D.told D.may_leave D.fault_count nothing store h → IsReadable h
-        → Carried D.told D.may_leave D.fault_count (λ x s. Feeds script.old.setup before 77 line (frame_of body.now) h x s)
+        → StoreStands D.seen nothing store h → IsReadable h
+        → Carried D.seen (λ x s. Feeds script.old.setup before 77 line (frame_of body.now) h x s)
         number (Message line body.now) script.old.tally script.new.tally (page_seen page.old) (page_seen page.new) result.0) }
     ensures took { OnOk result.1 ((before : List Asked) (count : ℕ)
         → IsNext (meaning script.old.setup) moment count before (Message line body.now) script.old.lines.items script.old.desks.items
         → HaveTakenWith (meaning script.old.setup) count before (Message line body.now) script.new.lines.items script.new.desks.items) }
     ensures stop { IfErr result.1 (λ stop. (before : List Asked) (count : ℕ) (h : List Entry)
         → IsNext (meaning script.old.setup) moment count before (Message line body.now) script.old.lines.items script.old.desks.items
-        → StoreStands D.told D.may_leave D.fault_count nothing store h → IsReadable h
-        → Halted D.told D.may_leave D.fault_count (λ x s.
+        → StoreStands D.seen nothing store h → IsReadable h
+        → Halted D.seen (λ x s.
         ((waiting : List (List ℕ)) × FedUntil script.old.setup before line (frame_of body.now) waiting h x s
-        × HasShown D.told D.may_leave D.fault_count result.0 stop moment (IsOfFrame script.old.setup moment waiting))
+        × HasShown D.seen result.0 stop moment (IsOfFrame script.old.setup moment waiting))
         ⊎ ((stop ≡ Stop.Memory) × Feeds script.old.setup before 77 line (frame_of body.now) h x s))
         script.old.tally script.new.tally result.0) }
     ensures set { result.0.state.sum.text ≡ Some script.old.setup }
@@ -114,7 +114,7 @@ pub(crate) fn message<D: Disk>(
       sixteen = script.new.sixteen;
       tally = script.new.tally;
     } }
-    ensures tells { is_told (D.told result.0.journal.disk) ≡ is_told (D.told store.journal.disk) }
+    ensures tells { is_told (D.seen result.0.journal.disk).told ≡ is_told (D.seen store.journal.disk).told }
     ensures at_open { result.0.at_open ≡ store.at_open }
     ensures limits { result.0.journal.limits ≡ store.journal.limits }
 {
@@ -149,14 +149,14 @@ fn fed<D: Disk>(
     requires line { IsNumber 16 line }
     requires set { store.state.sum.text ≡ Some script.old.setup }
     ensures fed { IfOk result.1 (λ frames. (stream : List ℕ) (h : List Entry) → TookAt stream script.old.lines.items (line - 1)
-        → length (stream ++ bytes.now) < input_limit → StoreStands D.told D.may_leave D.fault_count nothing store h → IsReadable h
-        → HasFed D.told D.may_leave D.fault_count script.old.setup moment stream bytes.now h script.old.tally script.new.tally
+        → length (stream ++ bytes.now) < input_limit → StoreStands D.seen nothing store h → IsReadable h
+        → HasFed D.seen script.old.setup moment stream bytes.now h script.old.tally script.new.tally
         (sink_bytes frames.port.sink) result.0) }
     ensures took { OnOk result.1 ((stream : List ℕ) → TookAt stream script.old.lines.items (line - 1)
         → length (stream ++ bytes.now) < input_limit → TookAt (stream ++ bytes.now) script.new.lines.items (line - 1)) }
     ensures stop { IfErr result.1 (λ stop. (stream : List ℕ) (h : List Entry) → TookAt stream script.old.lines.items (line - 1)
-        → length (stream ++ bytes.now) < input_limit → StoreStands D.told D.may_leave D.fault_count nothing store h → IsReadable h
-        → FeedStops D.told D.may_leave D.fault_count script.old.setup moment stream bytes.now h script.old.tally script.new.tally stop result.0) }
+        → length (stream ++ bytes.now) < input_limit → StoreStands D.seen nothing store h → IsReadable h
+        → FeedStops D.seen script.old.setup moment stream bytes.now h script.old.tally script.new.tally stop result.0) }
     ensures set { result.0.state.sum.text ≡ Some script.old.setup }
     ensures others { (i : ℕ) → i ≢ line - 1 → slice_get script.new.lines.items i ≡ slice_get script.old.lines.items i }
     ensures rest { script.new ≡ record script.old {
@@ -164,7 +164,7 @@ fn fed<D: Disk>(
       sixteen = script.new.sixteen;
       tally = script.new.tally;
     } }
-    ensures tells { is_told (D.told result.0.journal.disk) ≡ is_told (D.told store.journal.disk) }
+    ensures tells { is_told (D.seen result.0.journal.disk).told ≡ is_told (D.seen store.journal.disk).told }
     ensures at_open { result.0.at_open ≡ store.at_open }
     ensures limits { result.0.journal.limits ≡ store.journal.limits }
 {

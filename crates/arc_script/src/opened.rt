@@ -38,17 +38,17 @@ pub(crate) struct Opened<D: Disk, K: Lasting> {
     pub(crate) lasting: PhantomData<K>,
     ghost at_open_is: { store.at_open ≡ K.at_open },
     ghost limits_are: { store.journal.limits ≡ K.limits },
-    ghost tells_is: { is_told (D.told store.journal.disk) ≡ K.tells },
+    ghost tells_is: { is_told (D.seen store.journal.disk).told ≡ K.tells },
 }
 
 impl<D: Disk, K: Lasting> Hall for Opened<D, K> {
     ghost use Rattle.centre_store.specs.StoreHalls.{store_in_force};
 
-    ghost seen = { λ s. script_seen D.told D.may_leave D.fault_count s.store };
+    ghost seen = { λ s. script_seen D.seen s.store };
 
     ghost legal = { λ s b h w. w.0.stands.centre.legal };
 
-    ghost in_force = { λ s b h w. store_in_force D.told D.may_leave D.fault_count s.store b h w.0 };
+    ghost in_force = { λ s b h w. store_in_force D.seen s.store b h w.0 };
 
     fn submit(&mut self, alloc: Global, event: Event, clock: u64) -> Result<Done, Stop> {
         Store::submit(&mut self.store, alloc, 0, event, clock)

@@ -6,7 +6,7 @@ ghost use Rattle.arc_text.specs.Lines.{ended_lines};
 ghost use Rattle.script_lines.specs.Lines.{Asks, IsAsked, spelling};
 ghost use Rattle.script_lines.specs.Reading.{asked};
 ghost use Rattle.session_rules.specs.Inputs.{input_limit};
-ghost use Rattle.arc_script.specs.Between.{Begun, IsReady, MayComeNext, SoFar, words};
+ghost use Rattle.arc_script.specs.Between.{Begun, IsReady, MayComeNext, SoFar};
 ghost use Rattle.arc_script.specs.Halting.{Halts, closing};
 ghost use Rattle.arc_script.specs.Playing.{IsAskedAt, moment_at};
 ghost use Rattle.arc_script.specs.Texts.{is_passed, line_limit};
@@ -46,13 +46,13 @@ pub(crate) fn play_ended<D: Disk, P: Port>(
     ensures fed { IfOk result (λ s. (stream : List ℕ) → WasFed stream cutter.old → WasFed (stream ++ bytes.now) cutter.new) }
     ensures played { IfOk result (λ s. (b : Begun D) (stream : List ℕ) → WasFed stream cutter.old
         → length (stream ++ bytes.now) ≤ input_limit
-        → SoFar (words D.told D.may_leave D.moment D.left_since D.fault_count) b (ended_lines stream) script.old store (P.seen port.old) → script.old.number ≡ length (ended_lines stream)
-        → SoFar (words D.told D.may_leave D.moment D.left_since D.fault_count) b (ended_lines (stream ++ bytes.now)) script.new s (P.seen port.new)
+        → SoFar D.seen b (ended_lines stream) script.old store (P.seen port.old) → script.old.number ≡ length (ended_lines stream)
+        → SoFar D.seen b (ended_lines (stream ++ bytes.now)) script.new s (P.seen port.new)
         × (script.new.number ≡ length (ended_lines (stream ++ bytes.now)))) }
     ensures halted { IfErr result (λ halted. (b : Begun D) (stream : List ℕ) → WasFed stream cutter.old
         → length (stream ++ bytes.now) ≤ input_limit
-        → SoFar (words D.told D.may_leave D.moment D.left_since D.fault_count) b (ended_lines stream) script.old store (P.seen port.old) → script.old.number ≡ length (ended_lines stream)
-        → Halts (words D.told D.may_leave D.moment D.left_since D.fault_count) b (ended_lines stream) (ended_lines (stream ++ bytes.now)) halted.end (P.seen port.new) halted.disk script.new.tally) }
+        → SoFar D.seen b (ended_lines stream) script.old store (P.seen port.old) → script.old.number ≡ length (ended_lines stream)
+        → Halts D.seen b (ended_lines stream) (ended_lines (stream ++ bytes.now)) halted.end (P.seen port.new) halted.disk script.new.tally) }
     ensures ready { IfOk result (λ s. IsReady script.new.clock script.new.setup s.state.sum.text) }
     ensures only { OnlyWrites (P.seen port.old) (P.seen port.new) }
 {
@@ -81,12 +81,12 @@ pub(crate) fn play_line<D: Disk, P: Port>(
     requires ready { IsReady script.old.clock script.old.setup store.state.sum.text }
     ensures played { IfOk result (λ s. (b : Begun D) (lines : List (List ℕ)) (typed : List ℕ)
         → cut ≡ cut_of line_limit typed → line.now ≡ line_of cut typed → MayComeNext lines typed
-        → SoFar (words D.told D.may_leave D.moment D.left_since D.fault_count) b lines script.old store (P.seen port.old) → script.old.number ≡ length lines
-        → SoFar (words D.told D.may_leave D.moment D.left_since D.fault_count) b (lines ++ typed ∷ []) script.new s (P.seen port.new)) }
+        → SoFar D.seen b lines script.old store (P.seen port.old) → script.old.number ≡ length lines
+        → SoFar D.seen b (lines ++ typed ∷ []) script.new s (P.seen port.new)) }
     ensures halted { IfErr result (λ halted. (b : Begun D) (lines more : List (List ℕ)) (typed : List ℕ)
         → cut ≡ cut_of line_limit typed → line.now ≡ line_of cut typed → MayComeNext lines typed
-        → SoFar (words D.told D.may_leave D.moment D.left_since D.fault_count) b lines script.old store (P.seen port.old) → script.old.number ≡ length lines
-        → Halts (words D.told D.may_leave D.moment D.left_since D.fault_count) b lines (lines ++ typed ∷ more) halted.end (P.seen port.new) halted.disk script.new.tally) }
+        → SoFar D.seen b lines script.old store (P.seen port.old) → script.old.number ≡ length lines
+        → Halts D.seen b lines (lines ++ typed ∷ more) halted.end (P.seen port.new) halted.disk script.new.tally) }
     ensures number { IfOk result (λ s. script.old.number ≤ input_limit → script.new.number ≡ script.old.number + 1) }
     ensures ready { IfOk result (λ s. IsReady script.new.clock script.new.setup s.state.sum.text) }
     ensures only { OnlyWrites (P.seen port.old) (P.seen port.new) }
@@ -143,12 +143,12 @@ fn play_asked<D: Disk, P: Port>(
     requires at { moment_at script.old.clock (asked wanted) ≡ Some moment }
     ensures played { IfOk result (λ s. (b : Begun D) (lines : List (List ℕ)) (typed : List ℕ)
         → Asks typed (asked wanted.entry) → MayComeNext lines typed
-        → SoFar (words D.told D.may_leave D.moment D.left_since D.fault_count) b lines script.old store (P.seen port.old)
-        → SoFar (words D.told D.may_leave D.moment D.left_since D.fault_count) b (lines ++ typed ∷ []) script.new s (P.seen port.new)) }
+        → SoFar D.seen b lines script.old store (P.seen port.old)
+        → SoFar D.seen b (lines ++ typed ∷ []) script.new s (P.seen port.new)) }
     ensures halted { IfErr result (λ halted. (b : Begun D) (lines more : List (List ℕ)) (typed : List ℕ)
         → Asks typed (asked wanted.entry) → MayComeNext lines typed
-        → SoFar (words D.told D.may_leave D.moment D.left_since D.fault_count) b lines script.old store (P.seen port.old)
-        → Halts (words D.told D.may_leave D.moment D.left_since D.fault_count) b lines (lines ++ typed ∷ more) halted.end (P.seen port.new) halted.disk script.new.tally) }
+        → SoFar D.seen b lines script.old store (P.seen port.old)
+        → Halts D.seen b lines (lines ++ typed ∷ more) halted.end (P.seen port.new) halted.disk script.new.tally) }
     ensures number { script.new.number ≡ script.old.number }
     ensures ready { IfOk result (λ s. IsReady script.new.clock script.new.setup s.state.sum.text) }
     ensures only { OnlyWrites (P.seen port.old) (P.seen port.new) }

@@ -8,7 +8,7 @@ ghost use Rattle.centre_store.specs.Bodies.{bodies_of};
 ghost use Rattle.centre_store.specs.Stores.{StoreStands};
 ghost use Rattle.disk_journal.specs.Journal.{Holds};
 ghost use Rattle.script_lines.specs.Lines.{Asked, Reopen};
-ghost use Rattle.arc_script.specs.Between.{Begun, Between, CarriedOut, ShutAt, StoppedAt, words};
+ghost use Rattle.arc_script.specs.Between.{Begun, Between, CarriedOut, ShutAt, StoppedAt};
 ghost use Rattle.arc_script.specs.Causes.{HasShown};
 ghost use Rattle.arc_script.specs.Ends.{BegunUntil};
 ghost use Rattle.arc_script.specs.Fed.{clock_of};
@@ -37,18 +37,18 @@ pub(crate) fn reopen<D: Disk>(
 ) -> Result<(Store<D>, Result<(), Stop>), OpenRefused<D>>
     requires clock { moment < 253_402_300_800 }
     ensures carried { IfOk result (λ r. OnOk r.1 ((b : Begun D) (before : List Asked) (count number : ℕ) (h : List Entry)
-        → Between (words D.told D.may_leave D.moment D.left_since D.fault_count) b before count h script.old store
-        → Holds D.told D.may_leave store.journal (bodies_of h) → clock_of before ≡ Some moment
-        → CarriedOut (words D.told D.may_leave D.moment D.left_since D.fault_count) b before count number h Reopen
+        → Between D.seen b before count h script.old store
+        → Holds D.seen store.journal (bodies_of h) → clock_of before ≡ Some moment
+        → CarriedOut D.seen b before count number h Reopen
         script.old.tally script.new r.0 (page_seen page.old) (page_seen page.new))) }
     ensures stop { IfOk result (λ r. IfErr r.1 (λ stop. (b : Begun D) (before : List Asked) (count : ℕ) (h : List Entry)
-        → Between (words D.told D.may_leave D.moment D.left_since D.fault_count) b before count h script.old store
-        → Holds D.told D.may_leave store.journal (bodies_of h) → clock_of before ≡ Some moment
-        → StoppedAt (words D.told D.may_leave D.moment D.left_since D.fault_count) b before h Reopen stop script.old.tally script.new.tally r.0)) }
+        → Between D.seen b before count h script.old store
+        → Holds D.seen store.journal (bodies_of h) → clock_of before ≡ Some moment
+        → StoppedAt D.seen b before h Reopen stop script.old.tally script.new.tally r.0)) }
     ensures shut { IfErr result (λ r. (b : Begun D) (before : List Asked) (count : ℕ) (h : List Entry)
-        → Between (words D.told D.may_leave D.moment D.left_since D.fault_count) b before count h script.old store
-        → Holds D.told D.may_leave store.journal (bodies_of h)
-        → ShutAt (words D.told D.may_leave D.moment D.left_since D.fault_count) b h r.fault r.disk) }
+        → Between D.seen b before count h script.old store
+        → Holds D.seen store.journal (bodies_of h)
+        → ShutAt D.seen b h r.fault r.disk) }
     ensures closed { script.new.tally ≡ closing script.old.tally script.old.opened_before store.state.sum }
     ensures rest { (script.new.setup ≡ script.old.setup) × (script.new.clock ≡ script.old.clock)
         × (script.new.number ≡ script.old.number) × (script.new.opened_before ≡ script.old.opened_before) }
@@ -70,16 +70,16 @@ fn begin_again<D: Disk>(
     page: &mut Page,
 ) -> Result<(), Stop>
     requires clock { moment < 253_402_300_800 }
-    ensures begun { OnOk result ((h : List Entry) → StoreStands D.told D.may_leave D.fault_count nothing store.old h
-        → StoreStands D.told D.may_leave D.fault_count nothing store.new (begun_after nothing h script.now.setup moment)) }
+    ensures begun { OnOk result ((h : List Entry) → StoreStands D.seen nothing store.old h
+        → StoreStands D.seen nothing store.new (begun_after nothing h script.now.setup moment)) }
     ensures set { OnOk result (store.new.state.sum.text ≡ Some script.now.setup) }
     ensures text { OnOk result ((page_seen page.new).written
         ≡ append_known (page_seen page.old).written (counted_line store.new.state.sum.recorded)) }
-    ensures stop { OnErr result ((h : List Entry) → StoreStands D.told D.may_leave D.fault_count nothing store.old h
-        → (x : List Entry) × StoreStands D.told D.may_leave D.fault_count nothing store.new x
+    ensures stop { OnErr result ((h : List Entry) → StoreStands D.seen nothing store.old h
+        → (x : List Entry) × StoreStands D.seen nothing store.new x
         × BegunUntil None script.now.setup moment h x) }
-    ensures cause { IfErr result (λ s. HasShown D.told D.may_leave D.fault_count store.new s moment (IsOfBegin script.now.setup)) }
-    ensures tells { is_told (D.told store.new.journal.disk) ≡ is_told (D.told store.old.journal.disk) }
+    ensures cause { IfErr result (λ s. HasShown D.seen store.new s moment (IsOfBegin script.now.setup)) }
+    ensures tells { is_told (D.seen store.new.journal.disk).told ≡ is_told (D.seen store.old.journal.disk).told }
     ensures at_open { store.new.at_open ≡ store.old.at_open }
     ensures limits { store.new.journal.limits ≡ store.old.journal.limits }
 {

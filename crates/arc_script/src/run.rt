@@ -10,7 +10,7 @@ ghost use Rattle.centre_store.specs.Bodies.{bodies_of};
 ghost use Rattle.centre_store.specs.Stores.{StoreStands};
 ghost use Rattle.disk_journal.specs.Journal.{Holds};
 ghost use Rattle.session_rules.specs.Inputs.{input_limit};
-ghost use Rattle.arc_script.specs.Between.{Begun, IsReady, IsStoreSoFar, SoFar, words};
+ghost use Rattle.arc_script.specs.Between.{Begun, IsReady, IsStoreSoFar, SoFar};
 ghost use Rattle.arc_script.specs.Ends.{IsScript, IsTranscript, IsUnread, Tells};
 ghost use Rattle.arc_script.specs.Halting.{Finishes};
 ghost use Rattle.arc_script.specs.Texts.{line_limit};
@@ -43,7 +43,7 @@ pub fn run_script<D: Disk, P: Port>(
 ) -> ScriptEnded<D>
     requires few { limits.bytes < 2 ^ 32 }
     requires not_ended { (P.seen port.old).ended ≡ false }
-    ensures script { IsScript (record { told = D.told; may_leave = D.may_leave; moment = D.moment; left_since = D.left_since; faults = D.fault_count })
+    ensures script { IsScript D.seen
         setup limits result.end (P.seen port.old) (P.seen port.new) disk result.disk result.tally }
 {
     match Store::open(alloc, disk, limits) {
@@ -74,10 +74,10 @@ fn run_over<D: Disk, P: Port>(
     requires few { limits.bytes < 2 ^ 32 }
     requires not_ended { (P.seen port.old).ended ≡ false }
     ensures ran { (b : Begun D) → b.setup ≡ setup → b.limits ≡ limits → b.port ≡ P.seen port.old
-        → IsStoreSoFar (words D.told D.may_leave D.moment D.left_since D.fault_count) b b.past store → Holds D.told D.may_leave store.journal (bodies_of b.past)
-        → IsTranscript (words D.told D.may_leave D.moment D.left_since D.fault_count) (Tells (words D.told D.may_leave D.moment D.left_since D.fault_count) b.disk) setup b.past limits (D.fault_count b.disk)
+        → IsStoreSoFar D.seen b b.past store → Holds D.seen store.journal (bodies_of b.past)
+        → IsTranscript D.seen (Tells (D.seen b.disk)) setup b.past limits (D.seen b.disk).faults
         result.end (P.seen port.old) (P.seen port.new) result.disk result.tally
-        ⊎ ((result.end ≡ ScriptEnd.Stopped Stop.Memory) × IsUnread (words D.told D.may_leave D.moment D.left_since D.fault_count) b.past (P.seen port.old) (P.seen port.new) result.disk result.tally) }
+        ⊎ ((result.end ≡ ScriptEnd.Stopped Stop.Memory) × IsUnread D.seen b.past (P.seen port.old) (P.seen port.new) result.disk result.tally) }
 {
     match Script::new(alloc, setup, limits, store.centre()) {
         Ok(mut script) => {
@@ -106,8 +106,8 @@ fn read_script<D: Disk, P: Port>(
     requires not_ended { (P.seen port.old).ended ≡ false }
     requires ready { IsReady script.old.clock script.old.setup store.state.sum.text }
     ensures ran { (b : Begun D) → b.port ≡ P.seen port.old → script.old.number ≡ 0
-        → SoFar (words D.told D.may_leave D.moment D.left_since D.fault_count) b [] script.old store (P.seen port.old)
-        → IsTranscript (words D.told D.may_leave D.moment D.left_since D.fault_count) (Tells (words D.told D.may_leave D.moment D.left_since D.fault_count) b.disk) b.setup b.past b.limits (D.fault_count b.disk)
+        → SoFar D.seen b [] script.old store (P.seen port.old)
+        → IsTranscript D.seen (Tells (D.seen b.disk)) b.setup b.past b.limits (D.seen b.disk).faults
         result.0 b.port (P.seen port.new) result.1 script.new.tally }
 {
     let mut store = store;
@@ -145,8 +145,8 @@ fn finish<D: Disk, P: Port>(
     requires fed { (stream : List ℕ) × WasFed stream cutter.old }
     requires ready { IsReady script.old.clock script.old.setup store.state.sum.text }
     ensures finished { (b : Begun D) (stream : List ℕ) → WasFed stream cutter.old → length stream ≤ input_limit
-        → SoFar (words D.told D.may_leave D.moment D.left_since D.fault_count) b (ended_lines stream) script.old store (P.seen port.old) → script.old.number ≡ length (ended_lines stream)
-        → Finishes (words D.told D.may_leave D.moment D.left_since D.fault_count) b (ended_lines stream) (lines stream) result.0 (P.seen port.new) result.1 script.new.tally }
+        → SoFar D.seen b (ended_lines stream) script.old store (P.seen port.old) → script.old.number ≡ length (ended_lines stream)
+        → Finishes D.seen b (ended_lines stream) (lines stream) result.0 (P.seen port.new) result.1 script.new.tally }
     ensures only { OnlyWrites (P.seen port.old) (P.seen port.new) }
 {
     let Some(cut) = cutter.finish() else {

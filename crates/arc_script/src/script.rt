@@ -110,7 +110,7 @@ impl Script {
     /// Takes what is told of the centre, and closes the store.
     pub(crate) fn close<D: Disk>(&mut self, store: Store<D>) -> D
         ensures disk { result ≡ store.journal.disk }
-        ensures later { store.at_open ≤ D.fault_count store.journal.disk }
+        ensures later { store.at_open ≤ (D.seen store.journal.disk).faults }
         ensures tally { self.new ≡ record self.old {
           tally = record self.old.tally {
             recorded = store.state.sum.recorded;

@@ -3,7 +3,7 @@ ghost use Rattle.std.specs.Prelude.{◌≡◌, ◌≢◌, ◌<◌, ◌≤◌, �
 ghost use Rattle.centre_store.specs.Stores.{HasFailed};
 ghost use Rattle.script_lines.specs.Lines.{IsAsked, Reopen, spelling};
 ghost use Rattle.script_lines.specs.Reading.{asked};
-ghost use Rattle.arc_script.specs.Between.{Carries, IsReady, Shuts, Stops, words};
+ghost use Rattle.arc_script.specs.Between.{Carries, IsReady, Shuts, Stops};
 ghost use Rattle.arc_script.specs.Halting.{closing};
 ghost use Rattle.arc_script.specs.PageWords.{page_seen};
 ghost use Rattle.arc_script.specs.Pages.{blank};
@@ -38,14 +38,14 @@ pub(crate) fn carry_out<D: Disk>(
     requires short { length (spelling (asked wanted)) ≤ line_limit }
     requires at { moment_at script.old.clock (asked wanted) ≡ Some moment }
     requires blank { page_seen page.old ≡ blank moment }
-    ensures carried { IfOk result (λ r. OnOk r.1 (Carries (words D.told D.may_leave D.moment D.left_since D.fault_count) moment (asked wanted.entry)
+    ensures carried { IfOk result (λ r. OnOk r.1 (Carries D.seen moment (asked wanted.entry)
         script.old script.new store r.0 (page_seen page.old) (page_seen page.new))) }
-    ensures stop { IfOk result (λ r. IfErr r.1 (λ stop. Stops (words D.told D.may_leave D.moment D.left_since D.fault_count) moment (asked wanted.entry)
+    ensures stop { IfOk result (λ r. IfErr r.1 (λ stop. Stops D.seen moment (asked wanted.entry)
         script.old script.new store r.0 stop)) }
-    ensures shut { IfErr result (λ r. (asked wanted.entry ≡ Reopen) × Shuts (words D.told D.may_leave D.moment D.left_since D.fault_count)
+    ensures shut { IfErr result (λ r. (asked wanted.entry ≡ Reopen) × Shuts D.seen
         moment (asked wanted.entry) script.old store r.fault r.disk) }
     ensures closed { OnErr result (script.new.tally ≡ closing script.old.tally script.old.opened_before store.state.sum) }
-    ensures up { IfOk result (λ r. OnOk r.1 (HasFailed D.fault_count r.0 → ⊥)) }
+    ensures up { IfOk result (λ r. OnOk r.1 (HasFailed D.seen r.0 → ⊥)) }
     ensures ready { IfOk result (λ r. OnOk r.1 (IsReady script.new.clock script.new.setup r.0.state.sum.text)) }
     ensures rest { (script.new.setup ≡ script.old.setup) × (script.new.number ≡ script.old.number)
         × (script.new.opened_before ≡ script.old.opened_before) }
@@ -70,11 +70,11 @@ fn attempt<D: Disk>(
     requires short { length (spelling (asked wanted)) ≤ line_limit }
     requires at { moment_at script.old.clock (asked wanted) ≡ Some moment }
     requires blank { page_seen page.old ≡ blank moment }
-    ensures carried { IfOk result (λ r. OnOk r.1 (Carries (words D.told D.may_leave D.moment D.left_since D.fault_count) moment (asked wanted.entry)
+    ensures carried { IfOk result (λ r. OnOk r.1 (Carries D.seen moment (asked wanted.entry)
         script.old script.new store r.0 (page_seen page.old) (page_seen page.new))) }
-    ensures stop { IfOk result (λ r. IfErr r.1 (λ stop. Stops (words D.told D.may_leave D.moment D.left_since D.fault_count) moment (asked wanted.entry)
+    ensures stop { IfOk result (λ r. IfErr r.1 (λ stop. Stops D.seen moment (asked wanted.entry)
         script.old script.new store r.0 stop)) }
-    ensures shut { IfErr result (λ r. (asked wanted.entry ≡ Reopen) × Shuts (words D.told D.may_leave D.moment D.left_since D.fault_count)
+    ensures shut { IfErr result (λ r. (asked wanted.entry ≡ Reopen) × Shuts D.seen
         moment (asked wanted.entry) script.old store r.fault r.disk) }
     ensures closed { OnErr result (script.new.tally ≡ closing script.old.tally script.old.opened_before store.state.sum) }
     ensures ready { IfOk result (λ r. OnOk r.1 (IsReady script.new.clock script.new.setup r.0.state.sum.text)) }
@@ -90,7 +90,7 @@ fn attempt<D: Disk>(
 // What a line did, unless the disk failed though no event met that: nothing is known then of what it holds, and so the line has no output.
 fn unless_failed<D: Disk>(store: &Store<D>, done: Result<(), Stop>) -> Result<(), Stop>
     ensures done { OnOk result (done ≡ Ok tt) }
-    ensures up { OnOk result (HasFailed D.fault_count store.now → ⊥) }
+    ensures up { OnOk result (HasFailed D.seen store.now → ⊥) }
     ensures stop { IfErr result (λ s. (done ≡ Err s) ⊎ ((done ≡ Ok tt) × (s ≡ Stop.Memory))) }
 {
     done?;
@@ -116,9 +116,9 @@ fn over_store<D: Disk>(
     requires at { moment_at script.old.clock (asked wanted) ≡ Some moment }
     requires blank { page_seen page.old ≡ blank moment }
     requires other { asked wanted ≢ Reopen }
-    ensures carried { OnOk result.1 (Carries (words D.told D.may_leave D.moment D.left_since D.fault_count) moment (asked wanted.entry)
+    ensures carried { OnOk result.1 (Carries D.seen moment (asked wanted.entry)
         script.old script.new store result.0 (page_seen page.old) (page_seen page.new)) }
-    ensures stop { IfErr result.1 (λ stop. Stops (words D.told D.may_leave D.moment D.left_since D.fault_count) moment (asked wanted.entry)
+    ensures stop { IfErr result.1 (λ stop. Stops D.seen moment (asked wanted.entry)
         script.old script.new store result.0 stop) }
     ensures ready { OnOk result.1 (IsReady script.new.clock script.new.setup result.0.state.sum.text) }
     ensures rest { (script.new.setup ≡ script.old.setup) × (script.new.number ≡ script.old.number)

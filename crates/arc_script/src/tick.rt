@@ -34,20 +34,20 @@ pub(crate) fn tick<D: Disk>(
 ) -> Result<(), Stop>
     requires clock { moment < 253_402_300_800 }
     requires set { IfSome script.old.clock (λ last. store.old.state.sum.text ≡ Some script.old.setup) }
-    ensures ticked { OnOk result ((h : List Entry) → StoreStands D.told D.may_leave D.fault_count nothing store.old h
-        → Ticked D.told D.may_leave D.fault_count (before_tick script.old.clock script.old.setup moment h) moment store.new
+    ensures ticked { OnOk result ((h : List Entry) → StoreStands D.seen nothing store.old h
+        → Ticked D.seen (before_tick script.old.clock script.old.setup moment h) moment store.new
         (page_seen page.old) (page_seen page.new)) }
     ensures set { OnOk result (store.new.state.sum.text ≡ Some script.old.setup) }
     ensures clock { OnOk result (script.new.clock ≡ Some moment) }
     ensures rest { script.new ≡ record script.old { clock = script.new.clock } }
-    ensures stop { IfErr result (λ s. (h : List Entry) → StoreStands D.told D.may_leave D.fault_count nothing store.old h
-        → TickStops D.told D.may_leave D.fault_count script.old.clock script.old.setup moment h s store.new) }
-    ensures cause { IfErr result (λ s. HasShown D.told D.may_leave D.fault_count store.new s moment
+    ensures stop { IfErr result (λ s. (h : List Entry) → StoreStands D.seen nothing store.old h
+        → TickStops D.seen script.old.clock script.old.setup moment h s store.new) }
+    ensures cause { IfErr result (λ s. HasShown D.seen store.new s moment
         (IsOfTime script.old.clock script.old.setup)) }
-    ensures tells { is_told (D.told store.new.journal.disk) ≡ is_told (D.told store.old.journal.disk) }
+    ensures tells { is_told (D.seen store.new.journal.disk).told ≡ is_told (D.seen store.old.journal.disk).told }
     ensures at_open { store.new.at_open ≡ store.old.at_open }
     ensures limits { store.new.journal.limits ≡ store.old.journal.limits }
-    ensures later { D.fault_count store.old.journal.disk ≤ D.fault_count store.new.journal.disk }
+    ensures later { (D.seen store.old.journal.disk).faults ≤ (D.seen store.new.journal.disk).faults }
 {
     begin_first(alloc, store, script, moment)?;
     script.clock = Some(moment);
@@ -74,19 +74,19 @@ fn begin_first<D: Disk>(
 ) -> Result<(), Stop>
     requires clock { moment < 253_402_300_800 }
     requires set { IfSome script.now.clock (λ last. store.old.state.sum.text ≡ Some script.now.setup) }
-    ensures begun { OnOk result ((h : List Entry) → StoreStands D.told D.may_leave D.fault_count nothing store.old h
-        → StoreStands D.told D.may_leave D.fault_count nothing store.new (before_tick script.now.clock script.now.setup moment h)) }
+    ensures begun { OnOk result ((h : List Entry) → StoreStands D.seen nothing store.old h
+        → StoreStands D.seen nothing store.new (before_tick script.now.clock script.now.setup moment h)) }
     ensures set { OnOk result (store.new.state.sum.text ≡ Some script.now.setup) }
     ensures ready { OnOk result (IsSetting store.new.state.sum.text) }
-    ensures stop { OnErr result ((h : List Entry) → StoreStands D.told D.may_leave D.fault_count nothing store.old h
-        → (x : List Entry) × StoreStands D.told D.may_leave D.fault_count nothing store.new x
+    ensures stop { OnErr result ((h : List Entry) → StoreStands D.seen nothing store.old h
+        → (x : List Entry) × StoreStands D.seen nothing store.new x
         × BegunUntil script.now.clock script.now.setup moment h x) }
-    ensures cause { IfErr result (λ s. HasShown D.told D.may_leave D.fault_count store.new s moment
+    ensures cause { IfErr result (λ s. HasShown D.seen store.new s moment
         (IsOfTime script.now.clock script.now.setup)) }
-    ensures tells { is_told (D.told store.new.journal.disk) ≡ is_told (D.told store.old.journal.disk) }
+    ensures tells { is_told (D.seen store.new.journal.disk).told ≡ is_told (D.seen store.old.journal.disk).told }
     ensures at_open { store.new.at_open ≡ store.old.at_open }
     ensures limits { store.new.journal.limits ≡ store.old.journal.limits }
-    ensures later { D.fault_count store.old.journal.disk ≤ D.fault_count store.new.journal.disk }
+    ensures later { (D.seen store.old.journal.disk).faults ≤ (D.seen store.new.journal.disk).faults }
 {
     match script.clock {
         None => begin(alloc, store, script, moment),

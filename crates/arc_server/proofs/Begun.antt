@@ -1,12 +1,12 @@
 -- What a run shows that began and served all callers.
-use Rattle.std.proofs.Common.{◌≡◌, ◌≤◌, ◌++◌, ℕ, List, codes, decimal, length, Bool, true, false, Option, Result, Ok, Err, IfOk, OnErr}
+use Rattle.std.proofs.Common.{◌≡◌, ◌≤◌, ◌++◌, ℕ, List, codes, decimal, length, Bool, true, false, Result, Ok, Err, IfOk, OnErr}
 use Rattle.std.proofs.Common.{inl, sym, subst, refl, ap, ◌∙◌}
 use Rattle.std.specs.Prelude.{is_err, nat_le}
 use Rattle.std.proofs.lemmas.Bool.{le-leb}
 use Rattle.std.proofs.lemmas.List.Elements.{All-nil}
 use Rattle.arc_data.specs.declared.blob.Memory.{Memory}
 use Rattle.arc_data.specs.declared.incident.Incident.{Incident}
-use Rattle.arc_io.specs.Areas.{Areas}
+use Rattle.arc_io.specs.Disks.{DiskSeen}
 use Rattle.arc_io.specs.Causes.{next_count}
 use Rattle.arc_io.specs.Seen.{PortSeen}
 use Rattle.arc_io.specs.Told.{Puts}
@@ -51,16 +51,15 @@ whole_or_cut p p' (Ok x) line puts = (puts.taken, puts.others)
 whole_or_cut p p' (Err e) line puts = (puts.taken, puts.cause.failed, puts.others)
 
 -- the line that was put is that of the history for which the store stands
-pub puts_line : {D T E : Type 0} {told : D → Option Areas} {may_leave : D → Areas → Type 0} {faults : D → ℕ}
+pub puts_line : {D T E : Type 0} {seen : D → DiskSeen}
     (p p' : PortSeen) (result : Result T E) (last : Stored D) → Puts p p' result (summary_line last.state.sum)
-    → (h : List Entry) → StoreStands told may_leave faults nothing last h → WritesLine (is_err result) (line_after h) p p'
+    → (h : List Entry) → StoreStands seen nothing last h → WritesLine (is_err result) (line_after h) p p'
 puts_line p p' result last puts h stands =
     subst (λ (l : List ℕ). WritesLine (is_err result) l p p') (line_is last.state h stands.centre)
     (whole_or_cut p p' result (summary_line last.state.sum) puts)
 
 -- a disk that has recorded the history ends with it, whatever the status
-ends_recorded : {D : Type 0} {told : D → Option Areas} {may_leave : D → Areas → Type 0} (status : Status) (disk : D) (h : List Entry)
-    → HasRecorded told may_leave disk h → EndsWith told may_leave status disk h
+ends_recorded : (status : Status) (disk : DiskSeen) (h : List Entry) → HasRecorded disk h → EndsWith status disk h
 ends_recorded (DiskFault before now) disk h has = inl has
 ends_recorded Done disk h has = has
 ends_recorded Usage disk h has = has
@@ -76,27 +75,27 @@ ends_recorded Spent disk h has = has
 ends_recorded (Worn count) disk h has = has
 
 -- by whether the disk has failed
-ends_by : {D : Type 0} {told : D → Option Areas} {may_leave : D → Areas → Type 0} {faults : D → ℕ}
+ends_by : {D : Type 0} {seen : D → DiskSeen}
     (failed : Bool) (status : Status) (entry now : ℕ) (others : List Status) (last : Stored D) (h : List Entry)
     → status ≡ first_of (where_so failed (DiskFault entry now) ++ others)
-    → (failed ≡ false → HasFailed faults last → ⊥)
-    → StoreStands told may_leave faults nothing last h → EndsWith told may_leave status last.journal.disk h
-ends_by {D} {told} {may_leave} true status entry now others last h is up stands =
-    subst (λ (s : Status). EndsWith told may_leave s last.journal.disk h) (sym is) (kept last entry now stands)
-ends_by false status entry now others last h is up stands =
-    ends_recorded status last.journal.disk h (kept_up last stands (up refl))
+    → (failed ≡ false → HasFailed seen last → ⊥)
+    → StoreStands seen nothing last h → EndsWith status (seen last.journal.disk) h
+ends_by {D} {seen} true status entry now others last h is up stands =
+    subst (λ (s : Status). EndsWith s (seen last.journal.disk) h) (sym is) (kept last entry now stands)
+ends_by {D} {seen} false status entry now others last h is up stands =
+    ends_recorded status (seen last.journal.disk) h (kept_up last stands (up refl))
 
 -- the disk that is handed back ends with the history for which the store stands
-pub ends_first : {D : Type 0} {told : D → Option Areas} {may_leave : D → Areas → Type 0} {faults : D → ℕ}
+pub ends_first : {D : Type 0} {seen : D → DiskSeen}
     (status : Status) (entry first now : ℕ) (others : List Status) (last : Stored D) (disk' : D)
     → status ≡ first_of (where_so (nat_le (next_count entry) now) (DiskFault entry now) ++ others)
-    → last.at_open ≡ first → entry ≤ first → disk' ≡ last.journal.disk → now ≡ faults disk'
-    → (h : List Entry) → StoreStands told may_leave faults nothing last h → EndsWith told may_leave status disk' h
-ends_first {D} {told} {may_leave} {faults} status entry first now others last disk' is opened since handed counted h stands =
-    let up : nat_le (next_count entry) now ≡ false → HasFailed faults last → ⊥ =
-    up_to_end faults entry first now last disk' (nat_le (next_count entry) now) opened since handed counted
+    → last.at_open ≡ first → entry ≤ first → disk' ≡ last.journal.disk → now ≡ (seen disk').faults
+    → (h : List Entry) → StoreStands seen nothing last h → EndsWith status (seen disk') h
+ends_first {D} {seen} status entry first now others last disk' is opened since handed counted h stands =
+    let up : nat_le (next_count entry) now ≡ false → HasFailed seen last → ⊥ =
+    up_to_end seen entry first now last disk' (nat_le (next_count entry) now) opened since handed counted
     (λ rose. le-leb (next_count entry) now rose) in
-    subst (λ (d : D). EndsWith told may_leave status d h) (sym handed)
+    subst (λ (d : D). EndsWith status (seen d) h) (sym handed)
     (ends_by (nat_le (next_count entry) now) status entry now others last h is up stands)
 
 abbrev first_by : ℕ → Bool → Result CameSeen Memory → ℕ → ℕ → ℕ → Status
@@ -114,22 +113,22 @@ occurs status entry end counted writes late p p' cut came counts was is first =
     ∙ ap (λ (n : ℕ). first_by entry cut came counted p.write_faults n) is
 
 -- all of a run that began: by whether the callers ran
-pub serves_all : {D : Type 0} {told : D → Option Areas} {may_leave : D → Areas → Type 0} {faults : D → ℕ}
+pub serves_all : {D : Type 0} {seen : D → DiskSeen}
     (came : Result CameSeen Memory) (cut : Bool) (first last : Stored D) (crew : Crew) (status : Status)
     (past : List Entry) (text : List ℕ) (clock : ℕ) (p p' : PortSeen) (around around' : StationSeen) (entry : ℕ) (disk' : D)
-    → IsStoreFor told may_leave faults nothing first (begun_after nothing past text clock) → text_of first.state ≡ text
-    → IfOk came (λ came. ServesStore told may_leave faults first crew around around' came last)
-    → OnErr came ((b : Summary) (h : List Entry) → StoreStands told may_leave faults b first h → GoesOnFrom told may_leave faults b h last)
+    → IsStoreFor seen nothing first (begun_after nothing past text clock) → text_of first.state ≡ text
+    → IfOk came (λ came. ServesStore seen first crew around around' came last)
+    → OnErr came ((b : Summary) (h : List Entry) → StoreStands seen b first h → GoesOnFrom seen b h last)
     → OnErr came (around' ≡ around)
     → last.journal.limits ≡ shipped → disk' ≡ last.journal.disk → entry ≤ first.at_open
-    → ((h : List Entry) → StoreStands told may_leave faults nothing last h → EndsWith told may_leave status disk' h)
-    → ((h : List Entry) → StoreStands told may_leave faults nothing last h → WritesLine cut (line_after h) p p')
-    → status ≡ first_of (occurred entry (faults disk') p p' cut came)
-    → ServesAll told may_leave faults crew status past text clock p p' around around' entry disk'
-serves_all {D} {told} {may_leave} {faults} (Ok came) cut first last crew status past text clock p p' around around' entry disk' begins under served refused untouched limits handed since ends line is =
+    → ((h : List Entry) → StoreStands seen nothing last h → EndsWith status (seen disk') h)
+    → ((h : List Entry) → StoreStands seen nothing last h → WritesLine cut (line_after h) p p')
+    → status ≡ first_of (occurred entry (seen disk').faults p p' cut came)
+    → ServesAll seen crew status past text clock p p' around around' entry disk'
+serves_all {D} {seen} (Ok came) cut first last crew status past text clock p p' around around' entry disk' begins under served refused untouched limits handed since ends line is =
     let base : List Entry = begun_after nothing past text clock in
-    let stood : StoreStands told may_leave faults nothing served.gate.store base =
-    subst (λ (s : Stored D). StoreStands told may_leave faults nothing s base) (sym served.from_is) begins.stands in
+    let stood : StoreStands seen nothing served.gate.store base =
+    subst (λ (s : Stored D). StoreStands seen nothing s base) (sym served.from_is) begins.stands in
     let all = served.serves.stands nothing base stood in record {
       first = first;
       begins = begins;
@@ -145,24 +144,24 @@ serves_all {D} {told} {may_leave} {faults} (Ok came) cut first last crew status 
       line = line all.from.history all.from.stands;
       status_is = is;
       shows =
-          shown (Ok came) cut status entry (faults disk') p p' is (λ written. rose_line cut (line_after all.from.history) p p' written (line all.from.history all.from.stands))
+          shown (Ok came) cut status entry (seen disk').faults p p' is (λ written. rose_line cut (line_after all.from.history) p p' written (line all.from.history all.from.stands))
           (λ up. all_may first last crew around around' came entry disk' served since handed up);
     }
-serves_all {D} {told} {may_leave} {faults} (Err none) cut first last crew status past text clock p p' around around' entry disk' begins under served refused untouched limits handed since ends line is =
+serves_all {D} {seen} (Err none) cut first last crew status past text clock p p' around around' entry disk' begins under served refused untouched limits handed since ends line is =
     let base : List Entry = begun_after nothing past text clock in
-    let from : GoesOnFrom told may_leave faults nothing base last = refused nothing base begins.stands in record {
+    let from : GoesOnFrom seen nothing base last = refused nothing base begins.stands in record {
       first = first;
       begins = begins;
       under = under;
       last = last;
       came = Err none;
       served = untouched;
-      stands = record { from = from; seen = All-nil (λ (p : PassSeen). Extends (p.since ++ base) from.history) };
+      stands = record { from = from; all_seen = All-nil (λ (p : PassSeen). Extends (p.since ++ base) from.history) };
       limits = limits;
       handed = handed;
       ends = ends from.history from.stands;
       cut = cut;
       line = line from.history from.stands;
       status_is = is;
-      shows = shown (Err none) cut status entry (faults disk') p p' is (λ written. rose_line cut (line_after from.history) p p' written (line from.history from.stands)) (λ up. tt);
+      shows = shown (Err none) cut status entry (seen disk').faults p p' is (λ written. rose_line cut (line_after from.history) p p' written (line from.history from.stands)) (λ up. tt);
     }

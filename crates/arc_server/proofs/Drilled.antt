@@ -6,12 +6,13 @@ use Rattle.std.specs.Io.KnownBytes.{prepend_known, append_known, IsAtEnd}
 use Rattle.std.specs.Str.Lines.{lines}
 use Rattle.arc_drill.specs.Texts.{drill_text, drill_setup}
 use Rattle.arc_io.specs.Areas.{Areas}
+use Rattle.arc_io.specs.Disks.{DiskSeen}
 use Rattle.arc_io.specs.MemoryDisk.{bytes_of, faults_of, past_of, LeftAt, LeftSince}
 use Rattle.arc_io.specs.declared.memory.disk.MemDisk.{MemDisk}
 use Rattle.arc_io.specs.Causes.{Rose}
 use Rattle.arc_io.specs.Seen.{PortSeen, untold}
 use Rattle.arc_io.specs.Told.{Puts}
-use Rattle.arc_script.specs.Ends.{DiskWords, BeginsWith, IsScript, IsTranscript, Tells}
+use Rattle.arc_script.specs.Ends.{BeginsWith, IsScript, IsTranscript, Tells}
 use Rattle.arc_script.specs.Steps.{Step, Keeps, IsStepOf, AreSteps}
 use Rattle.arc_script.specs.Tallies.{IsTally}
 use Rattle.arc_script.specs.Texts.{AreOf, counted}
@@ -67,20 +68,20 @@ all_read text read left (Some xs) is taken end =
     ap (λ (o : Option (List ℕ)). elim o [ None ↦ text | Some l ↦ l ]) same ∙ ap (λ (l : List ℕ). read ++ l) end ∙ append-nil read
 
 -- an area without bytes has no past
-new_past : {D : Type 0} (w : DiskWords D) (disk : D) (past : List Entry) → w.told disk ≡ Some (record { a = []; b = [] })
-    → BeginsWith w disk past → past ≡ []
-new_past w disk past is begins =
+new_past : {D : Type 0} (seen : D → DiskSeen) (disk : D) (past : List Entry) → (seen disk).told ≡ Some (record { a = []; b = [] })
+    → BeginsWith (seen disk) past → past ≡ []
+new_past seen disk past is begins =
     let area : Stands [] begins.bodies = subst (λ (o : Option Areas). IfSome o (λ s. Stands s.a begins.bodies)) is begins.area in
     (one_opening []).pasts begins.bodies [] past [] area (inl (omega arith, refl)) begins.is_past no_past
 
-drilled_by : {D : Type 0} (w : DiskWords D) (n : ℕ) (past : List Entry) (limits : Limits) (entry : ℕ) (p p' : PortSeen) (disk disk' : D)
-    (tally : Tally) → p.left ≡ Some (drill_text n) → w.told disk ≡ Some (record { a = []; b = [] }) → BeginsWith w disk past
-    → IsTranscript w (Tells w disk) drill_setup past limits entry Done p p' disk' tally → IsDrilled n tally
-drilled_by w n past limits entry p p' disk disk' tally left is begins t =
+drilled_by : {D : Type 0} (seen : D → DiskSeen) (n : ℕ) (past : List Entry) (limits : Limits) (entry : ℕ) (p p' : PortSeen) (disk disk' : D)
+    (tally : Tally) → p.left ≡ Some (drill_text n) → (seen disk).told ≡ Some (record { a = []; b = [] }) → BeginsWith (seen disk) past
+    → IsTranscript seen (Tells (seen disk)) drill_setup past limits entry Done p p' disk' tally → IsDrilled n tally
+drilled_by seen n past limits entry p p' disk disk' tally left is begins t =
     let steps = t.played.steps in
     let history = t.played.history in
     let whole = t.ends.2 in
-    let none : past ≡ [] = new_past w disk past is begins in
+    let none : past ≡ [] = new_past seen disk past is begins in
     let read : drill_text n ≡ t.read = all_read (drill_text n) t.read p.left p'.left left t.taken t.ends.0.left in
     let lines_are : counted (lines_read p'.ended t.read) ≡ counted (lines (drill_text n)) =
     ap (λ (b : Bool). counted (lines_read b t.read)) t.ends.0.ended ∙ ap (λ (l : List ℕ). counted (lines l)) (sym read) in
@@ -91,36 +92,26 @@ drilled_by w n past limits entry p p' disk disk' tally left is begins t =
       history = history;
       of = subst (λ (l : List (ℕ × List ℕ)). AreOf [] l steps) front t.played.of;
       are = told_steps drill_setup [] [] history steps (record { a = []; b = [] }, is)
-          (subst (λ (h : List Entry). AreSteps (Tells w disk) drill_setup [] h history steps) none t.played.are);
+          (subst (λ (h : List Entry). AreSteps (Tells (seen disk)) drill_setup [] h history steps) none t.played.are);
       counts = subst (λ (h : List Entry). IsTally h steps history tally) none whole.counts;
     }
 
-drilled : {D : Type 0} (w : DiskWords D) (n : ℕ) (limits : Limits) (p p' : PortSeen) (disk disk' : D) (tally : Tally)
-    → p.left ≡ Some (drill_text n) → w.told disk ≡ Some (record { a = []; b = [] })
-    → IsScript w drill_setup limits Done p p' disk disk' tally → IsDrilled n tally
-drilled w n limits p p' disk disk' tally left is (inl refused) = let no = refused.1 in cc
-drilled w n limits p p' disk disk' tally left is (inr (past, begins, inl t)) =
-    drilled_by w n past limits (w.faults disk) p p' disk disk' tally left is begins t
-drilled w n limits p p' disk disk' tally left is (inr (past, begins, inr unread)) = let no = unread.0 in cc
-
--- what a disk in memory tells
-abbrev pub memory_words : DiskWords MemDisk
-memory_words = record {
-  told = λ d. Some (bytes_of d);
-  may_leave = λ d c. LeftAt d (length (past_of d)) c;
-  moment = λ d. length (past_of d);
-  left_since = LeftSince;
-  faults = faults_of;
-}
+drilled : {D : Type 0} (seen : D → DiskSeen) (n : ℕ) (limits : Limits) (p p' : PortSeen) (disk disk' : D) (tally : Tally)
+    → p.left ≡ Some (drill_text n) → (seen disk).told ≡ Some (record { a = []; b = [] })
+    → IsScript seen drill_setup limits Done p p' disk disk' tally → IsDrilled n tally
+drilled seen n limits p p' disk disk' tally left is (inl refused) = let no = refused.1 in cc
+drilled seen n limits p p' disk disk' tally left is (inr (past, begins, inl t)) =
+    drilled_by seen n past limits (seen disk).faults p p' disk disk' tally left is begins t
+drilled seen n limits p p' disk disk' tally left is (inr (past, begins, inr unread)) = let no = unread.0 in cc
 
 -- a script that was done, under the drill's setup and over the drill's port
-pub drilled_to_end : {D : Type 0} (w : DiskWords D) (n : ℕ) (setup : List ℕ) (limits : Limits) (end : ScriptEnd) (p p' : PortSeen)
+pub drilled_to_end : {D : Type 0} (seen : D → DiskSeen) (n : ℕ) (setup : List ℕ) (limits : Limits) (end : ScriptEnd) (p p' : PortSeen)
     (disk disk' : D) (tally : Tally) → setup ≡ drill_setup → end ≡ Done → p ≡ record untold { left = Some (drill_text n) }
-    → w.told disk ≡ Some (record { a = []; b = [] }) → IsScript w setup limits end p p' disk disk' tally → IsDrilled n tally
-drilled_to_end w n setup limits end p p' disk disk' tally under done told is script =
-    drilled w n limits p p' disk disk' tally (ap (λ (q : PortSeen). q.left) told) is
-    (subst (λ (e : ScriptEnd). IsScript w drill_setup limits e p p' disk disk' tally) done
-    (subst (λ (text : List ℕ). IsScript w text limits end p p' disk disk' tally) under script))
+    → (seen disk).told ≡ Some (record { a = []; b = [] }) → IsScript seen setup limits end p p' disk disk' tally → IsDrilled n tally
+drilled_to_end seen n setup limits end p p' disk disk' tally under done told is script =
+    drilled seen n limits p p' disk disk' tally (ap (λ (q : PortSeen). q.left) told) is
+    (subst (λ (e : ScriptEnd). IsScript seen drill_setup limits e p p' disk disk' tally) done
+    (subst (λ (text : List ℕ). IsScript seen text limits end p p' disk disk' tally) under script))
 
 -- the line was written whole
 pub told_whole : {T E : Type 0} {p p' : PortSeen} (x : T) (n : ℕ) (tally : Tally) (line : List ℕ) → IsDrilled n tally → line ≡ drill_line n tally

@@ -1,7 +1,7 @@
 -- What a run shows that did not begin.
-use Rattle.std.proofs.Common.{◌≡◌, ◌≤◌, ◌⊎◌, ℕ, List, Option, inl, inr, sym, subst, refl, ap, ◌∙◌}
+use Rattle.std.proofs.Common.{◌≡◌, ◌≤◌, ◌⊎◌, ℕ, List, inl, inr, sym, subst, refl, ap, ◌∙◌}
 use Rattle.arc_data.specs.declared.event.Event.{Event}
-use Rattle.arc_io.specs.Areas.{Areas}
+use Rattle.arc_io.specs.Disks.{DiskSeen}
 use Rattle.arc_io.specs.Causes.{Rose}
 use Rattle.centre_core.specs.declared.hall.Stop.{Stop}
 use Rattle.centre_core.specs.declared.hall.Stop.TheVariants.{Memory, Down, Full, Worn}
@@ -17,56 +17,56 @@ use Rattle.arc_server.specs.declared.status.Status.TheVariants.{DiskFault, Full 
 use Rattle.arc_server.proofs.Kept.{kept, kept_up}
 use Rattle.arc_server.proofs.Served.{risen, rose_from}
 
-stops : {D : Type 0} {told : D → Option Areas} {may_leave : D → Areas → Type 0} {faults : D → ℕ}
+stops : {D : Type 0} {seen : D → DiskSeen}
     (status : Status) (last : Stored D) (disk' : D) {past : List Entry} {text : List ℕ} {clock : ℕ}
-    → ((h : List Entry) → StoreStands told may_leave faults nothing last h → EndsWith told may_leave status last.journal.disk h)
-    → StoreStands told may_leave faults nothing last past ⊎ StoreStands told may_leave faults nothing last (adopted_after nothing past text clock)
+    → ((h : List Entry) → StoreStands seen nothing last h → EndsWith status (seen last.journal.disk) h)
+    → StoreStands seen nothing last past ⊎ StoreStands seen nothing last (adopted_after nothing past text clock)
     → last.journal.limits ≡ shipped → disk' ≡ last.journal.disk
-    → StopsBeginning told may_leave faults status past text clock disk' last
-stops {D} {told} {may_leave} status last disk' {past} ends (inl stands) limits handed = record {
+    → StopsBeginning seen status past text clock disk' last
+stops {D} {seen} status last disk' {past} ends (inl stands) limits handed = record {
   history = past;
   is = inl refl;
   stands = stands;
   limits = limits;
   handed = handed;
-  ends = subst (λ (d : D). EndsWith told may_leave status d past) (sym handed) (ends past stands);
+  ends = subst (λ (d : D). EndsWith status (seen d) past) (sym handed) (ends past stands);
 }
-stops {D} {told} {may_leave} status last disk' {past} {text} {clock} ends (inr stands) limits handed =
+stops {D} {seen} status last disk' {past} {text} {clock} ends (inr stands) limits handed =
     let history : List Entry = adopted_after nothing past text clock in record {
       history = history;
       is = inr refl;
       stands = stands;
       limits = limits;
       handed = handed;
-      ends = subst (λ (d : D). EndsWith told may_leave status d history) (sym handed) (ends history stands);
+      ends = subst (λ (d : D). EndsWith status (seen d) history) (sym handed) (ends history stands);
     }
 
 -- a beginning that stopped
-pub unbegun : {D : Type 0} {told : D → Option Areas} {may_leave : D → Areas → Type 0} {faults : D → ℕ}
+pub unbegun : {D : Type 0} {seen : D → DiskSeen}
     (stop : Stop) (last : Stored D) (past : List Entry) (text : List ℕ) (clock before now : ℕ) (disk' : D) (event : Event)
-    → StoreStands told may_leave faults nothing last past ⊎ StoreStands told may_leave faults nothing last (adopted_after nothing past text clock)
-    → IsOfBegin text event → Shows told may_leave faults last stop event clock
-    → (HasFailed faults last → stop ≡ Down last.at_open (faults last.journal.disk))
-    → last.journal.limits ≡ shipped → before ≤ last.at_open → disk' ≡ last.journal.disk → now ≡ faults disk'
-    → IsUnbegun told may_leave faults (made_of_stop stop before now) past text clock before disk'
-unbegun {D} {told} {may_leave} {faults} Memory last past text clock before now disk' event stands of_begin shown up limits since handed is =
-    (last, stops StatusMemory last disk' (λ h s. kept_up last s (λ failed. let e : Memory ≡ Down last.at_open (faults last.journal.disk) = up failed in cc)) stands limits handed)
-unbegun {D} {told} {may_leave} {faults} (Down at_open found) last past text clock before now disk' event stands of_begin shown up limits since handed is =
-    let counted : found ≡ now = shown.1 ∙ sym (is ∙ ap faults handed) in
+    → StoreStands seen nothing last past ⊎ StoreStands seen nothing last (adopted_after nothing past text clock)
+    → IsOfBegin text event → Shows seen last stop event clock
+    → (HasFailed seen last → stop ≡ Down last.at_open (seen last.journal.disk).faults)
+    → last.journal.limits ≡ shipped → before ≤ last.at_open → disk' ≡ last.journal.disk → now ≡ (seen disk').faults
+    → IsUnbegun seen (made_of_stop stop before now) past text clock before disk'
+unbegun {D} {seen} Memory last past text clock before now disk' event stands of_begin shown up limits since handed is =
+    (last, stops StatusMemory last disk' (λ h s. kept_up last s (λ failed. let e : Memory ≡ Down last.at_open (seen last.journal.disk).faults = up failed in cc)) stands limits handed)
+unbegun {D} {seen} (Down at_open found) last past text clock before now disk' event stands of_begin shown up limits since handed is =
+    let counted : found ≡ now = shown.1 ∙ sym (is ∙ ap (λ (d : D). (seen d).faults) handed) in
     let rose : Rose last.at_open now = subst (λ n. Rose n now) shown.0 (subst (λ n. Rose at_open n) counted shown.2) in (
-      risen before now before (faults disk') refl is (subst (λ n. Rose before n) is (rose_from before last.at_open now since rose)),
+      risen before now before (seen disk').faults refl is (subst (λ n. Rose before n) is (rose_from before last.at_open now since rose)),
       (last, stops (DiskFault before now) last disk' (λ h s. kept last before now s) stands limits handed),
     )
-unbegun {D} {told} {may_leave} {faults} (Full used need records) last past text clock before now disk' event stands of_begin shown up limits since handed is = (
+unbegun {D} {seen} (Full used need records) last past text clock before now disk' event stands of_begin shown up limits since handed is = (
   last,
   event,
   of_begin,
   shown,
-  stops (StatusFull used need records) last disk' (λ h s. kept_up last s (λ failed. let e : Full used need records ≡ Down last.at_open (faults last.journal.disk) = up failed in cc)) stands limits handed,
+  stops (StatusFull used need records) last disk' (λ h s. kept_up last s (λ failed. let e : Full used need records ≡ Down last.at_open (seen last.journal.disk).faults = up failed in cc)) stands limits handed,
 )
-unbegun {D} {told} {may_leave} {faults} (Worn count) last past text clock before now disk' event stands of_begin shown up limits since handed is = (
+unbegun {D} {seen} (Worn count) last past text clock before now disk' event stands of_begin shown up limits since handed is = (
   last,
   shown.0,
   shown.1,
-  stops (StatusWorn count) last disk' (λ h s. kept_up last s (λ failed. let e : Worn count ≡ Down last.at_open (faults last.journal.disk) = up failed in cc)) stands limits handed,
+  stops (StatusWorn count) last disk' (λ h s. kept_up last s (λ failed. let e : Worn count ≡ Down last.at_open (seen last.journal.disk).faults = up failed in cc)) stands limits handed,
 )

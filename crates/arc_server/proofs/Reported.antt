@@ -1,7 +1,7 @@
 -- What a written report shows.
-use Rattle.std.proofs.Common.{◌≡◌, ◌⊎◌, ◌++◌, ℕ, List, codes, decimal, Option, Result, Ok, Err, inl, inr, sym, subst, refl, ap, ◌∙◌}
+use Rattle.std.proofs.Common.{◌≡◌, ◌⊎◌, ◌++◌, ℕ, List, codes, decimal, Result, Ok, Err, inl, inr, sym, subst, refl, ap, ◌∙◌}
 use Rattle.arc_data.specs.declared.incident.Incident.{Incident}
-use Rattle.arc_io.specs.Areas.{Areas}
+use Rattle.arc_io.specs.Disks.{DiskSeen}
 use Rattle.arc_io.specs.Causes.{Rose}
 use Rattle.arc_io.specs.Seen.{PortSeen}
 use Rattle.arc_io.specs.Told.{Puts}
@@ -39,38 +39,38 @@ whole_or_front (Ok x) past puts = inl (puts.taken, puts.others)
 whole_or_front (Err e) past puts = inr (puts.taken, puts.others)
 
 -- where the disk has failed
-pub reported_down : {D T E : Type 0} {told : D → Option Areas} {may_leave : D → Areas → Type 0} {faults : D → ℕ} {p p' : PortSeen}
+pub reported_down : {D T E : Type 0} {seen : D → DiskSeen} {p p' : PortSeen}
     (result : Result T E) (last : Stored D) (disk' : D) (past : List Entry) (before now : ℕ)
-    → StoreStands told may_leave faults nothing last past → Puts p p' result (report_of last.state.sum)
-    → disk' ≡ last.journal.disk → now ≡ faults disk' → Rose before now
-    → EndsWith told may_leave (DiskFault before now) disk' past × IsReported (DiskFault before now) past p p' before (faults disk')
-reported_down {D} {T} {E} {told} {may_leave} {faults} {p} {p'} result last disk' past before now stands puts handed is rose = (
-  subst (λ (d : D). EndsWith told may_leave (DiskFault before now) d past) (sym handed) (kept last before now stands),
+    → StoreStands seen nothing last past → Puts p p' result (report_of last.state.sum)
+    → disk' ≡ last.journal.disk → now ≡ (seen disk').faults → Rose before now
+    → EndsWith (DiskFault before now) (seen disk') past × IsReported (DiskFault before now) past p p' before (seen disk').faults
+reported_down {D} {T} {E} {seen} {p} {p'} result last disk' past before now stands puts handed is rose = (
+  subst (λ (d : D). EndsWith (DiskFault before now) (seen d) past) (sym handed) (kept last before now stands),
   (record { before = refl; now = is; rose = rose }, whole_or_front result past (puts_past last.state past stands.centre puts)),
 )
 
-recorded_up : {D : Type 0} {told : D → Option Areas} {may_leave : D → Areas → Type 0} {faults : D → ℕ} (last : Stored D) (disk' : D)
-    (past : List Entry) → StoreStands told may_leave faults nothing last past → disk' ≡ last.journal.disk → (HasFailed faults last → ⊥)
-    → HasRecorded told may_leave disk' past
-recorded_up {D} {told} {may_leave} last disk' past stands handed up =
-    subst (λ (d : D). HasRecorded told may_leave d past) (sym handed) (kept_up last stands up)
+recorded_up : {D : Type 0} {seen : D → DiskSeen} (last : Stored D) (disk' : D)
+    (past : List Entry) → StoreStands seen nothing last past → disk' ≡ last.journal.disk → (HasFailed seen last → ⊥)
+    → HasRecorded (seen disk') past
+recorded_up {D} {seen} last disk' past stands handed up =
+    subst (λ (d : D). HasRecorded (seen d) past) (sym handed) (kept_up last stands up)
 
 -- where it was written whole
-pub reported_whole : {D T E : Type 0} {told : D → Option Areas} {may_leave : D → Areas → Type 0} {faults : D → ℕ} {p p' : PortSeen}
+pub reported_whole : {D T E : Type 0} {seen : D → DiskSeen} {p p' : PortSeen}
     (x : T) (last : Stored D) (disk' : D) (past : List Entry) (before : ℕ)
-    → StoreStands told may_leave faults nothing last past → Puts {E = E} p p' (Ok x) (report_of last.state.sum)
-    → disk' ≡ last.journal.disk → (HasFailed faults last → ⊥)
-    → EndsWith told may_leave Done disk' past × IsReported Done past p p' before (faults disk')
+    → StoreStands seen nothing last past → Puts {E = E} p p' (Ok x) (report_of last.state.sum)
+    → disk' ≡ last.journal.disk → (HasFailed seen last → ⊥)
+    → EndsWith Done (seen disk') past × IsReported Done past p p' before (seen disk').faults
 reported_whole {D} {T} {E} x last disk' past before stands puts handed up =
     let all = puts_past {E = E} last.state past stands.centre puts in
     (recorded_up last disk' past stands handed up, (all.taken, all.others))
 
 -- where the sink failed
-pub reported_front : {D T E : Type 0} {told : D → Option Areas} {may_leave : D → Areas → Type 0} {faults : D → ℕ} {p p' : PortSeen}
+pub reported_front : {D T E : Type 0} {seen : D → DiskSeen} {p p' : PortSeen}
     (fault : E) (last : Stored D) (disk' : D) (past : List Entry) (before writes now : ℕ)
-    → StoreStands told may_leave faults nothing last past → Puts {T = T} p p' (Err fault) (report_of last.state.sum)
-    → disk' ≡ last.journal.disk → (HasFailed faults last → ⊥) → writes ≡ p.write_faults → now ≡ p'.write_faults
-    → EndsWith told may_leave (WriteFault writes now) disk' past × IsReported (WriteFault writes now) past p p' before (faults disk')
+    → StoreStands seen nothing last past → Puts {T = T} p p' (Err fault) (report_of last.state.sum)
+    → disk' ≡ last.journal.disk → (HasFailed seen last → ⊥) → writes ≡ p.write_faults → now ≡ p'.write_faults
+    → EndsWith (WriteFault writes now) (seen disk') past × IsReported (WriteFault writes now) past p p' before (seen disk').faults
 reported_front {D} {T} {E} {p = p} {p' = p'} fault last disk' past before writes now stands puts handed up was is =
     let all = puts_past {T = T} last.state past stands.centre puts in (
       recorded_up last disk' past stands handed up,
@@ -81,20 +81,19 @@ reported_front {D} {T} {E} {p = p} {p' = p'} fault last disk' past before writes
     )
 
 -- what a run shows that opened the journal, and whose report of the store's past shows this
-pub reports_past : {D : Type 0} {told : D → Option Areas} {may_leave : D → Areas → Type 0} {moment : D → ℕ}
-    {left_since : D → ℕ → Areas → Type 0} {faults : D → ℕ} {p p' : PortSeen} (status : Status) (disk disk' : D) (s : Stored D) (before : ℕ)
-    → IsOpened told may_leave faults disk s → StandsOn told may_leave moment left_since disk s.journal.disk
-    → disk' ≡ s.journal.disk → before ≡ faults disk
-    → ((past : List Entry) → StoreStands told may_leave faults nothing s past
-    → EndsWith told may_leave status disk' past × IsReported status past p p' before (faults disk'))
-    → IsReportRun told may_leave moment left_since faults status p p' disk disk'
-reports_past {D} {told} {may_leave} {moment} {left_since} {faults} {p} {p'} status disk disk' s before opened stays handed is shows =
+pub reports_past : {D : Type 0} {seen : D → DiskSeen} {p p' : PortSeen} (status : Status) (disk disk' : D) (s : Stored D) (before : ℕ)
+    → IsOpened seen disk s → StandsOn (seen disk) (seen s.journal.disk)
+    → disk' ≡ s.journal.disk → before ≡ (seen disk).faults
+    → ((past : List Entry) → StoreStands seen nothing s past
+    → EndsWith status (seen disk') past × IsReported status past p p' before (seen disk').faults)
+    → IsReportRun seen status p p' disk disk'
+reports_past {D} {seen} {p} {p'} status disk disk' s before opened stays handed is shows =
     let shown = shows opened.past opened.stands in inr (
       opened.past,
       record {
         begins = record { bodies = opened.bodies; is_past = opened.is_past; area = opened.area };
-        stays = subst (λ (d : D). StandsOn told may_leave moment left_since disk d) (sym handed) stays;
+        stays = subst (λ (d : D). StandsOn (seen disk) (seen d)) (sym handed) stays;
         ends = shown.0;
-        shown = subst (λ (n : ℕ). IsReported status opened.past p p' n (faults disk')) is shown.1;
+        shown = subst (λ (n : ℕ). IsReported status opened.past p p' n (seen disk').faults) is shown.1;
       },
     )

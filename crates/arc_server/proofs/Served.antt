@@ -1,7 +1,7 @@
 -- What a served session shows.
-use Rattle.std.proofs.Common.{◌≡◌, ◌≤◌, ℕ, List, Option, Bool, true, false, inl, inr, sym, subst, refl, ap, ◌∙◌, arith}
+use Rattle.std.proofs.Common.{◌≡◌, ◌≤◌, ℕ, List, Bool, true, false, inl, inr, sym, subst, refl, ap, ◌∙◌, arith}
 use Rattle.arc_data.specs.declared.event.Event.{Event}
-use Rattle.arc_io.specs.Areas.{Areas}
+use Rattle.arc_io.specs.Disks.{DiskSeen}
 use Rattle.arc_io.specs.Causes.{Rose}
 use Rattle.arc_io.specs.Seen.{PortSeen}
 use Rattle.centre_core.specs.Halls.{HallSeen}
@@ -38,49 +38,49 @@ pub risen : (first second entry end : ℕ) → first ≡ entry → second ≡ en
 risen first second entry end before now rose = record { before = before; now = now; rose = subst (λ n. Rose n second) (sym before) (subst (λ n. Rose entry n) (sym now) rose) }
 
 -- What is known of a session that was served over a store from the beginning of a run on, and of the disk that was handed back.
-pub record Session {D : Type 0} (told : D → Option Areas) (may_leave : D → Areas → Type 0) (faults : D → ℕ)
+pub record Session {D : Type 0} (seen : D → DiskSeen)
     (side : Side) (end : SessionEnd) (past : List Entry) (text : List ℕ) (clock : ℕ) (p p' : PortSeen) (disk' : D) (first last : Stored D) : Type 0 where
-  pub begins : IsStoreFor told may_leave faults nothing first (begun_after nothing past text clock)
+  pub begins : IsStoreFor seen nothing first (begun_after nothing past text clock)
   pub under : text_of first.state ≡ text
-  pub did : Did side end (begun_after nothing past text clock) (store_seen told may_leave faults first) (store_seen told may_leave faults last) p p'
-  pub shown : ShowsEnd end (store_seen told may_leave faults last)
+  pub did : Did side end (begun_after nothing past text clock) (store_seen seen first) (store_seen seen last) p p'
+  pub shown : ShowsEnd end (store_seen seen last)
   pub limits : last.journal.limits ≡ shipped
   pub handed : disk' ≡ last.journal.disk
 
 -- the history that it ended with, and that the store stands for it
-abbrev pub ends_with : {D : Type 0} {told : D → Option Areas} {may_leave : D → Areas → Type 0} {faults : D → ℕ}
+abbrev pub ends_with : {D : Type 0} {seen : D → DiskSeen}
     (side : Side) (end : SessionEnd) {past : List Entry} {text : List ℕ} {clock : ℕ} {p p' : PortSeen} {disk' : D} {first last : Stored D}
-    → Session told may_leave faults side end past text clock p p' disk' first last → List Entry
-ends_with {D} {told} {may_leave} {faults} side end {past} {text} {clock} {p} {p'} {disk'} {first} {last} s =
-    history_by side end (begun_after nothing past text clock) (store_seen told may_leave faults first) (store_seen told may_leave faults last) p p' s.did
+    → Session seen side end past text clock p p' disk' first last → List Entry
+ends_with {D} {seen} side end {past} {text} {clock} {p} {p'} {disk'} {first} {last} s =
+    history_by side end (begun_after nothing past text clock) (store_seen seen first) (store_seen seen last) p p' s.did
 
-stands_for : {D : Type 0} {told : D → Option Areas} {may_leave : D → Areas → Type 0} {faults : D → ℕ}
+stands_for : {D : Type 0} {seen : D → DiskSeen}
     (side : Side) (end : SessionEnd) {past : List Entry} {text : List ℕ} {clock : ℕ} {p p' : PortSeen} {disk' : D} {first last : Stored D}
-    → (s : Session told may_leave faults side end past text clock p p' disk' first last)
-    → StoreStands told may_leave faults nothing last (ends_with side end s)
-stands_for {D} {told} {may_leave} {faults} side end {past} {text} {clock} {p} {p'} {disk'} {first} {last} s =
-    (holds_of side end (begun_after nothing past text clock) (store_seen told may_leave faults first) (store_seen told may_leave faults last) p p' s.did).stands
+    → (s : Session seen side end past text clock p p' disk' first last)
+    → StoreStands seen nothing last (ends_with side end s)
+stands_for {D} {seen} side end {past} {text} {clock} {p} {p'} {disk'} {first} {last} s =
+    (holds_of side end (begun_after nothing past text clock) (store_seen seen first) (store_seen seen last) p p' s.did).stands
 
-served : {D : Type 0} {told : D → Option Areas} {may_leave : D → Areas → Type 0} {faults : D → ℕ}
+served : {D : Type 0} {seen : D → DiskSeen}
     (side : Side) (end : SessionEnd) (status : Status) {past : List Entry} {text : List ℕ} {clock : ℕ} {p p' : PortSeen} {disk' : D} {first last : Stored D}
-    → (s : Session told may_leave faults side end past text clock p p' disk' first last)
-    → EndsWith told may_leave status last.journal.disk (ends_with side end s)
-    → ServesRun told may_leave faults side end status past text clock p p' disk' last
-served {D} {told} {may_leave} side end status {first = first} s ends = record {
+    → (s : Session seen side end past text clock p p' disk' first last)
+    → EndsWith status (seen last.journal.disk) (ends_with side end s)
+    → ServesRun seen side end status past text clock p p' disk' last
+served {D} {seen} side end status {first = first} s ends = record {
   first = first;
   begins = s.begins;
   under = s.under;
   did = s.did;
   limits = s.limits;
   handed = s.handed;
-  ends = subst (λ (d : D). EndsWith told may_leave status d (ends_with side end s)) (sym s.handed) ends;
+  ends = subst (λ (d : D). EndsWith status (seen d) (ends_with side end s)) (sym s.handed) ends;
 }
 
 -- where the disk has not failed, it has recorded that history
-recorded_up : {D : Type 0} {told : D → Option Areas} {may_leave : D → Areas → Type 0} {faults : D → ℕ}
+recorded_up : {D : Type 0} {seen : D → DiskSeen}
     (side : Side) (end : SessionEnd) {past : List Entry} {text : List ℕ} {clock : ℕ} {p p' : PortSeen} {disk' : D} {first last : Stored D}
-    → (s : Session told may_leave faults side end past text clock p p' disk' first last) → (HasFailed faults last → ⊥)
-    → HasRecorded told may_leave last.journal.disk (ends_with side end s)
+    → (s : Session seen side end past text clock p p' disk' first last) → (HasFailed seen last → ⊥)
+    → HasRecorded (seen last.journal.disk) (ends_with side end s)
 recorded_up side end {last = last} s up = kept_up last (stands_for side end s) up
 
 -- the later of two counts at entry rose no sooner than the earlier
@@ -88,22 +88,22 @@ pub rose_from : (entry at_open now : ℕ) → entry ≤ at_open → Rose at_open
 rose_from entry at_open now since rose = omega arith
 
 -- a store whose disk has no more faults at the end than at the entry of the run
-pub up_to_end : {D : Type 0} (faults : D → ℕ) (before first now : ℕ) (last : Stored D) (disk' : D) (risen : Bool)
-    → last.at_open ≡ first → before ≤ first → disk' ≡ last.journal.disk → now ≡ faults disk'
-    → (Rose before now → risen ≡ true) → risen ≡ false → HasFailed faults last → ⊥
-up_to_end faults before first now last disk' risen opened since handed is rises not failed =
-    let rose : Rose last.at_open now = subst (λ n. Rose last.at_open n) (sym (is ∙ ap faults handed)) failed in
+pub up_to_end : {D : Type 0} (seen : D → DiskSeen) (before first now : ℕ) (last : Stored D) (disk' : D) (risen : Bool)
+    → last.at_open ≡ first → before ≤ first → disk' ≡ last.journal.disk → now ≡ (seen disk').faults
+    → (Rose before now → risen ≡ true) → risen ≡ false → HasFailed seen last → ⊥
+up_to_end {D = D} seen before first now last disk' risen opened since handed is rises not failed =
+    let rose : Rose last.at_open now = subst (λ n. Rose last.at_open n) (sym (is ∙ ap (λ (d : D). (seen d).faults) handed)) failed in
     let low : before ≤ last.at_open = subst (λ n. before ≤ n) (sym opened) since in
     let both : false ≡ true = sym not ∙ rises (rose_from before last.at_open now low rose) in
     cc
 
 -- where the disk has failed
-pub served_down : {D : Type 0} {told : D → Option Areas} {may_leave : D → Areas → Type 0} {faults : D → ℕ}
+pub served_down : {D : Type 0} {seen : D → DiskSeen}
     (side : Side) (end : SessionEnd) {past : List Entry} {text : List ℕ} {clock : ℕ} {p p' : PortSeen} {disk' : D} {first last : Stored D}
-    (before now : ℕ) → (s : Session told may_leave faults side end past text clock p p' disk' first last)
-    → now ≡ faults disk' → Rose before now
-    → IsServed told may_leave faults side (DiskFault before now) past text clock p p' before disk'
-served_down {D} {told} {may_leave} {faults} side end {last = last} before now s is rose =
+    (before now : ℕ) → (s : Session seen side end past text clock p p' disk' first last)
+    → now ≡ (seen disk').faults → Rose before now
+    → IsServed seen side (DiskFault before now) past text clock p p' before disk'
+served_down {D} {seen} side end {last = last} before now s is rose =
     (record { before = refl; now = is; rose = rose }, (end, last, served side end (DiskFault before now) s (kept last before now (stands_for side end s))))
 
 shown_but_memory : (hall' : HallSeen) (stop : Stop) → IsShownFor hall' stop → (stop ≡ Memory → ⊥)
@@ -112,44 +112,44 @@ shown_but_memory hall' stop (inl wanted) other = absurd (other wanted)
 shown_but_memory hall' stop (inr shown) other = shown
 
 -- a stop other than want of memory was shown by the store
-shown_at : {D : Type 0} {told : D → Option Areas} {may_leave : D → Areas → Type 0} {faults : D → ℕ}
+shown_at : {D : Type 0} {seen : D → DiskSeen}
     (side : Side) (stop : Stop) {past : List Entry} {text : List ℕ} {clock : ℕ} {p p' : PortSeen} {disk' : D} {first last : Stored D}
-    → Session told may_leave faults side (Stopped stop) past text clock p p' disk' first last → (stop ≡ Memory → ⊥)
-    → (event : Event) × (reading : ℕ) × Shows told may_leave faults last stop event reading
-shown_at {D} {told} {may_leave} {faults} side stop {last = last} s other =
-    shown_but_memory (store_seen told may_leave faults last) stop s.shown other
+    → Session seen side (Stopped stop) past text clock p p' disk' first last → (stop ≡ Memory → ⊥)
+    → (event : Event) × (reading : ℕ) × Shows seen last stop event reading
+shown_at {D} {seen} side stop {last = last} s other =
+    shown_but_memory (store_seen seen last) stop s.shown other
 
 -- where the disk has not failed
-pub served_up : {D : Type 0} {told : D → Option Areas} {may_leave : D → Areas → Type 0} {faults : D → ℕ}
+pub served_up : {D : Type 0} {seen : D → DiskSeen}
     (side : Side) (end : SessionEnd) {past : List Entry} {text : List ℕ} {clock : ℕ} {p p' : PortSeen} {disk' : D} {first last : Stored D}
-    (before now : ℕ) → (s : Session told may_leave faults side end past text clock p p' disk' first last)
-    → (HasFailed faults last → ⊥)
+    (before now : ℕ) → (s : Session seen side end past text clock p p' disk' first last)
+    → (HasFailed seen last → ⊥)
     → (end ≡ ReadFault → Rose p.read_faults p'.read_faults) → (end ≡ WriteFault → Rose p.write_faults p'.write_faults)
-    → IsServed told may_leave faults side (made_of_end end before now p p') past text clock p p' before disk'
-served_up {D} {told} {may_leave} {faults} side Quit {last = last} before now s up read write =
+    → IsServed seen side (made_of_end end before now p p') past text clock p p' before disk'
+served_up {D} {seen} side Quit {last = last} before now s up read write =
     (Quit, tt, (last, served side Quit Done s (recorded_up side Quit s up)))
-served_up {D} {told} {may_leave} {faults} side InputEnded {last = last} before now s up read write =
+served_up {D} {seen} side InputEnded {last = last} before now s up read write =
     (InputEnded, tt, (last, served side InputEnded Done s (recorded_up side InputEnded s up)))
-served_up {D} {told} {may_leave} {faults} side ReadFault {p = p} {p' = p'} {last = last} before now s up read write = (
+served_up {D} {seen} side ReadFault {p = p} {p' = p'} {last = last} before now s up read write = (
   record { before = refl; now = refl; rose = read refl },
   (last, served side ReadFault (StatusReadFault Input p.read_faults p'.read_faults) s (recorded_up side ReadFault s up)),
 )
-served_up {D} {told} {may_leave} {faults} side WriteFault {p = p} {p' = p'} {last = last} before now s up read write = (
+served_up {D} {seen} side WriteFault {p = p} {p' = p'} {last = last} before now s up read write = (
   record { before = refl; now = refl; rose = write refl },
   (last, served side WriteFault (StatusWriteFault p.write_faults p'.write_faults) s (recorded_up side WriteFault s up)),
 )
-served_up {D} {told} {may_leave} {faults} side Spent {last = last} before now s up read write =
+served_up {D} {seen} side Spent {last = last} before now s up read write =
     (last, served side Spent StatusSpent s (recorded_up side Spent s up))
-served_up {D} {told} {may_leave} {faults} side (Stopped Memory) {last = last} before now s up read write =
+served_up {D} {seen} side (Stopped Memory) {last = last} before now s up read write =
     (last, served side (Stopped Memory) StatusMemory s (recorded_up side (Stopped Memory) s up))
-served_up {D} {told} {may_leave} {faults} side (Stopped (Down at_open is)) {last = last} before now s up read write =
+served_up {D} {seen} side (Stopped (Down at_open is)) {last = last} before now s up read write =
     let shown = shown_at side (Down at_open is) s (λ none. cc) in
-    absurd (up (subst (λ n. Rose n (faults last.journal.disk)) shown.2.0 (subst (λ n. Rose at_open n) shown.2.1 shown.2.2)))
-served_up {D} {told} {may_leave} {faults} side (Stopped (Full used need records)) {last = last} before now s up read write =
+    absurd (up (subst (λ n. Rose n (seen last.journal.disk).faults) shown.2.0 (subst (λ n. Rose at_open n) shown.2.1 shown.2.2)))
+served_up {D} {seen} side (Stopped (Full used need records)) {last = last} before now s up read write =
     let end : SessionEnd = Stopped (Full used need records) in
     let shown = shown_at side (Full used need records) s (λ none. cc) in
     (last, shown.0, shown.1, shown.2, served side end (StatusFull used need records) s (recorded_up side end s up))
-served_up {D} {told} {may_leave} {faults} side (Stopped (Worn count)) {last = last} before now s up read write =
+served_up {D} {seen} side (Stopped (Worn count)) {last = last} before now s up read write =
     let end : SessionEnd = Stopped (Worn count) in
     let shown = shown_at side (Worn count) s (λ none. cc) in
     (last, shown.2.0, shown.2.1, served side end (StatusWorn count) s (recorded_up side end s up))

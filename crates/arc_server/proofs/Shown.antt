@@ -10,7 +10,7 @@ use Rattle.arc_data.specs.declared.blob.Memory.{Memory}
 use Rattle.arc_data.specs.declared.event.Event.TheVariants.{Tick}
 use Rattle.arc_doors.specs.Doors.{DoorSeen}
 use Rattle.arc_doors.specs.Pulses.{Moments}
-use Rattle.arc_io.specs.Areas.{Areas}
+use Rattle.arc_io.specs.Disks.{DiskSeen}
 use Rattle.arc_io.specs.Causes.{next_count, Rose}
 use Rattle.arc_io.specs.Seen.{PortSeen}
 use Rattle.arc_serving.specs.Ran.{WorkerRan, TickerRan, IsTickerRan, IsWorkerRan, IsSideServed, began_in, ended_in}
@@ -341,17 +341,17 @@ module _ (t : Terms) (entry end : ℕ) (since : entry ≤ t.at_open) (up : Rose 
       (λ w is told. worker_may w.worked.end w.ended w.door w.door' sessions is.works.served told is.works.ended) served.each tolds in
       subst (λ (ws : List Worked). All (λ w. MayEnd w.end) ws) (sym served.stood.came_is) (All-map (λ (w : Worked). MayEnd w.end) (λ (w : WorkerRan). w.worked) ran each)
 
-pub all_may : {D : Type 0} {told : D → Option Areas} {may_leave : D → Areas → Type 0} {faults : D → ℕ}
+pub all_may : {D : Type 0} {seen : D → DiskSeen}
     (first last : Stored D) (crew : Crew) (around around' : StationSeen) (came : CameSeen) (entry : ℕ) (disk' : D)
-    → ServesStore told may_leave faults first crew around around' came last → entry ≤ first.at_open → disk' ≡ last.journal.disk
-    → (Rose entry (faults disk') → ⊥) → AllMay came
-all_may {D} {told} {may_leave} {faults} first last crew around around' came entry disk' served since handed up =
-    let t : Terms = terms_of told may_leave faults served.gate in
+    → ServesStore seen first crew around around' came last → entry ≤ first.at_open → disk' ≡ last.journal.disk
+    → (Rose entry (seen disk').faults → ⊥) → AllMay came
+all_may {D} {seen} first last crew around around' came entry disk' served since handed up =
+    let t : Terms = terms_of seen served.gate in
     let s = served.serves in
-    let end = faults disk' in
+    let end = (seen disk').faults in
     let low : entry ≤ t.at_open = subst (λ (store : Stored D). entry ≤ store.at_open) (sym served.from_is) since in
     let tolds : All (λ (p : PassSeen). p.told ≤ end) (ended_in s.ran.lines ++ (ended_in s.ran.desks ++ s.ran.ticker.ended ∷ [])) =
-    subst (λ (disk : D). All (λ (p : PassSeen). p.told ≤ faults disk) (ended_in s.ran.lines ++ (ended_in s.ran.desks ++ s.ran.ticker.ended ∷ []))) (sym handed) s.all_told in
+    subst (λ (disk : D). All (λ (p : PassSeen). p.told ≤ (seen disk).faults) (ended_in s.ran.lines ++ (ended_in s.ran.desks ++ s.ran.ticker.ended ∷ []))) (sym handed) s.all_told in
     let IsTold : PassSeen → Type 0 = λ p. p.told ≤ end in
     let behind = right IsTold (ended_in s.ran.lines) (ended_in s.ran.desks ++ s.ran.ticker.ended ∷ []) tolds in
     let of_ticker = All-head IsTold s.ran.ticker.ended [] (right IsTold (ended_in s.ran.desks) (s.ran.ticker.ended ∷ []) behind) in record {

@@ -1,6 +1,7 @@
 -- For which history area A of the disk stands, at the beginning of a run and at its end.
-use Rattle.std.specs.Prelude.{◌⊎◌, ℕ, List, Option, IfSome}
+use Rattle.std.specs.Prelude.{◌⊎◌, ℕ, List, IfSome}
 use Rattle.arc_io.specs.Areas.{Areas}
+use Rattle.arc_io.specs.Disks.{DiskSeen}
 use Rattle.centre_rules.specs.History.{Entry}
 use Rattle.disk_journal.specs.Records.{Stands}
 use Rattle.disk_journal.specs.declared.journal.Limits.{Limits}
@@ -16,29 +17,29 @@ abbrev pub shipped : Limits
 shipped = record { bytes = 268_435_456; records = 1_000_000 }
 
 -- what a read gives of the area stands for bodies that have this past
-pub record BeginsWith {D : Type 0} (told : D → Option Areas) (disk : D) (past : List Entry) : Type 0 where
+pub record BeginsWith (disk : DiskSeen) (past : List Entry) : Type 0 where
   pub bodies : List (List ℕ)
   pub is_past : IsPast bodies past
-  pub area : IfSome (told disk) (λ s. Stands s.a bodies)
+  pub area : IfSome disk.told (λ s. Stands s.a bodies)
 
 -- what a read gives of the area, and all that a crash may leave there now, stands for the bodies of the recorded entries of this history
-pub record HasRecorded {D : Type 0} (told : D → Option Areas) (may_leave : D → Areas → Type 0) (disk : D) (h : List Entry) : Type 0 where
-  pub area : IfSome (told disk) (λ s. Stands s.a (bodies_of h))
-  pub images : (c : Areas) → may_leave disk c → Stands c.a (bodies_of h)
+pub record HasRecorded (disk : DiskSeen) (h : List Entry) : Type 0 where
+  pub area : IfSome disk.told (λ s. Stands s.a (bodies_of h))
+  pub images : (c : Areas) → disk.may_leave c → Stands c.a (bodies_of h)
 
 -- The area at a run's end, by the status, after this history: it stands for the recorded entries; and where the disk failed, for
 -- these or for these with one more, that of the event that met the fault.
-abbrev pub EndsWith : {D : Type 0} → (D → Option Areas) → (D → Areas → Type 0) → Status → D → List Entry → Type 0
-EndsWith told may_leave (DiskFault before now) disk h = HasRecorded told may_leave disk h ⊎ IsTorn told may_leave disk h
-EndsWith told may_leave Done disk h = HasRecorded told may_leave disk h
-EndsWith told may_leave Usage disk h = HasRecorded told may_leave disk h
-EndsWith told may_leave (SetupBad fault) disk h = HasRecorded told may_leave disk h
-EndsWith told may_leave (ReadFault which before now) disk h = HasRecorded told may_leave disk h
-EndsWith told may_leave (WriteFault before now) disk h = HasRecorded told may_leave disk h
-EndsWith told may_leave (Journal fault) disk h = HasRecorded told may_leave disk h
-EndsWith told may_leave (Full used need records) disk h = HasRecorded told may_leave disk h
-EndsWith told may_leave (BadScript line) disk h = HasRecorded told may_leave disk h
-EndsWith told may_leave (DoorFault door before now) disk h = HasRecorded told may_leave disk h
-EndsWith told may_leave Memory disk h = HasRecorded told may_leave disk h
-EndsWith told may_leave Spent disk h = HasRecorded told may_leave disk h
-EndsWith told may_leave (Worn count) disk h = HasRecorded told may_leave disk h
+abbrev pub EndsWith : Status → DiskSeen → List Entry → Type 0
+EndsWith (DiskFault before now) disk h = HasRecorded disk h ⊎ IsTorn disk h
+EndsWith Done disk h = HasRecorded disk h
+EndsWith Usage disk h = HasRecorded disk h
+EndsWith (SetupBad fault) disk h = HasRecorded disk h
+EndsWith (ReadFault which before now) disk h = HasRecorded disk h
+EndsWith (WriteFault before now) disk h = HasRecorded disk h
+EndsWith (Journal fault) disk h = HasRecorded disk h
+EndsWith (Full used need records) disk h = HasRecorded disk h
+EndsWith (BadScript line) disk h = HasRecorded disk h
+EndsWith (DoorFault door before now) disk h = HasRecorded disk h
+EndsWith Memory disk h = HasRecorded disk h
+EndsWith Spent disk h = HasRecorded disk h
+EndsWith (Worn count) disk h = HasRecorded disk h

@@ -1,7 +1,7 @@
 -- What a run of `report` did, by its status.
-use Rattle.std.specs.Prelude.{◌≡◌, ◌<◌, ◌⊎◌, ℕ, List, length, take, Option}
+use Rattle.std.specs.Prelude.{◌≡◌, ◌<◌, ◌⊎◌, ℕ, List, length, take}
 use Rattle.std.specs.Io.KnownBytes.{append_known}
-use Rattle.arc_io.specs.Areas.{Areas}
+use Rattle.arc_io.specs.Disks.{DiskSeen}
 use Rattle.arc_io.specs.Seen.{PortSeen}
 use Rattle.arc_io.specs.Told.{OnlyWrites}
 use Rattle.arc_report.specs.Reports.{report_of}
@@ -46,17 +46,15 @@ IsReported (Worn count) past p p' entry end = ⊥
 
 -- The area stood for a past, and its report was written. Whatever the area stood for, it stands for at the end, and so does all that a
 -- crash left of it at any moment between; and it has the recorded entries of the past.
-pub record ReportsPast {D : Type 0} (told : D → Option Areas) (may_leave : D → Areas → Type 0) (moment : D → ℕ)
-    (left_since : D → ℕ → Areas → Type 0) (faults : D → ℕ) (status : Status) (p p' : PortSeen) (disk disk' : D)
+pub record ReportsPast {D : Type 0} (seen : D → DiskSeen) (status : Status) (p p' : PortSeen) (disk disk' : D)
     (past : List Entry) : Type 0 where
-  pub begins : BeginsWith told disk past
-  pub stays : StandsOn told may_leave moment left_since disk disk'
-  pub ends : EndsWith told may_leave status disk' past
-  pub shown : IsReported status past p p' (faults disk) (faults disk')
+  pub begins : BeginsWith (seen disk) past
+  pub stays : StandsOn (seen disk) (seen disk')
+  pub ends : EndsWith status (seen disk') past
+  pub shown : IsReported status past p p' (seen disk).faults (seen disk').faults
 
 -- What such a run did: the journal was not opened, and the port not touched; or the report of a past was written.
-abbrev pub IsReportRun : {D : Type 0} → (D → Option Areas) → (D → Areas → Type 0) → (D → ℕ) → (D → ℕ → Areas → Type 0) → (D → ℕ)
-    → Status → PortSeen → PortSeen → D → D → Type 0
-IsReportRun told may_leave moment left_since faults status p p' disk disk' =
-    (IsUnopened told may_leave moment left_since faults status disk disk' × (p' ≡ p))
-    ⊎ ((past : List Entry) × ReportsPast told may_leave moment left_since faults status p p' disk disk' past)
+abbrev pub IsReportRun : {D : Type 0} → (D → DiskSeen) → Status → PortSeen → PortSeen → D → D → Type 0
+IsReportRun seen status p p' disk disk' =
+    (IsUnopened status (seen disk) (seen disk') × (p' ≡ p))
+    ⊎ ((past : List Entry) × ReportsPast seen status p p' disk disk' past)

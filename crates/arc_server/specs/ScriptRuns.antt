@@ -1,7 +1,7 @@
 -- What a run of `script` did, by its status.
-use Rattle.std.specs.Prelude.{◌≡◌, ◌⊎◌, ℕ, List, if◌then◌else◌, nat_le, Option, IsOk}
+use Rattle.std.specs.Prelude.{◌≡◌, ◌⊎◌, ℕ, List, if◌then◌else◌, nat_le, IsOk}
 use Rattle.alarm_rules.specs.Setups.{setup_of}
-use Rattle.arc_io.specs.Areas.{Areas}
+use Rattle.arc_io.specs.Disks.{DiskSeen}
 use Rattle.arc_io.specs.Causes.{next_count}
 use Rattle.arc_io.specs.Seen.{PortSeen}
 use Rattle.arc_script.specs.Ends.{IsScript}
@@ -42,19 +42,15 @@ status_after end before now p p' =
 
 -- The script on the port was run over the disk, under the setup of this text and with the limits that are shipped: its output, and the list
 -- that the area has at the end, are those of its transcript. The status is made of how it ended.
-pub record Scripts {D : Type 0} (told : D → Option Areas) (may_leave : D → Areas → Type 0) (moment : D → ℕ)
-    (left_since : D → ℕ → Areas → Type 0) (faults : D → ℕ) (status : Status) (text : List ℕ) (p p' : PortSeen) (disk disk' : D)
-    : Type 0 where
+pub record Scripts {D : Type 0} (seen : D → DiskSeen) (status : Status) (text : List ℕ) (p p' : PortSeen) (disk disk' : D) : Type 0 where
   pub end : ScriptEnd
   pub tally : Tally
-  pub script : IsScript (record { told = told; may_leave = may_leave; moment = moment; left_since = left_since; faults = faults })
-      text shipped end p p' disk disk' tally
-  pub status_is : status ≡ status_after end (faults disk) (faults disk') p p'
+  pub script : IsScript seen text shipped end p p' disk disk' tally
+  pub status_is : status ≡ status_after end (seen disk).faults (seen disk').faults p p'
 
 -- What such a run did: the setup was not read or is none, and port and disk were not touched; or the script was run under it.
-abbrev pub IsScriptRun : {D : Type 0} → (D → Option Areas) → (D → Areas → Type 0) → (D → ℕ) → (D → ℕ → Areas → Type 0) → (D → ℕ)
-    → Status → PortSeen → PortSeen → PortSeen → PortSeen → D → D → Type 0
-IsScriptRun told may_leave moment left_since faults status q q' p p' disk disk' =
+abbrev pub IsScriptRun : {D : Type 0} → (D → DiskSeen) → Status → PortSeen → PortSeen → PortSeen → PortSeen → D → D → Type 0
+IsScriptRun seen status q q' p p' disk disk' =
     (IsSetupEnd status q q' × (p' ≡ p) × (disk' ≡ disk))
     ⊎ ((text : List ℕ) × ReadsText q q' text × IsOk (setup_of text)
-    × Scripts told may_leave moment left_since faults status text p p' disk disk')
+    × Scripts seen status text p p' disk disk')

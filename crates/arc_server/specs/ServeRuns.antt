@@ -1,10 +1,10 @@
 -- What a run of `serve` did, by its status.
 use Rattle.std.specs.Prelude.{◌≡◌, ◌<◌, ◌⊎◌, ℕ, List, [], ◌++◌, codes, decimal, length, take, Bool, true, false}
-use Rattle.std.specs.Prelude.{Option, Result, Ok, Err, IsOk}
+use Rattle.std.specs.Prelude.{Result, Ok, Err, IsOk}
 use Rattle.std.specs.Io.KnownBytes.{append_known}
 use Rattle.alarm_rules.specs.Setups.{setup_of}
 use Rattle.arc_data.specs.declared.blob.Memory.{Memory}
-use Rattle.arc_io.specs.Areas.{Areas}
+use Rattle.arc_io.specs.Disks.{DiskSeen}
 use Rattle.arc_io.specs.Causes.{Rose}
 use Rattle.arc_io.specs.Seen.{PortSeen}
 use Rattle.arc_io.specs.Told.{after_reading, OnlyWrites}
@@ -42,63 +42,63 @@ WritesLine true line p p' =
     × Rose p.write_faults p'.write_faults × OnlyWrites p p'
 
 -- All callers ran; or all of them were refused memory before the first began, and what stood around the store is as it was.
-abbrev pub HasServed : {D : Type 0} → (D → Option Areas) → (D → Areas → Type 0) → (D → ℕ)
+abbrev pub HasServed : {D : Type 0} → (D → DiskSeen)
     → Stored D → Crew → StationSeen → StationSeen → Result CameSeen Memory → Stored D → Type 0
-HasServed told may_leave faults first crew around around' (Err refused) last = around' ≡ around
-HasServed told may_leave faults first crew around around' (Ok came) last =
-    ServesStore told may_leave faults first crew around around' came last
+HasServed seen first crew around around' (Err refused) last = around' ≡ around
+HasServed seen first crew around around' (Ok came) last =
+    ServesStore seen first crew around around' came last
 
 -- the passes of all that ran, as they ended
-abbrev pub passes_of : {D : Type 0} (told : D → Option Areas) (may_leave : D → Areas → Type 0) (faults : D → ℕ)
+abbrev pub passes_of : {D : Type 0} (seen : D → DiskSeen)
     (first : Stored D) (crew : Crew) (around around' : StationSeen) (came : Result CameSeen Memory) (last : Stored D)
-    → HasServed told may_leave faults first crew around around' came last → List PassSeen
-passes_of told may_leave faults first crew around around' (Err refused) last served = []
-passes_of told may_leave faults first crew around around' (Ok came) last served = all_ended served.serves.ran
+    → HasServed seen first crew around around' came last → List PassSeen
+passes_of seen first crew around around' (Err refused) last served = []
+passes_of seen first crew around around' (Ok came) last served = all_ended served.serves.ran
 
 -- From the beginning of a run on, over a past, all callers were served. The store stands for a history that begins with the begun one and
 -- has all that any of them has seen. One line of it was written, the disk that is handed back has its recorded entries, and the status is
 -- the first of all that occurred.
-pub record ServesAll {D : Type 0} (told : D → Option Areas) (may_leave : D → Areas → Type 0) (faults : D → ℕ)
+pub record ServesAll {D : Type 0} (seen : D → DiskSeen)
     (crew : Crew) (status : Status) (past : List Entry) (text : List ℕ) (clock : ℕ) (p p' : PortSeen) (around around' : StationSeen)
     (entry : ℕ) (disk' : D) : Type 0 where
   pub first : Stored D
-  pub begins : IsStoreFor told may_leave faults nothing first (begun_after nothing past text clock)
+  pub begins : IsStoreFor seen nothing first (begun_after nothing past text clock)
   pub under : text_of first.state ≡ text
   pub last : Stored D
   pub came : Result CameSeen Memory
-  pub served : HasServed told may_leave faults first crew around around' came last
-  pub stands : StandsForAll told may_leave faults nothing (begun_after nothing past text clock)
-      (passes_of told may_leave faults first crew around around' came last served) last
+  pub served : HasServed seen first crew around around' came last
+  pub stands : StandsForAll seen nothing (begun_after nothing past text clock)
+      (passes_of seen first crew around around' came last served) last
   pub limits : last.journal.limits ≡ shipped
   pub handed : disk' ≡ last.journal.disk
-  pub ends : EndsWith told may_leave status disk' stands.from.history
+  pub ends : EndsWith status (seen disk') stands.from.history
   pub cut : Bool
   pub line : WritesLine cut (line_after stands.from.history) p p'
-  pub status_is : status ≡ first_of (occurred entry (faults disk') p p' cut came)
-  pub shows : IsShownBy status entry (faults disk') p p' came
+  pub status_is : status ≡ first_of (occurred entry (seen disk').faults p p' cut came)
+  pub shows : IsShownBy status entry (seen disk').faults p p' came
 
 -- What a run did over a past: at one reading of the clock it did not begin, and what stood around it is as it was; or it began and all
 -- callers were served.
-abbrev pub ServesFrom : {D : Type 0} → (D → Option Areas) → (D → Areas → Type 0) → (D → ℕ)
+abbrev pub ServesFrom : {D : Type 0} → (D → DiskSeen)
     → Crew → Status → List Entry → List ℕ → PortSeen → PortSeen → StationSeen → StationSeen → ℕ → D → Type 0
-ServesFrom told may_leave faults crew status past text p p' around around' entry disk' =
+ServesFrom seen crew status past text p p' around around' entry disk' =
     (clock : ℕ)
-    × ((IsUnbegun told may_leave faults status past text clock entry disk' × (p' ≡ after_reading clock p) × (around' ≡ around))
-    ⊎ ServesAll told may_leave faults crew status past text clock (after_reading clock p) p' around around' entry disk')
+    × ((IsUnbegun seen status past text clock entry disk' × (p' ≡ after_reading clock p) × (around' ≡ around))
+    ⊎ ServesAll seen crew status past text clock (after_reading clock p) p' around around' entry disk')
 
 -- What a run did whose setup was read: the journal was not opened, and nothing else was touched; or the area stood for a past, and the run
 -- went on from there.
-abbrev pub ServesOver : {D : Type 0} → (D → Option Areas) → (D → Areas → Type 0) → (D → ℕ) → (D → ℕ → Areas → Type 0) → (D → ℕ)
+abbrev pub ServesOver : {D : Type 0} → (D → DiskSeen)
     → Crew → Status → List ℕ → PortSeen → PortSeen → StationSeen → StationSeen → D → D → Type 0
-ServesOver told may_leave moment left_since faults crew status text p p' around around' disk disk' =
-    (IsUnopened told may_leave moment left_since faults status disk disk' × (p' ≡ p) × (around' ≡ around))
-    ⊎ ((past : List Entry) × BeginsWith told disk past
-    × ServesFrom told may_leave faults crew status past text p p' around around' (faults disk) disk')
+ServesOver seen crew status text p p' around around' disk disk' =
+    (IsUnopened status (seen disk) (seen disk') × (p' ≡ p) × (around' ≡ around))
+    ⊎ ((past : List Entry) × BeginsWith (seen disk) past
+    × ServesFrom seen crew status past text p p' around around' (seen disk).faults disk')
 
 -- What such a run did: the setup was not read or is none, and nothing else was touched; or the run went on from its text.
-abbrev pub IsServeRun : {D : Type 0} → (D → Option Areas) → (D → Areas → Type 0) → (D → ℕ) → (D → ℕ → Areas → Type 0) → (D → ℕ)
+abbrev pub IsServeRun : {D : Type 0} → (D → DiskSeen)
     → Crew → Status → PortSeen → PortSeen → PortSeen → PortSeen → StationSeen → StationSeen → D → D → Type 0
-IsServeRun told may_leave moment left_since faults crew status q q' p p' around around' disk disk' =
+IsServeRun seen crew status q q' p p' around around' disk disk' =
     (IsSetupEnd status q q' × (p' ≡ p) × (around' ≡ around) × (disk' ≡ disk))
     ⊎ ((text : List ℕ) × ReadsText q q' text × IsOk (setup_of text)
-    × ServesOver told may_leave moment left_since faults crew status text p p' around around' disk disk')
+    × ServesOver seen crew status text p p' around around' disk disk')

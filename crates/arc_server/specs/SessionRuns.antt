@@ -1,7 +1,7 @@
 -- What a run did that serves one session, by its status.
-use Rattle.std.specs.Prelude.{◌≡◌, ◌^◌, ◌≤◌, ◌⊎◌, ℕ, List, Option, IsOk}
+use Rattle.std.specs.Prelude.{◌≡◌, ◌^◌, ◌≤◌, ◌⊎◌, ℕ, List, IsOk}
 use Rattle.arc_data.specs.declared.event.Event.{Event}
-use Rattle.arc_io.specs.Areas.{Areas}
+use Rattle.arc_io.specs.Disks.{DiskSeen}
 use Rattle.arc_io.specs.Seen.{PortSeen}
 use Rattle.arc_io.specs.Told.{after_reading}
 use Rattle.alarm_rules.specs.Setups.{setup_of}
@@ -38,54 +38,53 @@ history_by side end h hall hall' p p' did = history_of side end did.0 nothing h 
 
 -- The beginning of a run over a past stopped: the store stands for the past, or for it with the Adopt of the setup's text. Its disk
 -- is handed back.
-pub record StopsBeginning {D : Type 0} (told : D → Option Areas) (may_leave : D → Areas → Type 0) (faults : D → ℕ)
+pub record StopsBeginning {D : Type 0} (seen : D → DiskSeen)
     (status : Status) (past : List Entry) (text : List ℕ) (clock : ℕ) (disk' : D) (last : Stored D) : Type 0 where
   pub history : List Entry
   pub is : (history ≡ past) ⊎ (history ≡ adopted_after nothing past text clock)
-  pub stands : StoreStands told may_leave faults nothing last history
+  pub stands : StoreStands seen nothing last history
   pub limits : last.journal.limits ≡ shipped
   pub handed : disk' ≡ last.journal.disk
-  pub ends : EndsWith told may_leave status disk' history
+  pub ends : EndsWith status (seen disk') history
 
 -- What a status shows where a run did not begin, at this reading of the clock, over a disk that had so many faults at entry.
-abbrev pub IsUnbegun : {D : Type 0} → (D → Option Areas) → (D → Areas → Type 0) → (D → ℕ)
-    → Status → List Entry → List ℕ → ℕ → ℕ → D → Type 0
-IsUnbegun {D} told may_leave faults (DiskFault before now) past text clock entry disk' =
-    HasRisen before now entry (faults disk')
-    × ((last : Stored D) × StopsBeginning told may_leave faults (DiskFault before now) past text clock disk' last)
-IsUnbegun {D} told may_leave faults (Full used need records) past text clock entry disk' =
+abbrev pub IsUnbegun : {D : Type 0} → (D → DiskSeen) → Status → List Entry → List ℕ → ℕ → ℕ → D → Type 0
+IsUnbegun {D} seen (DiskFault before now) past text clock entry disk' =
+    HasRisen before now entry (seen disk').faults
+    × ((last : Stored D) × StopsBeginning seen (DiskFault before now) past text clock disk' last)
+IsUnbegun {D} seen (Full used need records) past text clock entry disk' =
     (last : Stored D) × (event : Event) × IsOfBegin text event
-    × Shows told may_leave faults last (HallFull used need records) event clock
-    × StopsBeginning told may_leave faults (Full used need records) past text clock disk' last
-IsUnbegun {D} told may_leave faults Memory past text clock entry disk' =
-    (last : Stored D) × StopsBeginning told may_leave faults Memory past text clock disk' last
-IsUnbegun {D} told may_leave faults (Worn count) past text clock entry disk' =
+    × Shows seen last (HallFull used need records) event clock
+    × StopsBeginning seen (Full used need records) past text clock disk' last
+IsUnbegun {D} seen Memory past text clock entry disk' =
+    (last : Stored D) × StopsBeginning seen Memory past text clock disk' last
+IsUnbegun {D} seen (Worn count) past text clock entry disk' =
     (last : Stored D) × (count ≡ last.state.entries) × (2 ^ 48 ≤ count)
-    × StopsBeginning told may_leave faults (Worn count) past text clock disk' last
-IsUnbegun told may_leave faults Done past text clock entry disk' = ⊥
-IsUnbegun told may_leave faults Usage past text clock entry disk' = ⊥
-IsUnbegun told may_leave faults (SetupBad fault) past text clock entry disk' = ⊥
-IsUnbegun told may_leave faults (ReadFault which before now) past text clock entry disk' = ⊥
-IsUnbegun told may_leave faults (WriteFault before now) past text clock entry disk' = ⊥
-IsUnbegun told may_leave faults (Journal fault) past text clock entry disk' = ⊥
-IsUnbegun told may_leave faults (BadScript line) past text clock entry disk' = ⊥
-IsUnbegun told may_leave faults (DoorFault door before now) past text clock entry disk' = ⊥
-IsUnbegun told may_leave faults Spent past text clock entry disk' = ⊥
+    × StopsBeginning seen (Worn count) past text clock disk' last
+IsUnbegun seen Done past text clock entry disk' = ⊥
+IsUnbegun seen Usage past text clock entry disk' = ⊥
+IsUnbegun seen (SetupBad fault) past text clock entry disk' = ⊥
+IsUnbegun seen (ReadFault which before now) past text clock entry disk' = ⊥
+IsUnbegun seen (WriteFault before now) past text clock entry disk' = ⊥
+IsUnbegun seen (Journal fault) past text clock entry disk' = ⊥
+IsUnbegun seen (BadScript line) past text clock entry disk' = ⊥
+IsUnbegun seen (DoorFault door before now) past text clock entry disk' = ⊥
+IsUnbegun seen Spent past text clock entry disk' = ⊥
 
 -- From the beginning of a run on, over a past, a session of this kind came to this end. The disk that is handed back is that of the
 -- store that stands for the history that the session ended with, and has its recorded entries.
-pub record ServesRun {D : Type 0} (told : D → Option Areas) (may_leave : D → Areas → Type 0) (faults : D → ℕ)
+pub record ServesRun {D : Type 0} (seen : D → DiskSeen)
     (side : Side) (end : SessionEnd) (status : Status) (past : List Entry) (text : List ℕ) (clock : ℕ) (p p' : PortSeen)
     (disk' : D) (last : Stored D) : Type 0 where
   pub first : Stored D
-  pub begins : IsStoreFor told may_leave faults nothing first (begun_after nothing past text clock)
+  pub begins : IsStoreFor seen nothing first (begun_after nothing past text clock)
   pub under : text_of first.state ≡ text
-  pub did : Did side end (begun_after nothing past text clock) (store_seen told may_leave faults first)
-      (store_seen told may_leave faults last) p p'
+  pub did : Did side end (begun_after nothing past text clock) (store_seen seen first)
+      (store_seen seen last) p p'
   pub limits : last.journal.limits ≡ shipped
   pub handed : disk' ≡ last.journal.disk
-  pub ends : EndsWith told may_leave status disk' (history_by side end (begun_after nothing past text clock)
-      (store_seen told may_leave faults first) (store_seen told may_leave faults last) p p' did)
+  pub ends : EndsWith status (seen disk') (history_by side end (begun_after nothing past text clock)
+      (store_seen seen first) (store_seen seen last) p p' did)
 
 -- the session went on to its own end
 abbrev pub IsWhole : SessionEnd → Type 0
@@ -97,59 +96,55 @@ IsWhole InputSpent = ⊥
 IsWhole (Stopped stop) = ⊥
 
 -- What a status shows where a run began, at this reading of the clock, over a disk that had so many faults at entry.
-abbrev pub IsServed : {D : Type 0} → (D → Option Areas) → (D → Areas → Type 0) → (D → ℕ)
-    → Side → Status → List Entry → List ℕ → ℕ → PortSeen → PortSeen → ℕ → D → Type 0
-IsServed {D} told may_leave faults side Done past text clock p p' entry disk' =
+abbrev pub IsServed : {D : Type 0} → (D → DiskSeen) → Side → Status → List Entry → List ℕ → ℕ → PortSeen → PortSeen → ℕ → D → Type 0
+IsServed {D} seen side Done past text clock p p' entry disk' =
     (end : SessionEnd) × IsWhole end
-    × ((last : Stored D) × ServesRun told may_leave faults side end Done past text clock p p' disk' last)
-IsServed {D} told may_leave faults side (ReadFault Input before now) past text clock p p' entry disk' =
+    × ((last : Stored D) × ServesRun seen side end Done past text clock p p' disk' last)
+IsServed {D} seen side (ReadFault Input before now) past text clock p p' entry disk' =
     HasRisen before now p.read_faults p'.read_faults
-    × ((last : Stored D) × ServesRun told may_leave faults side NotRead (ReadFault Input before now) past text clock p p' disk' last)
-IsServed {D} told may_leave faults side (WriteFault before now) past text clock p p' entry disk' =
+    × ((last : Stored D) × ServesRun seen side NotRead (ReadFault Input before now) past text clock p p' disk' last)
+IsServed {D} seen side (WriteFault before now) past text clock p p' entry disk' =
     HasRisen before now p.write_faults p'.write_faults
-    × ((last : Stored D) × ServesRun told may_leave faults side NotWritten (WriteFault before now) past text clock p p' disk' last)
-IsServed {D} told may_leave faults side (DiskFault before now) past text clock p p' entry disk' =
-    HasRisen before now entry (faults disk')
+    × ((last : Stored D) × ServesRun seen side NotWritten (WriteFault before now) past text clock p p' disk' last)
+IsServed {D} seen side (DiskFault before now) past text clock p p' entry disk' =
+    HasRisen before now entry (seen disk').faults
     × ((end : SessionEnd) × (last : Stored D)
-    × ServesRun told may_leave faults side end (DiskFault before now) past text clock p p' disk' last)
-IsServed {D} told may_leave faults side (Full used need records) past text clock p p' entry disk' =
+    × ServesRun seen side end (DiskFault before now) past text clock p p' disk' last)
+IsServed {D} seen side (Full used need records) past text clock p p' entry disk' =
     (last : Stored D) × (event : Event) × (reading : ℕ)
-    × Shows told may_leave faults last (HallFull used need records) event reading
-    × ServesRun told may_leave faults side (Stopped (HallFull used need records)) (Full used need records) past text clock p p' disk' last
-IsServed {D} told may_leave faults side Memory past text clock p p' entry disk' =
-    (last : Stored D) × ServesRun told may_leave faults side (Stopped MemoryWanted) Memory past text clock p p' disk' last
-IsServed {D} told may_leave faults side Spent past text clock p p' entry disk' =
-    (last : Stored D) × ServesRun told may_leave faults side InputSpent Spent past text clock p p' disk' last
-IsServed {D} told may_leave faults side (Worn count) past text clock p p' entry disk' =
+    × Shows seen last (HallFull used need records) event reading
+    × ServesRun seen side (Stopped (HallFull used need records)) (Full used need records) past text clock p p' disk' last
+IsServed {D} seen side Memory past text clock p p' entry disk' =
+    (last : Stored D) × ServesRun seen side (Stopped MemoryWanted) Memory past text clock p p' disk' last
+IsServed {D} seen side Spent past text clock p p' entry disk' =
+    (last : Stored D) × ServesRun seen side InputSpent Spent past text clock p p' disk' last
+IsServed {D} seen side (Worn count) past text clock p p' entry disk' =
     (last : Stored D) × (count ≡ last.state.entries) × (2 ^ 48 ≤ count)
-    × ServesRun told may_leave faults side (Stopped (HallWorn count)) (Worn count) past text clock p p' disk' last
-IsServed told may_leave faults side Usage past text clock p p' entry disk' = ⊥
-IsServed told may_leave faults side (SetupBad fault) past text clock p p' entry disk' = ⊥
-IsServed told may_leave faults side (ReadFault Setup before now) past text clock p p' entry disk' = ⊥
-IsServed told may_leave faults side (BadScript line) past text clock p p' entry disk' = ⊥
-IsServed told may_leave faults side (DoorFault door before now) past text clock p p' entry disk' = ⊥
-IsServed told may_leave faults side (Journal fault) past text clock p p' entry disk' = ⊥
+    × ServesRun seen side (Stopped (HallWorn count)) (Worn count) past text clock p p' disk' last
+IsServed seen side Usage past text clock p p' entry disk' = ⊥
+IsServed seen side (SetupBad fault) past text clock p p' entry disk' = ⊥
+IsServed seen side (ReadFault Setup before now) past text clock p p' entry disk' = ⊥
+IsServed seen side (BadScript line) past text clock p p' entry disk' = ⊥
+IsServed seen side (DoorFault door before now) past text clock p p' entry disk' = ⊥
+IsServed seen side (Journal fault) past text clock p p' entry disk' = ⊥
 
 -- What a run did over a past: at one reading of the clock it did not begin, or it began and a session was served.
-abbrev pub GoesOnFrom : {D : Type 0} → (D → Option Areas) → (D → Areas → Type 0) → (D → ℕ)
-    → Side → Status → List Entry → List ℕ → PortSeen → PortSeen → ℕ → D → Type 0
-GoesOnFrom told may_leave faults side status past text p p' entry disk' =
-    (clock : ℕ) × ((IsUnbegun told may_leave faults status past text clock entry disk' × (p' ≡ after_reading clock p))
-    ⊎ IsServed told may_leave faults side status past text clock (after_reading clock p) p' entry disk')
+abbrev pub GoesOnFrom : {D : Type 0} → (D → DiskSeen) → Side → Status → List Entry → List ℕ → PortSeen → PortSeen → ℕ → D → Type 0
+GoesOnFrom seen side status past text p p' entry disk' =
+    (clock : ℕ) × ((IsUnbegun seen status past text clock entry disk' × (p' ≡ after_reading clock p))
+    ⊎ IsServed seen side status past text clock (after_reading clock p) p' entry disk')
 
 -- What a run did whose setup was read: the journal was not opened, and the port not touched; or the area stood for a past, and the run
 -- went on from there.
-abbrev pub IsOver : {D : Type 0} → (D → Option Areas) → (D → Areas → Type 0) → (D → ℕ) → (D → ℕ → Areas → Type 0) → (D → ℕ)
-    → Side → Status → List ℕ → PortSeen → PortSeen → D → D → Type 0
-IsOver told may_leave moment left_since faults side status text p p' disk disk' =
-    (IsUnopened told may_leave moment left_since faults status disk disk' × (p' ≡ p))
-    ⊎ ((past : List Entry) × BeginsWith told disk past
-    × GoesOnFrom told may_leave faults side status past text p p' (faults disk) disk')
+abbrev pub IsOver : {D : Type 0} → (D → DiskSeen) → Side → Status → List ℕ → PortSeen → PortSeen → D → D → Type 0
+IsOver seen side status text p p' disk disk' =
+    (IsUnopened status (seen disk) (seen disk') × (p' ≡ p))
+    ⊎ ((past : List Entry) × BeginsWith (seen disk) past
+    × GoesOnFrom seen side status past text p p' (seen disk).faults disk')
 
 -- What such a run did: the setup was not read or is none, and port and disk were not touched; or the run went on from its text.
-abbrev pub IsSessionRun : {D : Type 0} → (D → Option Areas) → (D → Areas → Type 0) → (D → ℕ) → (D → ℕ → Areas → Type 0) → (D → ℕ)
-    → Side → Status → PortSeen → PortSeen → PortSeen → PortSeen → D → D → Type 0
-IsSessionRun told may_leave moment left_since faults side status q q' p p' disk disk' =
+abbrev pub IsSessionRun : {D : Type 0} → (D → DiskSeen) → Side → Status → PortSeen → PortSeen → PortSeen → PortSeen → D → D → Type 0
+IsSessionRun seen side status q q' p p' disk disk' =
     (IsSetupEnd status q q' × (p' ≡ p) × (disk' ≡ disk))
     ⊎ ((text : List ℕ) × ReadsText q q' text × IsOk (setup_of text)
-    × IsOver told may_leave moment left_since faults side status text p p' disk disk')
+    × IsOver seen side status text p p' disk disk')

@@ -1,7 +1,7 @@
 -- What a run did, by its form.
-use Rattle.std.specs.Prelude.{◌≡◌, ◌≤◌, ℕ, Bool, true, false, Option, length}
+use Rattle.std.specs.Prelude.{◌≡◌, ◌≤◌, ℕ, Bool, true, false, length}
 use Rattle.arc_data.specs.Digits.{is_capital_hex, is_run}
-use Rattle.arc_io.specs.Areas.{Areas}
+use Rattle.arc_io.specs.Disks.{DiskSeen}
 use Rattle.arc_io.specs.Seen.{PortSeen}
 use Rattle.arc_serving.specs.Seen.{StationSeen}
 use Rattle.arc_server.specs.DrillRuns.{IsDrillRun}
@@ -42,17 +42,17 @@ reads_setup (Drill messages) = false
 reads_setup (Panel account) = false
 
 -- Of a disk as it was and as it is, of the setup's source, of the port, and of what stands around it.
-abbrev pub IsRun : {D : Type 0} → (D → Option Areas) → (D → Areas → Type 0) → (D → ℕ) → (D → ℕ → Areas → Type 0) → (D → ℕ)
+abbrev pub IsRun : {D : Type 0} → (D → DiskSeen)
     → Form → Status → PortSeen → PortSeen → PortSeen → PortSeen → StationSeen → StationSeen → D → D → Type 0
-IsRun told may_leave moment left_since faults (Session side) status q q' p p' around around' disk disk' =
-    (around' ≡ around) × IsSessionRun told may_leave moment left_since faults side status q q' p p' disk disk'
-IsRun told may_leave moment left_since faults Script status q q' p p' around around' disk disk' =
-    (around' ≡ around) × IsScriptRun told may_leave moment left_since faults status q q' p p' disk disk'
-IsRun told may_leave moment left_since faults Report status q q' p p' around around' disk disk' =
-    (q' ≡ q) × (around' ≡ around) × IsReportRun told may_leave moment left_since faults status p p' disk disk'
-IsRun told may_leave moment left_since faults (Drill messages) status q q' p p' around around' disk disk' =
+IsRun seen (Session side) status q q' p p' around around' disk disk' =
+    (around' ≡ around) × IsSessionRun seen side status q q' p p' disk disk'
+IsRun seen Script status q q' p p' around around' disk disk' =
+    (around' ≡ around) × IsScriptRun seen status q q' p p' disk disk'
+IsRun seen Report status q q' p p' around around' disk disk' =
+    (q' ≡ q) × (around' ≡ around) × IsReportRun seen status p p' disk disk'
+IsRun seen (Drill messages) status q q' p p' around around' disk disk' =
     (q' ≡ q) × (around' ≡ around) × (disk' ≡ disk) × IsDrillRun messages status p p'
-IsRun told may_leave moment left_since faults (Panel account) status q q' p p' around around' disk disk' =
+IsRun seen (Panel account) status q q' p p' around around' disk disk' =
     (q' ≡ q) × (around' ≡ around) × (disk' ≡ disk) × IsPanelRun account status p p'
-IsRun told may_leave moment left_since faults (Serve crew) status q q' p p' around around' disk disk' =
-    IsServeRun told may_leave moment left_since faults crew status q q' p p' around around' disk disk'
+IsRun seen (Serve crew) status q q' p p' around around' disk disk' =
+    IsServeRun seen crew status q q' p p' around around' disk disk'

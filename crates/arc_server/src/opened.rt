@@ -45,11 +45,11 @@ struct Opened<D: Disk, K: Lasting> {
 impl<D: Disk, K: Lasting> Hall for Opened<D, K> {
     ghost use Rattle.centre_store.specs.StoreHalls.{store_in_force};
 
-    ghost seen = { λ s. store_seen D.told D.may_leave D.fault_count s.store };
+    ghost seen = { λ s. store_seen D.seen s.store };
 
     ghost legal = { λ s b h w. w.stands.centre.legal };
 
-    ghost in_force = { λ s. store_in_force D.told D.may_leave D.fault_count s.store };
+    ghost in_force = { λ s. store_in_force D.seen s.store };
 
     fn submit(&mut self, alloc: Global, event: Event, clock: u64) -> Result<Done, Stop> {
         Store::submit(&mut self.store, alloc, 0, event, clock)
@@ -69,10 +69,10 @@ pub(crate) fn serve_over<D: Disk, P: Port>(
 ) -> (SessionEnd, Store<D>)
     requires ready { IsSetting store.state.sum.text }
     requires port { (P.seen port.old).ended ≡ false }
-    ensures did { (h : List Entry) → IsStoreFor D.told D.may_leave D.fault_count nothing store h →
-        Did side result.0 h (store_seen D.told D.may_leave D.fault_count store) (store_seen D.told D.may_leave D.fault_count result.1)
+    ensures did { (h : List Entry) → IsStoreFor D.seen nothing store h →
+        Did side result.0 h (store_seen D.seen store) (store_seen D.seen result.1)
         (P.seen port.old) (P.seen port.new) }
-    ensures stop { ShowsEnd result.0 (store_seen D.told D.may_leave D.fault_count result.1) }
+    ensures stop { ShowsEnd result.0 (store_seen D.seen result.1) }
     ensures at_open { result.1.at_open ≡ store.at_open }
     ensures limits { result.1.journal.limits ≡ store.journal.limits }
     ensures read { result.0 ≡ SessionEnd.ReadFault → Rose (P.seen port.old).read_faults (P.seen port.new).read_faults }
@@ -92,10 +92,10 @@ fn serve_opened<D: Disk, P: Port, K: Lasting>(
     requires port { (P.seen port.old).ended ≡ false }
     requires at_open { store.at_open ≡ K.at_open }
     requires limits { store.journal.limits ≡ K.limits }
-    ensures did { (h : List Entry) → IsStoreFor D.told D.may_leave D.fault_count nothing store h →
-        Did side result.0 h (store_seen D.told D.may_leave D.fault_count store) (store_seen D.told D.may_leave D.fault_count result.1)
+    ensures did { (h : List Entry) → IsStoreFor D.seen nothing store h →
+        Did side result.0 h (store_seen D.seen store) (store_seen D.seen result.1)
         (P.seen port.old) (P.seen port.new) }
-    ensures stop { ShowsEnd result.0 (store_seen D.told D.may_leave D.fault_count result.1) }
+    ensures stop { ShowsEnd result.0 (store_seen D.seen result.1) }
     ensures at_open { result.1.at_open ≡ K.at_open }
     ensures limits { result.1.journal.limits ≡ K.limits }
     ensures read { result.0 ≡ SessionEnd.ReadFault → Rose (P.seen port.old).read_faults (P.seen port.new).read_faults }

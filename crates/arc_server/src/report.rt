@@ -17,7 +17,7 @@ use std::alloc::Global;
 /// Opens the journal with the limits that are shipped, submits nothing, and writes the report of the centre.
 pub(crate) fn run_report<P: Port, D: Disk>(alloc: Global, port: &mut P, disk: D) -> (Status, D)
     ensures usage { result.0 ≢ Status.Usage }
-    ensures ran { IsReportRun D.told D.may_leave D.moment D.left_since D.fault_count result.0
+    ensures ran { IsReportRun D.seen result.0
         (P.seen port.old) (P.seen port.new) disk result.1 }
 {
     let before = disk.faults();
@@ -32,9 +32,9 @@ fn write_report<P: Port, D: Disk>(before: u64, port: &mut P, store: Store<D>) ->
     requires before { before ≤ store.at_open }
     ensures usage { result.0 ≢ Status.Usage }
     ensures handed { result.1 ≡ store.journal.disk }
-    ensures shown { (past : List Entry) → StoreStands D.told D.may_leave D.fault_count nothing store past →
-        EndsWith D.told D.may_leave result.0 result.1 past
-        × IsReported result.0 past (P.seen port.old) (P.seen port.new) before (D.fault_count result.1) }
+    ensures shown { (past : List Entry) → StoreStands D.seen nothing store past →
+        EndsWith result.0 (D.seen result.1) past
+        × IsReported result.0 past (P.seen port.old) (P.seen port.new) before (D.seen result.1).faults }
 {
     let writes = port.write_faults();
     let written = report(store.centre(), port);

@@ -67,7 +67,7 @@ pub fn run<
     ensures untouched { result.status ≡ Status.Usage → result.outside ≡ outside }
     ensures unread { (form : Form) → form_by words.now ≡ Some form → reads_setup form ≡ false → result.outside.setup ≡ outside.setup }
     ensures ran { (form : Form) → form_by words.now ≡ Some form →
-        IsRun D.told D.may_leave D.moment D.left_since D.fault_count form result.status
+        IsRun D.seen form result.status
         (S.seen outside.setup) (S.seen result.outside.setup) (P.seen outside.port) (P.seen result.outside.port)
         (record {
           lines = map (λ d. A.seen d) outside.lines.items;
@@ -148,7 +148,7 @@ fn run_form<
     requires range { IsInRange form }
     ensures usage { result.status ≢ Status.Usage }
     ensures unread { reads_setup form ≡ false → setup.new ≡ setup.old }
-    ensures ran { IsRun D.told D.may_leave D.moment D.left_since D.fault_count form result.status
+    ensures ran { IsRun D.seen form result.status
         (S.seen setup.old) (S.seen setup.new) (P.seen port.old) (P.seen port.new) station result.station disk result.disk }
 {
     let (status, disk) = match form {

@@ -23,7 +23,7 @@ pub(crate) fn run_scripted<S: Source, P: Port, D: Disk>(
     requires setup { (S.seen source.old).ended ≡ false }
     requires port { (P.seen port.old).ended ≡ false }
     ensures usage { result.0 ≢ Status.Usage }
-    ensures ran { IsScriptRun D.told D.may_leave D.moment D.left_since D.fault_count result.0
+    ensures ran { IsScriptRun D.seen result.0
         (S.seen source.old) (S.seen source.new) (P.seen port.old) (P.seen port.new) disk result.1 }
 {
     match read_setup(alloc, source) {
@@ -37,7 +37,7 @@ fn script_under<P: Port, D: Disk>(alloc: Global, setup: Setup, port: &mut P, dis
     requires setting { IsOk (setup_of setup) }
     requires port { (P.seen port.old).ended ≡ false }
     ensures usage { result.0 ≢ Status.Usage }
-    ensures ran { Scripts D.told D.may_leave D.moment D.left_since D.fault_count result.0 setup
+    ensures ran { Scripts D.seen result.0 setup
         (P.seen port.old) (P.seen port.new) disk result.1 }
 {
     let before = disk.faults();

@@ -60,7 +60,7 @@ pub(crate) fn run_serve<
     requires lines { crew.lines ≤ length station.lines }
     requires desks { crew.desks ≤ length station.desks }
     ensures usage { result.status ≢ Status.Usage }
-    ensures ran { IsServeRun D.told D.may_leave D.moment D.left_since D.fault_count crew result.status
+    ensures ran { IsServeRun D.seen crew result.status
         (S.seen source.old) (S.seen source.new) (P.seen port.old) (P.seen port.new) station result.station disk result.disk }
 {
     match read_setup(alloc, source) {
@@ -94,7 +94,7 @@ fn serve_over<
     requires lines { crew.lines ≤ length station.lines }
     requires desks { crew.desks ≤ length station.desks }
     ensures usage { result.status ≢ Status.Usage }
-    ensures ran { ServesOver D.told D.may_leave D.moment D.left_since D.fault_count crew result.status setup
+    ensures ran { ServesOver D.seen crew result.status setup
         (P.seen port.old) (P.seen port.new) station result.station disk result.disk }
 {
     let before = disk.faults();
@@ -132,8 +132,8 @@ fn serve_from<
     requires lines { crew.lines ≤ length station.lines }
     requires desks { crew.desks ≤ length station.desks }
     ensures usage { result.status ≢ Status.Usage }
-    ensures ran { (past : List Entry) → StoreStands D.told D.may_leave D.fault_count nothing store past →
-        ServesFrom D.told D.may_leave D.fault_count crew result.status past setup
+    ensures ran { (past : List Entry) → StoreStands D.seen nothing store past →
+        ServesFrom D.seen crew result.status past setup
         (P.seen port.old) (P.seen port.new) station result.station before result.disk }
 {
     let mut store = store;
@@ -175,8 +175,8 @@ fn serve_begun<
     requires desks { crew.desks ≤ length station.desks }
     ensures usage { result.status ≢ Status.Usage }
     ensures served { (past : List Entry) (text : List ℕ) (clock : ℕ)
-        → IsStoreFor D.told D.may_leave D.fault_count nothing store (begun_after nothing past text clock) → text_of store.state ≡ text
-        → ServesAll D.told D.may_leave D.fault_count crew result.status past text clock
+        → IsStoreFor D.seen nothing store (begun_after nothing past text clock) → text_of store.state ≡ text
+        → ServesAll D.seen crew result.status past text clock
         (P.seen port.old) (P.seen port.new) station result.station before result.disk }
 {
     let ServedStore {

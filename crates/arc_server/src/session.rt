@@ -32,7 +32,7 @@ pub(crate) fn run_session<S: Source, P: Port, D: Disk>(
     requires setup { (S.seen source.old).ended ≡ false }
     requires port { (P.seen port.old).ended ≡ false }
     ensures usage { result.0 ≢ Status.Usage }
-    ensures ran { IsSessionRun D.told D.may_leave D.moment D.left_since D.fault_count side result.0
+    ensures ran { IsSessionRun D.seen side result.0
         (S.seen source.old) (S.seen source.new) (P.seen port.old) (P.seen port.new) disk result.1 }
 {
     match read_setup(alloc, source) {
@@ -52,7 +52,7 @@ fn run_over<P: Port, D: Disk>(
     requires setting { IsOk (setup_of setup) }
     requires port { (P.seen port.old).ended ≡ false }
     ensures usage { result.0 ≢ Status.Usage }
-    ensures ran { IsOver D.told D.may_leave D.moment D.left_since D.fault_count side result.0 setup
+    ensures ran { IsOver D.seen side result.0 setup
         (P.seen port.old) (P.seen port.new) disk result.1 }
 {
     let before = disk.faults();
@@ -76,8 +76,8 @@ fn run_store<P: Port, D: Disk>(
     requires before { before ≤ store.at_open }
     requires limits { store.journal.limits ≡ shipped }
     ensures usage { result.0 ≢ Status.Usage }
-    ensures ran { (past : List Entry) → StoreStands D.told D.may_leave D.fault_count nothing store past →
-        GoesOnFrom D.told D.may_leave D.fault_count side result.0 past setup (P.seen port.old) (P.seen port.new) before result.1 }
+    ensures ran { (past : List Entry) → StoreStands D.seen nothing store past →
+        GoesOnFrom D.seen side result.0 past setup (P.seen port.old) (P.seen port.new) before result.1 }
 {
     let mut store = store;
     let clock = port.now();
@@ -104,8 +104,8 @@ fn serve_store<P: Port, D: Disk>(
     requires limits { store.journal.limits ≡ shipped }
     ensures usage { result.0 ≢ Status.Usage }
     ensures served { (past : List Entry) (text : List ℕ) (clock : ℕ)
-        → IsStoreFor D.told D.may_leave D.fault_count nothing store (begun_after nothing past text clock) → text_of store.state ≡ text
-        → IsServed D.told D.may_leave D.fault_count side result.0 past text clock (P.seen port.old) (P.seen port.new) before result.1 }
+        → IsStoreFor D.seen nothing store (begun_after nothing past text clock) → text_of store.state ≡ text
+        → IsServed D.seen side result.0 past text clock (P.seen port.old) (P.seen port.new) before result.1 }
 {
     let reads = port.read_faults();
     let writes = port.write_faults();

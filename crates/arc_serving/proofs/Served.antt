@@ -5,7 +5,7 @@ use Rattle.std.proofs.lemmas.List.Elements.{All-nil, All-cons, All-append, All-w
 use Rattle.std.specs.Prelude.{All, Result, Ok, Err, IfOk, map, reverse}
 use Rattle.alarm_rules.specs.Setups.{meaning}
 use Rattle.arc_doors.specs.Doors.{DoorSeen}
-use Rattle.arc_io.specs.Areas.{Areas}
+use Rattle.arc_io.specs.Disks.{DiskSeen}
 use Rattle.arc_sessions.specs.declared.side.Side.{Side}
 use Rattle.arc_sessions.specs.declared.side.Side.TheVariants.{Lines, Desks}
 use Rattle.arc_workers.specs.Ticks.{WorksTicks}
@@ -47,20 +47,20 @@ side_served side t count sessions last olds news before left after came seated l
 }
 
 -- what the gate was closed with has seen all that these passes have, and more
-stands_for_all : {D : Type 0} (told : D → Option Areas) (may_leave : D → Areas → Type 0) (faults : D → ℕ) (t : Terms) (last : PassSeen) (s : Stored D) (passes : List PassSeen)
-    → IsClosed told may_leave faults t last s → All (λ (p : PassSeen). HasTaken last p) passes → (b : Summary) (base : List Entry) → t.stood b base
-    → StandsForAll told may_leave faults b base passes s
-stands_for_all told may_leave faults t last s passes closed taken b base from =
+stands_for_all : {D : Type 0} (seen : D → DiskSeen) (t : Terms) (last : PassSeen) (s : Stored D) (passes : List PassSeen)
+    → IsClosed seen t last s → All (λ (p : PassSeen). HasTaken last p) passes → (b : Summary) (base : List Entry) → t.stood b base
+    → StandsForAll seen b base passes s
+stands_for_all seen t last s passes closed taken b base from =
     let h = closed.stands b base from in record {
       from = record { history = h.0; stands = h.2; begins = extends_further base (last.since ++ base) h.0 (last.since, refl) h.1 };
-      seen = All-weaker (λ (p : PassSeen). HasTaken last p) (λ (p : PassSeen). Extends (p.since ++ base) h.0)
+      all_seen = All-weaker (λ (p : PassSeen). HasTaken last p) (λ (p : PassSeen). Extends (p.since ++ base) h.0)
           (λ p w. extends_further (p.since ++ base) (last.since ++ base) h.0 (extends_base p.since last.since base w.since) h.1) passes taken;
     }
 
 -- where nobody was served
-pub goes_on : {D : Type 0} (told : D → Option Areas) (may_leave : D → Areas → Type 0) (faults : D → ℕ) (t : Terms) (last : PassSeen) (s : Stored D)
-    → IsClosed told may_leave faults t last s → (b : Summary) (base : List Entry) → t.stood b base → GoesOnFrom told may_leave faults b base s
-goes_on told may_leave faults t last s closed b base from = (stands_for_all told may_leave faults t last s [] closed (All-nil (λ (p : PassSeen). HasTaken last p)) b base from).from
+pub goes_on : {D : Type 0} (seen : D → DiskSeen) (t : Terms) (last : PassSeen) (s : Stored D)
+    → IsClosed seen t last s → (b : Summary) (base : List Entry) → t.stood b base → GoesOnFrom seen b base s
+goes_on seen t last s closed b base from = (stands_for_all seen t last s [] closed (All-nil (λ (p : PassSeen). HasTaken last p)) b base from).from
 
 -- the first pass, which has seen nothing since the gate was made, knows the setup in force
 setup_from : (t : Terms) (first : PassSeen) → IsPass t first → first.since ≡ [] → (b : Summary) (base : List Entry) → t.stood b base → force b (marks b base) ≡ Some (meaning t.text)
@@ -79,13 +79,13 @@ numbers_from low one two high lines desks ticker line_ran desk_ran w v le lt lin
     subst (λ (l : List ℕ). AreRising low l high) (sym same)
     (rising_both low (numbers_in lines) (numbers_in desks ++ ticker.number ∷ []) one high w (rising_both one (numbers_in desks) (ticker.number ∷ []) two high v (le, omega (arith, lt))))
 
-pub serves : {D : Type 0} (told : D → Option Areas) (may_leave : D → Areas → Type 0) (faults : D → ℕ) (t : Terms) (crew : Crew) (first given ticker : PassSeen)
+pub serves : {D : Type 0} (seen : D → DiskSeen) (t : Terms) (crew : Crew) (first given ticker : PassSeen)
     (low one two high : ℕ) (lines desks : List JobSeen) (before left after : StationSeen) (came : CameSeen) (s : Stored D)
     → IsPass t first → first.since ≡ [] → IsFresh t ticker → two ≤ ticker.number → ticker.number < high
     → AreSeated t before.lines left.lines lines low one → AreSeated t before.desks left.desks desks one two → length lines ≡ crew.lines → length desks ≡ crew.desks
-    → left.pulse ≡ before.pulse → ServesSeated told may_leave faults t crew.sessions given lines desks ticker left after came s
-    → Serves told may_leave faults t crew before after came s
-serves told may_leave faults t crew first given ticker low one two high lines desks before left after came s pass none fresh le lt seated_lines seated_desks line_count desk_count pulse w =
+    → left.pulse ≡ before.pulse → ServesSeated seen t crew.sessions given lines desks ticker left after came s
+    → Serves seen t crew before after came s
+serves seen t crew first given ticker low one two high lines desks before left after came s pass none fresh le lt seated_lines seated_desks line_count desk_count pulse w =
     let l = side_ran Lines t crew.sessions w.last lines w.lines' seated_lines.ready w.lines_done w.lines_over.taken in
     let d = side_ran Desks t crew.sessions w.last desks w.desks' seated_desks.ready w.desks_done w.desks_over.taken in
     let taken = All-append (λ (p : PassSeen). HasTaken w.last p) (ended_in l.ran) (ended_in d.ran ++ w.ticker' ∷ []) l.taken
@@ -97,15 +97,15 @@ serves told may_leave faults t crew first given ticker low one two high lines de
       low = low;
       high = high;
       numbers = numbers_from low one two high lines desks ticker l.ran d.ran seated_lines.rising seated_desks.rising le lt l.began d.began;
-      stands = stands_for_all told may_leave faults t w.last s (all_ended (record { lines = l.ran; desks = d.ran; ticker = record { began = ticker; ended = w.ticker' } })) w.closed taken;
+      stands = stands_for_all seen t w.last s (all_ended (record { lines = l.ran; desks = d.ran; ticker = record { began = ticker; ended = w.ticker' } })) w.closed taken;
       setup = setup_from t first pass none;
-      all_told = All-weaker (λ (p : PassSeen). HasTaken w.last p) (λ (p : PassSeen). p.told ≤ faults s.journal.disk) (λ p v. let a = v.told in let b = w.closed.told_is in omega arith)
+      all_told = All-weaker (λ (p : PassSeen). HasTaken w.last p) (λ (p : PassSeen). p.told ≤ (seen s.journal.disk).faults) (λ p v. let a = v.told in let b = w.closed.told_is in omega arith)
           (ended_in l.ran ++ (ended_in d.ran ++ w.ticker' ∷ [])) taken;
     }
 
 -- at the gate that was before the store
-pub of_store : {D E : Type 0} (told : D → Option Areas) (may_leave : D → Areas → Type 0) (faults : D → ℕ) (gate : BlankSeen D) (from : Stored D) (crew : Crew) (before after : StationSeen)
-    (s : Stored D) (r : Result CameSeen E) → gate.store ≡ from → IfOk r (λ came. Serves told may_leave faults (terms_of told may_leave faults gate) crew before after came s)
-    → IfOk r (λ came. ServesStore told may_leave faults from crew before after came s)
-of_store told may_leave faults gate from crew before after s (Ok came) is w = record { gate = gate; from_is = is; serves = w }
-of_store told may_leave faults gate from crew before after s (Err e) is w = tt
+pub of_store : {D E : Type 0} (seen : D → DiskSeen) (gate : BlankSeen D) (from : Stored D) (crew : Crew) (before after : StationSeen)
+    (s : Stored D) (r : Result CameSeen E) → gate.store ≡ from → IfOk r (λ came. Serves seen (terms_of seen gate) crew before after came s)
+    → IfOk r (λ came. ServesStore seen from crew before after came s)
+of_store seen gate from crew before after s (Ok came) is w = record { gate = gate; from_is = is; serves = w }
+of_store seen gate from crew before after s (Err e) is w = tt

@@ -1,8 +1,8 @@
 -- All callers beside each other, and the closing.
-use Rattle.std.specs.Prelude.{◌≡◌, ◌≤◌, ℕ, List, ◌++◌, Option, Some}
+use Rattle.std.specs.Prelude.{◌≡◌, ◌≤◌, ℕ, List, ◌++◌, Some}
 use Rattle.std.specs.List.{AllZip}
 use Rattle.arc_doors.specs.Doors.{DoorSeen}
-use Rattle.arc_io.specs.Areas.{Areas}
+use Rattle.arc_io.specs.Disks.{DiskSeen}
 use Rattle.arc_sessions.specs.declared.side.Side.TheVariants.{Lines, Desks}
 use Rattle.arc_workers.specs.Ticks.{WorksTicks}
 use Rattle.centre_rules.specs.Summary.{Summary}
@@ -14,27 +14,26 @@ use Rattle.arc_serving.specs.Jobs.{JobSeen, IsJobDone, HasTaken, AreUnseated, wo
 use Rattle.arc_serving.specs.Seen.{StationSeen, CameSeen}
 
 -- the gate was closed with this pass
-pub record IsClosed {D : Type 0} (told : D → Option Areas) (may_leave : D → Areas → Type 0) (faults : D → ℕ)
-    (t : Terms) (last : PassSeen) (s : Stored D) : Type 0 where
+pub record IsClosed {D : Type 0} (seen : D → DiskSeen) (t : Terms) (last : PassSeen) (s : Stored D) : Type 0 where
   pub stands : (b : Summary) (base : List Entry) → t.stood b base
-      → (h : List Entry) × Extends (last.since ++ base) h × StoreStands told may_leave faults b s h
-  pub told_is : last.told ≤ faults s.journal.disk
+      → (h : List Entry) × Extends (last.since ++ base) h × StoreStands seen b s h
+  pub told_is : last.told ≤ (seen s.journal.disk).faults
   pub at_open : s.at_open ≡ t.at_open
   pub limits : s.journal.limits ≡ t.limits
   pub text : s.state.sum.text ≡ Some t.text
 
 -- The first pass took in those of the jobs of both sides, whose doors stand in their places, and the gate was closed with it.
-pub record ClosesBoth {D : Type 0} (told : D → Option Areas) (may_leave : D → Areas → Type 0) (faults : D → ℕ)
+pub record ClosesBoth {D : Type 0} (seen : D → DiskSeen)
     (t : Terms) (first : PassSeen) (lines desks : List JobSeen) (left_lines left_desks line_doors desk_doors : List DoorSeen)
     (s : Stored D) : Type 0 where
   pub last : PassSeen
   pub later : IsLater first last
   pub lines_over : AreUnseated last lines left_lines line_doors
   pub desks_over : AreUnseated last desks left_desks desk_doors
-  pub closed : IsClosed told may_leave faults t last s
+  pub closed : IsClosed seen t last s
 
 -- All jobs were done and the ticker ran, then the gate was closed.
-pub record ServesSeated {D : Type 0} (told : D → Option Areas) (may_leave : D → Areas → Type 0) (faults : D → ℕ)
+pub record ServesSeated {D : Type 0} (seen : D → DiskSeen)
     (t : Terms) (sessions : ℕ) (first : PassSeen) (lines desks : List JobSeen) (ticker : PassSeen)
     (left after : StationSeen) (came : CameSeen) (s : Stored D) : Type 0 where
   pub lines' : List JobSeen
@@ -51,4 +50,4 @@ pub record ServesSeated {D : Type 0} (told : D → Option Areas) (may_leave : D 
   pub desks_over : AreUnseated last desks' left.desks after.desks
   pub lines_came : came.lines ≡ worked_in lines'
   pub desks_came : came.desks ≡ worked_in desks'
-  pub closed : IsClosed told may_leave faults t last s
+  pub closed : IsClosed seen t last s

@@ -1,7 +1,7 @@
 -- What serving makes of a store and of what stood around it.
-use Rattle.std.specs.Prelude.{◌≡◌, ◌≤◌, ℕ, List, [], ◌∷◌, ◌++◌, Option, Some, All, map}
+use Rattle.std.specs.Prelude.{◌≡◌, ◌≤◌, ℕ, List, [], ◌∷◌, ◌++◌, Some, All, map}
 use Rattle.alarm_rules.specs.Setups.{meaning}
-use Rattle.arc_io.specs.Areas.{Areas}
+use Rattle.arc_io.specs.Disks.{DiskSeen}
 use Rattle.arc_sessions.specs.declared.side.Side.TheVariants.{Lines, Desks}
 use Rattle.centre_rules.specs.History.{marks}
 use Rattle.centre_rules.specs.Marks.{force}
@@ -30,22 +30,21 @@ abbrev pub all_ended : Ran → List PassSeen
 all_ended r = ended_in r.lines ++ (ended_in r.desks ++ r.ticker.ended ∷ [])
 
 -- the store stands for a history that begins with this one
-pub record GoesOnFrom {D : Type 0} (told : D → Option Areas) (may_leave : D → Areas → Type 0) (faults : D → ℕ)
-    (b : Summary) (base : List Entry) (s : Stored D) : Type 0 where
+pub record GoesOnFrom {D : Type 0} (seen : D → DiskSeen) (b : Summary) (base : List Entry) (s : Stored D) : Type 0 where
   pub history : List Entry
-  pub stands : StoreStands told may_leave faults b s history
+  pub stands : StoreStands seen b s history
   pub begins : Extends base history
 
 -- and with all that each of these passes has seen
-pub record StandsForAll {D : Type 0} (told : D → Option Areas) (may_leave : D → Areas → Type 0) (faults : D → ℕ)
+pub record StandsForAll {D : Type 0} (seen : D → DiskSeen)
     (b : Summary) (base : List Entry) (passes : List PassSeen) (s : Stored D) : Type 0 where
-  pub from : GoesOnFrom told may_leave faults b base s
-  pub seen : All (λ p. Extends (p.since ++ base) from.history) passes
+  pub from : GoesOnFrom seen b base s
+  pub all_seen : All (λ p. Extends (p.since ++ base) from.history) passes
 
 -- The callers ran beside each other at a gate of this name, and then it was closed. Each used door has the clause of a worker, the pulse
 -- that of the ticker, all under numbers of their own: lines in the order of their doors, then desks, then the ticker. The store stands
 -- for one history, in which all that any of them has seen stands; the setup in force was that of the history before.
-pub record Serves {D : Type 0} (told : D → Option Areas) (may_leave : D → Areas → Type 0) (faults : D → ℕ)
+pub record Serves {D : Type 0} (seen : D → DiskSeen)
     (t : Terms) (crew : Crew) (before after : StationSeen) (came : CameSeen) (s : Stored D) : Type 0 where
   pub ran : Ran
   pub lines : IsSideServed Lines t crew.lines crew.sessions ran.lines before.lines after.lines came.lines
@@ -54,13 +53,13 @@ pub record Serves {D : Type 0} (told : D → Option Areas) (may_leave : D → Ar
   pub low : ℕ
   pub high : ℕ
   pub numbers : AreRising low (map (λ p. p.number) (all_began ran)) high
-  pub stands : (b : Summary) (base : List Entry) → t.stood b base → StandsForAll told may_leave faults b base (all_ended ran) s
+  pub stands : (b : Summary) (base : List Entry) → t.stood b base → StandsForAll seen b base (all_ended ran) s
   pub setup : (b : Summary) (base : List Entry) → t.stood b base → force b (marks b base) ≡ Some (meaning t.text)
-  pub all_told : All (λ p. p.told ≤ faults s.journal.disk) (all_ended ran)
+  pub all_told : All (λ p. p.told ≤ (seen s.journal.disk).faults) (all_ended ran)
 
 -- The callers ran at some gate before the store. Its bases are just the histories for which the store stood.
-pub record ServesStore {D : Type 0} (told : D → Option Areas) (may_leave : D → Areas → Type 0) (faults : D → ℕ)
+pub record ServesStore {D : Type 0} (seen : D → DiskSeen)
     (from : Stored D) (crew : Crew) (before after : StationSeen) (came : CameSeen) (s : Stored D) : Type 0 where
   pub gate : BlankSeen D
   pub from_is : gate.store ≡ from
-  pub serves : Serves told may_leave faults (terms_of told may_leave faults gate) crew before after came s
+  pub serves : Serves seen (terms_of seen gate) crew before after came s

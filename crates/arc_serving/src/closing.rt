@@ -43,7 +43,7 @@ pub(crate) fn serve_seated<
     ticking: Ticking<T, N>,
     sessions: u32,
 ) -> (Closed<D, A, B>, T, Ticked)
-    ensures { ServesSeated D.told D.may_leave D.fault_count N.terms sessions first lines.jobs.items desks.jobs.items ticking.pass
+    ensures { ServesSeated D.seen N.terms sessions first lines.jobs.items desks.jobs.items ticking.pass
         (record { lines = map (λ d. A.seen d) lines.doors.items; desks = map (λ d. B.seen d) desks.doors.items; pulse = T.moments ticking.pulse })
         (record { lines = map (λ d. A.seen d) result.0.lines.items; desks = map (λ d. B.seen d) result.0.desks.items; pulse = T.moments result.1 })
         (record { lines = result.0.line_came.items; desks = result.0.desk_came.items; ticked = result.2 }) result.0.store }
@@ -86,7 +86,7 @@ pub(crate) fn close<A: Door + Drop, B: Door + Drop, D: Disk + Drop, N: GateName>
     lines: Bench<A, N>,
     desks: Bench<B, N>,
 ) -> Closed<D, A, B>
-    ensures closes { ClosesBoth D.told D.may_leave D.fault_count N.terms first lines.jobs.items desks.jobs.items
+    ensures closes { ClosesBoth D.seen N.terms first lines.jobs.items desks.jobs.items
         (map (λ d. A.seen d) lines.doors.items) (map (λ d. B.seen d) desks.doors.items)
         (map (λ d. A.seen d) result.lines.items) (map (λ d. B.seen d) result.desks.items) result.store }
     ensures came { (result.line_came.items ≡ worked_in lines.jobs.items) × (result.desk_came.items ≡ worked_in desks.jobs.items) }

@@ -43,9 +43,9 @@ pub fn serve_store<
     requires begun { IsSetting store.state.sum.text }
     requires lines { crew.lines ≤ length station.lines }
     requires desks { crew.desks ≤ length station.desks }
-    ensures served { IfOk result.came (λ came. ServesStore D.told D.may_leave D.fault_count store crew station result.station came result.store) }
-    ensures refused { OnErr result.came ((b : Summary) (h : List Entry) → StoreStands D.told D.may_leave D.fault_count b store h
-        → GoesOnFrom D.told D.may_leave D.fault_count b h result.store) }
+    ensures served { IfOk result.came (λ came. ServesStore D.seen store crew station result.station came result.store) }
+    ensures refused { OnErr result.came ((b : Summary) (h : List Entry) → StoreStands D.seen b store h
+        → GoesOnFrom D.seen b h result.store) }
     ensures untouched { OnErr result.came (result.station ≡ station) }
     ensures kept { (result.store.at_open ≡ store.at_open) × (result.store.journal.limits ≡ store.journal.limits) }
 {
@@ -74,12 +74,12 @@ fn serve_blank<
     station: Station<A, B, T>,
     crew: Crew,
 ) -> ServedStore<D, A, B, T>
-    requires names { Names D.told D.may_leave D.fault_count N.terms blank }
+    requires names { Names D.seen N.terms blank }
     requires lines { crew.lines ≤ length station.lines }
     requires desks { crew.desks ≤ length station.desks }
-    ensures served { IfOk result.came (λ came. Serves D.told D.may_leave D.fault_count N.terms crew station result.station came result.store) }
+    ensures served { IfOk result.came (λ came. Serves D.seen N.terms crew station result.station came result.store) }
     ensures refused { OnErr result.came ((b : Summary) (h : List Entry) → N.terms.stood b h
-        → GoesOnFrom D.told D.may_leave D.fault_count b h result.store) }
+        → GoesOnFrom D.seen b h result.store) }
     ensures untouched { OnErr result.came (result.station ≡ station) }
     ensures kept { (result.store.at_open ≡ N.terms.at_open) × (result.store.journal.limits ≡ N.terms.limits) }
 {
@@ -115,9 +115,9 @@ fn serve_at<
     requires first { IsPass N.terms first × (first.since ≡ []) }
     requires lines { (line_room.count ≡ crew.lines) × (crew.lines ≤ length station.lines) }
     requires desks { (desk_room.count ≡ crew.desks) × (crew.desks ≤ length station.desks) }
-    ensures served { IfOk result.came (λ came. Serves D.told D.may_leave D.fault_count N.terms crew station result.station came result.store) }
+    ensures served { IfOk result.came (λ came. Serves D.seen N.terms crew station result.station came result.store) }
     ensures refused { OnErr result.came ((b : Summary) (h : List Entry) → N.terms.stood b h
-        → GoesOnFrom D.told D.may_leave D.fault_count b h result.store) }
+        → GoesOnFrom D.seen b h result.store) }
     ensures untouched { OnErr result.came (result.station ≡ station) }
     ensures kept { (result.store.at_open ≡ N.terms.at_open) × (result.store.journal.limits ≡ N.terms.limits) }
 {

@@ -1,5 +1,5 @@
 -- How a run begins over a history.
-use Rattle.std.proofs.Common.{◌≡◌, ℕ, List, [], ◌∷◌, Bool, true, false, Option, inl, inr, refl, sym, ap, subst, ◌∙◌}
+use Rattle.std.proofs.Common.{◌≡◌, ℕ, List, [], ◌∷◌, Bool, true, false, inl, inr, refl, sym, ap, subst, ◌∙◌}
 use Rattle.std.specs.Prelude.{if◌then◌else◌, IsOk, is_ok, Result, Ok, Err, IfErr}
 use Rattle.arc_data.specs.declared.event.Event.{Event}
 use Rattle.arc_data.specs.declared.event.Event.TheVariants.{Adopt, Start}
@@ -7,6 +7,7 @@ use Rattle.arc_data.specs.declared.reply.Reply.{Reply}
 use Rattle.arc_data.specs.declared.reply.Reply.TheVariants.{Adopted, Started}
 use Rattle.alarm_rules.specs.Setups.{setup_of}
 use Rattle.arc_io.specs.Areas.{Areas}
+use Rattle.arc_io.specs.Disks.{DiskSeen}
 use Rattle.arc_io.specs.Crashes.{LeavesOnly}
 use Rattle.arc_io.proofs.Moments.{started, weaker}
 use Rattle.centre_rules.specs.Summary.{Summary}
@@ -83,43 +84,42 @@ within_start b h setup clock bytes (inr new) = record {
 
 -- What the store stands for.
 
-module _ {D : Type 0} (told : D → Option Areas) (may_leave : D → Areas → Type 0) (faults : D → ℕ) where
+module _ {D : Type 0} (seen : D → DiskSeen) where
   pub adopted_stands : (b : Summary) (s : Stored D) (h : List Entry) (setup taken : List ℕ) (clock at : ℕ) (reply : Reply) → taken ≡ setup → IsOk (setup_of setup)
       → is_in_force (text b (marks b h)) setup ≡ false
-      → Takes told may_leave faults b s h clock (record { caller = 0; event = Adopt taken; at = at; reply = reply })
-      → StoreStands told may_leave faults b s (adopted_after b h setup clock)
+      → Takes seen b s h clock (record { caller = 0; event = Adopt taken; at = at; reply = reply })
+      → StoreStands seen b s (adopted_after b h setup clock)
   adopted_stands b s h setup taken clock at reply same valid is takes =
       let answered : reply ≡ Adopted = takes.reply ∙ ap (λ (t : List ℕ). if_known (is_ok (setup_of t)) Adopted) same ∙ ap (λ v. if_known v Adopted) valid in
       let e : record { caller = 0; event = Adopt taken; at = at; reply = reply } ≡ adopted_entry b h setup clock =
       λ i. record { caller = 0; event = Adopt (same i); at = takes.at i; reply = answered i } in
-      subst (λ (x : List Entry). StoreStands told may_leave faults b s x) (ap (λ (x : Entry). x ∷ h) e ∙ sym (one_adopt b h setup clock is)) takes.stands
+      subst (λ (x : List Entry). StoreStands seen b s x) (ap (λ (x : Entry). x ∷ h) e ∙ sym (one_adopt b h setup clock is)) takes.stands
 
   pub started_stands : (b : Summary) (s : Stored D) (h : List Entry) (clock at : ℕ) (reply : Reply)
-      → Takes told may_leave faults b s h clock (record { caller = 0; event = Start; at = at; reply = reply })
-      → StoreStands told may_leave faults b s (started_entry b h clock ∷ h)
+      → Takes seen b s h clock (record { caller = 0; event = Start; at = at; reply = reply })
+      → StoreStands seen b s (started_entry b h clock ∷ h)
   started_stands b s h clock at reply takes =
       let e : record { caller = 0; event = Start; at = at; reply = reply } ≡ started_entry b h clock =
       λ i. record { caller = 0; event = Start; at = takes.at i; reply = takes.reply i } in
-      subst (λ (x : Entry). StoreStands told may_leave faults b s (x ∷ h)) e takes.stands
+      subst (λ (x : Entry). StoreStands seen b s (x ∷ h)) e takes.stands
 
-module _ {D : Type 0} (told : D → Option Areas) (may_leave : D → Areas → Type 0) (faults : D → ℕ)
-    (moment : D → ℕ) (left_since : D → ℕ → Areas → Type 0) where
+module _ {D : Type 0} (seen : D → DiskSeen) where
   -- before any call of the disk
-  pub still_within : (b : Summary) (s : Stored D) (h : List Entry) (setup : List ℕ) (clock : ℕ) → ((d : D) (c : Areas) → left_since d (moment d) c → may_leave d c)
-      → (HasFailed faults s → ⊥) → StoreStands told may_leave faults b s h
-      → LeavesOnly moment left_since s.journal.disk s.journal.disk (λ c. StandsWithin b h setup clock c.a)
+  pub still_within : (b : Summary) (s : Stored D) (h : List Entry) (setup : List ℕ) (clock : ℕ) → ((d : D) (c : Areas) → (seen d).left_since (seen d).moment c → (seen d).may_leave c)
+      → (HasFailed seen s → ⊥) → StoreStands seen b s h
+      → LeavesOnly (seen s.journal.disk) (seen s.journal.disk) (λ c. StandsWithin b h setup clock c.a)
   still_within b s h setup clock only_now up w =
-      started moment left_since s.journal.disk _
-      (λ c left. within_before b h setup clock c.a (inr ((held told may_leave faults b s h up w).kept.images c (only_now s.journal.disk c left))))
+      started (seen s.journal.disk) _
+      (λ c left. within_before b h setup clock c.a (inr ((held seen b s h up w).kept.images c (only_now s.journal.disk c left))))
 
   -- while the Adopt is made
   pub adopt_within : (b : Summary) (s : Stored D) (new : D) (h : List Entry) (setup taken : List ℕ) (clock : ℕ) → taken ≡ setup
-      → is_in_force s.state.sum.text setup ≡ false → StoreStands told may_leave faults b s h
-      → LeavesOnly moment left_since s.journal.disk new (λ c. StandsForEither (bodies_of h) (spelling (Adopt taken) (moment_after b h clock)) c.a)
-      → LeavesOnly moment left_since s.journal.disk new (λ c. StandsWithin b h setup clock c.a)
+      → is_in_force s.state.sum.text setup ≡ false → StoreStands seen b s h
+      → LeavesOnly (seen s.journal.disk) (seen new) (λ c. StandsForEither (bodies_of h) (spelling (Adopt taken) (moment_after b h clock)) c.a)
+      → LeavesOnly (seen s.journal.disk) (seen new) (λ c. StandsWithin b h setup clock c.a)
   adopt_within b s new h setup taken clock same is w run =
       let other : is_in_force (text b (marks b h)) setup ≡ false = ap (λ t. is_in_force t setup) (sym w.centre.same.text) ∙ is in
-      weaker moment left_since s.journal.disk new (λ c. StandsWithin b h setup clock c.a) _ run
+      weaker (seen s.journal.disk) (seen new) (λ c. StandsWithin b h setup clock c.a) _ run
       (λ c either. within_adopt b h setup clock c.a other
       (subst (λ (t : List ℕ). StandsForEither (bodies_of h) (spelling (Adopt t) (moment_after b h clock)) c.a) same either))
 
@@ -130,8 +130,8 @@ known_force b s h setup v w is = ap (λ t. is_in_force t setup) (sym w.same.text
 
 -- The cause of a stop.
 
-pub cause_of : {A D : Type 0} (told : D → Option Areas) (may_leave : D → Areas → Type 0) (faults : D → ℕ) (s : Stored D) (setup : List ℕ) (clock : ℕ)
-    (event : Event) (r : Result A Stop) → IsOfBegin setup event → IfErr r (λ stop. Shows told may_leave faults s stop event clock)
-    → IfErr r (λ stop. (x : Event) × IsOfBegin setup x × Shows told may_leave faults s stop x clock)
-cause_of told may_leave faults s setup clock event (Ok a) of shows = tt
-cause_of told may_leave faults s setup clock event (Err stop) of shows = (event, of, shows)
+pub cause_of : {A D : Type 0} (seen : D → DiskSeen) (s : Stored D) (setup : List ℕ) (clock : ℕ)
+    (event : Event) (r : Result A Stop) → IsOfBegin setup event → IfErr r (λ stop. Shows seen s stop event clock)
+    → IfErr r (λ stop. (x : Event) × IsOfBegin setup x × Shows seen s stop x clock)
+cause_of seen s setup clock event (Ok a) of shows = tt
+cause_of seen s setup clock event (Err stop) of shows = (event, of, shows)

@@ -1,8 +1,8 @@
 -- What a store stands for after a call that made an entry, or none.
-use Rattle.std.proofs.Common.{◌≡◌, ℕ, List, [], ◌∷◌, ◌++◌, true, false, inl, inr, Option, sym, ap, subst, ◌∙◌}
+use Rattle.std.proofs.Common.{◌≡◌, ℕ, List, [], ◌∷◌, ◌++◌, true, false, inl, inr, sym, ap, subst, ◌∙◌}
 use Rattle.arc_data.specs.declared.event.Event.{Event}
 use Rattle.arc_data.specs.declared.reply.Reply.{Reply}
-use Rattle.arc_io.specs.Areas.{Areas}
+use Rattle.arc_io.specs.Disks.{DiskSeen}
 use Rattle.arc_io.specs.Crashes.{LeavesOnly}
 use Rattle.centre_rules.specs.Summary.{Summary}
 use Rattle.centre_rules.specs.History.{Entry, moment_after, is_recorded}
@@ -23,65 +23,65 @@ pub entry_is : (p : Plan) (caller : ℕ) (event : Event) (at : ℕ) (reply : Rep
     → entry_of caller p ≡ record { caller = caller; event = event; at = at; reply = reply }
 entry_is p caller event at reply event_is at_is reply_is = λ i. record { caller = caller; event = event_is i; at = sym at_is i; reply = sym reply_is i }
 
-module _ {D : Type 0} (told : D → Option Areas) (may_leave : D → Areas → Type 0) (faults : D → ℕ) where
+module _ {D : Type 0} (seen : D → DiskSeen) where
   -- while the disk has not failed the journal holds the bodies of the history
-  pub held : (b : Summary) (s : Stored D) (h : List Entry) → (HasFailed faults s → ⊥) → StoreStands told may_leave faults b s h → Holds told may_leave s.journal (bodies_of h)
+  pub held : (b : Summary) (s : Stored D) (h : List Entry) → (HasFailed seen s → ⊥) → StoreStands seen b s h → Holds seen s.journal (bodies_of h)
   held b s h up w = elim w.journal [ inl holds ↦ holds | inr torn ↦ absurd (up torn.0) ]
 
   -- a store stands for the history with the entry that was made
   pub takes : (b : Summary) (t : State) (k : Journal D) (n : ℕ) (h : List Entry) (clock caller : ℕ) (event : Event) (at : ℕ) (reply : Reply) (p : Plan)
       → p.event ≡ event → at ≡ p.at → reply ≡ p.reply → p.at ≡ moment_after b h clock
-      → StandsFor b t (entry_of caller p ∷ h) → Holds told may_leave k (bodies_of (entry_of caller p ∷ h))
-      → Takes told may_leave faults b (stored t k n) h clock (record { caller = caller; event = event; at = at; reply = reply })
+      → StandsFor b t (entry_of caller p ∷ h) → Holds seen k (bodies_of (entry_of caller p ∷ h))
+      → Takes seen b (stored t k n) h clock (record { caller = caller; event = event; at = at; reply = reply })
   takes b t k n h clock caller event at reply p event_is at_is reply_is moment stands holds =
       let e : Entry = record { caller = caller; event = event; at = at; reply = reply } in
       let is : entry_of caller p ≡ e = entry_is p caller event at reply event_is at_is reply_is in
       let centre : StandsFor b t (e ∷ h) = subst (λ (x : Entry). StandsFor b t (x ∷ h)) is stands in
       record {
-        stands = record { centre = centre; journal = inl (subst (λ (x : Entry). Holds told may_leave k (bodies_of (x ∷ h))) is holds) };
+        stands = record { centre = centre; journal = inl (subst (λ (x : Entry). Holds seen k (bodies_of (x ∷ h))) is holds) };
         at = at_is ∙ moment;
         reply = centre.legal.0.reply;
       }
 
   -- its journal has one body more, or where the entry is quiet, none
-  pub holds_quiet : (k : Journal D) (e : Entry) (h : List Entry) → is_recorded e.reply ≡ false → Holds told may_leave k (bodies_of h) → Holds told may_leave k (bodies_of (e ∷ h))
-  holds_quiet k e h quiet holds = subst (λ (bs : List (List ℕ)). Holds told may_leave k bs) (sym (bodies_same e h quiet)) holds
+  pub holds_quiet : (k : Journal D) (e : Entry) (h : List Entry) → is_recorded e.reply ≡ false → Holds seen k (bodies_of h) → Holds seen k (bodies_of (e ∷ h))
+  holds_quiet k e h quiet holds = subst (λ (bs : List (List ℕ)). Holds seen k bs) (sym (bodies_same e h quiet)) holds
 
-  pub holds_more : (k : Journal D) (e : Entry) (h : List Entry) → is_recorded e.reply ≡ true → Holds told may_leave k (bodies_of h ++ spelling e.event e.at ∷ [])
-      → Holds told may_leave k (bodies_of (e ∷ h))
-  holds_more k e h is holds = subst (λ (bs : List (List ℕ)). Holds told may_leave k bs) (sym (bodies_more e h is)) holds
+  pub holds_more : (k : Journal D) (e : Entry) (h : List Entry) → is_recorded e.reply ≡ true → Holds seen k (bodies_of h ++ spelling e.event e.at ∷ [])
+      → Holds seen k (bodies_of (e ∷ h))
+  holds_more k e h is holds = subst (λ (bs : List (List ℕ)). Holds seen k bs) (sym (bodies_more e h is)) holds
 
   -- the parts of the store before the call, while the disk has not failed
-  module _ (b : Summary) (old : Stored D) (s r : State) (j : Journal D) (n : ℕ) (h : List Entry) (is : stored s j n ≡ old) (up : HasFailed faults old → ⊥)
-      (w : StoreStands told may_leave faults b old h) (stays : StandsFor b s h → StandsFor b r h) where
-    was : StoreStands told may_leave faults b (stored s j n) h
-    was = subst (λ (x : Stored D). StoreStands told may_leave faults b x h) (sym is) w
+  module _ (b : Summary) (old : Stored D) (s r : State) (j : Journal D) (n : ℕ) (h : List Entry) (is : stored s j n ≡ old) (up : HasFailed seen old → ⊥)
+      (w : StoreStands seen b old h) (stays : StandsFor b s h → StandsFor b r h) where
+    was : StoreStands seen b (stored s j n) h
+    was = subst (λ (x : Stored D). StoreStands seen b x h) (sym is) w
 
     kept : StandsFor b r h
     kept = stays was.centre
 
-    holds : Holds told may_leave j (bodies_of h)
-    holds = held b (stored s j n) h (λ f. up (subst (λ (x : Stored D). HasFailed faults x) is f)) was
+    holds : Holds seen j (bodies_of h)
+    holds = held b (stored s j n) h (λ f. up (subst (λ (x : Stored D). HasFailed seen x) is f)) was
 
     pub takes_quiet : (t : State) (clock caller : ℕ) (event : Event) (at : ℕ) (reply : Reply) (p : Plan) → p.event ≡ event → at ≡ p.at → reply ≡ p.reply
         → (StandsFor b r h → p.at ≡ moment_after b h clock) → (StandsFor b r h → StandsFor b t (entry_of caller p ∷ h)) → is_recorded p.reply ≡ false
-        → Takes told may_leave faults b (stored t j n) h clock (record { caller = caller; event = event; at = at; reply = reply })
+        → Takes seen b (stored t j n) h clock (record { caller = caller; event = event; at = at; reply = reply })
     takes_quiet t clock caller event at reply p event_is at_is reply_is moment entry quiet =
         takes b t j n h clock caller event at reply p event_is at_is reply_is (moment kept) (entry kept) (holds_quiet j (entry_of caller p) h quiet holds)
 
     pub takes_written : (t : State) (k : Journal D) (clock caller : ℕ) (event : Event) (at : ℕ) (reply : Reply) (p : Plan) → p.event ≡ event → at ≡ p.at → reply ≡ p.reply
         → (StandsFor b r h → p.at ≡ moment_after b h clock) → (StandsFor b r h → StandsFor b t (entry_of caller p ∷ h)) → is_recorded p.reply ≡ true
-        → (Holds told may_leave j (bodies_of h) → Holds told may_leave k (bodies_of h ++ spelling p.event p.at ∷ []))
-        → Takes told may_leave faults b (stored t k n) h clock (record { caller = caller; event = event; at = at; reply = reply })
+        → (Holds seen j (bodies_of h) → Holds seen k (bodies_of h ++ spelling p.event p.at ∷ []))
+        → Takes seen b (stored t k n) h clock (record { caller = caller; event = event; at = at; reply = reply })
     takes_written t k clock caller event at reply p event_is at_is reply_is moment entry recorded added =
         takes b t k n h clock caller event at reply p event_is at_is reply_is (moment kept) (entry kept) (holds_more k (entry_of caller p) h recorded (added holds))
 
-    pub written_moment : (moment : D → ℕ) (left_since : D → ℕ → Areas → Type 0) (new : D) (clock : ℕ) (event : Event) (p : Plan) → p.event ≡ event
+    pub written_moment : (new : D) (clock : ℕ) (event : Event) (p : Plan) → p.event ≡ event
         → (StandsFor b r h → p.at ≡ moment_after b h clock)
-        → (Holds told may_leave j (bodies_of h) → LeavesOnly moment left_since j.disk new (λ c. StandsForEither (bodies_of h) (spelling p.event p.at) c.a))
-        → LeavesOnly moment left_since old.journal.disk new (λ c. StandsForEither (bodies_of h) (spelling event (moment_after b h clock)) c.a)
-    written_moment moment left_since new clock event p event_is at run =
+        → (Holds seen j (bodies_of h) → LeavesOnly (seen j.disk) (seen new) (λ c. StandsForEither (bodies_of h) (spelling p.event p.at) c.a))
+        → LeavesOnly (seen old.journal.disk) (seen new) (λ c. StandsForEither (bodies_of h) (spelling event (moment_after b h clock)) c.a)
+    written_moment new clock event p event_is at run =
         let body : spelling p.event p.at ≡ spelling event (moment_after b h clock) = ap (λ (x : Event). spelling x p.at) event_is ∙ ap (spelling event) (at kept) in
-        subst (λ (d : D). LeavesOnly moment left_since d new (λ c. StandsForEither (bodies_of h) (spelling event (moment_after b h clock)) c.a))
+        subst (λ (d : D). LeavesOnly (seen d) (seen new) (λ c. StandsForEither (bodies_of h) (spelling event (moment_after b h clock)) c.a))
         (ap (λ (x : Stored D). x.journal.disk) is)
-        (subst (λ (bs : List ℕ). LeavesOnly moment left_since j.disk new (λ c. StandsForEither (bodies_of h) bs c.a)) body (run holds))
+        (subst (λ (bs : List ℕ). LeavesOnly (seen j.disk) (seen new) (λ c. StandsForEither (bodies_of h) bs c.a)) body (run holds))

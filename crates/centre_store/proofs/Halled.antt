@@ -1,8 +1,8 @@
 -- What a call of a store is for a hall.
 use Rattle.std.specs.Prelude.{Result, Ok, Err, IfOk, OnErr}
-use Rattle.std.proofs.Common.{◌≡◌, ℕ, List, [], ◌∷◌, Option, refl, sym, subst}
+use Rattle.std.proofs.Common.{◌≡◌, ℕ, List, [], ◌∷◌, refl, sym, subst}
 use Rattle.arc_data.specs.declared.event.Event.{Event}
-use Rattle.arc_io.specs.Areas.{Areas}
+use Rattle.arc_io.specs.Disks.{DiskSeen}
 use Rattle.centre_rules.specs.Summary.{Summary}
 use Rattle.centre_rules.specs.History.{Entry}
 use Rattle.centre_rules.specs.Answers.{IsLegal}
@@ -13,14 +13,14 @@ use Rattle.centre_core.specs.declared.ready.Done.{Done}
 use Rattle.centre_store.specs.Stores.{Stored, StoreStands, Takes}
 use Rattle.centre_store.specs.StoreHalls.{IsStoreFor, store_seen}
 
-module _ {D : Type 0} (told : D → Option Areas) (may_leave : D → Areas → Type 0) (faults : D → ℕ) (old new : Stored D)
+module _ {D : Type 0} (seen : D → DiskSeen) (old new : Stored D)
     (text : new.state.sum.text ≡ old.state.sum.text) where
   pub goes_on : (clock : ℕ) (event : Event) (r : Result Done Stop)
-      → IfOk r (λ d. (b : Summary) (h : List Entry) → StoreStands told may_leave faults b old h
-      → Takes told may_leave faults b new h clock (record { caller = 0; event = event; at = d.at; reply = d.reply }))
+      → IfOk r (λ d. (b : Summary) (h : List Entry) → StoreStands seen b old h
+      → Takes seen b new h clock (record { caller = 0; event = event; at = d.at; reply = d.reply }))
       → IfOk r (λ d. d.caller ≡ 0)
-      → IfOk r (λ d. (b : Summary) (h : List Entry) → IsStoreFor told may_leave faults b old h
-      → GoesOn b (store_seen told may_leave faults old) (store_seen told may_leave faults new) h clock
+      → IfOk r (λ d. (b : Summary) (h : List Entry) → IsStoreFor seen b old h
+      → GoesOn b (store_seen seen old) (store_seen seen new) h clock
       (record { caller = d.caller; event = event; at = d.at; reply = d.reply }))
   goes_on clock event (Err s) done by = tt
   goes_on clock event (Ok d) done by = λ b h w.
@@ -31,7 +31,7 @@ module _ {D : Type 0} (told : D → Option Areas) (may_leave : D → Areas → T
         before = h;
         extends = ([], refl);
         holds = record {
-          stands = subst (λ (e : Entry). StoreStands told may_leave faults b new (e ∷ h)) is takes.stands;
+          stands = subst (λ (e : Entry). StoreStands seen b new (e ∷ h)) is takes.stands;
           setting = subst IsSetting (sym text) w.setting;
         };
         legal = subst (λ (e : Entry). IsLegal b (e ∷ h)) is takes.stands.centre.legal;
@@ -40,9 +40,9 @@ module _ {D : Type 0} (told : D → Option Areas) (may_leave : D → Areas → T
       }
 
   pub waits : (r : Result Done Stop)
-      → OnErr r ((b : Summary) (h : List Entry) → StoreStands told may_leave faults b old h → StoreStands told may_leave faults b new h)
-      → OnErr r ((b : Summary) (h : List Entry) → IsStoreFor told may_leave faults b old h
-      → Waits b (store_seen told may_leave faults old) (store_seen told may_leave faults new) h)
+      → OnErr r ((b : Summary) (h : List Entry) → StoreStands seen b old h → StoreStands seen b new h)
+      → OnErr r ((b : Summary) (h : List Entry) → IsStoreFor seen b old h
+      → Waits b (store_seen seen old) (store_seen seen new) h)
   waits (Ok d) stays = tt
   waits (Err s) stays = λ b h w.
       let stands = stays b h w.stands in

@@ -1,8 +1,8 @@
 -- In which order an event stops and what it leaves: what is handed on, and what a call that went past shows.
-use Rattle.std.proofs.Common.{◌≡◌, ℕ, Option, inl, inr, sym, ap, subst, ◌∙◌}
+use Rattle.std.proofs.Common.{◌≡◌, ℕ, inl, inr, sym, ap, subst, ◌∙◌}
 use Rattle.std.specs.Prelude.{Result, Ok, Err, OnErr}
 use Rattle.arc_data.specs.declared.event.Event.{Event}
-use Rattle.arc_io.specs.Areas.{Areas}
+use Rattle.arc_io.specs.Disks.{DiskSeen}
 use Rattle.centre_core.specs.declared.hall.Stop.{Stop}
 use Rattle.centre_core.specs.declared.hall.Stop.TheVariants.{Memory, Full, Worn}
 use Rattle.centre_store.specs.Bodies.{need_of}
@@ -24,10 +24,10 @@ one_stop r q stop x of on is = on ∙ ap Err (sym (ap (stop_or stop) of) ∙ ap 
 no_stop : {A : Type 0} (r : Result A Stop) (a : A) (x : Stop) → r ≡ Ok a → r ≡ Err x → ⊥
 no_stop r a x of is = subst is_stop (sym is ∙ of) tt
 
-module _ {D : Type 0} (told : D → Option Areas) (may_leave : D → Areas → Type 0) (faults : D → ℕ) (s : Stored D) (event : Event) (clock : ℕ) where
+module _ {D : Type 0} (seen : D → DiskSeen) (s : Stored D) (event : Event) (clock : ℕ) where
   -- the stop of a call within is that of the call
   pub order_on : {A B : Type 0} (r : Result A Stop) (q : Result B Stop) (stop : Stop) → r ≡ Err stop → q ≡ Err stop
-      → IsWornFirst faults s r → IsFullThen told may_leave faults s event clock r → StopsInOrder told may_leave faults s event clock q
+      → IsWornFirst seen s r → IsFullThen seen s event clock r → StopsInOrder seen s event clock q
   order_on r q stop of on worn full = record {
     worn = λ up many. one_stop r q stop (Worn s.state.entries) of on (worn up many);
     full = λ up few b h w to over.
@@ -39,7 +39,7 @@ module _ {D : Type 0} (told : D → Option Areas) (may_leave : D → Areas → T
 
   -- a call that answered Ok was not to be stopped
   pub order_past : {A B : Type 0} (r : Result A Stop) (q : Result B Stop) (a : A) → r ≡ Ok a
-      → IsWornFirst faults s r → IsFullThen told may_leave faults s event clock r → StopsInOrder told may_leave faults s event clock q
+      → IsWornFirst seen s r → IsFullThen seen s event clock r → StopsInOrder seen s event clock q
   order_past r q a of worn full = record {
     worn = λ up many. absurd (no_stop r a (Worn s.state.entries) of (worn up many));
     full = λ up few b h w to over.

@@ -1,8 +1,9 @@
 -- What a journal holds after a call, and what a disk leaves.
 use Rattle.std.proofs.Common.{◌≡◌, ◌≤◌, ◌<◌, ◌+◌, ◌^◌, ℕ, List, length, Option, Some, None, refl, sym, ap, subst, ◌∙◌, arith}
-use Rattle.std.specs.Prelude.{IfSome, Result, Ok, Err, OnOk}
+use Rattle.std.specs.Prelude.{IfSome}
 use Rattle.arc_data.specs.declared.event.Event.{Event}
 use Rattle.arc_io.specs.Areas.{Areas}
+use Rattle.arc_io.specs.Disks.{DiskSeen}
 use Rattle.arc_io.specs.Crashes.{Becomes, LeavesOnly}
 use Rattle.arc_io.proofs.Moments.{joined}
 use Rattle.disk_journal.specs.Journal.{Keeps, Holds, StandsForEither}
@@ -31,37 +32,37 @@ same_b_then (Some s) None u one two = absurd one
 same_b_then (Some s) (Some t) None one two = absurd two
 same_b_then (Some s) (Some t) (Some u) one two = two ∙ one
 
-module _ {D : Type 0} (told : D → Option Areas) (may_leave : D → Areas → Type 0) where
+module _ {D : Type 0} (seen : D → DiskSeen) where
   -- a journal that is the same but for its room holds the same
-  pub holds_same : (old new : Journal D) (bodies : List (List ℕ)) → IsSameJournal old new → Holds told may_leave old bodies → Holds told may_leave new bodies
+  pub holds_same : (old new : Journal D) (bodies : List (List ℕ)) → IsSameJournal old new → Holds seen old bodies → Holds seen new bodies
   holds_same old new bodies same h = record {
     used = ap (λ (j : Journal D). j.used) same ∙ h.used;
     count = ap (λ (j : Journal D). j.records) same ∙ h.count;
     few = subst (λ (j : Journal D). j.limits.bytes < 2 ^ 32) (sym same) h.few;
-    kept = subst (λ (j : Journal D). Keeps told may_leave j.disk bodies) (sym same) h.kept;
+    kept = subst (λ (j : Journal D). Keeps (seen j.disk) bodies) (sym same) h.kept;
   }
 
-module _ {D : Type 0} (told : D → Option Areas) (may_leave : D → Areas → Type 0) (moment : D → ℕ) (left_since : D → ℕ → Areas → Type 0) where
+module _ {D : Type 0} (seen : D → DiskSeen) where
   -- after a call of which this is so at any moment
-  pub leaves_after : (old new : D) (bodies : List (List ℕ)) (body : List ℕ) → ((d : D) (t : ℕ) (c : Areas) → t ≤ moment d → may_leave d c → left_since d t c)
-      → Becomes (told old) (told new) (λ s t. StandsForEither bodies body t.a)
-      → LeavesOnly moment left_since old new (λ c. StandsForEither bodies body c.a)
-      → Leaves told may_leave new bodies body
+  pub leaves_after : (old new : D) (bodies : List (List ℕ)) (body : List ℕ) → ((d : D) (t : ℕ) (c : Areas) → t ≤ (seen d).moment → (seen d).may_leave c → (seen d).left_since t c)
+      → Becomes (seen old).told (seen new).told (λ s t. StandsForEither bodies body t.a)
+      → LeavesOnly (seen old) (seen new) (λ c. StandsForEither bodies body c.a)
+      → Leaves (seen new) bodies body
   leaves_after old new bodies body counts_now file any_moment = record {
-    file = either_after (told old) (told new) bodies body file;
-    images = λ c now. any_moment.each c (counts_now new (moment old) c any_moment.later now);
+    file = either_after (seen old).told (seen new).told bodies body file;
+    images = λ c now. any_moment.each c (counts_now new (seen old).moment c any_moment.later now);
   }
 
   -- one run after another
-  pub spares_then : (old mid new : D) → SparesB told may_leave moment left_since old mid → SparesB told may_leave moment left_since mid new
-      → SparesB told may_leave moment left_since old new
+  pub spares_then : (old mid new : D) → SparesB (seen old) (seen mid) → SparesB (seen mid) (seen new)
+      → SparesB (seen old) (seen new)
   spares_then old mid new one two = record {
-    same = same_b_then (told old) (told mid) (told new) one.same two.same;
+    same = same_b_then (seen old).told (seen mid).told (seen new).told one.same two.same;
     crash = λ c now.
         let m = two.crash c now in
         let o = one.crash m.0 m.1 in
         (o.0, o.1, m.2 ∙ o.2);
-    any_moment = joined moment left_since old mid new _ _ one.any_moment two.any_moment
+    any_moment = joined (seen old) (seen mid) (seen new) _ _ one.any_moment two.any_moment
         (λ c q.
         let o = one.crash q.0 q.1 in
         (o.0, o.1, q.2 ∙ o.2));
@@ -69,19 +70,14 @@ module _ {D : Type 0} (told : D → Option Areas) (may_leave : D → Areas → T
 
   -- over the journal with its room: what a record of the body leaves, for the body in other words
   pub written_leaves : (j k : Journal D) (new : D) (bodies : List (List ℕ)) (body want : List ℕ) → IsSameJournal j k → body ≡ want
-      → ((d : D) (t : ℕ) (c : Areas) → t ≤ moment d → may_leave d c → left_since d t c)
-      → Holds told may_leave j bodies
-      → (Holds told may_leave k bodies → LeavesOnly moment left_since k.disk new (λ c. StandsForEither bodies body c.a))
-      → (Holds told may_leave k bodies → Becomes (told k.disk) (told new) (λ s t. StandsForEither bodies body t.a))
-      → Leaves told may_leave new bodies want
+      → ((d : D) (t : ℕ) (c : Areas) → t ≤ (seen d).moment → (seen d).may_leave c → (seen d).left_since t c)
+      → Holds seen j bodies
+      → (Holds seen k bodies → LeavesOnly (seen k.disk) (seen new) (λ c. StandsForEither bodies body c.a))
+      → (Holds seen k bodies → Becomes (seen k.disk).told (seen new).told (λ s t. StandsForEither bodies body t.a))
+      → Leaves (seen new) bodies want
   written_leaves j k new bodies body want same is counts_now h run file =
-      let held = holds_same told may_leave j k bodies same h in
-      subst (λ (b : List ℕ). Leaves told may_leave new bodies b) is (leaves_after k.disk new bodies body counts_now (file held) (run held))
-
--- what is so whatever a call answers
-pub on_ok : {T E P : Type 0} (r : Result T E) → P → OnOk r P
-on_ok (Ok x) so = so
-on_ok (Err e) so = tt
+      let held = holds_same seen j k bodies same h in
+      subst (λ (b : List ℕ). Leaves (seen new) bodies b) is (leaves_after k.disk new bodies body counts_now (file held) (run held))
 
 -- Behind the record.
 
@@ -89,25 +85,25 @@ on_ok (Err e) so = tt
 size_stays : (event : Event) (at : ℕ) → length (spelling event at) ≡ length (spelling event 0)
 size_stays event at = refl
 
-module _ {D : Type 0} (told : D → Option Areas) (may_leave : D → Areas → Type 0) where
+module _ {D : Type 0} (seen : D → DiskSeen) where
   -- over the journal with its room, for the body in other words
   pub behind_record : (j k : Journal D) (new : D) (body : List ℕ) (event : Event) (at : ℕ) → IsSameJournal j k → body ≡ spelling event at
-      → SparesBehind told may_leave (k.used + 5 + length body) k.disk new → SparesBehind told may_leave (j.used + need_of event) j.disk new
+      → SparesBehind (k.used + 5 + length body) (seen k.disk) (seen new) → SparesBehind (j.used + need_of event) (seen j.disk) (seen new)
   behind_record j k new body event at same is spares =
       let place : k.used + 5 + length body ≡ j.used + need_of event = omega (arith, ap (λ (x : Journal D). x.used) same, ap length is, size_stays event at) in
-      subst (λ (d : D). SparesBehind told may_leave (j.used + need_of event) d new) (ap (λ (x : Journal D). x.disk) same)
-      (subst (λ (m : ℕ). SparesBehind told may_leave m k.disk new) place spares)
+      subst (λ (d : D). SparesBehind (j.used + need_of event) (seen d) (seen new)) (ap (λ (x : Journal D). x.disk) same)
+      (subst (λ (m : ℕ). SparesBehind m (seen k.disk) (seen new)) place spares)
 
   -- over the parts of a store
   pub behind_event : (old s : Stored D) (new : D) (event made : Event) → s ≡ old → made ≡ event
-      → SparesBehind told may_leave (s.journal.used + need_of made) s.journal.disk new → SparesBehind told may_leave (old.journal.used + need_of event) old.journal.disk new
+      → SparesBehind (s.journal.used + need_of made) (seen s.journal.disk) (seen new) → SparesBehind (old.journal.used + need_of event) (seen old.journal.disk) (seen new)
   behind_event old s new event made is same spares =
-      subst (λ (x : Stored D). SparesBehind told may_leave (x.journal.used + need_of event) x.journal.disk new) is
-      (subst (λ (e : Event). SparesBehind told may_leave (s.journal.used + need_of e) s.journal.disk new) same spares)
+      subst (λ (x : Stored D). SparesBehind (x.journal.used + need_of event) (seen x.journal.disk) (seen new)) is
+      (subst (λ (e : Event). SparesBehind (s.journal.used + need_of e) (seen s.journal.disk) (seen new)) same spares)
 
   -- where nothing was written
-  pub behind_still : (old s : Stored D) (m : ℕ) → s ≡ old → SparesBehind told may_leave m old.journal.disk s.journal.disk
-  behind_still old s m is = subst (λ (x : Stored D). SparesBehind told may_leave m old.journal.disk x.journal.disk) (sym is) (spares_still told may_leave old.journal.disk m)
+  pub behind_still : (old s : Stored D) (m : ℕ) → s ≡ old → SparesBehind m (seen old.journal.disk) (seen s.journal.disk)
+  behind_still old s m is = subst (λ (x : Stored D). SparesBehind m (seen old.journal.disk) (seen x.journal.disk)) (sym is) (spares_still (seen old.journal.disk) m)
 
 -- the body that was made
 pub body_is : (items piece : List ℕ) (e event : Event) (at moment : ℕ) → piece ≡ items → items ≡ spelling e at → e ≡ event → at ≡ moment → piece ≡ spelling event moment

@@ -4,7 +4,7 @@ use Rattle.std.specs.Str.{bytes_eq}
 use Rattle.arc_data.specs.declared.event.Event.{Event}
 use Rattle.arc_data.specs.declared.event.Event.TheVariants.{Adopt, Start}
 use Rattle.arc_data.specs.declared.reply.Reply.TheVariants.{Adopted, Started}
-use Rattle.arc_io.specs.Areas.{Areas}
+use Rattle.arc_io.specs.Disks.{DiskSeen}
 use Rattle.arc_io.specs.Crashes.{LeavesOnly}
 use Rattle.centre_core.specs.declared.hall.Stop.{Stop}
 use Rattle.centre_rules.specs.Summary.{Summary}
@@ -44,46 +44,42 @@ pub record StandsWithin (b : Summary) (h : List Entry) (setup : List ℕ) (clock
   pub stands : Stands bytes (bodies_of so_far)
 
 -- a crash at any moment from old to new leaves bytes that stand so
-abbrev pub LeavesWithin : {D : Type 0} → (D → Option Areas) → (D → Areas → Type 0) → (D → ℕ) → (D → ℕ) → (D → ℕ → Areas → Type 0)
-    → Stored D → Stored D → List ℕ → ℕ → Type 0
-LeavesWithin told may_leave faults moment left_since old new setup clock =
-    (b : Summary) (h : List Entry) → StoreStands told may_leave faults b old h → (HasFailed faults old → ⊥)
-    → LeavesOnly moment left_since old.journal.disk new.journal.disk (λ c. StandsWithin b h setup clock c.a)
+abbrev pub LeavesWithin : {D : Type 0} → (D → DiskSeen) → Stored D → Stored D → List ℕ → ℕ → Type 0
+LeavesWithin seen old new setup clock =
+    (b : Summary) (h : List Entry) → StoreStands seen b old h → (HasFailed seen old → ⊥)
+    → LeavesOnly (seen old.journal.disk) (seen new.journal.disk) (λ c. StandsWithin b h setup clock c.a)
 
 -- what the store shows after a stop, which one of the two events met
-abbrev pub ShowsOfBegin : {D : Type 0} → (D → Option Areas) → (D → Areas → Type 0) → (D → ℕ) → Stored D → List ℕ → ℕ → Stop → Type 0
-ShowsOfBegin told may_leave faults s setup clock stop =
-    (event : Event) × IsOfBegin setup event × Shows told may_leave faults s stop event clock
+abbrev pub ShowsOfBegin : {D : Type 0} → (D → DiskSeen) → Stored D → List ℕ → ℕ → Stop → Type 0
+ShowsOfBegin seen s setup clock stop = (event : Event) × IsOfBegin setup event × Shows seen s stop event clock
 
 -- An Adopt was to be made and met a stop: the store stands for what it stood for, and is as it was before the call.
-pub record IsUnadopted {A D : Type 0} (told : D → Option Areas) (may_leave : D → Areas → Type 0) (faults : D → ℕ)
-    (old new : Stored D) (setup : List ℕ) (r : Result A Stop) : Type 0 where
+pub record IsUnadopted {A D : Type 0} (seen : D → DiskSeen) (old new : Stored D) (setup : List ℕ) (r : Result A Stop) : Type 0 where
   pub other : is_in_force old.state.sum.text setup ≡ false
   pub stopped : IsErr r
-  pub stands : StandsOn told may_leave faults old new
+  pub stands : StandsOn seen old new
   pub before : IsAsBefore old new r
 
 -- The store between the two events: where there is no Adopt to make, the one before the call; else with the Adopt, behind whose record
 -- nothing was written. Its disk has not failed.
-pub record HasAdopted {D : Type 0} (told : D → Option Areas) (may_leave : D → Areas → Type 0) (faults : D → ℕ)
-    (old s : Stored D) (setup : List ℕ) (clock : ℕ) : Type 0 where
-  pub stands : (b : Summary) (h : List Entry) → StoreStands told may_leave faults b old h
-      → StoreStands told may_leave faults b s (adopted_after b h setup clock)
+pub record HasAdopted {D : Type 0} (seen : D → DiskSeen) (old s : Stored D) (setup : List ℕ) (clock : ℕ) : Type 0 where
+  pub stands : (b : Summary) (h : List Entry) → StoreStands seen b old h
+      → StoreStands seen b s (adopted_after b h setup clock)
   pub same : is_in_force old.state.sum.text setup ≡ true → s ≡ old
-  pub behind : SparesBehind told may_leave (old.journal.used + need_of (Adopt setup)) old.journal.disk s.journal.disk
+  pub behind : SparesBehind (old.journal.used + need_of (Adopt setup)) (seen old.journal.disk) (seen s.journal.disk)
   pub limits : s.journal.limits ≡ old.journal.limits
-  pub up : HasFailed faults s → ⊥
+  pub up : HasFailed seen s → ⊥
 
 -- The Start stops by the numbers of the store between the two events, and that store is as it was after the stop.
-pub record StartsInOrder {A D : Type 0} (told : D → Option Areas) (may_leave : D → Areas → Type 0) (faults : D → ℕ)
+pub record StartsInOrder {A D : Type 0} (seen : D → DiskSeen)
     (old new : Stored D) (setup : List ℕ) (clock : ℕ) (r : Result A Stop) : Type 0 where
   pub between : Stored D
-  pub adopted : HasAdopted told may_leave faults old between setup clock
-  pub order : StopsInOrder told may_leave faults between Start clock r
+  pub adopted : HasAdopted seen old between setup clock
+  pub order : StopsInOrder seen between Start clock r
   pub before : IsAsBefore between new r
 
 -- Where an Adopt is to be made, it stops by the numbers of the store before it. It meets a stop, or it is made and the Start goes on.
-pub record BeginsInOrder {A D : Type 0} (told : D → Option Areas) (may_leave : D → Areas → Type 0) (faults : D → ℕ)
+pub record BeginsInOrder {A D : Type 0} (seen : D → DiskSeen)
     (old new : Stored D) (setup : List ℕ) (clock : ℕ) (r : Result A Stop) : Type 0 where
-  pub adopt : is_in_force old.state.sum.text setup ≡ false → StopsInOrder told may_leave faults old (Adopt setup) clock r
-  pub start : IsUnadopted told may_leave faults old new setup r ⊎ StartsInOrder told may_leave faults old new setup clock r
+  pub adopt : is_in_force old.state.sum.text setup ≡ false → StopsInOrder seen old (Adopt setup) clock r
+  pub start : IsUnadopted seen old new setup r ⊎ StartsInOrder seen old new setup clock r

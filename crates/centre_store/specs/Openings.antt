@@ -1,6 +1,6 @@
 -- What an opening shows.
-use Rattle.std.specs.Prelude.{◌≡◌, ◌⊎◌, ℕ, List, Option, IfSome, Result, Ok, Err}
-use Rattle.arc_io.specs.Areas.{Areas}
+use Rattle.std.specs.Prelude.{◌≡◌, ◌⊎◌, ℕ, List, IfSome, Result, Ok, Err}
+use Rattle.arc_io.specs.Disks.{DiskSeen}
 use Rattle.centre_rules.specs.Summary.{nothing}
 use Rattle.centre_rules.specs.History.{Entry}
 use Rattle.disk_journal.specs.Faults.{IsShown, IsOfContent}
@@ -13,14 +13,13 @@ use Rattle.centre_store.specs.Pasts.{IsPast, IsBadAt}
 use Rattle.centre_store.specs.Stores.{Stored, StoreStands}
 
 -- the store stands for the past of the bodies for which the area stood, and its journal holds them
-pub record IsOpened {D : Type 0} (told : D → Option Areas) (may_leave : D → Areas → Type 0) (faults : D → ℕ)
-    (disk : D) (s : Stored D) : Type 0 where
+pub record IsOpened {D : Type 0} (seen : D → DiskSeen) (disk : D) (s : Stored D) : Type 0 where
   pub bodies : List (List ℕ)
   pub past : List Entry
   pub is_past : IsPast bodies past
-  pub stands : StoreStands told may_leave faults nothing s past
-  pub held : Holds told may_leave s.journal bodies
-  pub area : IfSome (told disk) (λ a. Stands a.a bodies)
+  pub stands : StoreStands seen nothing s past
+  pub held : Holds seen s.journal bodies
+  pub area : IfSome (seen disk).told (λ a. Stands a.a bodies)
 
 -- what a refusal says of the bodies that were read
 abbrev pub IsOfBodies : OpenFault → List (List ℕ) → Type 0

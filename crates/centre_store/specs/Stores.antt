@@ -1,7 +1,8 @@
 -- What a store stands for, what a call of it does, and what it shows after a stop.
-use Rattle.std.specs.Prelude.{◌≡◌, ◌≤◌, ◌⊎◌, ◌^◌, ℕ, List, ◌∷◌, true, Option, IfSome, Result, OnErr, IfErr}
+use Rattle.std.specs.Prelude.{◌≡◌, ◌≤◌, ◌⊎◌, ◌^◌, ℕ, List, ◌∷◌, true, IfSome, Result, OnErr, IfErr}
 use Rattle.arc_data.specs.declared.event.Event.{Event}
 use Rattle.arc_io.specs.Areas.{Areas}
+use Rattle.arc_io.specs.Disks.{DiskSeen}
 use Rattle.arc_io.specs.Causes.{Rose}
 use Rattle.centre_rules.specs.Summary.{Summary}
 use Rattle.centre_rules.specs.History.{Entry, moment_after, is_recorded}
@@ -22,45 +23,41 @@ pub record Stored (D : Type 0) : Type 0 where
   pub at_open : ℕ
 
 -- the disk has failed since the store was opened
-abbrev pub HasFailed : {D : Type 0} → (D → ℕ) → Stored D → Type 0
-HasFailed faults s = Rose s.at_open (faults s.journal.disk)
+abbrev pub HasFailed : {D : Type 0} → (D → DiskSeen) → Stored D → Type 0
+HasFailed seen s = Rose s.at_open (seen s.journal.disk).faults
 
 -- what a read gives and all that a crash may leave in area A stands for these bodies, or for them with this one more
-pub record Leaves {D : Type 0} (told : D → Option Areas) (may_leave : D → Areas → Type 0) (disk : D)
-    (bodies : List (List ℕ)) (body : List ℕ) : Type 0 where
-  pub file : IfSome (told disk) (λ s. StandsForEither bodies body s.a)
-  pub images : (c : Areas) → may_leave disk c → StandsForEither bodies body c.a
+pub record Leaves (disk : DiskSeen) (bodies : List (List ℕ)) (body : List ℕ) : Type 0 where
+  pub file : IfSome disk.told (λ s. StandsForEither bodies body s.a)
+  pub images : (c : Areas) → disk.may_leave c → StandsForEither bodies body c.a
 
 -- the disk failed when the record of some event was written: area A has it or not
-pub record IsTorn {D : Type 0} (told : D → Option Areas) (may_leave : D → Areas → Type 0) (disk : D) (h : List Entry) : Type 0 where
+pub record IsTorn (disk : DiskSeen) (h : List Entry) : Type 0 where
   pub event : Event
   pub at : ℕ
   pub spelled : HasSpelling event at
-  pub leaves : Leaves told may_leave disk (bodies_of h) (spelling event at)
+  pub leaves : Leaves disk (bodies_of h) (spelling event at)
 
 -- The store stands for the history: its centre does, and its journal holds the bodies of the recorded entries. After a fault of the disk
 -- area A may have the record of one event more, the one that met the fault.
-pub record StoreStands {D : Type 0} (told : D → Option Areas) (may_leave : D → Areas → Type 0) (faults : D → ℕ)
-    (b : Summary) (s : Stored D) (h : List Entry) : Type 0 where
+pub record StoreStands {D : Type 0} (seen : D → DiskSeen) (b : Summary) (s : Stored D) (h : List Entry) : Type 0 where
   pub centre : StandsFor b s.state h
-  pub journal : Holds told may_leave s.journal (bodies_of h) ⊎ (HasFailed faults s × IsTorn told may_leave s.journal.disk h)
+  pub journal : Holds seen s.journal (bodies_of h) ⊎ (HasFailed seen s × IsTorn (seen s.journal.disk) h)
 
 -- whatever the store stood for, it stands for
-abbrev pub StandsOn : {D : Type 0} → (D → Option Areas) → (D → Areas → Type 0) → (D → ℕ) → Stored D → Stored D → Type 0
-StandsOn told may_leave faults old new =
-    (b : Summary) (h : List Entry) → StoreStands told may_leave faults b old h → StoreStands told may_leave faults b new h
+abbrev pub StandsOn : {D : Type 0} → (D → DiskSeen) → Stored D → Stored D → Type 0
+StandsOn seen old new = (b : Summary) (h : List Entry) → StoreStands seen b old h → StoreStands seen b new h
 
 -- every store stands for some history over some beginning, and the count of the disk's faults is at least that at opening
-pub record IsStored {D : Type 0} (told : D → Option Areas) (may_leave : D → Areas → Type 0) (faults : D → ℕ) (s : Stored D) : Type 0 where
+pub record IsStored {D : Type 0} (seen : D → DiskSeen) (s : Stored D) : Type 0 where
   pub base : Summary
   pub history : List Entry
-  pub stands : StoreStands told may_leave faults base s history
-  pub later : s.at_open ≤ faults s.journal.disk
+  pub stands : StoreStands seen base s history
+  pub later : s.at_open ≤ (seen s.journal.disk).faults
 
 -- from h on, the store stands for the history with this entry, whose moment and reply are those of one thread
-pub record Takes {D : Type 0} (told : D → Option Areas) (may_leave : D → Areas → Type 0) (faults : D → ℕ)
-    (b : Summary) (s : Stored D) (h : List Entry) (clock : ℕ) (e : Entry) : Type 0 where
-  pub stands : StoreStands told may_leave faults b s (e ∷ h)
+pub record Takes {D : Type 0} (seen : D → DiskSeen) (b : Summary) (s : Stored D) (h : List Entry) (clock : ℕ) (e : Entry) : Type 0 where
+  pub stands : StoreStands seen b s (e ∷ h)
   pub at : e.at ≡ moment_after b h clock
   pub reply : e.reply ≡ answer b h e.event e.at
 
@@ -73,22 +70,22 @@ abbrev pub IsOverWith : {D : Type 0} → Stored D → Event → Type 0
 IsOverWith s event = IsOver s.journal.used (need_of event) s.journal.records s.journal.limits.bytes s.journal.limits.records
 
 -- the journal has no room for the record of the event, which would be recorded; the disk has not failed
-pub record IsShownFull {D : Type 0} (told : D → Option Areas) (may_leave : D → Areas → Type 0) (faults : D → ℕ)
+pub record IsShownFull {D : Type 0} (seen : D → DiskSeen)
     (s : Stored D) (used need records : ℕ) (event : Event) (clock : ℕ) : Type 0 where
   pub used_is : used ≡ s.journal.used
   pub need_is : need ≡ need_of event
   pub records_is : records ≡ s.journal.records
   pub over : IsOverWith s event
-  pub up : HasFailed faults s → ⊥
-  pub to_record : (b : Summary) (h : List Entry) → StoreStands told may_leave faults b s h → IsToRecord b h event clock
+  pub up : HasFailed seen s → ⊥
+  pub to_record : (b : Summary) (h : List Entry) → StoreStands seen b s h → IsToRecord b h event clock
 
 -- what a store shows after a stop
-abbrev pub Shows : {D : Type 0} → (D → Option Areas) → (D → Areas → Type 0) → (D → ℕ) → Stored D → Stop → Event → ℕ → Type 0
-Shows told may_leave faults s Memory event clock = Unit {0}
-Shows told may_leave faults s (Down at_open now) event clock =
-    (at_open ≡ s.at_open) × (now ≡ faults s.journal.disk) × Rose at_open now
-Shows told may_leave faults s (Full used need records) event clock = IsShownFull told may_leave faults s used need records event clock
-Shows told may_leave faults s (Worn count) event clock = (count ≡ s.state.entries) × (2 ^ 48 ≤ count)
+abbrev pub Shows : {D : Type 0} → (D → DiskSeen) → Stored D → Stop → Event → ℕ → Type 0
+Shows seen s Memory event clock = Unit {0}
+Shows seen s (Down at_open now) event clock =
+    (at_open ≡ s.at_open) × (now ≡ (seen s.journal.disk).faults) × Rose at_open now
+Shows seen s (Full used need records) event clock = IsShownFull seen s used need records event clock
+Shows seen s (Worn count) event clock = (count ≡ s.state.entries) × (2 ^ 48 ≤ count)
 
 -- the stop is Down
 abbrev pub IsDown : Stop → Type 0

@@ -1,6 +1,7 @@
 -- What writing the record of an event to a journal answers.
 use Rattle.std.specs.Prelude.{◌≡◌, ℕ}
 use Rattle.arc_io.specs.Causes.{Rose}
+use Rattle.arc_io.specs.Disks.{DiskSeen}
 use Rattle.centre_core.specs.declared.hall.Stop.{Stop}
 use Rattle.centre_core.specs.declared.hall.Stop.TheVariants.{Memory, Down, Full, Worn}
 use Rattle.disk_journal.specs.Faults.{IsOver}
@@ -20,8 +21,8 @@ pub record IsFullAt {D : Type 0} (old new : Journal D) (wanted used need records
   pub over : IsOverAt old wanted
 
 -- why a record of so many bytes was not written: want of memory; that the disk has failed since this count; a limit
-abbrev pub IsUnwritten : {D : Type 0} → (D → ℕ) → ℕ → Journal D → Journal D → ℕ → Stop → Type 0
-IsUnwritten faults at_open old new wanted Memory = IsSameJournal old new
-IsUnwritten faults at_open old new wanted (Down was now) = (was ≡ at_open) × (now ≡ faults new.disk) × Rose at_open now
-IsUnwritten faults at_open old new wanted (Full used need records) = IsFullAt old new wanted used need records
-IsUnwritten faults at_open old new wanted (Worn count) = ⊥
+abbrev pub IsUnwritten : {D : Type 0} → (D → DiskSeen) → ℕ → Journal D → Journal D → ℕ → Stop → Type 0
+IsUnwritten seen at_open old new wanted Memory = IsSameJournal old new
+IsUnwritten seen at_open old new wanted (Down was now) = (was ≡ at_open) × (now ≡ (seen new.disk).faults) × Rose at_open now
+IsUnwritten seen at_open old new wanted (Full used need records) = IsFullAt old new wanted used need records
+IsUnwritten seen at_open old new wanted (Worn count) = ⊥

@@ -11,11 +11,11 @@ use std::alloc::Global;
 impl<D: Disk> Hall for Store<D> {
     ghost use Rattle.centre_store.specs.StoreHalls.{store_seen, store_in_force};
 
-    ghost seen = { store_seen D.told D.may_leave D.fault_count };
+    ghost seen = { store_seen D.seen };
 
     ghost legal = { λ s b h w. w.stands.centre.legal };
 
-    ghost in_force = { store_in_force D.told D.may_leave D.fault_count };
+    ghost in_force = { store_in_force D.seen };
 
     /// Submits an event with the number 0, as `Store::submit` does. Conditions as there.
     fn submit(&mut self, alloc: Global, event: Event, clock: u64) -> Result<Done, Stop> {

@@ -29,22 +29,25 @@ impl<D: Disk> Store<D> {
     pub fn open(alloc: Global, disk: D, limits: Limits) -> Result<Store<D>, OpenRefused<D>>
         requires few { limits.bytes < 2 ^ 32 }
 
-        ensures opened { IfOk result (λ s. IsOpened D.told D.may_leave D.fault_count disk s) }
-        ensures at_open { IfOk result (λ s. s.at_open ≡ D.fault_count s.journal.disk) }
+        ensures opened { IfOk result (λ s. IsOpened D.seen disk s) }
+        ensures at_open { IfOk result (λ s. s.at_open ≡ (D.seen s.journal.disk).faults) }
         ensures limits { IfOk result (λ s. s.journal.limits ≡ limits) }
 
-        ensures shown { IfErr result (λ r. IfSome (D.told disk) (λ a. IsRefused r.fault a.a)) }
-        ensures counts { IfErr result (λ r. HasCounts r.fault (D.fault_count disk) (D.fault_count r.disk)) }
+        ensures shown { IfErr result (λ r. IfSome (D.seen disk).told (λ a. IsRefused r.fault a.a)) }
+        ensures counts { IfErr result (λ r. HasCounts r.fault (D.seen disk).faults (D.seen r.disk).faults) }
 
         // A crash at any moment of the call leaves what stands for each list that an image at its start stood for, and so do reads.
-        ensures any_moment { LeavesOnly D.moment D.left_since disk (disk_of result)
-            (λ c. (d : Areas) × D.may_leave disk d × GoesOn d.a c.a) }
-        ensures told { Becomes (D.told disk) (D.told (disk_of result)) (λ s t. GoesOn s.a t.a) }
-        ensures spared { SparesB D.told D.may_leave D.moment D.left_since disk (disk_of result) }
+        ensures any_moment { LeavesOnly (D.seen disk) (D.seen (disk_of result))
+            (λ c. (d : Areas) × (D.seen disk).may_leave d × GoesOn d.a c.a) }
+        ensures told { Becomes (D.seen disk).told (D.seen (disk_of result)).told (λ s t. GoesOn s.a t.a) }
+        ensures spared { SparesB (D.seen disk) (D.seen (disk_of result)) }
 
         // Where the area's bytes are refused, nothing was written.
-        ensures unwritten { IfErr result (λ r. IsOfContent r.fault → IsQuiet D.told D.may_leave D.moment D.left_since disk r.disk) }
-        ensures later { D.fault_count disk ≤ D.fault_count (disk_of result) }
+        ensures unwritten { IfErr result (λ r. IsOfContent r.fault → IsQuiet (D.seen disk) (D.seen r.disk)) }
+        ensures later { (D.seen disk).faults ≤ (D.seen (disk_of result)).faults }
+
+        // An opening that answers Ok met no fault.
+        ensures met_none { IfOk result (λ s. (D.seen s.journal.disk).faults ≡ (D.seen disk).faults) }
     {
         let (journal, bodies) = Journal::open(alloc, disk, limits)?;
         match replay(alloc, &bodies) {

@@ -40,7 +40,7 @@ impl<D: Disk> Model for Store<D> {
 
     ghost view = { λ s. record { state = s.centre; journal = s.journal; at_open = s.at_open } };
 
-    ghost invariant = { λ s. IsStored D.told D.may_leave D.fault_count (record { state = s.centre; journal = s.journal; at_open = s.at_open }) };
+    ghost invariant = { λ s. IsStored D.seen (record { state = s.centre; journal = s.journal; at_open = s.at_open }) };
 }
 
 impl<D: Disk> Store<D> {
@@ -54,14 +54,14 @@ impl<D: Disk> Store<D> {
     /// The count of the disk's faults at the opening, which is no less now.
     pub fn at_open(&self) -> u64
         ensures count { result ≡ self.now.at_open }
-        ensures later { self.now.at_open ≤ D.fault_count self.now.journal.disk }
+        ensures later { self.now.at_open ≤ (D.seen self.now.journal.disk).faults }
     {
         self.at_open
     }
 
     /// Whether the disk has failed since the opening.
     pub fn has_failed(&self) -> bool
-        ensures { IsTrue result ↔ HasFailed D.fault_count self.now }
+        ensures { IsTrue result ↔ HasFailed D.seen self.now }
     {
         has_risen(self.at_open, self.journal.disk().faults())
     }

@@ -38,29 +38,30 @@ impl<D: Disk> Store<D> {
     pub fn begin(&mut self, alloc: Global, setup: Setup, clock: u64) -> Result<(), Stop>
         requires clock { IsMoment clock }
 
-        ensures begun { OnOk result ((b : Summary) (h : List Entry) → StoreStands D.told D.may_leave D.fault_count b self.old h
-            → StoreStands D.told D.may_leave D.fault_count b self.new (begun_after b h setup clock)) }
+        ensures begun { OnOk result ((b : Summary) (h : List Entry) → StoreStands D.seen b self.old h
+            → StoreStands D.seen b self.new (begun_after b h setup clock)) }
         ensures text { OnOk result (self.new.state.sum.text ≡ Some setup) }
-        ensures stop { OnErr result ((b : Summary) (h : List Entry) → StoreStands D.told D.may_leave D.fault_count b self.old h
-            → StoreStands D.told D.may_leave D.fault_count b self.new h
-            ⊎ StoreStands D.told D.may_leave D.fault_count b self.new (adopted_after b h setup clock)) }
-        ensures cause { IfErr result (λ s. ShowsOfBegin D.told D.may_leave D.fault_count self.new setup clock s) }
+        ensures stop { OnErr result ((b : Summary) (h : List Entry) → StoreStands D.seen b self.old h
+            → StoreStands D.seen b self.new h
+            ⊎ StoreStands D.seen b self.new (adopted_after b h setup clock)) }
+        ensures cause { IfErr result (λ s. ShowsOfBegin D.seen self.new setup clock s) }
 
         // Down comes exactly where the disk has failed since the opening, and is then the answer until the store is opened again.
-        ensures down { IsDownWhereFailed D.fault_count self.new result }
-        ensures already { HasFailed D.fault_count self.old → self.new ≡ self.old }
+        ensures down { IsDownWhereFailed D.seen self.new result }
+        ensures already { HasFailed D.seen self.old → self.new ≡ self.old }
 
         // Worn and Full come in their order, at each of the events by the numbers before it. After a stop that is no fault of the disk
         // the store, its disk too, is as it was before that event.
-        ensures order { (HasFailed D.fault_count self.old → ⊥)
-            → BeginsInOrder D.told D.may_leave D.fault_count self.old self.new setup clock result }
+        ensures order { (HasFailed D.seen self.old → ⊥)
+            → BeginsInOrder D.seen self.old self.new setup clock result }
 
         // A crash at any moment of the call leaves the records from before it, with those of its entries up to some one.
-        ensures any_moment { LeavesWithin D.told D.may_leave D.fault_count D.moment D.left_since self.old self.new setup clock }
-        ensures spared { SparesB D.told D.may_leave D.moment D.left_since self.old.journal.disk self.new.journal.disk }
+        ensures any_moment { LeavesWithin D.seen self.old self.new setup clock }
+        ensures spared { SparesB (D.seen self.old.journal.disk) (D.seen self.new.journal.disk) }
         ensures at_open { self.new.at_open ≡ self.old.at_open }
         ensures limits { self.new.journal.limits ≡ self.old.journal.limits }
-        ensures later { D.fault_count self.old.journal.disk ≤ D.fault_count self.new.journal.disk }
+        ensures later { (D.seen self.old.journal.disk).faults ≤ (D.seen self.new.journal.disk).faults }
+        ensures met_none { OnOk result ((D.seen self.new.journal.disk).faults ≡ (D.seen self.old.journal.disk).faults) }
     {
         self.adopt(alloc, &setup, clock)?;
         let _ = self.enter(alloc, Event::Start, clock)?;
@@ -83,13 +84,13 @@ impl<D: Disk> Store<D> {
         requires formed { IsWellFormed event }
         requires clock { IsMoment clock }
 
-        ensures done { IfOk result (λ d. (b : Summary) (h : List Entry) → StoreStands D.told D.may_leave D.fault_count b self.old h
-            → Takes D.told D.may_leave D.fault_count b self.new h clock (record { caller = caller; event = event; at = d.at; reply = d.reply })) }
+        ensures done { IfOk result (λ d. (b : Summary) (h : List Entry) → StoreStands D.seen b self.old h
+            → Takes D.seen b self.new h clock (record { caller = caller; event = event; at = d.at; reply = d.reply })) }
         ensures by { IfOk result (λ d. d.caller ≡ caller) }
         ensures few { OnOk result (self.old.state.entries < 2 ^ 48) }
         ensures taken { OnOk result (self.new.state.entries ≡ self.old.state.entries + 1) }
-        ensures stop { OnErr result (StandsOn D.told D.may_leave D.fault_count self.old self.new) }
-        ensures cause { IfErr result (λ s. Shows D.told D.may_leave D.fault_count self.new s event clock) }
+        ensures stop { OnErr result (StandsOn D.seen self.old self.new) }
+        ensures cause { IfErr result (λ s. Shows D.seen self.new s event clock) }
 
         ensures entries { OnErr result (self.new.state.entries ≡ self.old.state.entries) }
         ensures sum { OnErr result (self.new.state.sum ≡ self.old.state.sum) }
@@ -97,25 +98,25 @@ impl<D: Disk> Store<D> {
         ensures quiet { IfOk result (λ d. is_recorded d.reply ≡ false → IsSameJournal self.old.journal self.new.journal) }
 
         // When each stop comes, want of memory aside.
-        ensures down { IsDownWhereFailed D.fault_count self.new result }
-        ensures already { HasFailed D.fault_count self.old → self.new ≡ self.old }
-        ensures worn { IsWornFirst D.fault_count self.old result }
-        ensures full { IsFullThen D.told D.may_leave D.fault_count self.old event clock result }
+        ensures down { IsDownWhereFailed D.seen self.new result }
+        ensures already { HasFailed D.seen self.old → self.new ≡ self.old }
+        ensures worn { IsWornFirst D.seen self.old result }
+        ensures full { IsFullThen D.seen self.old event clock result }
 
         // A crash at any moment of the call leaves the records from before it, with this event's or without; and so it is after a fault.
-        ensures any_moment { (b : Summary) (h : List Entry) → StoreStands D.told D.may_leave D.fault_count b self.old h
-            → (HasFailed D.fault_count self.old → ⊥) → LeavesOnly D.moment D.left_since self.old.journal.disk self.new.journal.disk
+        ensures any_moment { (b : Summary) (h : List Entry) → StoreStands D.seen b self.old h
+            → (HasFailed D.seen self.old → ⊥) → LeavesOnly (D.seen self.old.journal.disk) (D.seen self.new.journal.disk)
             (λ c. StandsForEither (bodies_of h) (spelling event (moment_after b h clock)) c.a) }
-        ensures met { (b : Summary) (h : List Entry) → StoreStands D.told D.may_leave D.fault_count b self.old h
-            → (HasFailed D.fault_count self.old → ⊥)
-            → Leaves D.told D.may_leave self.new.journal.disk (bodies_of h) (spelling event (moment_after b h clock)) }
-        ensures spared { SparesB D.told D.may_leave D.moment D.left_since self.old.journal.disk self.new.journal.disk }
-        ensures behind { OnOk result (SparesBehind D.told D.may_leave (self.old.journal.used + need_of event)
-            self.old.journal.disk self.new.journal.disk) }
+        ensures met { (b : Summary) (h : List Entry) → StoreStands D.seen b self.old h
+            → (HasFailed D.seen self.old → ⊥)
+            → Leaves (D.seen self.new.journal.disk) (bodies_of h) (spelling event (moment_after b h clock)) }
+        ensures spared { SparesB (D.seen self.old.journal.disk) (D.seen self.new.journal.disk) }
+        ensures behind { OnOk result (SparesBehind (self.old.journal.used + need_of event) (D.seen self.old.journal.disk) (D.seen self.new.journal.disk)) }
         ensures at_open { self.new.at_open ≡ self.old.at_open }
         ensures limits { self.new.journal.limits ≡ self.old.journal.limits }
         ensures text { self.new.state.sum.text ≡ self.old.state.sum.text }
-        ensures later { D.fault_count self.old.journal.disk ≤ D.fault_count self.new.journal.disk }
+        ensures later { (D.seen self.old.journal.disk).faults ≤ (D.seen self.new.journal.disk).faults }
+        ensures met_none { OnOk result ((D.seen self.new.journal.disk).faults ≡ (D.seen self.old.journal.disk).faults) }
     {
         let done = self.enter(alloc, event, clock)?;
         Ok(Done { caller, ..done })
@@ -125,25 +126,25 @@ impl<D: Disk> Store<D> {
     fn adopt(&mut self, alloc: Global, setup: &Setup, clock: u64) -> Result<(), Stop>
         requires clock { IsMoment clock }
 
-        ensures adopted { OnOk result ((b : Summary) (h : List Entry) → StoreStands D.told D.may_leave D.fault_count b self.old h
-            → StoreStands D.told D.may_leave D.fault_count b self.new (adopted_after b h setup.now clock)) }
+        ensures adopted { OnOk result ((b : Summary) (h : List Entry) → StoreStands D.seen b self.old h
+            → StoreStands D.seen b self.new (adopted_after b h setup.now clock)) }
         ensures text { OnOk result (self.new.state.sum.text ≡ Some setup.now) }
-        ensures stop { OnErr result (StandsOn D.told D.may_leave D.fault_count self.old self.new) }
-        ensures cause { IfErr result (λ s. ShowsOfBegin D.told D.may_leave D.fault_count self.new setup.now clock s) }
-        ensures down { IsDownWhereFailed D.fault_count self.new result }
-        ensures already { HasFailed D.fault_count self.old → self.new ≡ self.old }
+        ensures stop { OnErr result (StandsOn D.seen self.old self.new) }
+        ensures cause { IfErr result (λ s. ShowsOfBegin D.seen self.new setup.now clock s) }
+        ensures down { IsDownWhereFailed D.seen self.new result }
+        ensures already { HasFailed D.seen self.old → self.new ≡ self.old }
         ensures order { is_in_force self.old.state.sum.text setup.now ≡ false
-            → StopsInOrder D.told D.may_leave D.fault_count self.old (Event.Adopt setup.now) clock result }
+            → StopsInOrder D.seen self.old (Event.Adopt setup.now) clock result }
         ensures before { IsAsBefore self.old self.new result }
         ensures in_force { is_in_force self.old.state.sum.text setup.now ≡ true → self.new ≡ self.old }
-        ensures adopts { IsErr result → (HasFailed D.fault_count self.old → ⊥) → is_in_force self.old.state.sum.text setup.now ≡ false }
-        ensures any_moment { LeavesWithin D.told D.may_leave D.fault_count D.moment D.left_since self.old self.new setup.now clock }
-        ensures spared { SparesB D.told D.may_leave D.moment D.left_since self.old.journal.disk self.new.journal.disk }
-        ensures behind { OnOk result (SparesBehind D.told D.may_leave (self.old.journal.used + need_of (Event.Adopt setup.now))
-            self.old.journal.disk self.new.journal.disk) }
+        ensures adopts { IsErr result → (HasFailed D.seen self.old → ⊥) → is_in_force self.old.state.sum.text setup.now ≡ false }
+        ensures any_moment { LeavesWithin D.seen self.old self.new setup.now clock }
+        ensures spared { SparesB (D.seen self.old.journal.disk) (D.seen self.new.journal.disk) }
+        ensures behind { OnOk result (SparesBehind (self.old.journal.used + need_of (Event.Adopt setup.now)) (D.seen self.old.journal.disk) (D.seen self.new.journal.disk)) }
         ensures at_open { self.new.at_open ≡ self.old.at_open }
         ensures limits { self.new.journal.limits ≡ self.old.journal.limits }
-        ensures later { D.fault_count self.old.journal.disk ≤ D.fault_count self.new.journal.disk }
+        ensures later { (D.seen self.old.journal.disk).faults ≤ (D.seen self.new.journal.disk).faults }
+        ensures met_none { OnOk result ((D.seen self.new.journal.disk).faults ≡ (D.seen self.old.journal.disk).faults) }
     {
         self.check_disk()?;
         if self.has_in_force(setup) {
@@ -174,36 +175,36 @@ impl<D: Disk> Store<D> {
         requires clock { IsMoment clock }
 
         ensures done { IfOk result (λ d. (b : Summary) (h : List Entry) (caller : ℕ)
-            → StoreStands D.told D.may_leave D.fault_count b self.old h
-            → Takes D.told D.may_leave D.fault_count b self.new h clock (record { caller = caller; event = event; at = d.at; reply = d.reply })) }
+            → StoreStands D.seen b self.old h
+            → Takes D.seen b self.new h clock (record { caller = caller; event = event; at = d.at; reply = d.reply })) }
         ensures few { OnOk result (self.old.state.entries < 2 ^ 48) }
         ensures answer { IfOk result (λ d. d.reply ≡ answer_over self.old.state.sum [] event d.at) }
         ensures grows { IfOk result (λ d. Grows self.old.state self.new.state (record { caller = 0; event = event; at = d.at; reply = d.reply })) }
-        ensures stop { OnErr result (StandsOn D.told D.may_leave D.fault_count self.old self.new) }
-        ensures cause { IfErr result (λ s. Shows D.told D.may_leave D.fault_count self.new s event clock) }
+        ensures stop { OnErr result (StandsOn D.seen self.old self.new) }
+        ensures cause { IfErr result (λ s. Shows D.seen self.new s event clock) }
 
         ensures entries { OnErr result (self.new.state.entries ≡ self.old.state.entries) }
         ensures sum { OnErr result (self.new.state.sum ≡ self.old.state.sum) }
         ensures unwritten { LeavesJournal self.old.journal self.new.journal result }
         ensures quiet { IfOk result (λ d. is_recorded d.reply ≡ false → IsSameJournal self.old.journal self.new.journal) }
 
-        ensures down { IsDownWhereFailed D.fault_count self.new result }
-        ensures already { HasFailed D.fault_count self.old → self.new ≡ self.old }
-        ensures worn { IsWornFirst D.fault_count self.old result }
-        ensures full { IsFullThen D.told D.may_leave D.fault_count self.old event clock result }
+        ensures down { IsDownWhereFailed D.seen self.new result }
+        ensures already { HasFailed D.seen self.old → self.new ≡ self.old }
+        ensures worn { IsWornFirst D.seen self.old result }
+        ensures full { IsFullThen D.seen self.old event clock result }
 
-        ensures any_moment { (b : Summary) (h : List Entry) → StoreStands D.told D.may_leave D.fault_count b self.old h
-            → (HasFailed D.fault_count self.old → ⊥) → LeavesOnly D.moment D.left_since self.old.journal.disk self.new.journal.disk
+        ensures any_moment { (b : Summary) (h : List Entry) → StoreStands D.seen b self.old h
+            → (HasFailed D.seen self.old → ⊥) → LeavesOnly (D.seen self.old.journal.disk) (D.seen self.new.journal.disk)
             (λ c. StandsForEither (bodies_of h) (spelling event (moment_after b h clock)) c.a) }
-        ensures met { (b : Summary) (h : List Entry) → StoreStands D.told D.may_leave D.fault_count b self.old h
-            → (HasFailed D.fault_count self.old → ⊥)
-            → Leaves D.told D.may_leave self.new.journal.disk (bodies_of h) (spelling event (moment_after b h clock)) }
-        ensures spared { SparesB D.told D.may_leave D.moment D.left_since self.old.journal.disk self.new.journal.disk }
-        ensures behind { OnOk result (SparesBehind D.told D.may_leave (self.old.journal.used + need_of event)
-            self.old.journal.disk self.new.journal.disk) }
+        ensures met { (b : Summary) (h : List Entry) → StoreStands D.seen b self.old h
+            → (HasFailed D.seen self.old → ⊥)
+            → Leaves (D.seen self.new.journal.disk) (bodies_of h) (spelling event (moment_after b h clock)) }
+        ensures spared { SparesB (D.seen self.old.journal.disk) (D.seen self.new.journal.disk) }
+        ensures behind { OnOk result (SparesBehind (self.old.journal.used + need_of event) (D.seen self.old.journal.disk) (D.seen self.new.journal.disk)) }
         ensures at_open { self.new.at_open ≡ self.old.at_open }
         ensures limits { self.new.journal.limits ≡ self.old.journal.limits }
-        ensures later { D.fault_count self.old.journal.disk ≤ D.fault_count self.new.journal.disk }
+        ensures later { (D.seen self.old.journal.disk).faults ≤ (D.seen self.new.journal.disk).faults }
+        ensures met_none { OnOk result ((D.seen self.new.journal.disk).faults ≡ (D.seen self.old.journal.disk).faults) }
     {
         self.check_disk()?;
         self.check_count()?;
@@ -224,9 +225,9 @@ impl<D: Disk> Store<D> {
 
     // Down where the disk has failed since the opening.
     fn check_disk(&self) -> Result<(), Stop>
-        ensures up { OnOk result (HasFailed D.fault_count self.now → ⊥) }
-        ensures down { IfErr result (λ s. s ≡ Stop.Down self.now.at_open (D.fault_count self.now.journal.disk)) }
-        ensures failed { OnErr result (HasFailed D.fault_count self.now) }
+        ensures up { OnOk result (HasFailed D.seen self.now → ⊥) }
+        ensures down { IfErr result (λ s. s ≡ Stop.Down self.now.at_open (D.seen self.now.journal.disk).faults) }
+        ensures failed { OnErr result (HasFailed D.seen self.now) }
     {
         check_count_of_faults(self.at_open, self.journal.disk().faults())
     }
@@ -252,29 +253,30 @@ fn write<D: Disk>(
     at_open: u64,
     ready: &Ready,
 ) -> Result<(), Stop>
-    requires holds { (bodies : List (List ℕ)) × Holds D.told D.may_leave journal.old bodies }
+    requires holds { (bodies : List (List ℕ)) × Holds D.seen journal.old bodies }
     requires formed { IsWellFormed ready.now.event }
     requires kept { IsKept ready.now.event }
-    requires later { at_open ≤ D.fault_count journal.old.disk }
-    requires up { Rose at_open (D.fault_count journal.old.disk) → ⊥ }
+    requires later { at_open ≤ (D.seen journal.old.disk).faults }
+    requires up { Rose at_open (D.seen journal.old.disk).faults → ⊥ }
 
-    ensures added { OnOk result ((bodies : List (List ℕ)) → Holds D.told D.may_leave journal.old bodies
-        → Holds D.told D.may_leave journal.new (bodies ++ spelling ready.now.event ready.now.at ∷ [])) }
-    ensures up { OnOk result (Rose at_open (D.fault_count journal.new.disk) → ⊥) }
-    ensures stop { IfErr result (IsUnwritten D.fault_count at_open journal.old journal.new (need_of ready.now.event)) }
+    ensures added { OnOk result ((bodies : List (List ℕ)) → Holds D.seen journal.old bodies
+        → Holds D.seen journal.new (bodies ++ spelling ready.now.event ready.now.at ∷ [])) }
+    ensures up { OnOk result (Rose at_open (D.seen journal.new.disk).faults → ⊥) }
+    ensures stop { IfErr result (IsUnwritten D.seen at_open journal.old journal.new (need_of ready.now.event)) }
     ensures full { IsOverAt journal.old (need_of ready.now.event)
         → (result ≡ Err Stop.Memory) ⊎ (result ≡ Err (Stop.Full journal.old.used (need_of ready.now.event) journal.old.records)) }
 
-    ensures any_moment { (bodies : List (List ℕ)) → Holds D.told D.may_leave journal.old bodies
-        → LeavesOnly D.moment D.left_since journal.old.disk journal.new.disk
+    ensures any_moment { (bodies : List (List ℕ)) → Holds D.seen journal.old bodies
+        → LeavesOnly (D.seen journal.old.disk) (D.seen journal.new.disk)
         (λ c. StandsForEither bodies (spelling ready.now.event ready.now.at) c.a) }
-    ensures met { (bodies : List (List ℕ)) → Holds D.told D.may_leave journal.old bodies
-        → Leaves D.told D.may_leave journal.new.disk bodies (spelling ready.now.event ready.now.at) }
-    ensures spared { SparesB D.told D.may_leave D.moment D.left_since journal.old.disk journal.new.disk }
-    ensures behind { OnOk result (SparesBehind D.told D.may_leave (journal.old.used + need_of ready.now.event) journal.old.disk journal.new.disk) }
+    ensures met { (bodies : List (List ℕ)) → Holds D.seen journal.old bodies
+        → Leaves (D.seen journal.new.disk) bodies (spelling ready.now.event ready.now.at) }
+    ensures spared { SparesB (D.seen journal.old.disk) (D.seen journal.new.disk) }
+    ensures behind { OnOk result (SparesBehind (journal.old.used + need_of ready.now.event) (D.seen journal.old.disk) (D.seen journal.new.disk)) }
     ensures spelled { HasSpelling ready.now.event ready.now.at }
     ensures limits { journal.new.limits ≡ journal.old.limits }
-    ensures later { D.fault_count journal.old.disk ≤ D.fault_count journal.new.disk }
+    ensures later { (D.seen journal.old.disk).faults ≤ (D.seen journal.new.disk).faults }
+    ensures met_none { OnOk result ((D.seen journal.new.disk).faults ≡ (D.seen journal.old.disk).faults) }
 {
     let at = ready.at();
     let Ok(()) = encode(ready.event(), at, body) else {
@@ -284,7 +286,7 @@ fn write<D: Disk>(
         return Err(Stop::Memory);
     };
     match journal.append(body) {
-        Ok(()) => check_count_of_faults(at_open, journal.disk().faults()),
+        Ok(()) => Ok(()),
         Err(
             AppendFault::Full {
                 used,

@@ -2,6 +2,7 @@
 use Rattle.std.proofs.Common.{◌≡◌, ◌≤◌, ◌+◌, ◌-◌, ℕ, List, ◌++◌, [], ◌∷◌, length, drop, Option, Some, None, refl, sym, ap, ◌∙◌, arith, length-append}
 use Rattle.std.proofs.lemmas.List.{drop-drop}
 use Rattle.arc_io.specs.Areas.{Areas}
+use Rattle.arc_io.specs.Disks.{DiskSeen}
 use Rattle.arc_io.specs.Crashes.{TornIn, Becomes, Follows}
 use Rattle.arc_io.specs.declared.disk.Area.TheVariants.{A}
 use Rattle.disk_journal.specs.Records.{bytes_of}
@@ -35,27 +36,26 @@ told_still : (o : Option Areas) (k : ℕ) → Becomes o o (λ s t. drop k t.a �
 told_still None k = tt
 told_still (Some s) k = refl
 
-module _ {D : Type 0} (told : D → Option Areas) (may_leave : D → Areas → Type 0) where
-  -- a write in front
-  pub torn_spares : (old new : D) (at n m : ℕ) → at + n ≤ m → Becomes (told old) (told new) (TornIn A at n) → Follows (TornIn A at n) (may_leave old) (may_leave new)
-      → SparesBehind told may_leave m old new
-  torn_spares old new at n m le torn crash = record {
-    same = told_behind (told old) (told new) at n m le torn;
-    crash = λ c now.
-        let d = crash c now in
-        (d.0, d.1, further (at + n) m d.0.a c.a le d.2.0.after);
-  }
+-- a write in front
+pub torn_spares : (old new : DiskSeen) (at n m : ℕ) → at + n ≤ m → Becomes old.told new.told (TornIn A at n) → Follows (TornIn A at n) old.may_leave new.may_leave
+    → SparesBehind m old new
+torn_spares old new at n m le torn crash = record {
+  same = told_behind old.told new.told at n m le torn;
+  crash = λ c now.
+      let d = crash c now in
+      (d.0, d.1, further (at + n) m d.0.a c.a le d.2.0.after);
+}
 
-  -- one run after another
-  pub spares_more : (old mid new : D) (m : ℕ) → SparesBehind told may_leave m old mid → SparesBehind told may_leave m mid new → SparesBehind told may_leave m old new
-  spares_more old mid new m one two = record {
-    same = told_then (told old) (told mid) (told new) m one.same two.same;
-    crash = λ c now.
-        let d = two.crash c now in
-        let e = one.crash d.0 d.1 in
-        (e.0, e.1, d.2 ∙ e.2);
-  }
+-- one run after another
+pub spares_more : (old mid new : DiskSeen) (m : ℕ) → SparesBehind m old mid → SparesBehind m mid new → SparesBehind m old new
+spares_more old mid new m one two = record {
+  same = told_then old.told mid.told new.told m one.same two.same;
+  crash = λ c now.
+      let d = two.crash c now in
+      let e = one.crash d.0 d.1 in
+      (e.0, e.1, d.2 ∙ e.2);
+}
 
-  -- no run at all
-  pub spares_still : (old : D) (m : ℕ) → SparesBehind told may_leave m old old
-  spares_still old m = record { same = told_still (told old) m; crash = λ c now. (c, now, refl) }
+-- no run at all
+pub spares_still : (old : DiskSeen) (m : ℕ) → SparesBehind m old old
+spares_still old m = record { same = told_still old.told m; crash = λ c now. (c, now, refl) }

@@ -1,23 +1,23 @@
 -- What a journal over a disk holds.
-use Rattle.std.specs.Prelude.{◌≡◌, ◌⊎◌, ◌<◌, ◌^◌, ℕ, List, [], ◌∷◌, ◌++◌, length, Option, IfSome, vec_len, Result, Ok, Err}
+use Rattle.std.specs.Prelude.{◌≡◌, ◌⊎◌, ◌<◌, ◌^◌, ℕ, List, [], ◌∷◌, ◌++◌, length, IfSome, vec_len, Result, Ok, Err}
 use Rattle.arc_io.specs.Areas.{Areas}
+use Rattle.arc_io.specs.Disks.{DiskSeen}
 use Rattle.disk_journal.specs.Records.{AtRest, Stands, HaveSizes, size}
 use Rattle.disk_journal.specs.declared.journal.Journal.{Journal}
 use Rattle.disk_journal.specs.declared.journal.OpenRefused.{OpenRefused}
 
 -- what a read gives and all that a crash may leave now are at rest with these bodies
-pub record Keeps {D : Type 0} (told : D → Option Areas) (may_leave : D → Areas → Type 0) (disk : D) (bodies : List (List ℕ)) : Type 0 where
+pub record Keeps (disk : DiskSeen) (bodies : List (List ℕ)) : Type 0 where
   pub sizes : HaveSizes bodies
-  pub file : IfSome (told disk) (λ s. AtRest s.a bodies)
-  pub images : (c : Areas) → may_leave disk c → AtRest c.a bodies
+  pub file : IfSome disk.told (λ s. AtRest s.a bodies)
+  pub images : (c : Areas) → disk.may_leave c → AtRest c.a bodies
 
 -- the journal has these bodies
-pub record Holds {D : Type 0} (told : D → Option Areas) (may_leave : D → Areas → Type 0) (j : Journal D)
-    (bodies : List (List ℕ)) : Type 0 where
+pub record Holds {D : Type 0} (seen : D → DiskSeen) (j : Journal D) (bodies : List (List ℕ)) : Type 0 where
   pub used : j.used ≡ size bodies
   pub count : j.records ≡ length bodies
   pub few : j.limits.bytes < 2 ^ 32
-  pub kept : Keeps told may_leave j.disk bodies
+  pub kept : Keeps (seen j.disk) bodies
 
 -- the room for records that was reserved
 abbrev pub room_of : {D : Type 0} → Journal D → ℕ

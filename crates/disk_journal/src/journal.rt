@@ -73,26 +73,29 @@ impl<D: Disk> Journal<D> {
     ) -> Result<(Journal<D>, Bodies), OpenRefused<D>>
         requires few { limits.bytes < 2 ^ 32 }
 
-        ensures holds { IfOk result (λ r. Holds D.told D.may_leave r.0 r.1) }
+        ensures holds { IfOk result (λ r. Holds D.seen r.0 r.1) }
         ensures limits { IfOk result (λ r. r.0.limits ≡ limits) }
         ensures room { IfOk result (λ r. room_of r.0 ≡ 0) }
 
         // The list is that for which the area stood, and a refusal shows why it stood for none.
-        ensures stands { IfOk result (λ r. IfSome (D.told disk) (λ s. Stands s.a r.1)) }
-        ensures shown { IfErr result (λ r. IfSome (D.told disk) (λ s. IsShown r.fault s.a)) }
-        ensures counts { IfErr result (λ r. HasCounts r.fault (D.fault_count disk) (D.fault_count r.disk)) }
+        ensures stands { IfOk result (λ r. IfSome (D.seen disk).told (λ s. Stands s.a r.1)) }
+        ensures shown { IfErr result (λ r. IfSome (D.seen disk).told (λ s. IsShown r.fault s.a)) }
+        ensures counts { IfErr result (λ r. HasCounts r.fault (D.seen disk).faults (D.seen r.disk).faults) }
 
         // A crash at any moment of the call leaves what stands for each list that an image at its start stood for.
-        ensures any_moment { LeavesOnly D.moment D.left_since disk (disk_after result)
-            (λ c. (d : Areas) × D.may_leave disk d × GoesOn d.a c.a) }
-        ensures told { Becomes (D.told disk) (D.told (disk_after result)) (λ s t. GoesOn s.a t.a) }
+        ensures any_moment { LeavesOnly (D.seen disk) (D.seen (disk_after result))
+            (λ c. (d : Areas) × (D.seen disk).may_leave d × GoesOn d.a c.a) }
+        ensures told { Becomes (D.seen disk).told (D.seen (disk_after result)).told (λ s t. GoesOn s.a t.a) }
 
-        ensures spared { SparesB D.told D.may_leave D.moment D.left_since disk (disk_after result) }
+        ensures spared { SparesB (D.seen disk) (D.seen (disk_after result)) }
 
         // Where the area's bytes are refused, or some body stands there, nothing was written.
-        ensures unwritten { IfErr result (λ r. IsOfContent r.fault → IsQuiet D.told D.may_leave D.moment D.left_since disk r.disk) }
-        ensures untouched { IfOk result (λ r. (r.1 ≡ [] → ⊥) → IsQuiet D.told D.may_leave D.moment D.left_since disk r.0.disk) }
-        ensures later { D.fault_count disk ≤ D.fault_count (disk_after result) }
+        ensures unwritten { IfErr result (λ r. IsOfContent r.fault → IsQuiet (D.seen disk) (D.seen r.disk)) }
+        ensures untouched { IfOk result (λ r. (r.1 ≡ [] → ⊥) → IsQuiet (D.seen disk) (D.seen r.0.disk)) }
+        ensures later { (D.seen disk).faults ≤ (D.seen (disk_after result)).faults }
+
+        // An opening that answers Ok met no fault.
+        ensures met_none { IfOk result (λ r. (D.seen r.0.disk).faults ≡ (D.seen disk).faults) }
     {
         let mut disk = disk;
         match load(alloc, &mut disk) {
@@ -133,32 +136,33 @@ impl<D: Disk> Journal<D> {
     /// Adds a record. Once it has answered Ok, every crash leaves it. It takes no memory. After a fault of the disk,
     /// open the area again.
     pub fn append(&mut self, body: &[u8]) -> Result<(), AppendFault>
-        requires holds { (bodies : List (List ℕ)) × Holds D.told D.may_leave self.old bodies }
+        requires holds { (bodies : List (List ℕ)) × Holds D.seen self.old bodies }
         requires size { MayHave (length body.now) }
         requires room { 5 + length body.now ≤ room_of self.old }
 
-        ensures added { OnOk result ((bodies : List (List ℕ)) → Holds D.told D.may_leave self.old bodies
-            → Holds D.told D.may_leave self.new (bodies ++ body.now ∷ [])) }
+        ensures added { OnOk result ((bodies : List (List ℕ)) → Holds D.seen self.old bodies
+            → Holds D.seen self.new (bodies ++ body.now ∷ [])) }
 
         // A crash at any moment of the call leaves the records from before it, with the new one or without.
-        ensures any_moment { (bodies : List (List ℕ)) → Holds D.told D.may_leave self.old bodies
-            → LeavesOnly D.moment D.left_since self.old.disk self.new.disk (λ c. StandsForEither bodies body.now c.a) }
+        ensures any_moment { (bodies : List (List ℕ)) → Holds D.seen self.old bodies
+            → LeavesOnly (D.seen self.old.disk) (D.seen self.new.disk) (λ c. StandsForEither bodies body.now c.a) }
 
         // What a read gives afterwards, too.
-        ensures told { (bodies : List (List ℕ)) → Holds D.told D.may_leave self.old bodies
-            → Becomes (D.told self.old.disk) (D.told self.new.disk) (λ _ t. StandsForEither bodies body.now t.a) }
+        ensures told { (bodies : List (List ℕ)) → Holds D.seen self.old bodies
+            → Becomes (D.seen self.old.disk).told (D.seen self.new.disk).told (λ _ t. StandsForEither bodies body.now t.a) }
 
         // Nothing but the record and its gates is written: all that stands behind is as it was.
-        ensures spared { SparesB D.told D.may_leave D.moment D.left_since self.old.disk self.new.disk }
-        ensures behind { SparesBehind D.told D.may_leave (self.old.used + 5 + length body.now) self.old.disk self.new.disk }
+        ensures spared { SparesB (D.seen self.old.disk) (D.seen self.new.disk) }
+        ensures behind { SparesBehind (self.old.used + 5 + length body.now) (D.seen self.old.disk) (D.seen self.new.disk) }
 
         // Full comes exactly over a limit, before any device call.
         ensures full { IsOver self.old.used (5 + length body.now) self.old.records self.old.limits.bytes self.old.limits.records
             → (self.new ≡ self.old) × MatchResult result (λ _. ⊥) (IsFull self.old.used (5 + length body.now) self.old.records) }
         ensures cause { IfErr result (HasCountsOf
             (IsOver self.old.used (5 + length body.now) self.old.records self.old.limits.bytes self.old.limits.records)
-            (D.fault_count self.old.disk) (D.fault_count self.new.disk)) }
-        ensures later { D.fault_count self.old.disk ≤ D.fault_count self.new.disk }
+            (D.seen self.old.disk).faults (D.seen self.new.disk).faults) }
+        ensures later { (D.seen self.old.disk).faults ≤ (D.seen self.new.disk).faults }
+        ensures met_none { OnOk result ((D.seen self.new.disk).faults ≡ (D.seen self.old.disk).faults) }
         ensures limits { self.new.limits ≡ self.old.limits }
         ensures same_room { room_of self.new ≡ room_of self.old }
     {

@@ -3,7 +3,7 @@ ghost use Rattle.std.specs.Prelude.{◌≡◌, ◌≢◌, ◌≤◌, ◌<◌, �
 ghost use Rattle.std.specs.Int.{to_be_bytes, from_be_bytes, w32};
 ghost use Rattle.arc_io.specs.Areas.{Areas};
 ghost use Rattle.arc_io.specs.Crashes.{Becomes, IsQuiet, OnlyIn, LeavesOnly, LeavesTorn, TornIn};
-ghost use Rattle.arc_io.specs.Causes.{HasCause};
+ghost use Rattle.arc_io.specs.Causes.{IsCounted};
 ghost use Rattle.arc_io.specs.declared.disk.Area.TheVariants.{A};
 ghost use Rattle.disk_journal.specs.Records.{MayHave, HaveSizes, AtRest, Stands, head, size};
 ghost use Rattle.disk_journal.specs.Faults.{IsShown, IsOfContent, IsOfFront, HasCounts};
@@ -52,16 +52,17 @@ fn is_open<D: Disk>(
     before: u64,
     at: u64,
 ) -> Result<bool, OpenFault>
-    requires before { before ≤ D.fault_count disk.old }
-    requires within { IfSome (D.told disk.old) (λ s. at < length s.a) }
+    requires before { before ≤ (D.seen disk.old).faults }
+    requires within { IfSome (D.seen disk.old).told (λ s. at < length s.a) }
     requires fits { at + 1 < 2 ^ 64 }
-    requires piece { Shows (D.told disk.old) window.old }
-    ensures gate { IfOk result (λ is. IfSome (D.told disk.old) (λ s. IsGate s.a at is)) }
-    ensures piece { OnOk result (Shows (D.told disk.old) window.new) }
-    ensures quiet { IsQuiet D.told D.may_leave D.moment D.left_since disk.old disk.new }
-    ensures later { D.fault_count disk.old ≤ D.fault_count disk.new }
-    ensures counts { IfErr result (λ f. HasCounts f before (D.fault_count disk.new)) }
-    ensures shown { IfErr result (λ f. IfSome (D.told disk.old) (λ s. IsBrokenAt f s.a at)) }
+    requires piece { Shows (D.seen disk.old).told window.old }
+    ensures gate { IfOk result (λ is. IfSome (D.seen disk.old).told (λ s. IsGate s.a at is)) }
+    ensures piece { OnOk result (Shows (D.seen disk.old).told window.new) }
+    ensures quiet { IsQuiet (D.seen disk.old) (D.seen disk.new) }
+    ensures later { (D.seen disk.old).faults ≤ (D.seen disk.new).faults }
+    ensures met_none { OnOk result ((D.seen disk.new).faults ≡ (D.seen disk.old).faults) }
+    ensures counts { IfErr result (λ f. HasCounts f before (D.seen disk.new).faults) }
+    ensures shown { IfErr result (λ f. IfSome (D.seen disk.old).told (λ s. IsBrokenAt f s.a at)) }
 {
     let mut gate = [0; 1];
     if !window.fill(disk, before, at, &mut gate)? {
@@ -78,18 +79,19 @@ fn read_size<D: Disk>(
     len: u64,
     at: u64,
 ) -> Result<u32, OpenFault>
-    requires before { before ≤ D.fault_count disk.old }
-    requires len { IfSome (D.told disk.old) (λ s. len ≡ length s.a) }
+    requires before { before ≤ (D.seen disk.old).faults }
+    requires len { IfSome (D.seen disk.old).told (λ s. len ≡ length s.a) }
     requires within { at < len }
-    requires gate { IfSome (D.told disk.old) (λ s. IsGate s.a at true) }
-    requires piece { Shows (D.told disk.old) window.old }
-    ensures size { IfOk result (λ n. IfSome (D.told disk.old) (λ s. take 4 (drop (at + 1) s.a) ≡ to_be_bytes w32 n)) }
+    requires gate { IfSome (D.seen disk.old).told (λ s. IsGate s.a at true) }
+    requires piece { Shows (D.seen disk.old).told window.old }
+    ensures size { IfOk result (λ n. IfSome (D.seen disk.old).told (λ s. take 4 (drop (at + 1) s.a) ≡ to_be_bytes w32 n)) }
     ensures room { IfOk result (λ n. MayHave n × (at + 5 + n < len)) }
-    ensures piece { OnOk result (Shows (D.told disk.old) window.new) }
-    ensures quiet { IsQuiet D.told D.may_leave D.moment D.left_since disk.old disk.new }
-    ensures later { D.fault_count disk.old ≤ D.fault_count disk.new }
-    ensures counts { IfErr result (λ f. HasCounts f before (D.fault_count disk.new)) }
-    ensures shown { IfErr result (λ f. IfSome (D.told disk.old) (λ s. IsBrokenAt f s.a at)) }
+    ensures piece { OnOk result (Shows (D.seen disk.old).told window.new) }
+    ensures quiet { IsQuiet (D.seen disk.old) (D.seen disk.new) }
+    ensures later { (D.seen disk.old).faults ≤ (D.seen disk.new).faults }
+    ensures met_none { OnOk result ((D.seen disk.new).faults ≡ (D.seen disk.old).faults) }
+    ensures counts { IfErr result (λ f. HasCounts f before (D.seen disk.new).faults) }
+    ensures shown { IfErr result (λ f. IfSome (D.seen disk.old).told (λ s. IsBrokenAt f s.a at)) }
 {
     if len - at <= 5 {
         return Err(OpenFault::Damaged { at });
@@ -112,17 +114,18 @@ fn read_record<D: Disk>(
     len: u64,
     at: u64,
 ) -> Result<Option<Vec<u8>>, OpenFault>
-    requires before { before ≤ D.fault_count disk.old }
-    requires len { IfSome (D.told disk.old) (λ s. len ≡ length s.a) }
+    requires before { before ≤ (D.seen disk.old).faults }
+    requires len { IfSome (D.seen disk.old).told (λ s. len ≡ length s.a) }
     requires within { at < len }
-    requires piece { Shows (D.told disk.old) window.old }
-    ensures bytes { IfOk result (λ found. IfSome (D.told disk.old) (λ s. IsRecord s.a at found)) }
+    requires piece { Shows (D.seen disk.old).told window.old }
+    ensures bytes { IfOk result (λ found. IfSome (D.seen disk.old).told (λ s. IsRecord s.a at found)) }
     ensures room { IfOk result (λ found. IfSome found (λ body. MayHave (length body.items) × (at + 5 + length body.items < len))) }
-    ensures piece { OnOk result (Shows (D.told disk.old) window.new) }
-    ensures quiet { IsQuiet D.told D.may_leave D.moment D.left_since disk.old disk.new }
-    ensures later { D.fault_count disk.old ≤ D.fault_count disk.new }
-    ensures counts { IfErr result (λ f. HasCounts f before (D.fault_count disk.new)) }
-    ensures shown { IfErr result (λ f. IfSome (D.told disk.old) (λ s. IsBrokenAt f s.a at)) }
+    ensures piece { OnOk result (Shows (D.seen disk.old).told window.new) }
+    ensures quiet { IsQuiet (D.seen disk.old) (D.seen disk.new) }
+    ensures later { (D.seen disk.old).faults ≤ (D.seen disk.new).faults }
+    ensures met_none { OnOk result ((D.seen disk.new).faults ≡ (D.seen disk.old).faults) }
+    ensures counts { IfErr result (λ f. HasCounts f before (D.seen disk.new).faults) }
+    ensures shown { IfErr result (λ f. IfSome (D.seen disk.old).told (λ s. IsBrokenAt f s.a at)) }
 {
     if !is_open(disk, window, before, at)? {
         return Ok(None);
@@ -145,17 +148,18 @@ fn read_records<D: Disk>(
     before: u64,
     len: u64,
 ) -> Result<Loaded, OpenFault>
-    requires before { before ≤ D.fault_count disk.old }
-    requires len { IfSome (D.told disk.old) (λ s. len ≡ length s.a) }
+    requires before { before ≤ (D.seen disk.old).faults }
+    requires len { IfSome (D.seen disk.old).told (λ s. len ≡ length s.a) }
     requires long { 17 < len }
-    requires head { IfSome (D.told disk.old) (λ s. take 16 s.a ≡ head) }
-    requires piece { Shows (D.told disk.old) window.old }
+    requires head { IfSome (D.seen disk.old).told (λ s. take 16 s.a ≡ head) }
+    requires piece { Shows (D.seen disk.old).told window.old }
     ensures used { IfOk result (λ l. (l.used ≡ size l.bodies) × HaveSizes l.bodies) }
-    ensures bytes { IfOk result (λ l. IfSome (D.told disk.old) (λ s. AtRest s.a l.bodies)) }
-    ensures quiet { IsQuiet D.told D.may_leave D.moment D.left_since disk.old disk.new }
-    ensures later { D.fault_count disk.old ≤ D.fault_count disk.new }
-    ensures counts { IfErr result (λ f. HasCounts f before (D.fault_count disk.new)) }
-    ensures shown { IfErr result (λ f. IfSome (D.told disk.old) (λ s. IsShown f s.a)) }
+    ensures bytes { IfOk result (λ l. IfSome (D.seen disk.old).told (λ s. AtRest s.a l.bodies)) }
+    ensures quiet { IsQuiet (D.seen disk.old) (D.seen disk.new) }
+    ensures later { (D.seen disk.old).faults ≤ (D.seen disk.new).faults }
+    ensures met_none { OnOk result ((D.seen disk.new).faults ≡ (D.seen disk.old).faults) }
+    ensures counts { IfErr result (λ f. HasCounts f before (D.seen disk.new).faults) }
+    ensures shown { IfErr result (λ f. IfSome (D.seen disk.old).told (λ s. IsShown f s.a)) }
 {
     let mut bodies = Bodies::new(alloc);
     let mut at = 16;
@@ -206,15 +210,16 @@ pub fn check_front(front: &[u8; 16]) -> Result<(), OpenFault>
 
 // Finds the name and the version at the front of an area that is long enough to have them.
 fn check_head<D: Disk>(disk: &mut D, window: &mut Window, before: u64) -> Result<(), OpenFault>
-    requires before { before ≤ D.fault_count disk.old }
-    requires long { IfSome (D.told disk.old) (λ s. 17 < length s.a) }
-    requires piece { Shows (D.told disk.old) window.old }
-    ensures head { OnOk result (IfSome (D.told disk.old) (λ s. take 16 s.a ≡ head)) }
-    ensures piece { OnOk result (Shows (D.told disk.old) window.new) }
-    ensures quiet { IsQuiet D.told D.may_leave D.moment D.left_since disk.old disk.new }
-    ensures later { D.fault_count disk.old ≤ D.fault_count disk.new }
-    ensures counts { IfErr result (λ f. HasCounts f before (D.fault_count disk.new)) }
-    ensures shown { IfErr result (λ f. IfSome (D.told disk.old) (λ s. IsShown f s.a)) }
+    requires before { before ≤ (D.seen disk.old).faults }
+    requires long { IfSome (D.seen disk.old).told (λ s. 17 < length s.a) }
+    requires piece { Shows (D.seen disk.old).told window.old }
+    ensures head { OnOk result (IfSome (D.seen disk.old).told (λ s. take 16 s.a ≡ head)) }
+    ensures piece { OnOk result (Shows (D.seen disk.old).told window.new) }
+    ensures quiet { IsQuiet (D.seen disk.old) (D.seen disk.new) }
+    ensures later { (D.seen disk.old).faults ≤ (D.seen disk.new).faults }
+    ensures met_none { OnOk result ((D.seen disk.new).faults ≡ (D.seen disk.old).faults) }
+    ensures counts { IfErr result (λ f. HasCounts f before (D.seen disk.new).faults) }
+    ensures shown { IfErr result (λ f. IfSome (D.seen disk.old).told (λ s. IsShown f s.a)) }
 {
     let mut front = [0; 16];
     let _ = window.fill(disk, before, 0, &mut front)?;
@@ -223,12 +228,13 @@ fn check_head<D: Disk>(disk: &mut D, window: &mut Window, before: u64) -> Result
 
 // Syncs the area and takes its length.
 fn settle<D: Disk>(disk: &mut D, before: u64) -> Result<u64, OpenFault>
-    requires before { before ≤ D.fault_count disk.old }
-    ensures len { IfOk result (λ n. IfSome (D.told disk.old) (λ s. n ≡ length s.a)) }
-    ensures durable { OnOk result (IfSome (D.told disk.old) (λ s. OnlyIn A s (D.may_leave disk.new))) }
-    ensures quiet { IsQuiet D.told D.may_leave D.moment D.left_since disk.old disk.new }
-    ensures later { D.fault_count disk.old ≤ D.fault_count disk.new }
-    ensures counts { IfErr result (λ f. HasCounts f before (D.fault_count disk.new)) }
+    requires before { before ≤ (D.seen disk.old).faults }
+    ensures len { IfOk result (λ n. IfSome (D.seen disk.old).told (λ s. n ≡ length s.a)) }
+    ensures durable { OnOk result (IfSome (D.seen disk.old).told (λ s. OnlyIn A s (D.seen disk.new).may_leave)) }
+    ensures quiet { IsQuiet (D.seen disk.old) (D.seen disk.new) }
+    ensures later { (D.seen disk.old).faults ≤ (D.seen disk.new).faults }
+    ensures met_none { OnOk result ((D.seen disk.new).faults ≡ (D.seen disk.old).faults) }
+    ensures counts { IfErr result (λ f. HasCounts f before (D.seen disk.new).faults) }
     ensures shown { IfErr result (λ f. (IsOfContent f → ⊥) × ((bytes : List ℕ) → IsShown f bytes)) }
 {
     match synced_length(disk) {
@@ -241,10 +247,10 @@ fn settle<D: Disk>(disk: &mut D, before: u64) -> Result<u64, OpenFault>
 }
 
 fn synced_length<D: Disk>(disk: &mut D) -> Result<u64, Failed>
-    ensures len { IfOk result (λ n. IfSome (D.told disk.old) (λ s. n ≡ length s.a)) }
-    ensures durable { OnOk result (IfSome (D.told disk.old) (λ s. OnlyIn A s (D.may_leave disk.new))) }
-    ensures quiet { IsQuiet D.told D.may_leave D.moment D.left_since disk.old disk.new }
-    ensures cause { HasCause (D.fault_count disk.old) (D.fault_count disk.new) result }
+    ensures len { IfOk result (λ n. IfSome (D.seen disk.old).told (λ s. n ≡ length s.a)) }
+    ensures durable { OnOk result (IfSome (D.seen disk.old).told (λ s. OnlyIn A s (D.seen disk.new).may_leave)) }
+    ensures quiet { IsQuiet (D.seen disk.old) (D.seen disk.new) }
+    ensures cause { IsCounted (D.seen disk.old).faults (D.seen disk.new).faults result }
 {
     disk.sync(Area::A)?;
     disk.length(Area::A)
@@ -252,16 +258,17 @@ fn synced_length<D: Disk>(disk: &mut D) -> Result<u64, Failed>
 
 // Writes the head and a closed gate into an area that has no record yet.
 fn begin<D: Disk>(alloc: Global, disk: &mut D, before: u64) -> Result<Loaded, OpenFault>
-    requires before { before ≤ D.fault_count disk.old }
-    requires short { IfSome (D.told disk.old) (λ s. length s.a ≤ 17) }
+    requires before { before ≤ (D.seen disk.old).faults }
+    requires short { IfSome (D.seen disk.old).told (λ s. length s.a ≤ 17) }
     ensures used { IfOk result (λ l. (l.used ≡ size l.bodies) × HaveSizes l.bodies × (l.bodies ≡ [])) }
-    ensures bytes { OnOk result (IfSome (D.told disk.new) (λ s. AtRest s.a [])) }
-    ensures durable { OnOk result (IfSome (D.told disk.new) (λ s. OnlyIn A s (D.may_leave disk.new))) }
-    ensures torn { Becomes (D.told disk.old) (D.told disk.new) (TornIn A 0 17) }
-    ensures any_moment { LeavesTorn D.moment D.left_since D.may_leave disk.old disk.new A 0 17 }
-    ensures spared { SparesB D.told D.may_leave D.moment D.left_since disk.old disk.new }
-    ensures later { D.fault_count disk.old ≤ D.fault_count disk.new }
-    ensures counts { IfErr result (λ f. HasCounts f before (D.fault_count disk.new)) }
+    ensures bytes { OnOk result (IfSome (D.seen disk.new).told (λ s. AtRest s.a [])) }
+    ensures durable { OnOk result (IfSome (D.seen disk.new).told (λ s. OnlyIn A s (D.seen disk.new).may_leave)) }
+    ensures torn { Becomes (D.seen disk.old).told (D.seen disk.new).told (TornIn A 0 17) }
+    ensures any_moment { LeavesTorn (D.seen disk.old) (D.seen disk.new) A 0 17 }
+    ensures spared { SparesB (D.seen disk.old) (D.seen disk.new) }
+    ensures later { (D.seen disk.old).faults ≤ (D.seen disk.new).faults }
+    ensures met_none { OnOk result ((D.seen disk.new).faults ≡ (D.seen disk.old).faults) }
+    ensures counts { IfErr result (λ f. HasCounts f before (D.seen disk.new).faults) }
     ensures shown { IfErr result (λ f. (IsOfContent f → ⊥) × ((bytes : List ℕ) → IsShown f bytes)) }
 {
     match write_synced(disk, Area::A, 0, &FRESH) {
@@ -283,15 +290,16 @@ fn read_area<D: Disk>(
     before: u64,
     len: u64,
 ) -> Result<Loaded, OpenFault>
-    requires before { before ≤ D.fault_count disk.old }
-    requires len { IfSome (D.told disk.old) (λ s. len ≡ length s.a) }
+    requires before { before ≤ (D.seen disk.old).faults }
+    requires len { IfSome (D.seen disk.old).told (λ s. len ≡ length s.a) }
     requires long { 17 < len }
     ensures used { IfOk result (λ l. (l.used ≡ size l.bodies) × HaveSizes l.bodies) }
-    ensures bytes { IfOk result (λ l. IfSome (D.told disk.old) (λ s. AtRest s.a l.bodies)) }
-    ensures quiet { IsQuiet D.told D.may_leave D.moment D.left_since disk.old disk.new }
-    ensures later { D.fault_count disk.old ≤ D.fault_count disk.new }
-    ensures counts { IfErr result (λ f. HasCounts f before (D.fault_count disk.new)) }
-    ensures shown { IfErr result (λ f. IfSome (D.told disk.old) (λ s. IsShown f s.a)) }
+    ensures bytes { IfOk result (λ l. IfSome (D.seen disk.old).told (λ s. AtRest s.a l.bodies)) }
+    ensures quiet { IsQuiet (D.seen disk.old) (D.seen disk.new) }
+    ensures later { (D.seen disk.old).faults ≤ (D.seen disk.new).faults }
+    ensures met_none { OnOk result ((D.seen disk.new).faults ≡ (D.seen disk.old).faults) }
+    ensures counts { IfErr result (λ f. HasCounts f before (D.seen disk.new).faults) }
+    ensures shown { IfErr result (λ f. IfSome (D.seen disk.old).told (λ s. IsShown f s.a)) }
 {
     let Ok(mut window) = Window::new(alloc, len.min(PIECE) as usize) else {
         return Err(OpenFault::Memory);
@@ -303,17 +311,18 @@ fn read_area<D: Disk>(
 // All that opening does to the disk.
 pub fn load<D: Disk>(alloc: Global, disk: &mut D) -> Result<Loaded, OpenFault>
     ensures used { IfOk result (λ l. l.used ≡ size l.bodies) }
-    ensures kept { IfOk result (λ l. Keeps D.told D.may_leave disk.new l.bodies) }
-    ensures stands { IfOk result (λ l. IfSome (D.told disk.old) (λ s. Stands s.a l.bodies)) }
-    ensures shown { IfErr result (λ f. IfSome (D.told disk.old) (λ s. IsShown f s.a)) }
-    ensures unwritten { IfErr result (λ f. IsOfContent f → IsQuiet D.told D.may_leave D.moment D.left_since disk.old disk.new) }
-    ensures untouched { IfOk result (λ l. (l.bodies ≡ [] → ⊥) → IsQuiet D.told D.may_leave D.moment D.left_since disk.old disk.new) }
-    ensures told { Becomes (D.told disk.old) (D.told disk.new) (λ s t. GoesOn s.a t.a) }
-    ensures any_moment { LeavesOnly D.moment D.left_since disk.old disk.new
-        (λ c. (d : Areas) × D.may_leave disk.old d × GoesOn d.a c.a) }
-    ensures spared { SparesB D.told D.may_leave D.moment D.left_since disk.old disk.new }
-    ensures later { D.fault_count disk.old ≤ D.fault_count disk.new }
-    ensures counts { IfErr result (λ f. HasCounts f (D.fault_count disk.old) (D.fault_count disk.new)) }
+    ensures kept { IfOk result (λ l. Keeps (D.seen disk.new) l.bodies) }
+    ensures stands { IfOk result (λ l. IfSome (D.seen disk.old).told (λ s. Stands s.a l.bodies)) }
+    ensures shown { IfErr result (λ f. IfSome (D.seen disk.old).told (λ s. IsShown f s.a)) }
+    ensures unwritten { IfErr result (λ f. IsOfContent f → IsQuiet (D.seen disk.old) (D.seen disk.new)) }
+    ensures untouched { IfOk result (λ l. (l.bodies ≡ [] → ⊥) → IsQuiet (D.seen disk.old) (D.seen disk.new)) }
+    ensures told { Becomes (D.seen disk.old).told (D.seen disk.new).told (λ s t. GoesOn s.a t.a) }
+    ensures any_moment { LeavesOnly (D.seen disk.old) (D.seen disk.new)
+        (λ c. (d : Areas) × (D.seen disk.old).may_leave d × GoesOn d.a c.a) }
+    ensures spared { SparesB (D.seen disk.old) (D.seen disk.new) }
+    ensures later { (D.seen disk.old).faults ≤ (D.seen disk.new).faults }
+    ensures met_none { OnOk result ((D.seen disk.new).faults ≡ (D.seen disk.old).faults) }
+    ensures counts { IfErr result (λ f. HasCounts f (D.seen disk.old).faults (D.seen disk.new).faults) }
 {
     let before = disk.faults();
     let len = settle(disk, before)?;

@@ -1,8 +1,7 @@
 // A record's bytes, and how they get to the disk.
 ghost use Rattle.std.specs.Prelude.{◌≡◌, ◌≤◌, ◌<◌, ◌+◌, ◌^◌, ◌++◌, [], ◌∷◌, ℕ, List, length, take, OnOk};
-ghost use Rattle.arc_io.specs.Areas.{Areas};
 ghost use Rattle.arc_io.specs.Crashes.{Becomes, LeavesOnly};
-ghost use Rattle.arc_io.specs.Causes.{HasCause};
+ghost use Rattle.arc_io.specs.Causes.{IsCounted};
 ghost use Rattle.disk_journal.specs.Records.{MayHave, bytes_of, size};
 ghost use Rattle.disk_journal.specs.Journal.{Keeps, StandsForEither};
 ghost use Rattle.disk_journal.specs.OtherArea.{SparesB};
@@ -29,19 +28,19 @@ pub fn write_record<D: Disk>(
     body: &[u8],
     laid: &[u8],
 ) -> Result<(), Failed>
-    requires kept { (bodies : List (List ℕ)) × (used ≡ size bodies) × Keeps D.told D.may_leave disk.old bodies }
+    requires kept { (bodies : List (List ℕ)) × (used ≡ size bodies) × Keeps (D.seen disk.old) bodies }
     requires size { MayHave (length body.now) }
     requires laid { laid.now ≡ bytes_of body.now ++ 0 ∷ [] }
     requires fits { used + length laid.now < 2 ^ 63 }
-    ensures added { OnOk result ((bodies : List (List ℕ)) → used ≡ size bodies → Keeps D.told D.may_leave disk.old bodies
-        → Keeps D.told D.may_leave disk.new (bodies ++ body.now ∷ [])) }
-    ensures any_moment { (bodies : List (List ℕ)) → used ≡ size bodies → Keeps D.told D.may_leave disk.old bodies
-        → LeavesOnly D.moment D.left_since disk.old disk.new (λ c. StandsForEither bodies body.now c.a) }
-    ensures told { (bodies : List (List ℕ)) → used ≡ size bodies → Keeps D.told D.may_leave disk.old bodies
-        → Becomes (D.told disk.old) (D.told disk.new) (λ _ t. StandsForEither bodies body.now t.a) }
-    ensures spared { SparesB D.told D.may_leave D.moment D.left_since disk.old disk.new }
-    ensures behind { SparesBehind D.told D.may_leave (used + 5 + length body.now) disk.old disk.new }
-    ensures cause { HasCause (D.fault_count disk.old) (D.fault_count disk.new) result }
+    ensures added { OnOk result ((bodies : List (List ℕ)) → used ≡ size bodies → Keeps (D.seen disk.old) bodies
+        → Keeps (D.seen disk.new) (bodies ++ body.now ∷ [])) }
+    ensures any_moment { (bodies : List (List ℕ)) → used ≡ size bodies → Keeps (D.seen disk.old) bodies
+        → LeavesOnly (D.seen disk.old) (D.seen disk.new) (λ c. StandsForEither bodies body.now c.a) }
+    ensures told { (bodies : List (List ℕ)) → used ≡ size bodies → Keeps (D.seen disk.old) bodies
+        → Becomes (D.seen disk.old).told (D.seen disk.new).told (λ _ t. StandsForEither bodies body.now t.a) }
+    ensures spared { SparesB (D.seen disk.old) (D.seen disk.new) }
+    ensures behind { SparesBehind (used + 5 + length body.now) (D.seen disk.old) (D.seen disk.new) }
+    ensures cause { IsCounted (D.seen disk.old).faults (D.seen disk.new).faults result }
 {
     write_synced(disk, Area::A, used, laid)?;
     write_synced(disk, Area::A, used - 1, &[1])

@@ -1,6 +1,5 @@
 // Reading an area from its front to its end, in large pieces, each byte once.
 ghost use Rattle.std.specs.Prelude.{◌≡◌, ◌≤◌, ◌<◌, ◌+◌, ◌^◌, ℕ, List, length, drop, min, OnOk, IfOk, IfErr, IfSome, vec_len};
-ghost use Rattle.arc_io.specs.Areas.{Areas};
 ghost use Rattle.arc_io.specs.Crashes.{IsQuiet, IsRead};
 ghost use Rattle.disk_journal.specs.Faults.{IsShown, IsOfContent, HasCounts};
 
@@ -52,14 +51,15 @@ impl Window {
 
     // Reads the next piece into the window, from the place on.
     fn slide<D: Disk>(&mut self, disk: &mut D, before: u64, at: u64) -> Result<(), OpenFault>
-        requires before { before ≤ D.fault_count disk.old }
+        requires before { before ≤ (D.seen disk.old).faults }
         ensures place { OnOk result (self.new.at ≡ at) }
         ensures room { vec_len self.new.room ≡ vec_len self.old.room }
-        ensures count { OnOk result (IfSome (D.told disk.old) (λ s. self.new.count ≡ min (vec_len self.new.room) (length (drop at s.a)))) }
-        ensures piece { OnOk result (Shows (D.told disk.old) self.new) }
-        ensures quiet { IsQuiet D.told D.may_leave D.moment D.left_since disk.old disk.new }
-        ensures later { D.fault_count disk.old ≤ D.fault_count disk.new }
-        ensures counts { IfErr result (λ f. HasCounts f before (D.fault_count disk.new)) }
+        ensures count { OnOk result (IfSome (D.seen disk.old).told (λ s. self.new.count ≡ min (vec_len self.new.room) (length (drop at s.a)))) }
+        ensures piece { OnOk result (Shows (D.seen disk.old).told self.new) }
+        ensures quiet { IsQuiet (D.seen disk.old) (D.seen disk.new) }
+        ensures later { (D.seen disk.old).faults ≤ (D.seen disk.new).faults }
+        ensures met_none { OnOk result ((D.seen disk.new).faults ≡ (D.seen disk.old).faults) }
+        ensures counts { IfErr result (λ f. HasCounts f before (D.seen disk.new).faults) }
         ensures shown { IfErr result (λ f. (IsOfContent f → ⊥) × ((bytes : List ℕ) → IsShown f bytes)) }
     {
         self.count = 0;
@@ -76,15 +76,16 @@ impl Window {
         at: u64,
         buf: &mut [u8],
     ) -> Result<bool, OpenFault>
-        requires before { before ≤ D.fault_count disk.old }
+        requires before { before ≤ (D.seen disk.old).faults }
         requires some { 0 < length buf.old }
         requires fits { at + length buf.old < 2 ^ 64 }
-        requires piece { Shows (D.told disk.old) self.old }
-        ensures bytes { IfOk result (λ full. IfSome (D.told disk.old) (λ s. IsFilled s.a at full buf.new)) }
-        ensures piece { OnOk result (Shows (D.told disk.old) self.new) }
-        ensures quiet { IsQuiet D.told D.may_leave D.moment D.left_since disk.old disk.new }
-        ensures later { D.fault_count disk.old ≤ D.fault_count disk.new }
-        ensures counts { IfErr result (λ f. HasCounts f before (D.fault_count disk.new)) }
+        requires piece { Shows (D.seen disk.old).told self.old }
+        ensures bytes { IfOk result (λ full. IfSome (D.seen disk.old).told (λ s. IsFilled s.a at full buf.new)) }
+        ensures piece { OnOk result (Shows (D.seen disk.old).told self.new) }
+        ensures quiet { IsQuiet (D.seen disk.old) (D.seen disk.new) }
+        ensures later { (D.seen disk.old).faults ≤ (D.seen disk.new).faults }
+        ensures met_none { OnOk result ((D.seen disk.new).faults ≡ (D.seen disk.old).faults) }
+        ensures counts { IfErr result (λ f. HasCounts f before (D.seen disk.new).faults) }
         ensures shown { IfErr result (λ f. (IsOfContent f → ⊥) × ((bytes : List ℕ) → IsShown f bytes)) }
     {
         let given = self.give(at, buf);
@@ -103,14 +104,15 @@ impl Window {
         at: u64,
         buf: &mut [u8],
     ) -> Result<bool, OpenFault>
-        requires before { before ≤ D.fault_count disk.old }
+        requires before { before ≤ (D.seen disk.old).faults }
         requires some { 0 < length buf.old }
-        requires piece { Shows (D.told disk.old) self.old }
-        ensures bytes { IfOk result (λ full. IfSome (D.told disk.old) (λ s. IsFilled s.a at full buf.new)) }
-        ensures piece { OnOk result (Shows (D.told disk.old) self.new) }
-        ensures quiet { IsQuiet D.told D.may_leave D.moment D.left_since disk.old disk.new }
-        ensures later { D.fault_count disk.old ≤ D.fault_count disk.new }
-        ensures counts { IfErr result (λ f. HasCounts f before (D.fault_count disk.new)) }
+        requires piece { Shows (D.seen disk.old).told self.old }
+        ensures bytes { IfOk result (λ full. IfSome (D.seen disk.old).told (λ s. IsFilled s.a at full buf.new)) }
+        ensures piece { OnOk result (Shows (D.seen disk.old).told self.new) }
+        ensures quiet { IsQuiet (D.seen disk.old) (D.seen disk.new) }
+        ensures later { (D.seen disk.old).faults ≤ (D.seen disk.new).faults }
+        ensures met_none { OnOk result ((D.seen disk.new).faults ≡ (D.seen disk.old).faults) }
+        ensures counts { IfErr result (λ f. HasCounts f before (D.seen disk.new).faults) }
         ensures shown { IfErr result (λ f. (IsOfContent f → ⊥) × ((bytes : List ℕ) → IsShown f bytes)) }
     {
         if buf.len() >= self.room.len() {
@@ -124,12 +126,13 @@ impl Window {
 
 // Reads as many bytes as stand from the place on and have room.
 fn read<D: Disk>(disk: &mut D, before: u64, at: u64, buf: &mut [u8]) -> Result<usize, OpenFault>
-    requires before { before ≤ D.fault_count disk.old }
+    requires before { before ≤ (D.seen disk.old).faults }
     ensures bound { IfOk result (λ n. n ≤ length buf.new) }
-    ensures bytes { IfOk result (λ n. IfSome (D.told disk.old) (λ s. IsRead s.a at n buf.new)) }
-    ensures quiet { IsQuiet D.told D.may_leave D.moment D.left_since disk.old disk.new }
-    ensures later { D.fault_count disk.old ≤ D.fault_count disk.new }
-    ensures counts { IfErr result (λ f. HasCounts f before (D.fault_count disk.new)) }
+    ensures bytes { IfOk result (λ n. IfSome (D.seen disk.old).told (λ s. IsRead s.a at n buf.new)) }
+    ensures quiet { IsQuiet (D.seen disk.old) (D.seen disk.new) }
+    ensures later { (D.seen disk.old).faults ≤ (D.seen disk.new).faults }
+    ensures met_none { OnOk result ((D.seen disk.new).faults ≡ (D.seen disk.old).faults) }
+    ensures counts { IfErr result (λ f. HasCounts f before (D.seen disk.new).faults) }
     ensures shown { IfErr result (λ f. (IsOfContent f → ⊥) × ((bytes : List ℕ) → IsShown f bytes)) }
 {
     match disk.read_at(Area::A, at, buf) {

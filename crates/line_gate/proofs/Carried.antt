@@ -1,10 +1,10 @@
 -- What passes and the desk carry from one step of a call to the next.
 use Rattle.std.proofs.Common.{◌≡◌, ℕ, List, [], ◌∷◌, ◌++◌, refl, sym, ap, ◌∙◌, subst, arith, length-append, append_assoc}
-use Rattle.std.specs.Prelude.{Option, Some, unwrap_or}
+use Rattle.std.specs.Prelude.{Some, unwrap_or}
 use Rattle.atomic_table.specs.Seated.{TableId}
 use Rattle.atomic_table.specs.Table.{Me}
 use Rattle.alarm_rules.specs.Setups.{meaning}
-use Rattle.arc_io.specs.Areas.{Areas}
+use Rattle.arc_io.specs.Disks.{DiskSeen}
 use Rattle.centre_core.specs.InForce.{in_force}
 use Rattle.centre_store.specs.Stores.{Stored}
 use Rattle.line_gate.specs.Entries.{Entry, Extends, made_by, longer}
@@ -42,9 +42,9 @@ pub pass_from : (t : Terms) (number : ℕ) (table : TableId) (me : Me (Unit {0})
 pass_from t number table me i = record { of_gate = i.of_gate; own = i.own; below = i.below }
 
 -- what the book has seen is the end of a history of the gate
-pub kept_of_gate : {D : Type 0} (told : D → Option Areas) (may_leave : D → Areas → Type 0) (faults : D → ℕ)
-    (t : Terms) (since : List Entry) (most : ℕ) (s : Stored D) → IsKept told may_leave faults t since most s → IsOfGate t since
-kept_of_gate told may_leave faults t since most s k = record {
+pub kept_of_gate : {D : Type 0} (seen : D → DiskSeen)
+    (t : Terms) (since : List Entry) (most : ℕ) (s : Stored D) → IsKept seen t since most s → IsOfGate t since
+kept_of_gate seen t since most s k = record {
   long = λ b base from. let w = (k.stands b base from).centre.entries in let n = k.entries in omega (arith, length-append since base);
   over = λ b base from. let w = k.stands b base from in record {
     legal = w.centre.legal;
@@ -67,12 +67,12 @@ new_seated t number table from me book e same is count none of_gate = record {
 }
 
 -- the first pass is seated: it has seen just the base
-pub first_seated : {D : Type 0} (told : D → Option Areas) (may_leave : D → Areas → Type 0) (faults : D → ℕ)
+pub first_seated : {D : Type 0} (seen : D → DiskSeen)
     (t : Terms) (table from first_from : TableId) (book first : Me (Unit {0}) View) (s : Stored D) (text : List ℕ)
-    → Names told may_leave faults t (record { table = table; store = s; text = text })
+    → Names seen t (record { table = table; store = s; text = text })
     → IsBlank table from first_from book first s text → IsSeated t 1 first_from first
-first_seated told may_leave faults t table from first_from book first s text n i =
-    let kept : IsKept told may_leave faults t [] 0 s = record {
+first_seated seen t table from first_from book first s text n i =
+    let kept : IsKept seen t [] 0 s = record {
       stands = n.stood;
       entries = let e = n.entries in omega arith;
       most_told = omega arith;
@@ -82,7 +82,7 @@ first_seated told may_leave faults t table from first_from book first s text n i
       setting = i.setting;
     } in
     new_seated t 1 first_from table first (first_view, []) i.first_is i.first_at n.table refl refl
-    (kept_of_gate told may_leave faults t [] 0 s kept)
+    (kept_of_gate seen t [] 0 s kept)
 
 -- one list begins with another, and so with the base behind both
 pub extends_base : (a b base : List Entry) → Extends a b → Extends (a ++ base) (b ++ base)

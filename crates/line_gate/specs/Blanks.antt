@@ -1,8 +1,8 @@
 -- A gate before it has its name.
-use Rattle.std.specs.Prelude.{◌≡◌, ℕ, List, [], Option, Some}
+use Rattle.std.specs.Prelude.{◌≡◌, ℕ, List, [], Some}
 use Rattle.atomic_table.specs.Seated.{TableId}
 use Rattle.atomic_table.specs.Table.{Me}
-use Rattle.arc_io.specs.Areas.{Areas}
+use Rattle.arc_io.specs.Disks.{DiskSeen}
 use Rattle.centre_rules.specs.Summary.{Summary}
 use Rattle.centre_core.specs.Setting.{IsSetting}
 use Rattle.centre_store.specs.Stores.{Stored, StoreStands}
@@ -29,22 +29,21 @@ pub record IsBlank {D : Type 0} (table from first_from : TableId) (book first : 
   pub setting : IsSetting s.state.sum.text
 
 -- The name is the gate's. Its bases are histories for which the store stands.
-pub record Names {D : Type 0} (told : D → Option Areas) (may_leave : D → Areas → Type 0) (faults : D → ℕ)
-    (t : Terms) (b : BlankSeen D) : Type 0 where
+pub record Names {D : Type 0} (seen : D → DiskSeen) (t : Terms) (b : BlankSeen D) : Type 0 where
   pub table : b.table ≡ t.table
   pub at_open : b.store.at_open ≡ t.at_open
   pub limits : b.store.journal.limits ≡ t.limits
   pub entries : b.store.state.entries ≡ t.entries
   pub text : b.text ≡ t.text
-  pub stood : (s : Summary) (base : List Entry) → t.stood s base → StoreStands told may_leave faults s b.store base
+  pub stood : (s : Summary) (base : List Entry) → t.stood s base → StoreStands seen s b.store base
 
 -- the name of the gate that a blank will be: its bases are all histories for which the store stands
-abbrev pub terms_of : {D : Type 0} → (D → Option Areas) → (D → Areas → Type 0) → (D → ℕ) → BlankSeen D → Terms
-terms_of told may_leave faults b = record {
+abbrev pub terms_of : {D : Type 0} → (D → DiskSeen) → BlankSeen D → Terms
+terms_of seen b = record {
   table = b.table;
   at_open = b.store.at_open;
   limits = b.store.journal.limits;
   entries = b.store.state.entries;
   text = b.text;
-  stood = λ s base. StoreStands told may_leave faults s b.store base;
+  stood = λ s base. StoreStands seen s b.store base;
 }

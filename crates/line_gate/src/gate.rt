@@ -51,7 +51,7 @@ impl<D: Disk + Drop, N: GateName> Drop for Gate<D, N> {
 impl<D: Disk, N: GateName> Gate<D, N> {
     /// The gate of its name, and a pass that has seen just the base, nothing since, and made nothing. It takes no memory.
     pub fn new(blank: Blank<D>) -> (Gate<D, N>, Pass<N>)
-        requires { Names D.told D.may_leave D.fault_count N.terms blank }
+        requires { Names D.seen N.terms blank }
         ensures pass { IsPass N.terms result.1 }
         ensures first { (result.1.since ≡ []) × (result.1.made ≡ []) × (result.1.told ≡ 0) }
     {
@@ -152,8 +152,8 @@ impl<D: Disk, N: GateName> Gate<D, N> {
     /// the pass was told.
     pub fn close(self, first: Pass<N>) -> Store<D>
         ensures stands { (b : Summary) (base : List Entry) → N.terms.stood b base
-            → (h : List Entry) × Extends (first.since ++ base) h × StoreStands D.told D.may_leave D.fault_count b result h }
-        ensures told { first.told ≤ D.fault_count result.journal.disk }
+            → (h : List Entry) × Extends (first.since ++ base) h × StoreStands D.seen b result h }
+        ensures told { first.told ≤ (D.seen result.journal.disk).faults }
         ensures at_open { result.at_open ≡ N.terms.at_open }
         ensures limits { result.journal.limits ≡ N.terms.limits }
         ensures text { result.state.sum.text ≡ Some N.terms.text }

@@ -37,7 +37,7 @@ impl<D: Disk, N: GateName> Model for LockedStore<D, N> {
 
     ghost view = { λ l. record { book = l.book.me.0; store = l.store } };
 
-    ghost invariant = { λ l. IsUnderLock D.told D.may_leave D.fault_count N.terms l.count l.book.table_id l.book.me l.store };
+    ghost invariant = { λ l. IsUnderLock D.seen N.terms l.count l.book.table_id l.book.me l.store };
 }
 
 impl<D: Disk, N: GateName> LockedStore<D, N> {
@@ -134,7 +134,7 @@ impl<D: Disk, N: GateName> LockedStore<D, N> {
     fn tell(&mut self, words: &Words, pass: &mut Pass<N>, faults: u64) -> u64
         requires table { (words.now.table_id ≡ N.terms.table) × (N.terms.table.words ≡ 2) }
         requires met { pass.old.since ≡ self.old.book.seen }
-        requires faults { faults ≡ D.fault_count self.old.store.journal.disk }
+        requires faults { faults ≡ (D.seen self.old.store.journal.disk).faults }
         ensures pass { IsPass N.terms pass.new }
         ensures later { IsLater pass.old pass.new }
         ensures since { pass.new.since ≡ pass.old.since }

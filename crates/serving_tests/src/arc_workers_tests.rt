@@ -73,7 +73,7 @@ fn work_at<P: Port + Send + Drop, R: Wait, D: Disk + Drop, N: GateName>(
     door: &mut MemDoor<P>,
     case: &Case,
 ) -> (Worked, u64)
-    requires { Names D.told D.may_leave D.fault_count N.terms blank }
+    requires { Names D.seen N.terms blank }
 {
     let (gate, pass) = Gate::<D, N>::new(blank);
     let (pass, worked) = match case.side {
@@ -190,7 +190,7 @@ fn tick_at<R: Wait, D: Disk + Drop, N: GateName>(
     blank: Blank<D>,
     pulse: &mut ListPulse,
 ) -> (Ticked, u64)
-    requires { Names D.told D.may_leave D.fault_count N.terms blank }
+    requires { Names D.seen N.terms blank }
 {
     let (gate, pass) = Gate::<D, N>::new(blank);
     let stop = AtomicBool::new(false);

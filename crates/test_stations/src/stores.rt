@@ -11,7 +11,7 @@ use std::alloc::Global;
 /// The store that a disk is opened as. None where it is refused.
 pub fn opened<D: Disk + Drop>(alloc: Global, disk: D, limits: Limits) -> Option<Store<D>>
     requires { limits.bytes < 2 ^ 32 }
-    ensures opened { IfSome result (λ s. IsOpened D.told D.may_leave D.fault_count disk s) }
+    ensures opened { IfSome result (λ s. IsOpened D.seen disk s) }
     ensures limits { IfSome result (λ s. s.journal.limits ≡ limits) }
 {
     match Store::open(alloc, disk, limits) {
@@ -25,7 +25,7 @@ pub fn opened<D: Disk + Drop>(alloc: Global, disk: D, limits: Limits) -> Option<
 
 /// How many entries of the area are recorded. None where the disk is refused.
 pub fn recorded<D: Disk + Drop>(alloc: Global, disk: D) -> Option<u64>
-    ensures { IfSome result (λ n. (s : Stored D) × IsOpened D.told D.may_leave D.fault_count disk s × (n ≡ s.state.sum.recorded)) }
+    ensures { IfSome result (λ n. (s : Stored D) × IsOpened D.seen disk s × (n ≡ s.state.sum.recorded)) }
 {
     let store = opened(alloc, disk, SHIPPED)?;
     Some(store.centre().recorded())

@@ -1,7 +1,7 @@
 // The areas as two files. What is trusted here: that the system does with them what `Disk` says.
 ghost use Rattle.std.specs.Prelude.{◌≡◌, ◌≤◌, MatchResult, Ok, IsErr};
 ghost use Rattle.std.specs.Io.{ReadsAtMost};
-ghost use Rattle.arc_io.specs.Causes.{HasCause};
+ghost use Rattle.arc_io.specs.Causes.{IsCounted};
 
 use crate::{Area, Disk, Failed};
 use arc_data::Memory;
@@ -64,17 +64,9 @@ impl<R: Files<File = File> + Eprint + Drop> FileDisk<R> {
 }
 
 impl<R: Files<File = File> + Eprint> Disk for FileDisk<R> {
-    ghost use Rattle.std.specs.Prelude.{None};
+    ghost use Rattle.arc_io.specs.Disks.{silent_seen};
 
-    ghost told = { λ _. None };
-
-    ghost may_leave = { λ _ _. ⊥ };
-
-    ghost moment = { λ _. 0 };
-
-    ghost left_since = { λ _ _ _. ⊥ };
-
-    ghost fault_count = { λ d. d.faults };
+    ghost seen = { λ d. silent_seen d.faults };
 
     ghost silent = { λ _ _ _ none. none };
 
@@ -128,7 +120,7 @@ fn counted<R: Eprint, T: Drop>(
     answer: io::Result<T>,
 ) -> Result<T, Failed>
     ensures same { MatchResult answer (λ x. result ≡ Ok x) (λ _. IsErr result) }
-    ensures cause { HasCause faults.old faults.new result }
+    ensures cause { IsCounted faults.old faults.new result }
 {
     match answer {
         Ok(found) => Ok(found),

@@ -243,23 +243,15 @@ fn read_from(content: &[u8], at: u64, buf: &mut [u8]) -> usize
 }
 
 impl Disk for MemDisk {
-    ghost use Rattle.std.specs.Prelude.{Some, IfOk, OnOk};
+    ghost use Rattle.std.specs.Prelude.{IfOk, OnOk};
     ghost use Rattle.std.specs.Io.{ReadsAtMost};
     ghost use Rattle.arc_io.specs.Areas.{Areas};
-    ghost use Rattle.arc_io.specs.Causes.{HasCause};
+    ghost use Rattle.arc_io.specs.Causes.{IsCounted};
     ghost use Rattle.arc_io.specs.Crashes.{Becomes, IsAfterWrite, TornIn, Follows, OnlyIn, Elapses};
-    ghost use Rattle.arc_io.specs.MemoryDisk.{bytes_of, calls_of, faults_of, past_of, LeftAt, LeftSince, ReadsOnly, Does};
+    ghost use Rattle.arc_io.specs.MemoryDisk.{bytes_of, calls_of, disk_seen, faults_of, past_of, ReadsOnly, Does};
     ghost use Rattle.arc_io.specs.DiskClock.{left_now, left_only_now, never_silent};
 
-    ghost told = { λ d. Some (bytes_of d) };
-
-    ghost may_leave = { λ d c. LeftAt d (length (past_of d)) c };
-
-    ghost moment = { λ d. length (past_of d) };
-
-    ghost left_since = { LeftSince };
-
-    ghost fault_count = { faults_of };
+    ghost seen = { disk_seen };
 
     ghost silent = { λ d c none. never_silent d c none };
 
@@ -269,11 +261,10 @@ impl Disk for MemDisk {
 
     fn length(&mut self, area: Area) -> Result<u64, Failed>
         ensures bytes { IfOk result (λ n. n ≡ length (part area (bytes_of self.old))) }
-        ensures told { Some (bytes_of self.new) ≡ Some (bytes_of self.old) }
-        ensures crash { (c : Areas) → LeftAt self.new (length (past_of self.new)) c → LeftAt self.old (length (past_of self.old)) c }
-        ensures time { Elapses (length (past_of self.old)) (length (past_of self.new)) (LeftSince self.old) (LeftSince self.new)
-            (LeftAt self.new (length (past_of self.new))) }
-        ensures cause { HasCause (faults_of self.old) (faults_of self.new) result }
+        ensures told { (disk_seen self.new).told ≡ (disk_seen self.old).told }
+        ensures crash { (c : Areas) → (disk_seen self.new).may_leave c → (disk_seen self.old).may_leave c }
+        ensures time { Elapses (disk_seen self.old) (disk_seen self.new) }
+        ensures cause { IsCounted (faults_of self.old) (faults_of self.new) result }
         ensures exact { ReadsOnly self.old self.new result }
     {
         if is_to_fail(&mut self.calls, &self.failing) {
@@ -289,11 +280,10 @@ impl Disk for MemDisk {
     fn read_at(&mut self, area: Area, at: u64, buf: &mut [u8]) -> Result<usize, Failed>
         ensures bound { ReadsAtMost result buf.new }
         ensures bytes { IfOk result (λ n. IsRead (part area (bytes_of self.old)) at n buf.new) }
-        ensures told { Some (bytes_of self.new) ≡ Some (bytes_of self.old) }
-        ensures crash { (c : Areas) → LeftAt self.new (length (past_of self.new)) c → LeftAt self.old (length (past_of self.old)) c }
-        ensures time { Elapses (length (past_of self.old)) (length (past_of self.new)) (LeftSince self.old) (LeftSince self.new)
-            (LeftAt self.new (length (past_of self.new))) }
-        ensures cause { HasCause (faults_of self.old) (faults_of self.new) result }
+        ensures told { (disk_seen self.new).told ≡ (disk_seen self.old).told }
+        ensures crash { (c : Areas) → (disk_seen self.new).may_leave c → (disk_seen self.old).may_leave c }
+        ensures time { Elapses (disk_seen self.old) (disk_seen self.new) }
+        ensures cause { IsCounted (faults_of self.old) (faults_of self.new) result }
         ensures exact { ReadsOnly self.old self.new result }
         ensures untouched { OnErr result (buf.new ≡ buf.old) }
     {
@@ -308,12 +298,10 @@ impl Disk for MemDisk {
 
     fn write_at(&mut self, area: Area, at: u64, bytes: &[u8]) -> Result<(), Failed>
         requires place { at ≤ length (part area (bytes_of self.old)) }
-        ensures written { Becomes (Some (bytes_of self.old)) (Some (bytes_of self.new)) (IsAfterWrite result area at bytes.now) }
-        ensures crash { Follows (TornIn area at (length bytes.now)) (LeftAt self.old (length (past_of self.old)))
-            (LeftAt self.new (length (past_of self.new))) }
-        ensures time { Elapses (length (past_of self.old)) (length (past_of self.new)) (LeftSince self.old) (LeftSince self.new)
-            (LeftAt self.new (length (past_of self.new))) }
-        ensures cause { HasCause (faults_of self.old) (faults_of self.new) result }
+        ensures written { Becomes (disk_seen self.old).told (disk_seen self.new).told (IsAfterWrite result area at bytes.now) }
+        ensures crash { Follows (TornIn area at (length bytes.now)) (disk_seen self.old).may_leave (disk_seen self.new).may_leave }
+        ensures time { Elapses (disk_seen self.old) (disk_seen self.new) }
+        ensures cause { IsCounted (faults_of self.old) (faults_of self.new) result }
         ensures exact { Does self.old self.new result
             (IsKeptWrite (past_of self.old) (past_of self.new) (calls_of self.new) area at bytes.now) }
     {
@@ -337,12 +325,11 @@ impl Disk for MemDisk {
     }
 
     fn sync(&mut self, area: Area) -> Result<(), Failed>
-        ensures durable { OnOk result (OnlyIn area (bytes_of self.old) (LeftAt self.new (length (past_of self.new)))) }
-        ensures told { Some (bytes_of self.new) ≡ Some (bytes_of self.old) }
-        ensures crash { (c : Areas) → LeftAt self.new (length (past_of self.new)) c → LeftAt self.old (length (past_of self.old)) c }
-        ensures time { Elapses (length (past_of self.old)) (length (past_of self.new)) (LeftSince self.old) (LeftSince self.new)
-            (LeftAt self.new (length (past_of self.new))) }
-        ensures cause { HasCause (faults_of self.old) (faults_of self.new) result }
+        ensures durable { OnOk result (OnlyIn area (bytes_of self.old) (disk_seen self.new).may_leave) }
+        ensures told { (disk_seen self.new).told ≡ (disk_seen self.old).told }
+        ensures crash { (c : Areas) → (disk_seen self.new).may_leave c → (disk_seen self.old).may_leave c }
+        ensures time { Elapses (disk_seen self.old) (disk_seen self.new) }
+        ensures cause { IsCounted (faults_of self.old) (faults_of self.new) result }
         ensures exact { Does self.old self.new result (IsKeptSync (past_of self.old) (past_of self.new) (calls_of self.new) area) }
     {
         if is_to_fail(&mut self.calls, &self.failing) {

@@ -57,7 +57,7 @@ fn meet_another<R: Abort + Wait, D: Disk + Drop, N: GateName>(
     alloc: Global,
     blank: Blank<D>,
 ) -> (Done, Done, u64)
-    requires { Names D.told D.may_leave D.fault_count N.terms blank }
+    requires { Names D.seen N.terms blank }
 {
     let (gate, mut first) = Gate::<D, N>::new(blank);
     let (taken, listed) = split_and_meet(rt, alloc, &gate, &mut first);
@@ -124,7 +124,7 @@ fn submit_two<R: Abort + Wait, D: Disk + Drop, N: GateName>(
     alloc: Global,
     blank: Blank<D>,
 ) -> (Option<Stop>, Option<Stop>, u64)
-    requires { Names D.told D.may_leave D.fault_count N.terms blank }
+    requires { Names D.seen N.terms blank }
 {
     let (gate, mut first) = Gate::<D, N>::new(blank);
     let (one, other) = submit_both(rt, alloc, &gate, &mut first);

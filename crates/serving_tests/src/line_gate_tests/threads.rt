@@ -160,7 +160,7 @@ fn serve_eight<R: Abort + Threads + Wait + Sync, D: Disk + Send + Drop, N: GateN
     alloc: Global,
     blank: Blank<D>,
 ) -> (Store<D>, Vec<Caller>)
-    requires { Names D.told D.may_leave D.fault_count N.terms blank }
+    requires { Names D.seen N.terms blank }
 {
     let (gate, mut first) = Gate::<D, N>::new(blank);
     let callers = call_eight(rt, alloc, &gate, &mut first);

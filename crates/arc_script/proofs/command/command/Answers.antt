@@ -17,7 +17,7 @@ use Rattle.arc_script.proofs.command.command.Goals as goal
 pub returns-in-Err-clause-stop : goal.returns-in-Err-clause-stop
 returns-in-Err-clause-stop g c =
     λ before clock count h next empty stands readable.
-    halted_first g.D.Disk.told g.D.Disk.may_leave g.D.Disk.fault_count c.args.store c.args.script.now.setup clock c.args.desk before c.args.text.now h
+    halted_first g.D.Disk.seen c.args.store c.args.script.now.setup clock c.args.desk before c.args.text.now h
     c.args.script.now.tally c.in-Err.stop c.put_asked.result c.in-Err.is (c.in-Err.is ∙ c.in-Err.ensures.stop) stands readable
 
 pub take_desk-end-requires : goal.take_desk-end-requires
@@ -37,7 +37,7 @@ returns-in-Ok-clause-answered g c =
     closings c.args.store.state c.take_desk-end.result.1.state c.centre.result.now c.centre-2.result.now script.tally counted c.count-open.result
     c.count.result c.saturating_sub-closed.result c.centre.ensures c.centre-2.ensures (c.count-open.ensures ∙ ap length c.table.ensures.incidents)
     (c.count.ensures ∙ ap length c.table-2.ensures.incidents) c.saturating_sub-closed.ensures c.saturating_add-script.ensures refl in
-    let given : IsGiven g.D.Disk.told g.D.Disk.may_leave g.D.Disk.fault_count c.args.store c.take_desk-end.result.1 script.setup c.args.desk
+    let given : IsGiven g.D.Disk.seen c.args.store c.take_desk-end.result.1 script.setup c.args.desk
     c.args.text.now
     desks was c.take_desk-end.new.desk (page_seen c.args.page.now) c.put_asked.new.page c.take_desk-end.new.port c.ended-line.result.now
     c.take_desk-end.result.0 = record {
@@ -53,12 +53,12 @@ returns-in-Ok-clause-answered g c =
       taken = c.take_desk-end.ensures.taken;
       served = c.take_desk-end.ensures.served;
     } in
-    let at = given_as g.D.Disk.told g.D.Disk.may_leave g.D.Disk.fault_count c.args.store c.take_desk-end.result.1 script.setup c.args.desk
+    let at = given_as g.D.Disk.seen c.args.store c.take_desk-end.result.1 script.setup c.args.desk
     c.args.text.now
     script.lines.items desks was c.take_desk-end.new.desk script.tally counted (page_seen c.args.page.now) c.put_asked.new.page
     c.take_desk-end.new.port c.ended-line.result.now
     c.take_desk-end.result.0 given (Ok tt) c.in-Ok.is in
-    goes_on g.D.Disk.told g.D.Disk.may_leave g.D.Disk.fault_count c.args.store c.take_desk-end.result.1 script.setup c.args.desk c.args.text.now
+    goes_on g.D.Disk.seen c.args.store c.take_desk-end.result.1 script.setup c.args.desk c.args.text.now
     script.lines.items desks was c.take_desk-end.new.desk script.tally counted (page_seen c.args.page.now) c.put_asked.new.page
     c.take_desk-end.new.port c.ended-line.result.now at sums
 
@@ -76,7 +76,7 @@ returns-in-Ok-clause-took g c =
     closings c.args.store.state c.take_desk-end.result.1.state c.centre.result.now c.centre-2.result.now script.tally counted c.count-open.result
     c.count.result c.saturating_sub-closed.result c.centre.ensures c.centre-2.ensures (c.count-open.ensures ∙ ap length c.table.ensures.incidents)
     (c.count.ensures ∙ ap length c.table-2.ensures.incidents) c.saturating_sub-closed.ensures c.saturating_add-script.ensures refl in
-    let given : IsGiven g.D.Disk.told g.D.Disk.may_leave g.D.Disk.fault_count c.args.store c.take_desk-end.result.1 script.setup c.args.desk
+    let given : IsGiven g.D.Disk.seen c.args.store c.take_desk-end.result.1 script.setup c.args.desk
     c.args.text.now
     desks was c.take_desk-end.new.desk (page_seen c.args.page.now) c.put_asked.new.page c.take_desk-end.new.port c.ended-line.result.now
     c.take_desk-end.result.0 = record {
@@ -92,12 +92,12 @@ returns-in-Ok-clause-took g c =
       taken = c.take_desk-end.ensures.taken;
       served = c.take_desk-end.ensures.served;
     } in
-    let at = given_as g.D.Disk.told g.D.Disk.may_leave g.D.Disk.fault_count c.args.store c.take_desk-end.result.1 script.setup c.args.desk
+    let at = given_as g.D.Disk.seen c.args.store c.take_desk-end.result.1 script.setup c.args.desk
     c.args.text.now
     script.lines.items desks was c.take_desk-end.new.desk script.tally counted (page_seen c.args.page.now) c.put_asked.new.page
     c.take_desk-end.new.port c.ended-line.result.now
     c.take_desk-end.result.0 given (Ok tt) c.in-Ok.is in
-    took_on g.D.Disk.told g.D.Disk.may_leave g.D.Disk.fault_count c.args.store c.take_desk-end.result.1 script.setup c.args.desk c.args.text.now
+    took_on g.D.Disk.seen c.args.store c.take_desk-end.result.1 script.setup c.args.desk c.args.text.now
     script.lines.items desks _ was c.take_desk-end.new.desk (page_seen c.args.page.now) c.put_asked.new.page c.take_desk-end.new.port
     c.ended-line.result.now at
     (set_at desks place c.take_desk-end.new.desk was there) (λ k other. set_other desks place k c.take_desk-end.new.desk other)
@@ -121,7 +121,7 @@ returns-in-Err-Quit-clause-answered g c =
     closings c.args.store.state c.take_desk-end.result.1.state c.centre.result.now c.centre-2.result.now script.tally counted c.count-open.result
     c.count.result c.saturating_sub-closed.result c.centre.ensures c.centre-2.ensures (c.count-open.ensures ∙ ap length c.table.ensures.incidents)
     (c.count.ensures ∙ ap length c.table-2.ensures.incidents) c.saturating_sub-closed.ensures c.saturating_add-script.ensures refl in
-    let given : IsGiven g.D.Disk.told g.D.Disk.may_leave g.D.Disk.fault_count c.args.store c.take_desk-end.result.1 script.setup c.args.desk
+    let given : IsGiven g.D.Disk.seen c.args.store c.take_desk-end.result.1 script.setup c.args.desk
     c.args.text.now
     desks was c.take_desk-end.new.desk (page_seen c.args.page.now) c.put_asked.new.page c.take_desk-end.new.port c.ended-line.result.now
     c.take_desk-end.result.0 = record {
@@ -137,12 +137,12 @@ returns-in-Err-Quit-clause-answered g c =
       taken = c.take_desk-end.ensures.taken;
       served = c.take_desk-end.ensures.served;
     } in
-    let at = given_as g.D.Disk.told g.D.Disk.may_leave g.D.Disk.fault_count c.args.store c.take_desk-end.result.1 script.setup c.args.desk
+    let at = given_as g.D.Disk.seen c.args.store c.take_desk-end.result.1 script.setup c.args.desk
     c.args.text.now
     script.lines.items desks was c.take_desk-end.new.desk script.tally counted (page_seen c.args.page.now) c.put_asked.new.page
     c.take_desk-end.new.port c.ended-line.result.now
     c.take_desk-end.result.0 given (Err Quit) (c.in-Err-Quit.is ∙ ap Err (rw c.in-Err-Quit.is at c.in-Err-Quit.field-0-is)) in
-    quits_on g.D.Disk.told g.D.Disk.may_leave g.D.Disk.fault_count c.args.store c.take_desk-end.result.1 script.setup c.args.desk c.args.text.now
+    quits_on g.D.Disk.seen c.args.store c.take_desk-end.result.1 script.setup c.args.desk c.args.text.now
     script.lines.items desks was c.take_desk-end.new.desk script.tally counted (page_seen c.args.page.now) c.put_asked.new.page
     c.take_desk-end.new.port c.ended-line.result.now at sums
 
@@ -160,7 +160,7 @@ returns-in-Err-Quit-clause-took g c =
     closings c.args.store.state c.take_desk-end.result.1.state c.centre.result.now c.centre-2.result.now script.tally counted c.count-open.result
     c.count.result c.saturating_sub-closed.result c.centre.ensures c.centre-2.ensures (c.count-open.ensures ∙ ap length c.table.ensures.incidents)
     (c.count.ensures ∙ ap length c.table-2.ensures.incidents) c.saturating_sub-closed.ensures c.saturating_add-script.ensures refl in
-    let given : IsGiven g.D.Disk.told g.D.Disk.may_leave g.D.Disk.fault_count c.args.store c.take_desk-end.result.1 script.setup c.args.desk
+    let given : IsGiven g.D.Disk.seen c.args.store c.take_desk-end.result.1 script.setup c.args.desk
     c.args.text.now
     desks was c.take_desk-end.new.desk (page_seen c.args.page.now) c.put_asked.new.page c.take_desk-end.new.port c.ended-line.result.now
     c.take_desk-end.result.0 = record {
@@ -176,13 +176,13 @@ returns-in-Err-Quit-clause-took g c =
       taken = c.take_desk-end.ensures.taken;
       served = c.take_desk-end.ensures.served;
     } in
-    let at = given_as g.D.Disk.told g.D.Disk.may_leave g.D.Disk.fault_count c.args.store c.take_desk-end.result.1 script.setup c.args.desk
+    let at = given_as g.D.Disk.seen c.args.store c.take_desk-end.result.1 script.setup c.args.desk
     c.args.text.now
     script.lines.items desks was c.take_desk-end.new.desk script.tally counted (page_seen c.args.page.now) c.put_asked.new.page
     c.take_desk-end.new.port c.ended-line.result.now
     c.take_desk-end.result.0 given (Err Quit) (c.in-Err-Quit.is ∙ ap Err (rw c.in-Err-Quit.is at c.in-Err-Quit.field-0-is)) in
     let now = c.take_desk-end.new.desk in
-    took_quit g.D.Disk.told g.D.Disk.may_leave g.D.Disk.fault_count c.args.store c.take_desk-end.result.1 script.setup c.args.desk c.args.text.now
+    took_quit g.D.Disk.seen c.args.store c.take_desk-end.result.1 script.setup c.args.desk c.args.text.now
     script.lines.items desks _ was now c.new.result (page_seen c.args.page.now) c.put_asked.new.page c.take_desk-end.new.port
     c.ended-line.result.now at c.new.ensures
     (set_at (set desks place now) place c.new.result now (set_at desks place now was there))
@@ -207,7 +207,7 @@ returns-in-Err-end g c =
     closings c.args.store.state c.take_desk-end.result.1.state c.centre.result.now c.centre-2.result.now script.tally counted c.count-open.result
     c.count.result c.saturating_sub-closed.result c.centre.ensures c.centre-2.ensures (c.count-open.ensures ∙ ap length c.table.ensures.incidents)
     (c.count.ensures ∙ ap length c.table-2.ensures.incidents) c.saturating_sub-closed.ensures c.saturating_add-script.ensures refl in
-    let given : IsGiven g.D.Disk.told g.D.Disk.may_leave g.D.Disk.fault_count c.args.store c.take_desk-end.result.1 script.setup c.args.desk
+    let given : IsGiven g.D.Disk.seen c.args.store c.take_desk-end.result.1 script.setup c.args.desk
     c.args.text.now
     desks was c.take_desk-end.new.desk (page_seen c.args.page.now) c.put_asked.new.page c.take_desk-end.new.port c.ended-line.result.now
     c.take_desk-end.result.0 = record {
@@ -226,7 +226,7 @@ returns-in-Err-end g c =
     record {
       answered = tt;
       took = tt;
-      stop = ended_as g.D.Disk.told g.D.Disk.may_leave g.D.Disk.fault_count c.args.store c.take_desk-end.result.1 script.setup c.args.desk
+      stop = ended_as g.D.Disk.seen c.args.store c.take_desk-end.result.1 script.setup c.args.desk
           c.args.text.now script.lines.items desks was c.take_desk-end.new.desk script.tally counted (page_seen c.args.page.now) c.put_asked.new.page
           c.take_desk-end.new.port c.ended-line.result.now c.take_desk-end.result.0 given c.in-Err-end.end c.stop_of.result c.in-Err-end.is
           c.stop_of.ensures

@@ -18,7 +18,7 @@ take_line-end-requires g c = record { ready = subst IsSetting (sym c.requires.se
 pub returns-in_default-clause-stop : goal.returns-in_default-clause-stop
 returns-in_default-clause-stop g c =
     λ stream h took short stands readable.
-    none_fed g.D.Disk.told g.D.Disk.may_leave g.D.Disk.fault_count c.args.store c.args.script.now.setup c.args.moment stream c.args.bytes.now h
+    none_fed g.D.Disk.seen c.args.store c.args.script.now.setup c.args.moment stream c.args.bytes.now h
     c.args.script.now.tally stands readable
 
 pub returns-in-Ok-end-clause-fed : goal.returns-in-Ok-end-clause-fed
@@ -34,7 +34,7 @@ returns-in-Ok-end-clause-fed g c =
     tallied _ c.args.store.state c.take_line-end.result.1.state c.centre.result.now c.centre-2.result.now script.tally counted c.taken.result
     c.quiet_of-quiet.result c.quiet_of.result c.saturating_sub-repeats.result c.centre.ensures c.centre-2.ensures c.taken.ensures
     c.quiet_of-quiet.ensures c.quiet_of.ensures c.saturating_sub-repeats.ensures c.saturating_add-script.ensures c.saturating_add-script-2.ensures refl in
-    let taking : IsTaking g.D.Disk.told g.D.Disk.may_leave g.D.Disk.fault_count c.args.store c.take_line-end.result.1 script.setup c.args.moment place lines
+    let taking : IsTaking g.D.Disk.seen c.args.store c.take_line-end.result.1 script.setup c.args.moment place lines
     was c.in-Ok.frames c.take_line-end.new.port c.args.bytes.now c.take_line-end.result.0 = record {
       there = there;
       set = c.requires.set;
@@ -44,7 +44,7 @@ returns-in-Ok-end-clause-fed g c =
       silent = c.take_line-end.new.port.silent;
       served = c.take_line-end.ensures.served;
     } in
-    ended_fed g.D.Disk.told g.D.Disk.may_leave g.D.Disk.fault_count c.args.store c.take_line-end.result.1 script.setup c.args.moment place lines was
+    ended_fed g.D.Disk.seen c.args.store c.take_line-end.result.1 script.setup c.args.moment place lines was
     c.in-Ok.frames c.take_line-end.new.port c.args.bytes.now script.tally counted sums c.take_line-end.result.0 taking c.in-Ok-end.is
 
 pub returns-in-Ok-end-clause-took : goal.returns-in-Ok-end-clause-took
@@ -79,7 +79,7 @@ returns-in-Err-Stopped-clause-stop g c =
     tallied _ c.args.store.state c.take_line-end.result.1.state c.centre.result.now c.centre-2.result.now script.tally counted c.taken.result
     c.quiet_of-quiet.result c.quiet_of.result c.saturating_sub-repeats.result c.centre.ensures c.centre-2.ensures c.taken.ensures
     c.quiet_of-quiet.ensures c.quiet_of.ensures c.saturating_sub-repeats.ensures c.saturating_add-script.ensures c.saturating_add-script-2.ensures refl in
-    let taking : IsTaking g.D.Disk.told g.D.Disk.may_leave g.D.Disk.fault_count c.args.store c.take_line-end.result.1 script.setup c.args.moment place lines
+    let taking : IsTaking g.D.Disk.seen c.args.store c.take_line-end.result.1 script.setup c.args.moment place lines
     was c.in-Ok.frames c.take_line-end.new.port c.args.bytes.now c.take_line-end.result.0 = record {
       there = there;
       set = c.requires.set;
@@ -89,7 +89,7 @@ returns-in-Err-Stopped-clause-stop g c =
       silent = c.take_line-end.new.port.silent;
       served = c.take_line-end.ensures.served;
     } in
-    ended_stopped g.D.Disk.told g.D.Disk.may_leave g.D.Disk.fault_count c.args.store c.take_line-end.result.1 script.setup c.args.moment place lines was
+    ended_stopped g.D.Disk.seen c.args.store c.take_line-end.result.1 script.setup c.args.moment place lines was
     c.in-Ok.frames c.take_line-end.new.port c.args.bytes.now script.tally counted sums c.take_line-end.result.0 taking
     c.in-Err-Stopped.stop (c.in-Err-Stopped.is ∙ ap Err (rw c.in-Err-Stopped.is at c.in-Err-Stopped.field-0-is))
 
@@ -115,7 +115,7 @@ returns-clause-stop g c =
     tallied _ c.args.store.state c.take_line-end.result.1.state c.centre.result.now c.centre-2.result.now script.tally counted c.taken.result
     c.quiet_of-quiet.result c.quiet_of.result c.saturating_sub-repeats.result c.centre.ensures c.centre-2.ensures c.taken.ensures
     c.quiet_of-quiet.ensures c.quiet_of.ensures c.saturating_sub-repeats.ensures c.saturating_add-script.ensures c.saturating_add-script-2.ensures refl in
-    let taking : IsTaking g.D.Disk.told g.D.Disk.may_leave g.D.Disk.fault_count c.args.store c.take_line-end.result.1 script.setup c.args.moment place lines
+    let taking : IsTaking g.D.Disk.seen c.args.store c.take_line-end.result.1 script.setup c.args.moment place lines
     was c.in-Ok.frames c.take_line-end.new.port c.args.bytes.now c.take_line-end.result.0 = record {
       there = there;
       set = c.requires.set;
@@ -125,7 +125,7 @@ returns-clause-stop g c =
       silent = c.take_line-end.new.port.silent;
       served = c.take_line-end.ensures.served;
     } in
-    ended_otherwise g.D.Disk.told g.D.Disk.may_leave g.D.Disk.fault_count c.args.store c.take_line-end.result.1 script.setup c.args.moment place
+    ended_otherwise g.D.Disk.seen c.args.store c.take_line-end.result.1 script.setup c.args.moment place
     lines was c.in-Ok.frames c.take_line-end.new.port c.args.bytes.now script.tally counted sums c.take_line-end.result.0 taking c.in-Err.field-0
     c.take_line-end.new.line c.in-Err.is c.take_line-end.ensures.ends c.take_line-end.ensures.taken
 

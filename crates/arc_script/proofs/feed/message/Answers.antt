@@ -33,7 +33,7 @@ returns-clause-fed g c =
     let script = c.args.script.now in
     let line = c.args.line in
     let body = c.args.body.now in
-    fed_ok g.D.Disk.told g.D.Disk.may_leave g.D.Disk.fault_count c.args.store c.fed-store.result.0 script.setup c.args.moment 77 line (Message line body)
+    fed_ok g.D.Disk.seen c.args.store c.fed-store.result.0 script.setup c.args.moment 77 line (Message line body)
     c.bytes.result.now (frame_of body) script.lines.items script.desks.items script.tally c.fed-store.new.script.tally
     (page_seen c.args.page.now) (page_seen c.put_fed.new.page) c.put_fed.result c.fed-store.result.1 (c.bytes.ensures.value ∙ c.write_frame.ensures)
     (record {
@@ -61,7 +61,7 @@ returns-clause-stop g c =
     let script = c.args.script.now in
     let line = c.args.line in
     let body = c.args.body.now in
-    fed_stops g.D.Disk.told g.D.Disk.may_leave g.D.Disk.fault_count c.args.store c.fed-store.result.0 script.setup c.args.moment 77 line (Message line body)
+    fed_stops g.D.Disk.seen c.args.store c.fed-store.result.0 script.setup c.args.moment 77 line (Message line body)
     c.bytes.result.now (frame_of body) script.lines.items script.desks.items script.tally c.fed-store.new.script.tally c.put_fed.result
     c.fed-store.result.1 (c.bytes.ensures.value ∙ c.write_frame.ensures)
     (record {

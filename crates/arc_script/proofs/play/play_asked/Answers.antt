@@ -4,7 +4,7 @@ use Rattle.arc_io.specs.Seen.{PortSeen}
 use Rattle.centre_core.specs.declared.hall.Stop.{Stop}
 use Rattle.centre_store.specs.Stores.{HasFailed}
 use Rattle.script_lines.specs.Reading.{asked}
-use Rattle.arc_script.specs.Between.{Carries, Stops, words}
+use Rattle.arc_script.specs.Between.{Carries, Stops}
 use Rattle.arc_script.specs.PageWords.{page_seen}
 use Rattle.arc_script.specs.declared.script.Script.{Script}
 use Rattle.arc_script.specs.declared.script_end.ScriptEnd.{ScriptEnd}
@@ -13,32 +13,32 @@ use Rattle.arc_script.proofs.play.play_asked.Goals as goal
 
 pub returns-in_default-clause-halted : goal.returns-in_default-clause-halted
 returns-in_default-clause-halted g c =
-    let w = words g.D.Disk.told g.D.Disk.may_leave g.D.Disk.moment g.D.Disk.left_since g.D.Disk.fault_count in
+    let seen = g.D.Disk.seen in
     let script = c.args.script.now in
     let s = c.args.store in
     let p = g.P.Ends.seen c.args.port.now in
     let a = asked c.args.wanted in
     let disk = c.halt.result.disk in
     let tally = c.halt.new.script.tally in
-    subst (λ (e : ScriptEnd). HaltsHere w a script s p e p disk tally) (sym c.halt.ensures.end)
-    (wanted_halts w script s p a c.args.moment c.requires.short c.requires.at disk tally
+    subst (λ (e : ScriptEnd). HaltsHere seen a script s p e p disk tally) (sym c.halt.ensures.end)
+    (wanted_halts seen script s p a c.args.moment c.requires.short c.requires.at disk tally
     (record { disk_is = c.halt.ensures.disk; tally_is = ap (λ (k : Script). k.tally) c.halt.ensures.closed }))
 
 pub returns-in-Err-clause-halted : goal.returns-in-Err-clause-halted
 returns-in-Err-clause-halted g c =
-    let w = words g.D.Disk.told g.D.Disk.may_leave g.D.Disk.moment g.D.Disk.left_since g.D.Disk.fault_count in
+    let seen = g.D.Disk.seen in
     let script = c.args.script.now in
     let s = c.args.store in
     let p = g.P.Ends.seen c.args.port.now in
     let a = asked c.args.wanted in
     let refused = c.in-Err.field-0 in
     let shut = c.in-Err.ensures.shut in
-    shut_halts w script s p a c.args.moment c.requires.short c.requires.at refused.fault refused.disk c.carry_out.new.script.tally shut.0 shut.1
+    shut_halts seen script s p a c.args.moment c.requires.short c.requires.at refused.fault refused.disk c.carry_out.new.script.tally shut.0 shut.1
     c.in-Err.ensures.closed
 
 pub returns-in-Err-played-clause-halted : goal.returns-in-Err-played-clause-halted
 returns-in-Err-played-clause-halted g c =
-    let w = words g.D.Disk.told g.D.Disk.may_leave g.D.Disk.moment g.D.Disk.left_since g.D.Disk.fault_count in
+    let seen = g.D.Disk.seen in
     let script = c.args.script.now in
     let s = c.args.store in
     let p = g.P.Ends.seen c.args.port.now in
@@ -48,14 +48,14 @@ returns-in-Err-played-clause-halted g c =
     let stop = c.in-Err-played.stop in
     let disk = c.halt-in-Err-played.result.disk in
     let tally = c.halt-in-Err-played.new.script.tally in
-    let stops = IfErr-at_err (λ (e : Stop). Stops w c.args.moment a script after s s' e) c.in-Err-played.is c.in-Ok-carry_out.ensures.stop in
-    subst (λ (e : ScriptEnd). HaltsHere w a script s p e p disk tally) (sym c.halt-in-Err-played.ensures.end)
-    (stop_halts w script s p a c.args.moment c.requires.short c.requires.at stop after s' disk tally stops c.carry_out.ensures.rest.2
+    let stops = IfErr-at_err (λ (e : Stop). Stops seen c.args.moment a script after s s' e) c.in-Err-played.is c.in-Ok-carry_out.ensures.stop in
+    subst (λ (e : ScriptEnd). HaltsHere seen a script s p e p disk tally) (sym c.halt-in-Err-played.ensures.end)
+    (stop_halts seen script s p a c.args.moment c.requires.short c.requires.at stop after s' disk tally stops c.carry_out.ensures.rest.2
     (record { disk_is = c.halt-in-Err-played.ensures.disk; tally_is = ap (λ (k : Script). k.tally) c.halt-in-Err-played.ensures.closed }))
 
 pub returns-in-Ok-put-clause-played : goal.returns-in-Ok-put-clause-played
 returns-in-Ok-put-clause-played g c =
-    let w = words g.D.Disk.told g.D.Disk.may_leave g.D.Disk.moment g.D.Disk.left_since g.D.Disk.fault_count in
+    let seen = g.D.Disk.seen in
     let script = c.args.script.now in
     let s = c.args.store in
     let p = g.P.Ends.seen c.args.port.now in
@@ -65,14 +65,14 @@ returns-in-Ok-put-clause-played g c =
     let q = page_seen c.in-Ok.page in
     let q' = page_seen c.carry_out.new.page in
     let none = ap (λ (k : PortSeen). k.written) c.in-Ok.ensures.blank in
-    let up = IfOk-at_ok (λ _. HasFailed w.faults s' → ⊥) c.in_default-played.is c.in-Ok-carry_out.ensures.up in
-    let carries = IfOk-at_ok (λ _. Carries w c.args.moment a script after s s' q q') c.in_default-played.is c.in-Ok-carry_out.ensures.carried in
-    goes_further w script s p a c.args.moment c.requires.short c.requires.at after s' q q' c.text.result.now none (ap Some (sym c.text.ensures))
+    let up = IfOk-at_ok (λ _. HasFailed seen s' → ⊥) c.in_default-played.is c.in-Ok-carry_out.ensures.up in
+    let carries = IfOk-at_ok (λ _. Carries seen c.args.moment a script after s s' q q') c.in_default-played.is c.in-Ok-carry_out.ensures.carried in
+    goes_further seen script s p a c.args.moment c.requires.short c.requires.at after s' q q' c.text.result.now none (ap Some (sym c.text.ensures))
     c.carry_out.ensures.rest.2 up carries (g.P.Ends.seen c.put.new.sink) c.in-Ok-put.field-0 c.put.result c.in-Ok-put.is c.put.ensures
 
 pub returns-clause-halted : goal.returns-clause-halted
 returns-clause-halted g c =
-    let w = words g.D.Disk.told g.D.Disk.may_leave g.D.Disk.moment g.D.Disk.left_since g.D.Disk.fault_count in
+    let seen = g.D.Disk.seen in
     let script = c.args.script.now in
     let s = c.args.store in
     let p = g.P.Ends.seen c.args.port.now in
@@ -82,12 +82,12 @@ returns-clause-halted g c =
     let q = page_seen c.in-Ok.page in
     let q' = page_seen c.carry_out.new.page in
     let none = ap (λ (k : PortSeen). k.written) c.in-Ok.ensures.blank in
-    let up = IfOk-at_ok (λ _. HasFailed w.faults s' → ⊥) c.in_default-played.is c.in-Ok-carry_out.ensures.up in
-    let carries = IfOk-at_ok (λ _. Carries w c.args.moment a script after s s' q q') c.in_default-played.is c.in-Ok-carry_out.ensures.carried in
+    let up = IfOk-at_ok (λ _. HasFailed seen s' → ⊥) c.in_default-played.is c.in-Ok-carry_out.ensures.up in
+    let carries = IfOk-at_ok (λ _. Carries seen c.args.moment a script after s s' q q') c.in_default-played.is c.in-Ok-carry_out.ensures.carried in
     let p' = g.P.Ends.seen c.put.new.sink in
     let disk = c.halt-in-Err-put.result.disk in
     let tally = c.halt-in-Err-put.new.script.tally in
-    subst (λ (e : ScriptEnd). HaltsHere w a script s p e p' disk tally) (sym c.halt-in-Err-put.ensures.end)
-    (cut_halts w script s p a c.args.moment c.requires.short c.requires.at after s' q q' c.text.result.now none (ap Some (sym c.text.ensures))
+    subst (λ (e : ScriptEnd). HaltsHere seen a script s p e p' disk tally) (sym c.halt-in-Err-put.ensures.end)
+    (cut_halts seen script s p a c.args.moment c.requires.short c.requires.at after s' q q' c.text.result.now none (ap Some (sym c.text.ensures))
     c.carry_out.ensures.rest.2 up carries p' c.in-Err-put.field-0 c.put.result disk tally c.in-Err-put.is c.put.ensures
     (record { disk_is = c.halt-in-Err-put.ensures.disk; tally_is = ap (λ (k : Script). k.tally) c.halt-in-Err-put.ensures.closed }))

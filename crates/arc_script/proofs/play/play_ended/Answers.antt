@@ -4,7 +4,6 @@ use Rattle.std.proofs.lemmas.Result.{err_from_is_err_and}
 use Rattle.arc_io.proofs.Frames.{writes_more}
 use Rattle.arc_text.specs.LineCutting.{WasFed, cut_of}
 use Rattle.arc_text.specs.Lines.{ended_lines}
-use Rattle.arc_script.specs.Between.{words}
 use Rattle.arc_script.proofs.FedLines.{no_line, one_line}
 use Rattle.arc_script.proofs.Playing.{PlayedAll, halted_line, line_came, played_line, played_none}
 use Rattle.arc_script.proofs.ToldShort.{told_short}
@@ -12,7 +11,7 @@ use Rattle.arc_script.proofs.play.play_ended.Goals as goal
 
 pub loop-at-init : goal.loop-at-init
 loop-at-init g c =
-    let w = words g.D.Disk.told g.D.Disk.may_leave g.D.Disk.moment g.D.Disk.left_since g.D.Disk.fault_count in
+    let seen = g.D.Disk.seen in
     let script = c.args.script.now in
     let port = g.P.Ends.seen c.args.port.now in
     record {
@@ -22,12 +21,12 @@ loop-at-init g c =
       only = record { rest = refl };
       fed = λ stream fed. subst (λ (l : List ℕ). WasFed l c.args.cutter.now) (sym (append-nil stream)) fed;
       played = λ b stream fed short so number.
-          subst (λ (l : List ℕ). PlayedAll w b (ended_lines l) script c.args.store port) (sym (append-nil stream)) (so, number);
+          subst (λ (l : List ℕ). PlayedAll seen b (ended_lines l) script c.args.store port) (sym (append-nil stream)) (so, number);
     }
 
 pub play_line-requires-clause-short : goal.play_line-requires-clause-short
 play_line-requires-clause-short g c =
-    let w = words g.D.Disk.told g.D.Disk.may_leave g.D.Disk.moment g.D.Disk.left_since g.D.Disk.fault_count in
+    let seen = g.D.Disk.seen in
     let bytes = c.args.bytes.now in
     let at = c.loop-at.at in
     let n = c.feed-count.result.0 in
@@ -46,7 +45,7 @@ play_line-requires-clause-ready g c = c.loop-at.invariant.ready
 
 pub loop-at-preserved : goal.loop-at-preserved
 loop-at-preserved g c =
-    let w = words g.D.Disk.told g.D.Disk.may_leave g.D.Disk.moment g.D.Disk.left_since g.D.Disk.fault_count in
+    let seen = g.D.Disk.seen in
     let bytes = c.args.bytes.now in
     let at = c.loop-at.at in
     let n = c.feed-count.result.0 in
@@ -62,13 +61,13 @@ loop-at-preserved g c =
       only = old.only;
       fed = λ stream fed. (came stream fed).fed;
       played = λ b stream fed short so number.
-          played_none w b stream bytes at n short cutter c.loop-at.script c.loop-at.store (g.P.Ends.seen c.loop-at.port) (came stream fed)
+          played_none seen b stream bytes at n short cutter c.loop-at.script c.loop-at.store (g.P.Ends.seen c.loop-at.port) (came stream fed)
           (old.played b stream fed short so number);
     }
 
 pub loop-at-preserved-in-Some : goal.loop-at-preserved-in-Some
 loop-at-preserved-in-Some g c =
-    let w = words g.D.Disk.told g.D.Disk.may_leave g.D.Disk.moment g.D.Disk.left_since g.D.Disk.fault_count in
+    let seen = g.D.Disk.seen in
     let bytes = c.args.bytes.now in
     let at = c.loop-at.at in
     let n = c.feed-count.result.0 in
@@ -88,15 +87,15 @@ loop-at-preserved-in-Some g c =
       played = λ b stream fed short so number.
           let line = came stream fed in
           let before = old.played b stream fed short so number in
-          played_line w b stream bytes at n short told cutter line c.loop-at.script c.play_line.new.script c.loop-at.store c.in_ok-store.store
+          played_line seen b stream bytes at n short told cutter line c.loop-at.script c.play_line.new.script c.loop-at.store c.in_ok-store.store
           (g.P.Ends.seen c.loop-at.port) (g.P.Ends.seen c.play_line.new.port) before c.in_ok-store.ensures.number
           (c.in_ok-store.ensures.played b (ended_lines (stream ++ take at bytes)) line.line (line.cut ∙ ap (λ l. cut_of l line.line) limit)
-          (c.line.ensures ∙ line.kept) (line_came w b stream bytes at n short told cutter line) before.0 before.1);
+          (c.line.ensures ∙ line.kept) (line_came seen b stream bytes at n short told cutter line) before.0 before.1);
     }
 
 pub returns-in_err-store-clause-halted : goal.returns-in_err-store-clause-halted
 returns-in_err-store-clause-halted g c =
-    let w = words g.D.Disk.told g.D.Disk.may_leave g.D.Disk.moment g.D.Disk.left_since g.D.Disk.fault_count in
+    let seen = g.D.Disk.seen in
     let bytes = c.args.bytes.now in
     let at = c.loop-at.at in
     let n = c.feed-count.result.0 in
@@ -113,9 +112,9 @@ returns-in_err-store-clause-halted g c =
     rw same (λ b stream fed short so number.
     let line = came stream fed in
     let before = old.played b stream fed short so number in
-    halted_line w b stream bytes at n short told cutter line halted.end (g.P.Ends.seen c.play_line.new.port) halted.disk c.play_line.new.script.tally
+    halted_line seen b stream bytes at n short told cutter line halted.end (g.P.Ends.seen c.play_line.new.port) halted.disk c.play_line.new.script.tally
     (λ more. c.in_err-store.ensures.halted b (ended_lines (stream ++ take at bytes)) more line.line (line.cut ∙ ap (λ l. cut_of l line.line) limit)
-    (c.line.ensures ∙ line.kept) (line_came w b stream bytes at n short told cutter line) before.0 before.1))
+    (c.line.ensures ∙ line.kept) (line_came seen b stream bytes at n short told cutter line) before.0 before.1))
 
 pub returns-in_err-store-clause-limit : goal.returns-in_err-store-clause-limit
 returns-in_err-store-clause-limit g c = c.feed-count.ensures.limit ∙ c.loop-at.invariant.limit
@@ -130,9 +129,9 @@ returns-clause-fed g c stream fed =
 
 pub returns-clause-played : goal.returns-clause-played
 returns-clause-played g c b stream fed short so number =
-    let w = words g.D.Disk.told g.D.Disk.may_leave g.D.Disk.moment g.D.Disk.left_since g.D.Disk.fault_count in
+    let seen = g.D.Disk.seen in
     let all = take_all c.loop-at.at c.args.bytes.now (omega arith) in
-    subst (λ (l : List ℕ). PlayedAll w b (ended_lines (stream ++ l)) c.loop-at.script c.loop-at.store (g.P.Ends.seen c.loop-at.port)) all
+    subst (λ (l : List ℕ). PlayedAll seen b (ended_lines (stream ++ l)) c.loop-at.script c.loop-at.store (g.P.Ends.seen c.loop-at.port)) all
     (c.loop-at.invariant.played b stream fed short so number)
 
 pub returns-clause-limit : goal.returns-clause-limit

@@ -3,7 +3,7 @@ use Rattle.arc_io.specs.Told.{OnlyWrites}
 use Rattle.arc_text.specs.LineCutting.{WasFed}
 use Rattle.arc_text.specs.Lines.{ended_lines}
 use Rattle.session_rules.specs.Inputs.{input_limit}
-use Rattle.arc_script.specs.Between.{Begun, IsReady, SoFar, words}
+use Rattle.arc_script.specs.Between.{Begun, IsReady, SoFar}
 use Rattle.arc_script.specs.Texts.{line_limit}
 use Rattle.arc_script.proofs.play.play_ended.Given as goal
 
@@ -16,9 +16,9 @@ invariant-loop-at g l = record {
   only : OnlyWrites (g.P.Ends.seen l.initial.port) (g.P.Ends.seen l.port);
   fed : (stream : List ℕ) → WasFed stream l.initial.cutter → WasFed (stream ++ take l.at l.bytes) l.cutter;
   played : (b : Begun g.row.D.Denot) (stream : List ℕ) → WasFed stream l.initial.cutter → length (stream ++ l.bytes) ≤ input_limit
-      → SoFar (words g.D.Disk.told g.D.Disk.may_leave g.D.Disk.moment g.D.Disk.left_since g.D.Disk.fault_count) b (ended_lines stream)
+      → SoFar g.D.Disk.seen b (ended_lines stream)
       l.initial.script l.initial.store (g.P.Ends.seen l.initial.port) → l.initial.script.number ≡ length (ended_lines stream)
-      → SoFar (words g.D.Disk.told g.D.Disk.may_leave g.D.Disk.moment g.D.Disk.left_since g.D.Disk.fault_count) b (ended_lines (stream ++ take l.at l.bytes))
+      → SoFar g.D.Disk.seen b (ended_lines (stream ++ take l.at l.bytes))
       l.script l.store (g.P.Ends.seen l.port) × (l.script.number ≡ length (ended_lines (stream ++ take l.at l.bytes)));
 }
 

@@ -1,6 +1,5 @@
 use Rattle.std.proofs.Common.{◌++◌, ◌∷◌, [], refl, ap, sym, ◌∙◌, arith}
 use Rattle.std.proofs.lemmas.Result.{IfErr-weaker, IfOk-weaker}
-use Rattle.arc_script.specs.Between.{words}
 use Rattle.arc_script.specs.declared.script.Script.{Script}
 use Rattle.arc_script.proofs.LineEnds.{bad_halts, renumbered}
 use Rattle.arc_script.proofs.Passed.{skipped}
@@ -8,9 +7,9 @@ use Rattle.arc_script.proofs.play.play_line.Goals as goal
 
 pub returns-then-is_passed-clause-played : goal.returns-then-is_passed-clause-played
 returns-then-is_passed-clause-played g c = λ b lines typed is has may so count.
-    let w = words g.D.Disk.told g.D.Disk.may_leave g.D.Disk.moment g.D.Disk.left_since g.D.Disk.fault_count in
+    let seen = g.D.Disk.seen in
     let script = c.args.script.now in
-    renumbered w b (lines ++ typed ∷ []) script _ c.args.store (g.P.Ends.seen c.args.port.now) (record {
+    renumbered seen b (lines ++ typed ∷ []) script _ c.args.store (g.P.Ends.seen c.args.port.now) (record {
       setup = refl;
       limits = refl;
       lines = refl;
@@ -19,23 +18,23 @@ returns-then-is_passed-clause-played g c = λ b lines typed is has may so count.
       opened_before = refl;
       tally = refl;
     })
-    (skipped w b lines typed script script.number c.args.store (g.P.Ends.seen c.args.port.now)
+    (skipped seen b lines typed script script.number c.args.store (g.P.Ends.seen c.args.port.now)
     (sym (c.is_passed.ensures typed is has) ∙ c.if-is_passed.true) so)
 
 pub returns-in_default-clause-halted : goal.returns-in_default-clause-halted
 returns-in_default-clause-halted g c = λ b lines more typed is has may so count.
-    let w = words g.D.Disk.told g.D.Disk.may_leave g.D.Disk.moment g.D.Disk.left_since g.D.Disk.fault_count in
-    bad_halts w b lines more typed c.args.script.now c.saturating_add-script.result c.args.store (g.P.Ends.seen c.args.port.now) c.halt.result.end
+    let seen = g.D.Disk.seen in
+    bad_halts seen b lines more typed c.args.script.now c.saturating_add-script.result c.args.store (g.P.Ends.seen c.args.port.now) c.halt.result.end
     c.halt.result.disk c.halt.new.script.tally may so count (λ few. omega (arith, few, c.saturating_add-script.ensures))
     (sym (c.is_passed.ensures typed is has) ∙ c.if-is_passed.false) (c.in_default.ensures.at typed is has) c.halt.ensures.end
     (record { disk_is = c.halt.ensures.disk; tally_is = ap (λ (k : Script). k.tally) c.halt.ensures.closed })
 
 pub returns-clause-played : goal.returns-clause-played
 returns-clause-played g c =
-    let w = words g.D.Disk.told g.D.Disk.may_leave g.D.Disk.moment g.D.Disk.left_since g.D.Disk.fault_count in
+    let seen = g.D.Disk.seen in
     IfOk-weaker c.play_asked.result _ _ (λ s all b lines typed is has may so count.
     all b lines typed (c.in-Some.ensures.at typed is has).1 may
-    (renumbered w b lines c.args.script.now _ c.args.store (g.P.Ends.seen c.args.port.now) (record {
+    (renumbered seen b lines c.args.script.now _ c.args.store (g.P.Ends.seen c.args.port.now) (record {
       setup = refl;
       limits = refl;
       lines = refl;
@@ -47,10 +46,10 @@ returns-clause-played g c =
 
 pub returns-clause-halted : goal.returns-clause-halted
 returns-clause-halted g c =
-    let w = words g.D.Disk.told g.D.Disk.may_leave g.D.Disk.moment g.D.Disk.left_since g.D.Disk.fault_count in
+    let seen = g.D.Disk.seen in
     IfErr-weaker c.play_asked.result _ _ (λ halted all b lines more typed is has may so count.
     all b lines more typed (c.in-Some.ensures.at typed is has).1 may
-    (renumbered w b lines c.args.script.now _ c.args.store (g.P.Ends.seen c.args.port.now) (record {
+    (renumbered seen b lines c.args.script.now _ c.args.store (g.P.Ends.seen c.args.port.now) (record {
       setup = refl;
       limits = refl;
       lines = refl;

@@ -3,10 +3,10 @@ use Rattle.arc_script.proofs.reopen.begin_again.Goals as goal
 
 pub returns-in_err-begin-clause-stop : goal.returns-in_err-begin-clause-stop
 returns-in_err-begin-clause-stop g c =
-    again_stops g.D.Disk.told g.D.Disk.may_leave g.D.Disk.fault_count c.args.store.now c.begin.new.store
+    again_stops g.D.Disk.seen c.args.store.now c.begin.new.store
     c.from_residual.result c.args.script.now.setup c.args.moment c.in_err-begin.ensures.stop
 
 pub returns-clause-stop : goal.returns-clause-stop
 returns-clause-stop g c =
-    again_unsaid g.D.Disk.told g.D.Disk.may_leave g.D.Disk.fault_count c.args.store.now c.begin.new.store
+    again_unsaid g.D.Disk.seen c.args.store.now c.begin.new.store
     c.said.result c.args.script.now.setup c.args.moment c.in_ok-begin.ensures.begun

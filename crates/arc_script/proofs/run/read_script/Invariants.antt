@@ -1,7 +1,7 @@
 use Rattle.std.proofs.Common.{◌≡◌, ◌≤◌, ◌-◌, ℕ, List, [], false}
 use Rattle.arc_text.specs.LineCutting.{WasFed}
 use Rattle.session_rules.specs.Inputs.{input_limit}
-use Rattle.arc_script.specs.Between.{Begun, IsReady, SoFar, words}
+use Rattle.arc_script.specs.Between.{Begun, IsReady, SoFar}
 use Rattle.arc_script.specs.Texts.{line_limit}
 use Rattle.arc_script.proofs.Transcripts.{ReadSoFar}
 use Rattle.arc_script.proofs.run.read_script.Given as goal
@@ -15,9 +15,9 @@ invariant-pieces g l = record {
   ready : IsReady l.script.clock l.script.setup l.store.state.sum.text;
   not_ended : (g.P.Ends.seen l.port).ended ≡ false;
   done : (b : Begun g.row.D.Denot) → b.port ≡ g.P.Ends.seen l.initial.port → l.initial.script.number ≡ 0
-      → SoFar (words g.D.Disk.told g.D.Disk.may_leave g.D.Disk.moment g.D.Disk.left_since g.D.Disk.fault_count) b []
+      → SoFar g.D.Disk.seen b []
       l.initial.script l.initial.store (g.P.Ends.seen l.initial.port)
-      → ReadSoFar (words g.D.Disk.told g.D.Disk.may_leave g.D.Disk.moment g.D.Disk.left_since g.D.Disk.fault_count) b l.count l.cutter l.script l.store
+      → ReadSoFar g.D.Disk.seen b l.count l.cutter l.script l.store
       (g.P.Ends.seen l.port);
 }
 

@@ -1,7 +1,7 @@
 use Rattle.std.proofs.Common.{[], inl, inr, refl, sym, ap, subst, ◌∙◌}
 use Rattle.arc_io.specs.Seen.{PortSeen}
 use Rattle.centre_rules.specs.State.{State}
-use Rattle.arc_script.specs.Between.{SoFar, words}
+use Rattle.arc_script.specs.Between.{SoFar}
 use Rattle.arc_script.specs.declared.script_end.Tally.{Tally}
 use Rattle.arc_script.proofs.Beginning.{untouched, unread, began}
 use Rattle.arc_script.proofs.Opening.{so_far_none}
@@ -11,12 +11,12 @@ pub returns-in-Ok : goal.returns-in-Ok
 returns-in-Ok g c = record {
   ran = λ b setup limits port store held.
       let made = c.in-Ok.ensures in
-      let w = words g.D.Disk.told g.D.Disk.may_leave g.D.Disk.moment g.D.Disk.left_since g.D.Disk.fault_count in
+      let seen = g.D.Disk.seen in
       let opened = made.counts ∙ ap (λ (s : State). s.sum.opened) c.centre.ensures in
-      let so = so_far_none w b c.in-Ok.script c.args.store (made.given.0 ∙ sym setup) (made.given.1 ∙ sym limits) made.lines made.desks made.begun.0 opened
+      let so = so_far_none seen b c.in-Ok.script c.args.store (made.given.0 ∙ sym setup) (made.given.1 ∙ sym limits) made.lines made.desks made.begun.0 opened
       (ap (λ (t : Tally). t.sent) made.tally) (ap (λ (t : Tally). t.repeats) made.tally) (ap (λ (t : Tally). t.closed) made.tally) store held in
-      inl (began w b _ _ _ _ _ _ _ setup limits port (c.read_script-end.ensures.ran b port made.begun.1
-      (subst (λ (p : PortSeen). SoFar w b [] c.in-Ok.script c.args.store p) port so)));
+      inl (began seen b _ _ _ _ _ _ _ setup limits port (c.read_script-end.ensures.ran b port made.begun.1
+      (subst (λ (p : PortSeen). SoFar seen b [] c.in-Ok.script c.args.store p) port so)));
 }
 
 pub returns-in-Err : goal.returns-in-Err
@@ -24,7 +24,7 @@ returns-in-Err g c = record {
   ran = λ b setup limits port store held.
       inr (
         refl,
-        unread (words g.D.Disk.told g.D.Disk.may_leave g.D.Disk.moment g.D.Disk.left_since g.D.Disk.fault_count) b.past c.args.store _ c.close.result
+        unread g.D.Disk.seen b.past c.args.store _ c.close.result
             c.tally_of.result store.stands held c.close.ensures (c.tally_of.ensures ∙ ap (λ (s : State). untouched s.sum 0) c.centre-in-Err.ensures),
       );
 }

@@ -1,5 +1,5 @@
 use Rattle.std.proofs.Common.{◌≤◌, inr, refl, subst, sym}
-use Rattle.arc_script.specs.Between.{Begun, words}
+use Rattle.arc_script.specs.Between.{Begun}
 use Rattle.arc_script.proofs.Opening.{store_opened, held_opened, begins_with}
 use Rattle.arc_script.proofs.Telling.{spared_tells}
 use Rattle.arc_script.proofs.run.run_script.Goals as goal
@@ -14,13 +14,13 @@ returns-in-Ok g c =
       past = o.past;
       port = g.P.Ends.seen c.args.port.now;
     } in
-    let w = words g.D.Disk.told g.D.Disk.may_leave g.D.Disk.moment g.D.Disk.left_since g.D.Disk.fault_count in
+    let seen = g.D.Disk.seen in
     record {
       script = inr (
         o.past,
-        begins_with w c.args.disk c.in-Ok.store o,
+        begins_with seen c.args.disk c.in-Ok.store o,
         c.run_over.ensures.ran b refl refl refl
-            (store_opened w b c.in-Ok.store o (spared_tells c.in-Ok.ensures.spared) c.in-Ok.ensures.limits (subst (λ n. g.D.Disk.fault_count c.args.disk ≤ n) (sym c.in-Ok.ensures.at_open) c.in-Ok.ensures.later))
-            (held_opened w c.args.disk c.in-Ok.store o),
+            (store_opened seen b c.in-Ok.store o (spared_tells c.in-Ok.ensures.spared) c.in-Ok.ensures.limits (subst (λ n. (g.D.Disk.seen c.args.disk).faults ≤ n) (sym c.in-Ok.ensures.at_open) c.in-Ok.ensures.later))
+            (held_opened seen c.args.disk c.in-Ok.store o),
       );
     }

@@ -1,20 +1,19 @@
 use Rattle.std.proofs.Common.{◌≡◌, rules}
 use Rattle.script_lines.specs.Lines.{Reopen}
 use Rattle.script_lines.specs.Reading.{asked}
-use Rattle.arc_script.specs.Between.{words}
 use Rattle.arc_script.specs.PageWords.{page_seen}
 use Rattle.arc_script.proofs.Stepping.{reopen_carries, reopen_stops}
 use Rattle.arc_script.proofs.step.attempt.Goals as goal
 
 pub returns-then-eq-clause-carried : goal.returns-then-eq-clause-carried
 returns-then-eq-clause-carried g c =
-    let w = words g.D.Disk.told g.D.Disk.may_leave g.D.Disk.moment g.D.Disk.left_since g.D.Disk.fault_count in
+    let seen = g.D.Disk.seen in
     let is : asked c.args.wanted ≡ Reopen = search rules in
-    reopen_carries w c.args.moment (asked c.args.wanted) c.args.script.now c.reopen.new.script c.args.store (page_seen c.args.page.now)
+    reopen_carries seen c.args.moment (asked c.args.wanted) c.args.script.now c.reopen.new.script c.args.store (page_seen c.args.page.now)
     (page_seen c.reopen.new.page) c.reopen.result is c.reopen.ensures.carried
 
 pub returns-then-eq-clause-stop : goal.returns-then-eq-clause-stop
 returns-then-eq-clause-stop g c =
-    let w = words g.D.Disk.told g.D.Disk.may_leave g.D.Disk.moment g.D.Disk.left_since g.D.Disk.fault_count in
+    let seen = g.D.Disk.seen in
     let is : asked c.args.wanted ≡ Reopen = search rules in
-    reopen_stops w c.args.moment (asked c.args.wanted) c.args.script.now c.reopen.new.script c.args.store c.reopen.result is c.reopen.ensures.stop
+    reopen_stops seen c.args.moment (asked c.args.wanted) c.args.script.now c.reopen.new.script c.args.store c.reopen.result is c.reopen.ensures.stop

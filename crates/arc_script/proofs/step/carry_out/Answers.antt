@@ -1,12 +1,11 @@
 use Rattle.script_lines.specs.Reading.{asked}
-use Rattle.arc_script.specs.Between.{words}
 use Rattle.arc_script.specs.PageWords.{page_seen}
 use Rattle.arc_script.proofs.Stepping.{still_stops}
 use Rattle.arc_script.proofs.step.carry_out.Goals as goal
 
 pub returns-clause-stop : goal.returns-clause-stop
 returns-clause-stop g c =
-    let w = words g.D.Disk.told g.D.Disk.may_leave g.D.Disk.moment g.D.Disk.left_since g.D.Disk.fault_count in
-    still_stops w c.args.moment (asked c.args.wanted) c.args.script.now c.attempt.new.script c.args.store c.in_ok-store.store
+    let seen = g.D.Disk.seen in
+    still_stops seen c.args.moment (asked c.args.wanted) c.args.script.now c.attempt.new.script c.args.store c.in_ok-store.store
     (page_seen c.args.page.now) (page_seen c.attempt.new.page) c.in_ok-store.done c.unless_failed-done.result c.unless_failed-done.ensures.stop
     c.in_ok-store.ensures.carried c.in_ok-store.ensures.stop

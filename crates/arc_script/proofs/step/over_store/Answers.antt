@@ -2,7 +2,7 @@ use Rattle.std.proofs.Common.{◌≡◌, Some, OnOk, IfErr, ap, sym, subst, ◌�
 use Rattle.std.proofs.lemmas.Result.{on_ok_weaker, IfErr-weaker}
 use Rattle.script_lines.specs.Lines.{Asked, Feed, Message, Command}
 use Rattle.script_lines.specs.Reading.{asked}
-use Rattle.arc_script.specs.Between.{Carries, Stops, words}
+use Rattle.arc_script.specs.Between.{Carries, Stops}
 use Rattle.arc_script.specs.PageWords.{page_seen}
 use Rattle.arc_script.specs.Playing.{moment_at}
 use Rattle.arc_script.specs.declared.script.Script.{Script}
@@ -12,11 +12,11 @@ use Rattle.arc_script.proofs.step.over_store.Goals as goal
 
 pub returns-in-Time-clause-carried : goal.returns-in-Time-clause-carried
 returns-in-Time-clause-carried g c =
-    let w = words g.D.Disk.told g.D.Disk.may_leave g.D.Disk.moment g.D.Disk.left_since g.D.Disk.fault_count in
+    let seen = g.D.Disk.seen in
     let script = c.args.script.now in
     let after = c.tick-ticked.new.script in
     let rest = c.tick-ticked.ensures.rest in
-    let stays : Stays w script after c.args.store c.tick-ticked.new.store = record {
+    let stays : Stays seen script after c.args.store c.tick-ticked.new.store = record {
       setup = ap (λ (k : Script). k.setup) rest;
       limits = ap (λ (k : Script). k.limits) rest;
       tells = c.tick-ticked.ensures.tells;
@@ -25,18 +25,18 @@ returns-in-Time-clause-carried g c =
     } in
     let is = ap asked c.in-Time.is in
     let same = own_moment script.clock (asked c.args.wanted) c.in-Time.moment c.args.moment is c.requires.at in
-    time_carries w script after c.args.store c.tick-ticked.new.store (asked c.args.wanted) c.in-Time.moment c.args.moment stays rest
+    time_carries seen script after c.args.store c.tick-ticked.new.store (asked c.args.wanted) c.in-Time.moment c.args.moment stays rest
     c.requires.moment is same
     (page_seen c.args.page.now) (page_seen c.tick-ticked.new.page) c.tick-ticked.result c.tick-ticked.ensures.ticked c.tick-ticked.ensures.set
     c.tick-ticked.ensures.clock
 
 pub returns-in-Time-clause-stop : goal.returns-in-Time-clause-stop
 returns-in-Time-clause-stop g c =
-    let w = words g.D.Disk.told g.D.Disk.may_leave g.D.Disk.moment g.D.Disk.left_since g.D.Disk.fault_count in
+    let seen = g.D.Disk.seen in
     let script = c.args.script.now in
     let after = c.tick-ticked.new.script in
     let rest = c.tick-ticked.ensures.rest in
-    let stays : Stays w script after c.args.store c.tick-ticked.new.store = record {
+    let stays : Stays seen script after c.args.store c.tick-ticked.new.store = record {
       setup = ap (λ (k : Script). k.setup) rest;
       limits = ap (λ (k : Script). k.limits) rest;
       tells = c.tick-ticked.ensures.tells;
@@ -45,17 +45,17 @@ returns-in-Time-clause-stop g c =
     } in
     let is = ap asked c.in-Time.is in
     let same = own_moment script.clock (asked c.args.wanted) c.in-Time.moment c.args.moment is c.requires.at in
-    time_stops w script after c.args.store c.tick-ticked.new.store (asked c.args.wanted) c.in-Time.moment c.args.moment stays rest
+    time_stops seen script after c.args.store c.tick-ticked.new.store (asked c.args.wanted) c.in-Time.moment c.args.moment stays rest
     c.requires.moment is same
     c.tick-ticked.result c.tick-ticked.ensures.stop c.tick-ticked.ensures.cause
 
 pub returns-in-Feed-clause-carried : goal.returns-in-Feed-clause-carried
 returns-in-Feed-clause-carried g c =
-    let w = words g.D.Disk.told g.D.Disk.may_leave g.D.Disk.moment g.D.Disk.left_since g.D.Disk.fault_count in
+    let seen = g.D.Disk.seen in
     let script = c.args.script.now in
     let after = c.feed.new.script in
     let rest = c.feed.ensures.rest in
-    let stays : Stays w script after c.args.store c.feed.result.0 = record {
+    let stays : Stays seen script after c.args.store c.feed.result.0 = record {
       setup = ap (λ (k : Script). k.setup) rest;
       limits = ap (λ (k : Script). k.limits) rest;
       tells = c.feed.ensures.tells;
@@ -66,18 +66,18 @@ returns-in-Feed-clause-carried g c =
     let is : asked c.args.wanted ≡ a = ap asked c.in-Feed.is in
     let set : after.clock ≡ Some c.args.moment =
     ap (λ (k : Script). k.clock) rest ∙ ap (moment_at script.clock) (sym is) ∙ c.requires.at in
-    subst (λ (k : Asked). OnOk c.feed.result.1 (Carries w c.args.moment k script after c.args.store c.feed.result.0 (page_seen c.args.page.now)
+    subst (λ (k : Asked). OnOk c.feed.result.1 (Carries seen c.args.moment k script after c.args.store c.feed.result.0 (page_seen c.args.page.now)
     (page_seen c.feed.new.page))) (sym is)
-    (line_carries w script after c.args.store c.feed.result.0 a c.args.moment stays c.requires.moment (page_seen c.args.page.now)
+    (line_carries seen script after c.args.store c.feed.result.0 a c.args.moment stays c.requires.moment (page_seen c.args.page.now)
     (page_seen c.feed.new.page) c.feed.result.1 set (λ Told. c.feed.ensures.fed) c.feed.ensures.took c.feed.ensures.set)
 
 pub returns-in-Feed-clause-stop : goal.returns-in-Feed-clause-stop
 returns-in-Feed-clause-stop g c =
-    let w = words g.D.Disk.told g.D.Disk.may_leave g.D.Disk.moment g.D.Disk.left_since g.D.Disk.fault_count in
+    let seen = g.D.Disk.seen in
     let script = c.args.script.now in
     let after = c.feed.new.script in
     let rest = c.feed.ensures.rest in
-    let stays : Stays w script after c.args.store c.feed.result.0 = record {
+    let stays : Stays seen script after c.args.store c.feed.result.0 = record {
       setup = ap (λ (k : Script). k.setup) rest;
       limits = ap (λ (k : Script). k.limits) rest;
       tells = c.feed.ensures.tells;
@@ -86,17 +86,17 @@ returns-in-Feed-clause-stop g c =
     } in
     let a = Feed c.in-Feed.line c.in-Feed.digits.now in
     let is : asked c.args.wanted ≡ a = ap asked c.in-Feed.is in
-    subst (λ (k : Asked). IfErr c.feed.result.1 (λ stop. Stops w c.args.moment k script after c.args.store c.feed.result.0 stop)) (sym is)
-    (line_stops w script after c.args.store c.feed.result.0 a c.args.moment stays c.requires.moment c.feed.result.1
+    subst (λ (k : Asked). IfErr c.feed.result.1 (λ stop. Stops seen c.args.moment k script after c.args.store c.feed.result.0 stop)) (sym is)
+    (line_stops seen script after c.args.store c.feed.result.0 a c.args.moment stays c.requires.moment c.feed.result.1
     (λ Told. c.feed.ensures.stop))
 
 pub returns-in-Message-clause-carried : goal.returns-in-Message-clause-carried
 returns-in-Message-clause-carried g c =
-    let w = words g.D.Disk.told g.D.Disk.may_leave g.D.Disk.moment g.D.Disk.left_since g.D.Disk.fault_count in
+    let seen = g.D.Disk.seen in
     let script = c.args.script.now in
     let after = c.message.new.script in
     let rest = c.message.ensures.rest in
-    let stays : Stays w script after c.args.store c.message.result.0 = record {
+    let stays : Stays seen script after c.args.store c.message.result.0 = record {
       setup = ap (λ (k : Script). k.setup) rest;
       limits = ap (λ (k : Script). k.limits) rest;
       tells = c.message.ensures.tells;
@@ -107,18 +107,18 @@ returns-in-Message-clause-carried g c =
     let is : asked c.args.wanted ≡ a = ap asked c.in-Message.is in
     let set : after.clock ≡ Some c.args.moment =
     ap (λ (k : Script). k.clock) rest ∙ ap (moment_at script.clock) (sym is) ∙ c.requires.at in
-    subst (λ (k : Asked). OnOk c.message.result.1 (Carries w c.args.moment k script after c.args.store c.message.result.0 (page_seen c.args.page.now)
+    subst (λ (k : Asked). OnOk c.message.result.1 (Carries seen c.args.moment k script after c.args.store c.message.result.0 (page_seen c.args.page.now)
     (page_seen c.message.new.page))) (sym is)
-    (line_carries w script after c.args.store c.message.result.0 a c.args.moment stays c.requires.moment (page_seen c.args.page.now)
+    (line_carries seen script after c.args.store c.message.result.0 a c.args.moment stays c.requires.moment (page_seen c.args.page.now)
     (page_seen c.message.new.page) c.message.result.1 set (λ Told. c.message.ensures.fed) c.message.ensures.took c.message.ensures.set)
 
 pub returns-in-Message-clause-stop : goal.returns-in-Message-clause-stop
 returns-in-Message-clause-stop g c =
-    let w = words g.D.Disk.told g.D.Disk.may_leave g.D.Disk.moment g.D.Disk.left_since g.D.Disk.fault_count in
+    let seen = g.D.Disk.seen in
     let script = c.args.script.now in
     let after = c.message.new.script in
     let rest = c.message.ensures.rest in
-    let stays : Stays w script after c.args.store c.message.result.0 = record {
+    let stays : Stays seen script after c.args.store c.message.result.0 = record {
       setup = ap (λ (k : Script). k.setup) rest;
       limits = ap (λ (k : Script). k.limits) rest;
       tells = c.message.ensures.tells;
@@ -127,17 +127,17 @@ returns-in-Message-clause-stop g c =
     } in
     let a = Message c.in-Message.line c.in-Message.body.now in
     let is : asked c.args.wanted ≡ a = ap asked c.in-Message.is in
-    subst (λ (k : Asked). IfErr c.message.result.1 (λ stop. Stops w c.args.moment k script after c.args.store c.message.result.0 stop)) (sym is)
-    (line_stops w script after c.args.store c.message.result.0 a c.args.moment stays c.requires.moment c.message.result.1
+    subst (λ (k : Asked). IfErr c.message.result.1 (λ stop. Stops seen c.args.moment k script after c.args.store c.message.result.0 stop)) (sym is)
+    (line_stops seen script after c.args.store c.message.result.0 a c.args.moment stays c.requires.moment c.message.result.1
     (λ Told. c.message.ensures.stop))
 
 pub returns-in-Command-clause-carried : goal.returns-in-Command-clause-carried
 returns-in-Command-clause-carried g c =
-    let w = words g.D.Disk.told g.D.Disk.may_leave g.D.Disk.moment g.D.Disk.left_since g.D.Disk.fault_count in
+    let seen = g.D.Disk.seen in
     let script = c.args.script.now in
     let after = c.command.new.script in
     let rest = c.command.ensures.rest in
-    let stays : Stays w script after c.args.store c.command.result.0 = record {
+    let stays : Stays seen script after c.args.store c.command.result.0 = record {
       setup = ap (λ (k : Script). k.setup) rest;
       limits = ap (λ (k : Script). k.limits) rest;
       tells = c.command.ensures.tells;
@@ -148,9 +148,9 @@ returns-in-Command-clause-carried g c =
     let is : asked c.args.wanted ≡ a = ap asked c.in-Command.is in
     let set : after.clock ≡ Some c.args.moment =
     ap (λ (k : Script). k.clock) rest ∙ ap (moment_at script.clock) (sym is) ∙ c.requires.at in
-    subst (λ (k : Asked). OnOk c.command.result.1 (Carries w c.args.moment k script after c.args.store c.command.result.0 (page_seen c.args.page.now)
+    subst (λ (k : Asked). OnOk c.command.result.1 (Carries seen c.args.moment k script after c.args.store c.command.result.0 (page_seen c.args.page.now)
     (page_seen c.command.new.page))) (sym is)
-    (line_carries w script after c.args.store c.command.result.0 a c.args.moment stays c.requires.moment (page_seen c.args.page.now)
+    (line_carries seen script after c.args.store c.command.result.0 a c.args.moment stays c.requires.moment (page_seen c.args.page.now)
     (page_seen c.command.new.page) c.command.result.1 set
     (λ Told. on_ok_weaker c.command.result.1 (λ all before count number h next stands readable.
     all before c.args.moment count number h next c.requires.blank stands readable) c.command.ensures.answered)
@@ -158,11 +158,11 @@ returns-in-Command-clause-carried g c =
 
 pub returns-in-Command-clause-stop : goal.returns-in-Command-clause-stop
 returns-in-Command-clause-stop g c =
-    let w = words g.D.Disk.told g.D.Disk.may_leave g.D.Disk.moment g.D.Disk.left_since g.D.Disk.fault_count in
+    let seen = g.D.Disk.seen in
     let script = c.args.script.now in
     let after = c.command.new.script in
     let rest = c.command.ensures.rest in
-    let stays : Stays w script after c.args.store c.command.result.0 = record {
+    let stays : Stays seen script after c.args.store c.command.result.0 = record {
       setup = ap (λ (k : Script). k.setup) rest;
       limits = ap (λ (k : Script). k.limits) rest;
       tells = c.command.ensures.tells;
@@ -171,8 +171,8 @@ returns-in-Command-clause-stop g c =
     } in
     let a = Command c.in-Command.desk c.in-Command.text.now in
     let is : asked c.args.wanted ≡ a = ap asked c.in-Command.is in
-    subst (λ (k : Asked). IfErr c.command.result.1 (λ stop. Stops w c.args.moment k script after c.args.store c.command.result.0 stop)) (sym is)
-    (line_stops w script after c.args.store c.command.result.0 a c.args.moment stays c.requires.moment c.command.result.1
+    subst (λ (k : Asked). IfErr c.command.result.1 (λ stop. Stops seen c.args.moment k script after c.args.store c.command.result.0 stop)) (sym is)
+    (line_stops seen script after c.args.store c.command.result.0 a c.args.moment stays c.requires.moment c.command.result.1
     (λ Told. IfErr-weaker c.command.result.1 _ _ (λ stop all before count h next stands readable.
-    command_came w Told script.setup c.args.moment before c.in-Command.desk c.in-Command.text.now h c.command.result.0 stop script.tally after.tally
+    command_came seen Told script.setup c.args.moment before c.in-Command.desk c.in-Command.text.now h c.command.result.0 stop script.tally after.tally
     (all before c.args.moment count h next c.requires.blank stands readable)) c.command.ensures.stop))

@@ -4,5 +4,5 @@ use Rattle.arc_script.proofs.tick.begin_first.Goals as goal
 pub returns-in-None-clause-stop : goal.returns-in-None-clause-stop
 returns-in-None-clause-stop g c =
     let script = c.args.script.now in
-    first_stops g.D.Disk.told g.D.Disk.may_leave g.D.Disk.fault_count c.args.store.now c.begin.new.store
+    first_stops g.D.Disk.seen c.args.store.now c.begin.new.store
     c.begin.result script.clock script.setup c.args.moment c.in-None.is c.begin.ensures.stop

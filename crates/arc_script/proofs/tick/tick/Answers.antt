@@ -8,7 +8,7 @@ pub returns-in_err-done-clause-stop : goal.returns-in_err-done-clause-stop
 returns-in_err-done-clause-stop g c =
     let script = c.args.script.now in
     let moment = c.args.moment in
-    stops_before g.D.Disk.told g.D.Disk.may_leave g.D.Disk.fault_count c.args.store.now c.submit.new.self
+    stops_before g.D.Disk.seen c.args.store.now c.submit.new.self
     c.from_residual-in_err-done.result script.clock script.setup moment
     (λ h over. c.in_err-done.ensures.stop nothing (before_tick script.clock script.setup moment h) (c.in_ok-begin_first.ensures.begun h over))
 
@@ -16,7 +16,7 @@ pub returns-clause-ticked : goal.returns-clause-ticked
 returns-clause-ticked g c =
     let script = c.args.script.now in
     let moment = c.args.moment in
-    ticks g.D.Disk.told g.D.Disk.may_leave g.D.Disk.fault_count c.args.store.now c.submit.new.self (page_seen c.args.page.now) (page_seen c.say_tick.new.page)
+    ticks g.D.Disk.seen c.args.store.now c.submit.new.self (page_seen c.args.page.now) (page_seen c.say_tick.new.page)
     c.say_tick.result (before_tick script.clock script.setup moment) moment c.in_ok-done.done.at c.in_ok-done.done.reply
     (λ h over. c.in_ok-done.ensures.done nothing (before_tick script.clock script.setup moment h) (c.in_ok-begin_first.ensures.begun h over))
     c.say_tick.ensures.text
@@ -25,6 +25,6 @@ pub returns-clause-stop : goal.returns-clause-stop
 returns-clause-stop g c =
     let script = c.args.script.now in
     let moment = c.args.moment in
-    stops_unsaid g.D.Disk.told g.D.Disk.may_leave g.D.Disk.fault_count c.args.store.now c.submit.new.self
+    stops_unsaid g.D.Disk.seen c.args.store.now c.submit.new.self
     c.say_tick.result script.clock script.setup moment c.in_ok-done.done.at c.in_ok-done.done.reply c.say_tick.ensures.stop
     (λ h over. c.in_ok-done.ensures.done nothing (before_tick script.clock script.setup moment h) (c.in_ok-begin_first.ensures.begun h over))

@@ -6,8 +6,8 @@ returns-then-has_risen-clause-ran g c = record {
   end = c.run_script-end.result.end;
   tally = c.run_script-end.result.tally;
   script = c.run_script-end.ensures.script;
-  status_is = after_fault c.run_script-end.result.end c.faults-before.result c.faults-now.result (g.D.Disk.fault_count c.args.disk)
-      (g.D.Disk.fault_count c.run_script-end.result.disk) (g.P.Ends.seen c.args.port.now) (g.P.Ends.seen c.run_script-end.new.port)
+  status_is = after_fault c.run_script-end.result.end c.faults-before.result c.faults-now.result (g.D.Disk.seen c.args.disk).faults
+      (g.D.Disk.seen c.run_script-end.result.disk).faults (g.P.Ends.seen c.args.port.now) (g.P.Ends.seen c.run_script-end.new.port)
       c.faults-before.ensures c.faults-now.ensures (c.has_risen.ensures.0 c.if-has_risen.true);
 }
 
@@ -24,7 +24,7 @@ returns-clause-ran g c =
       end = c.run_script-end.result.end;
       tally = c.run_script-end.result.tally;
       script = c.run_script-end.ensures.script;
-      status_is = without_fault c.run_script-end.result.end c.faults-before.result c.faults-now.result (g.D.Disk.fault_count c.args.disk)
-          (g.D.Disk.fault_count c.run_script-end.result.disk) (g.P.Ends.seen c.args.port.now) (g.P.Ends.seen c.run_script-end.new.port)
+      status_is = without_fault c.run_script-end.result.end c.faults-before.result c.faults-now.result (g.D.Disk.seen c.args.disk).faults
+          (g.D.Disk.seen c.run_script-end.result.disk).faults (g.P.Ends.seen c.args.port.now) (g.P.Ends.seen c.run_script-end.new.port)
           c.status_of_script.result c.has_risen.result c.faults-before.ensures c.faults-now.ensures c.has_risen.ensures.1 c.if-has_risen.false made;
     }

@@ -30,5 +30,5 @@ returns-clause-served g c past text clock begins under =
     c.close-disk.result c.first_occurred-status.ensures.first e.kept.0 c.requires.before c.close-disk.ensures c.faults.ensures)
     (puts_line p p' written last
     (subst (λ (s : State). Puts p p' written (summary_line s.sum)) c.centre.ensures c.put_summary-written.ensures))
-    (occurs status c.args.before c.faults.result (g.D.Disk.fault_count c.close-disk.result) writes late p p' (is_err written) came
+    (occurs status c.args.before c.faults.result (g.D.Disk.seen c.close-disk.result).faults writes late p p' (is_err written) came
     c.faults.ensures c.write_faults-writes.ensures c.write_faults.ensures c.first_occurred-status.ensures.first)

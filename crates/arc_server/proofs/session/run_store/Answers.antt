@@ -27,10 +27,10 @@ returns-in-Err-clause-ran g c past stands =
     let last = c.begin.new.self in
     let p = g.P.Ends.seen c.args.port.now in
     let p' = g.P.Ends.seen c.now-clock.new.self in
-    let up : HasFailed g.D.Disk.fault_count last → c.in-Err.stop ≡ Down last.at_open (g.D.Disk.fault_count last.journal.disk) =
+    let up : HasFailed g.D.Disk.seen last → c.in-Err.stop ≡ Down last.at_open (g.D.Disk.seen last.journal.disk).faults =
     λ failed. let told = e.down.0 failed in cc in
     let since : c.args.before ≤ last.at_open = subst (λ n. c.args.before ≤ n) (sym e.at_open) c.requires.before in
-    subst (λ (status : Status). GoesOnFrom g.D.Disk.told g.D.Disk.may_leave g.D.Disk.fault_count c.args.side status past c.args.setup p p' c.args.before c.close-disk.result)
+    subst (λ (status : Status). GoesOnFrom g.D.Disk.seen c.args.side status past c.args.setup p p' c.args.before c.close-disk.result)
     (sym c.stopped.ensures) (
       c.now-clock.result,
       inl (

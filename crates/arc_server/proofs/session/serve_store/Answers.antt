@@ -33,10 +33,10 @@ returns-clause-served g c past text clock stands under =
     let p' = g.P.Ends.seen c.serve_over-end.new.port in
     let last = c.serve_over-end.result.1 in
     let made = c.status_of.ensures p c.read_faults-reads.ensures c.write_faults-writes.ensures in
-    let up : HasFailed g.D.Disk.fault_count last → ⊥ =
-    up_to_end g.D.Disk.fault_count c.args.before c.args.store.at_open c.faults-now.result last c.close-disk.result c.has_risen.result
+    let up : HasFailed g.D.Disk.seen last → ⊥ =
+    up_to_end g.D.Disk.seen c.args.before c.args.store.at_open c.faults-now.result last c.close-disk.result c.has_risen.result
     c.serve_over-end.ensures.at_open c.requires.before c.close-disk.ensures c.faults-now.ensures c.has_risen.ensures.1 c.if-has_risen.false in
-    subst (λ (status : Status). IsServed g.D.Disk.told g.D.Disk.may_leave g.D.Disk.fault_count c.args.side status past text clock p p' c.args.before c.close-disk.result) (sym made)
+    subst (λ (status : Status). IsServed g.D.Disk.seen c.args.side status past text clock p p' c.args.before c.close-disk.result) (sym made)
     (served_up c.args.side c.serve_over-end.result.0 c.args.before c.faults-now.result
     (record {
       begins = stands;

@@ -9,7 +9,7 @@ use Rattle.arc_serving.proofs.serving.serve_at.Goals as goal
 
 pub returns-in_default-clause-refused : goal.returns-in_default-clause-refused
 returns-in_default-clause-refused g c = λ b h from.
-    goes_on g.D.Disk.told g.D.Disk.may_leave g.D.Disk.fault_count g.N.GateName.terms c.close-closed.ensures.closes.last c.close-closed.result.store c.close-closed.ensures.closes.closed b h from
+    goes_on g.D.Disk.seen g.N.GateName.terms c.close-closed.ensures.closes.last c.close-closed.result.store c.close-closed.ensures.closes.closed b h from
 
 -- both sides were seated, and the ticker has a pass
 pub returns-clause-served : goal.returns-clause-served
@@ -30,7 +30,7 @@ returns-clause-served g c =
     let after : StationSeen =
     record { lines = map g.A.Door.seen done.result.0.lines.items; desks = map g.B.Door.seen done.result.0.desks.items; pulse = g.T.Pulse.moments done.result.1 } in
     let came : CameSeen = record { lines = done.result.0.line_came.items; desks = done.result.0.desk_came.items; ticked = done.result.2 } in
-    subst (λ (x : StationSeen). Serves g.D.Disk.told g.D.Disk.may_leave g.D.Disk.fault_count t c.args.crew x after came done.result.0.store) c.station.view_is
-    (serves g.D.Disk.told g.D.Disk.may_leave g.D.Disk.fault_count t c.args.crew c.args.first own.new.pass at.pass c.args.first.count lines.new.first.count desks.new.first.count own.new.pass.count
+    subst (λ (x : StationSeen). Serves g.D.Disk.seen t c.args.crew x after came done.result.0.store) c.station.view_is
+    (serves g.D.Disk.seen t c.args.crew c.args.first own.new.pass at.pass c.args.first.count lines.new.first.count desks.new.first.count own.new.pass.count
     lines.result.0.jobs.items desks.result.0.jobs.items before left after came done.result.0.store c.requires.first.0 c.requires.first.1 (record { pass = fresh.0; made = fresh.1 }) fresh.3 fresh.4
     lines.ensures.seated desks.ensures.seated (line_count ∙ c.requires.lines.0) (desk_count ∙ c.requires.desks.0) refl done.ensures)

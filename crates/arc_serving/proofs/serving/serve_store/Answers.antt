@@ -9,17 +9,17 @@ use Rattle.arc_serving.proofs.Served.{of_store}
 use Rattle.arc_serving.proofs.serving.serve_store.Goals as goal
 
 pub returns-in-Ok-clause-served : goal.returns-in-Ok-clause-served
-returns-in-Ok-clause-served g c = of_store g.D.Disk.told g.D.Disk.may_leave g.D.Disk.fault_count c.in-Ok.blank c.args.store c.args.crew c.args.station c.serve_blank.result.station
+returns-in-Ok-clause-served g c = of_store g.D.Disk.seen c.in-Ok.blank c.args.store c.args.crew c.args.station c.serve_blank.result.station
     c.serve_blank.result.store c.serve_blank.result.came c.in-Ok.ensures.ok c.serve_blank.ensures.served
 
 -- the bases of the gate are the histories for which the store stood
 pub returns-in-Ok-clause-refused : goal.returns-in-Ok-clause-refused
-returns-in-Ok-clause-refused g c = subst (λ (x : Stored _). OnErr c.serve_blank.result.came ((b : Summary) (h : List Entry) → StoreStands g.D.Disk.told g.D.Disk.may_leave g.D.Disk.fault_count b x h
-    → GoesOnFrom g.D.Disk.told g.D.Disk.may_leave g.D.Disk.fault_count b h c.serve_blank.result.store)) c.in-Ok.ensures.ok c.serve_blank.ensures.refused
+returns-in-Ok-clause-refused g c = subst (λ (x : Stored _). OnErr c.serve_blank.result.came ((b : Summary) (h : List Entry) → StoreStands g.D.Disk.seen b x h
+    → GoesOnFrom g.D.Disk.seen b h c.serve_blank.result.store)) c.in-Ok.ensures.ok c.serve_blank.ensures.refused
 
 pub returns-in-Err-clause-refused : goal.returns-in-Err-clause-refused
 returns-in-Err-clause-refused g c = λ b h from. record {
   history = h;
-  stands = subst (λ (x : Stored _). StoreStands g.D.Disk.told g.D.Disk.may_leave g.D.Disk.fault_count b x h) (sym c.in-Err.ensures.refused) from;
+  stands = subst (λ (x : Stored _). StoreStands g.D.Disk.seen b x h) (sym c.in-Err.ensures.refused) from;
   begins = extends_self h;
 }

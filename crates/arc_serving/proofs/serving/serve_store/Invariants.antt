@@ -3,4 +3,4 @@ use Rattle.arc_serving.proofs.serving.serve_store.Given as goal
 
 -- the gate is the one that the blank will be
 abbrev pub ghosts-serve_blank : goal.ghosts-serve_blank
-ghosts-serve_blank g a = record { terms = terms_of g.D.Disk.told g.D.Disk.may_leave g.D.Disk.fault_count a.blank }
+ghosts-serve_blank g a = record { terms = terms_of g.D.Disk.seen a.blank }

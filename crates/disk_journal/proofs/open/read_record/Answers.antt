@@ -15,16 +15,15 @@ at_first {A = A} P o m x y same is read =
 
 pub returns-clause-bytes : goal.returns-clause-bytes
 returns-clause-bytes g c =
-    let o = g.D.Disk.told c.args.disk.now in
-    let told = g.D.Disk.told in
+    let o = (g.D.Disk.seen c.args.disk.now).told in
     let at = c.args.at in
     let n = c.in_ok-size.size in
     let buf = c.fill.new.buf in
     let gated = c.is_open.ensures.quiet.same in
     let sized = c.read_size.ensures.quiet.same ∙ gated in
     let gate = at_first (λ bytes open_gate. IsGate bytes at open_gate) o o c.in_ok-is_open.field-0 true (λ _. o) c.if-not-branch.false c.in_ok-is_open.ensures.gate in
-    let size = at_first (λ bytes k. take 4 (drop (at + 1) bytes) ≡ to_be_bytes w32 k) o (told c.is_open.new.disk) n n gated (λ _. n) c.in_ok-size.ensures.size in
-    let body = at_first (λ bytes full. IsFilled bytes (at + 5) full buf) o (told c.read_size.new.disk) c.in_ok-fill.field-0 true sized c.if-not-branch-2.false c.in_ok-fill.ensures.bytes in
+    let size = at_first (λ bytes k. take 4 (drop (at + 1) bytes) ≡ to_be_bytes w32 k) o (g.D.Disk.seen c.is_open.new.disk).told n n gated (λ _. n) c.in_ok-size.ensures.size in
+    let body = at_first (λ bytes full. IsFilled bytes (at + 5) full buf) o (g.D.Disk.seen c.read_size.new.disk).told c.in_ok-fill.field-0 true sized c.if-not-branch-2.false c.in_ok-fill.ensures.bytes in
     let long : length buf ≡ n = omega (arith, c.fill.auto.buf, c.deref_mut.ensures.len, c.in-Ok.ensures.len) in
     whole o buf (with_items c.in-Ok.body buf) c.args.len at n c.requires.len gate size body long
     (with_items_is c.in-Ok.body buf (omega (arith, long, c.in-Ok.ensures.len))) c.in_ok-size.ensures.room.1

@@ -1,4 +1,4 @@
-use Rattle.std.proofs.Common.{◌≡◌, ◌+◌, ◌<◌, ℕ, [], ◌∷◌, ◌++◌, length, Option, subst, sym, ap, arith}
+use Rattle.std.proofs.Common.{◌≡◌, ◌+◌, ◌<◌, ℕ, [], ◌∷◌, ◌++◌, length, Option, subst, sym, ap, ◌∙◌, arith}
 use Rattle.std.specs.Prelude.{IfSome, Some, None, Vec}
 use Rattle.std.specs.declared.alloc.Global.{Global}
 use Rattle.std.proofs.lemmas.Result.{err_from_is_err_and}
@@ -19,13 +19,13 @@ pub returns-in_err-body-clause-shown : goal.returns-in_err-body-clause-shown
 returns-in_err-body-clause-shown g c =
     let p = err_from_is_err_and c.from_residual.result c.from_residual.ensures.1 in
     let inv = c.loop-bodies.invariant in
-    rw (p.1, p.2) (read_broken (g.D.Disk.told c.args.disk.now) c.args.len c.loop-bodies.at c.loop-bodies.bodies c.in_err-body.field-0.0 c.requires.len c.requires.long inv.used inv.sizes inv.read
+    rw (p.1, p.2) (read_broken (g.D.Disk.seen c.args.disk.now).told c.args.len c.loop-bodies.at c.loop-bodies.bodies c.in_err-body.field-0.0 c.requires.len c.requires.long inv.used inv.sizes inv.read
     (subst (λ (o : Option Areas). IfSome o (λ s. IsBrokenAt c.in_err-body.field-0.0 s.a c.loop-bodies.at)) inv.quiet.same c.in_err-body.ensures.shown))
 
 pub loop-bodies-preserved : goal.loop-bodies-preserved
 loop-bodies-preserved g c =
     let inv = c.loop-bodies.invariant in
-    let o = g.D.Disk.told c.args.disk.now in
+    let o = (g.D.Disk.seen c.args.disk.now).told in
     let body = c.in-Some.body in
     let at = c.loop-bodies.at in
     let next = at + (5 + c.len.result) in
@@ -35,19 +35,19 @@ loop-bodies-preserved g c =
     let more : c.push_vec.new.self ≡ c.loop-bodies.bodies ++ body.items ∷ [] = c.in-Ok.ensures in
     record {
       before = omega (arith, inv.before, c.read_record.ensures.later);
-      later = omega (arith, inv.later, c.read_record.ensures.later);
+      met_none = c.in_ok-body.ensures.met_none ∙ inv.met_none;
       within = omega (arith, room.1, long);
       sizes = subst HaveSizes (sym more) (sizes-more c.loop-bodies.bodies body.items inv.sizes room.0);
       used = omega (arith, inv.used, long, ap size more, size-more c.loop-bodies.bodies body.items);
       read = subst (ReadTo o next) (sym more) (read_more o at next c.loop-bodies.bodies body inv.used (ap (λ n. at + (5 + n)) long) inv.read
-          (at_first o (g.D.Disk.told c.loop-bodies.disk) at c.in_ok-body.field-0 (Some body) inv.quiet.same c.in-Some.is c.in_ok-body.ensures.bytes));
+          (at_first o (g.D.Disk.seen c.loop-bodies.disk).told at c.in_ok-body.field-0 (Some body) inv.quiet.same c.in-Some.is c.in_ok-body.ensures.bytes));
       piece = subst (λ (told : Option Areas). Shows told c.read_record.new.window) (sym c.read_record.ensures.quiet.same) c.in_ok-body.ensures.piece;
-      quiet = quiet_then g.D.Disk.told g.D.Disk.may_leave g.D.Disk.moment g.D.Disk.left_since c.args.disk.now c.loop-bodies.disk c.read_record.new.disk inv.quiet c.read_record.ensures.quiet;
+      quiet = quiet_then (g.D.Disk.seen c.args.disk.now) (g.D.Disk.seen c.loop-bodies.disk) (g.D.Disk.seen c.read_record.new.disk) inv.quiet c.read_record.ensures.quiet;
     }
 
 pub returns-clause-bytes : goal.returns-clause-bytes
 returns-clause-bytes g c =
     let inv = c.loop-bodies.invariant in
-    let o = g.D.Disk.told c.args.disk.now in
+    let o = (g.D.Disk.seen c.args.disk.now).told in
     read_all o c.loop-bodies.at c.loop-bodies.bodies inv.sizes inv.read
-    (at_first o (g.D.Disk.told c.loop-bodies.disk) c.loop-bodies.at c.in_ok-body.field-0 None inv.quiet.same c.in_default.is c.in_ok-body.ensures.bytes)
+    (at_first o (g.D.Disk.seen c.loop-bodies.disk).told c.loop-bodies.at c.in_ok-body.field-0 None inv.quiet.same c.in_default.is c.in_ok-body.ensures.bytes)

@@ -7,14 +7,14 @@ use Rattle.disk_journal.proofs.open.read_records.Given as goal
 
 abbrev pub invariant-loop-bodies : goal.invariant-loop-bodies
 invariant-loop-bodies g l = record {
-  before : l.before ≤ g.D.Disk.fault_count l.disk;
-  later : g.D.Disk.fault_count l.initial.disk ≤ g.D.Disk.fault_count l.disk;
+  before : l.before ≤ (g.D.Disk.seen l.disk).faults;
+  met_none : (g.D.Disk.seen l.disk).faults ≡ (g.D.Disk.seen l.initial.disk).faults;
   within : l.at < l.len;
   sizes : HaveSizes l.bodies;
   used : l.at + 1 ≡ size l.bodies;
-  read : ReadTo (g.D.Disk.told l.initial.disk) l.at l.bodies;
-  piece : Shows (g.D.Disk.told l.disk) l.window;
-  quiet : IsQuiet g.D.Disk.told g.D.Disk.may_leave g.D.Disk.moment g.D.Disk.left_since l.initial.disk l.disk;
+  read : ReadTo (g.D.Disk.seen l.initial.disk).told l.at l.bodies;
+  piece : Shows (g.D.Disk.seen l.disk).told l.window;
+  quiet : IsQuiet (g.D.Disk.seen l.initial.disk) (g.D.Disk.seen l.disk);
 }
 
 abbrev pub decreases-loop-bodies : goal.decreases-loop-bodies

@@ -31,7 +31,7 @@ returns-clause-told g c bodies is h =
 
 pub returns-in_err-write_synced-clause-any_moment : goal.returns-in_err-write_synced-clause-any_moment
 returns-in_err-write_synced-clause-any_moment g c bodies is h =
-    weaker g.D.Disk.moment g.D.Disk.left_since _ _ (λ (x : Areas). StandsForEither bodies c.args.body.now x.a) _ c.write_synced.ensures.any_moment
+    weaker _ _ (λ (x : Areas). StandsForEither bodies c.args.body.now x.a) _ c.write_synced.ensures.any_moment
     (λ x t. inl (inr (torn_behind bodies c.args.used (length c.args.laid.now) t.0.a x.a is (h.images t.0 t.1) t.2.0)))
 
 pub returns-clause-any_moment : goal.returns-clause-any_moment
@@ -40,13 +40,12 @@ returns-clause-any_moment g c bodies is h =
     let body = c.args.body.now in
     let laid = c.args.laid.now in
     let P : Areas → Type 0 = λ x. StandsForEither bodies body x.a in
-    let moment = g.D.Disk.moment in
-    let since = g.D.Disk.left_since in
+    let seen = g.D.Disk.seen in
     let file = staged_file bodies body laid used is c.requires.laid h.sizes c.requires.size _ _ c.in_ok-write_synced.ensures.written h.file in
     let images = images_of (Staged bodies body) _ _ file c.in_ok-write_synced.ensures.durable (λ x none. g.met.D.Disk.silent c.write_synced.new.disk x none) in
     let at : used - 1 + 1 ≡ size bodies = omega (arith, is, size-least bodies) in
-    joined moment since _ _ _ P _
-    (weaker moment since _ _ P _ c.write_synced.ensures.any_moment (λ x t. inl (inr (torn_behind bodies used (length laid) t.0.a x.a is (h.images t.0 t.1) t.2.0))))
+    joined _ _ _ P _
+    (weaker _ _ P _ c.write_synced.ensures.any_moment (λ x t. inl (inr (torn_behind bodies used (length laid) t.0.a x.a is (h.images t.0 t.1) t.2.0))))
     c.write_synced-2.ensures.any_moment
     (λ x t. either_image (torn_gate bodies body (used - 1) t.0.a x.a h.sizes c.requires.size at (images t.0 t.1) t.2.0))
 
@@ -65,16 +64,18 @@ returns-clause-added g c = on_ok_both c.write_synced-2.result c.write_synced-2.e
 
 pub returns-in_err-write_synced-clause-behind : goal.returns-in_err-write_synced-clause-behind
 returns-in_err-write_synced-clause-behind g c =
-    torn_spares g.D.Disk.told g.D.Disk.may_leave _ _ c.args.used (length c.args.laid.now) _ (omega (arith, laid_length c.args.body.now c.args.laid.now c.requires.laid))
+    torn_spares (g.D.Disk.seen c.args.disk.now) (g.D.Disk.seen c.write_synced.new.disk) c.args.used (length c.args.laid.now) _ (omega (arith, laid_length c.args.body.now c.args.laid.now c.requires.laid))
     c.write_synced.ensures.torn c.write_synced.ensures.crash
 
 pub returns-clause-behind : goal.returns-clause-behind
 returns-clause-behind g c =
-    let told = g.D.Disk.told in
-    let may_leave = g.D.Disk.may_leave in
+    let seen = g.D.Disk.seen in
+    let old = seen c.args.disk.now in
+    let mid = seen c.write_synced.new.disk in
+    let new = seen c.write_synced-2.new.disk in
     let h = c.requires.kept in
     let m = c.args.used + 5 + length c.args.body.now in
-    spares_more told may_leave _ _ _ m
-    (torn_spares told may_leave _ _ c.args.used (length c.args.laid.now) m (omega (arith, laid_length c.args.body.now c.args.laid.now c.requires.laid))
+    spares_more old mid new m
+    (torn_spares old mid c.args.used (length c.args.laid.now) m (omega (arith, laid_length c.args.body.now c.args.laid.now c.requires.laid))
     c.write_synced.ensures.torn c.write_synced.ensures.crash)
-    (torn_spares told may_leave _ _ (c.args.used - 1) 1 m (omega (arith, h.1, size-least h.0)) c.write_synced-2.ensures.torn c.write_synced-2.ensures.crash)
+    (torn_spares mid new (c.args.used - 1) 1 m (omega (arith, h.1, size-least h.0)) c.write_synced-2.ensures.torn c.write_synced-2.ensures.crash)

@@ -13,9 +13,9 @@ returns-clause-kept g c = record {
 
 pub returns-clause-done : goal.returns-clause-done
 returns-clause-done g c =
-    goes_on g.D.Disk.told g.D.Disk.may_leave g.D.Disk.fault_count c.args.self.now c.submit.new.self c.submit.ensures.text c.args.clock c.args.event c.submit.result
+    goes_on g.D.Disk.seen c.args.self.now c.submit.new.self c.submit.ensures.text c.args.clock c.args.event c.submit.result
     c.submit.ensures.done c.submit.ensures.by
 
 pub returns-clause-stop : goal.returns-clause-stop
 returns-clause-stop g c =
-    waits g.D.Disk.told g.D.Disk.may_leave g.D.Disk.fault_count c.args.self.now c.submit.new.self c.submit.ensures.text c.submit.result c.submit.ensures.stop
+    waits g.D.Disk.seen c.args.self.now c.submit.new.self c.submit.ensures.text c.submit.result c.submit.ensures.stop

@@ -11,7 +11,7 @@ use Rattle.centre_store.proofs.store.Store.begin.Goals as goal
 
 pub returns-in_err-enter-clause-any_moment : goal.returns-in_err-enter-clause-any_moment
 returns-in_err-enter-clause-any_moment g c b h w up =
-    joined g.D.Disk.moment g.D.Disk.left_since c.args.self.now.journal.disk c.adopt.new.self.journal.disk c.enter.new.self.journal.disk
+    joined (g.D.Disk.seen c.args.self.now.journal.disk) (g.D.Disk.seen c.adopt.new.self.journal.disk) (g.D.Disk.seen c.enter.new.self.journal.disk)
     (λ (x : Areas). StandsWithin b h c.args.setup c.args.clock x.a) _ (c.adopt.ensures.any_moment b h w up)
     (c.enter.ensures.any_moment b (adopted_after b h c.args.setup c.args.clock) (c.in_ok-adopt.ensures.adopted b h w)
     (λ f.
@@ -21,7 +21,7 @@ returns-in_err-enter-clause-any_moment g c b h w up =
 
 pub returns-clause-any_moment : goal.returns-clause-any_moment
 returns-clause-any_moment g c b h w up =
-    joined g.D.Disk.moment g.D.Disk.left_since c.args.self.now.journal.disk c.adopt.new.self.journal.disk c.enter.new.self.journal.disk
+    joined (g.D.Disk.seen c.args.self.now.journal.disk) (g.D.Disk.seen c.adopt.new.self.journal.disk) (g.D.Disk.seen c.enter.new.self.journal.disk)
     (λ (x : Areas). StandsWithin b h c.args.setup c.args.clock x.a) _ (c.adopt.ensures.any_moment b h w up)
     (c.enter.ensures.any_moment b (adopted_after b h c.args.setup c.args.clock) (c.in_ok-adopt.ensures.adopted b h w)
     (λ f.
@@ -31,17 +31,17 @@ returns-clause-any_moment g c b h w up =
 
 pub returns-in_err-enter-clause-spared : goal.returns-in_err-enter-clause-spared
 returns-in_err-enter-clause-spared g c =
-    spares_then g.D.Disk.told g.D.Disk.may_leave g.D.Disk.moment g.D.Disk.left_since c.args.self.now.journal.disk c.adopt.new.self.journal.disk c.enter.new.self.journal.disk
+    spares_then g.D.Disk.seen c.args.self.now.journal.disk c.adopt.new.self.journal.disk c.enter.new.self.journal.disk
     c.adopt.ensures.spared c.enter.ensures.spared
 
 pub returns-clause-spared : goal.returns-clause-spared
 returns-clause-spared g c =
-    spares_then g.D.Disk.told g.D.Disk.may_leave g.D.Disk.moment g.D.Disk.left_since c.args.self.now.journal.disk c.adopt.new.self.journal.disk c.enter.new.self.journal.disk
+    spares_then g.D.Disk.seen c.args.self.now.journal.disk c.adopt.new.self.journal.disk c.enter.new.self.journal.disk
     c.adopt.ensures.spared c.enter.ensures.spared
 
 pub returns-clause-begun : goal.returns-clause-begun
 returns-clause-begun g c b h w =
-    started_stands g.D.Disk.told g.D.Disk.may_leave g.D.Disk.fault_count b c.enter.new.self (adopted_after b h c.args.setup c.args.clock) c.args.clock
+    started_stands g.D.Disk.seen b c.enter.new.self (adopted_after b h c.args.setup c.args.clock) c.args.clock
     c.in_ok-enter.field-0.at c.in_ok-enter.field-0.reply
     (c.in_ok-enter.ensures.done b (adopted_after b h c.args.setup c.args.clock) 0 (c.in_ok-adopt.ensures.adopted b h w))
 
@@ -52,7 +52,7 @@ returns-in_err-enter-clause-order g c up =
     record {
       adopt = λ other.
           let o = c.in_ok-adopt.ensures.order other in
-          order_past g.D.Disk.told g.D.Disk.may_leave g.D.Disk.fault_count c.args.self.now (Adopt c.args.setup) c.args.clock _ result c.in_ok-adopt.field-0 refl o.worn o.full;
+          order_past g.D.Disk.seen c.args.self.now (Adopt c.args.setup) c.args.clock _ result c.in_ok-adopt.field-0 refl o.worn o.full;
       start = inr (record {
         between = c.adopt.new.self;
         adopted = record {
@@ -64,7 +64,7 @@ returns-in_err-enter-clause-order g c up =
               let e = c.in_ok-adopt.ensures.down.0 f in
               cc;
         };
-        order = order_on g.D.Disk.told g.D.Disk.may_leave g.D.Disk.fault_count c.adopt.new.self Start c.args.clock _ result c.in_err-enter.field-0.0 refl on
+        order = order_on g.D.Disk.seen c.adopt.new.self Start c.args.clock _ result c.in_err-enter.field-0.0 refl on
             c.in_err-enter.ensures.worn c.in_err-enter.ensures.full;
         before = before_on c.adopt.new.self c.enter.new.self result c.in_err-enter.field-0.0 on
             c.in_err-enter.ensures.entries c.in_err-enter.ensures.sum c.in_err-enter.ensures.unwritten;
@@ -75,7 +75,7 @@ pub returns-clause-order : goal.returns-clause-order
 returns-clause-order g c up = record {
   adopt = λ other.
       let o = c.in_ok-adopt.ensures.order other in
-      order_past g.D.Disk.told g.D.Disk.may_leave g.D.Disk.fault_count c.args.self.now (Adopt c.args.setup) c.args.clock _ _ c.in_ok-adopt.field-0 refl o.worn o.full;
+      order_past g.D.Disk.seen c.args.self.now (Adopt c.args.setup) c.args.clock _ _ c.in_ok-adopt.field-0 refl o.worn o.full;
   start = inr (record {
     between = c.adopt.new.self;
     adopted = record {
@@ -87,7 +87,7 @@ returns-clause-order g c up = record {
           let e = c.in_ok-adopt.ensures.down.0 f in
           cc;
     };
-    order = order_past g.D.Disk.told g.D.Disk.may_leave g.D.Disk.fault_count c.adopt.new.self Start c.args.clock _ _ c.in_ok-enter.field-0 refl c.in_ok-enter.ensures.worn
+    order = order_past g.D.Disk.seen c.adopt.new.self Start c.args.clock _ _ c.in_ok-enter.field-0 refl c.in_ok-enter.ensures.worn
         c.in_ok-enter.ensures.full;
     before = record { entries = tt; sum = tt; unwritten = tt };
   });

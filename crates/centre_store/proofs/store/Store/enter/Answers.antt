@@ -13,7 +13,7 @@ use Rattle.centre_store.proofs.store.Store.enter.Goals as goal
 pub returns-then-quiet-clause-done : goal.returns-then-quiet-clause-done
 returns-then-quiet-clause-done g c b h caller w =
     let p = c.in-Ok.ready in
-    takes_quiet g.D.Disk.told g.D.Disk.may_leave g.D.Disk.fault_count b c.args.self.now c.self.inside.centre c.prepare.new.self c.self.inside.journal c.self.inside.at_open h
+    takes_quiet g.D.Disk.seen b c.args.self.now c.self.inside.centre c.prepare.new.self c.self.inside.journal c.self.inside.at_open h
     c.self.view_is c.in_ok-check_disk.ensures.up w (c.in-Ok.ensures.stays b h) c.apply.new.self c.args.clock caller c.args.event c.apply.result.at c.apply.result.reply p
     c.in-Ok.ensures.event c.apply.ensures.at c.apply.ensures.reply (c.in-Ok.ensures.at b h) (c.apply.ensures.entry b h caller) (is_quiet _ _ c.quiet.ensures c.if-quiet.true)
 
@@ -22,12 +22,12 @@ invariant_of-self-then-quiet g c =
     let p = c.in-Ok.ready in
     let b = c.self.invariant.base in
     let h = c.self.invariant.history in
-    let up = λ (f : HasFailed g.D.Disk.fault_count (record { state = c.self.inside.centre; journal = c.self.inside.journal; at_open = c.self.inside.at_open })).
-    c.in_ok-check_disk.ensures.up (subst (λ (x : Stored g.row.D.Denot). HasFailed g.D.Disk.fault_count x) c.self.view_is f) in
+    let up = λ (f : HasFailed g.D.Disk.seen (record { state = c.self.inside.centre; journal = c.self.inside.journal; at_open = c.self.inside.at_open })).
+    c.in_ok-check_disk.ensures.up (subst (λ (x : Stored g.row.D.Denot). HasFailed g.D.Disk.seen x) c.self.view_is f) in
     record {
       base = b;
       history = entry_of 0 p ∷ h;
-      stands = (takes_quiet g.D.Disk.told g.D.Disk.may_leave g.D.Disk.fault_count b (record { state = c.self.inside.centre; journal = c.self.inside.journal; at_open = c.self.inside.at_open })
+      stands = (takes_quiet g.D.Disk.seen b (record { state = c.self.inside.centre; journal = c.self.inside.journal; at_open = c.self.inside.at_open })
           c.self.inside.centre c.prepare.new.self c.self.inside.journal c.self.inside.at_open h refl up c.self.invariant.stands (c.in-Ok.ensures.stays b h)
           c.apply.new.self c.args.clock 0 p.event p.at p.reply p refl refl refl
           (c.in-Ok.ensures.at b h) (c.apply.ensures.entry b h 0) (is_quiet _ _ c.quiet.ensures c.if-quiet.true)).stands;
@@ -37,7 +37,7 @@ invariant_of-self-then-quiet g c =
 pub returns-in-Ok-write-clause-done : goal.returns-in-Ok-write-clause-done
 returns-in-Ok-write-clause-done g c b h caller w =
     let p = c.in-Ok.ready in
-    takes_written g.D.Disk.told g.D.Disk.may_leave g.D.Disk.fault_count b c.args.self.now c.self.inside.centre c.prepare.new.self c.self.inside.journal c.self.inside.at_open h
+    takes_written g.D.Disk.seen b c.args.self.now c.self.inside.centre c.prepare.new.self c.self.inside.journal c.self.inside.at_open h
     c.self.view_is c.in_ok-check_disk.ensures.up w (c.in-Ok.ensures.stays b h) c.apply-in-Ok-write.new.self c.write.new.journal c.args.clock caller c.args.event
     c.apply-in-Ok-write.result.at c.apply-in-Ok-write.result.reply p
     c.in-Ok.ensures.event c.apply-in-Ok-write.ensures.at c.apply-in-Ok-write.ensures.reply (c.in-Ok.ensures.at b h) (c.apply-in-Ok-write.ensures.entry b h caller)
@@ -48,12 +48,12 @@ invariant_of-self-in-Ok-write g c =
     let p = c.in-Ok.ready in
     let b = c.self.invariant.base in
     let h = c.self.invariant.history in
-    let up = λ (f : HasFailed g.D.Disk.fault_count (record { state = c.self.inside.centre; journal = c.self.inside.journal; at_open = c.self.inside.at_open })).
-    c.in_ok-check_disk.ensures.up (subst (λ (x : Stored g.row.D.Denot). HasFailed g.D.Disk.fault_count x) c.self.view_is f) in
+    let up = λ (f : HasFailed g.D.Disk.seen (record { state = c.self.inside.centre; journal = c.self.inside.journal; at_open = c.self.inside.at_open })).
+    c.in_ok-check_disk.ensures.up (subst (λ (x : Stored g.row.D.Denot). HasFailed g.D.Disk.seen x) c.self.view_is f) in
     record {
       base = b;
       history = entry_of 0 p ∷ h;
-      stands = (takes_written g.D.Disk.told g.D.Disk.may_leave g.D.Disk.fault_count b (record { state = c.self.inside.centre; journal = c.self.inside.journal; at_open = c.self.inside.at_open })
+      stands = (takes_written g.D.Disk.seen b (record { state = c.self.inside.centre; journal = c.self.inside.journal; at_open = c.self.inside.at_open })
           c.self.inside.centre c.prepare.new.self c.self.inside.journal c.self.inside.at_open h refl up c.self.invariant.stands (c.in-Ok.ensures.stays b h)
           c.apply-in-Ok-write.new.self c.write.new.journal c.args.clock 0 p.event p.at p.reply p refl refl refl
           (c.in-Ok.ensures.at b h) (c.apply-in-Ok-write.ensures.entry b h 0) (not_quiet _ _ c.quiet.ensures c.if-quiet.false) (c.in-Ok-write.ensures.added _)).stands;
@@ -62,14 +62,14 @@ invariant_of-self-in-Ok-write g c =
 
 pub returns-in-Ok-write-clause-any_moment : goal.returns-in-Ok-write-clause-any_moment
 returns-in-Ok-write-clause-any_moment g c b h w up =
-    written_moment g.D.Disk.told g.D.Disk.may_leave g.D.Disk.fault_count b c.args.self.now c.self.inside.centre c.prepare.new.self c.self.inside.journal c.self.inside.at_open h
-    c.self.view_is up w (c.in-Ok.ensures.stays b h) g.D.Disk.moment g.D.Disk.left_since c.write.new.journal.disk c.args.clock c.args.event c.in-Ok.ready c.in-Ok.ensures.event
+    written_moment g.D.Disk.seen b c.args.self.now c.self.inside.centre c.prepare.new.self c.self.inside.journal c.self.inside.at_open h
+    c.self.view_is up w (c.in-Ok.ensures.stays b h) c.write.new.journal.disk c.args.clock c.args.event c.in-Ok.ready c.in-Ok.ensures.event
     (c.in-Ok.ensures.at b h) (c.write.ensures.any_moment _)
 
 pub returns-in-Err-clause-any_moment : goal.returns-in-Err-clause-any_moment
 returns-in-Err-clause-any_moment g c b h w up =
-    written_moment g.D.Disk.told g.D.Disk.may_leave g.D.Disk.fault_count b c.args.self.now c.self.inside.centre c.prepare.new.self c.self.inside.journal c.self.inside.at_open h
-    c.self.view_is up w (c.in-Ok.ensures.stays b h) g.D.Disk.moment g.D.Disk.left_since c.write.new.journal.disk c.args.clock c.args.event c.in-Ok.ready c.in-Ok.ensures.event
+    written_moment g.D.Disk.seen b c.args.self.now c.self.inside.centre c.prepare.new.self c.self.inside.journal c.self.inside.at_open h
+    c.self.view_is up w (c.in-Ok.ensures.stays b h) c.write.new.journal.disk c.args.clock c.args.event c.in-Ok.ready c.in-Ok.ensures.event
     (c.in-Ok.ensures.at b h) (c.write.ensures.any_moment _)
 
 pub write-requires-clause-kept : goal.write-requires-clause-kept
@@ -82,11 +82,11 @@ write-requires-clause-kept g c =
 
 pub returns-then-quiet-clause-behind : goal.returns-then-quiet-clause-behind
 returns-then-quiet-clause-behind g c =
-    behind_still g.D.Disk.told g.D.Disk.may_leave c.args.self.now
+    behind_still g.D.Disk.seen c.args.self.now
     (record { state = c.self.inside.centre; journal = c.self.inside.journal; at_open = c.self.inside.at_open }) _ c.self.view_is
 
 pub returns-in-Ok-write-clause-behind : goal.returns-in-Ok-write-clause-behind
 returns-in-Ok-write-clause-behind g c =
-    behind_event g.D.Disk.told g.D.Disk.may_leave c.args.self.now
+    behind_event g.D.Disk.seen c.args.self.now
     (record { state = c.self.inside.centre; journal = c.self.inside.journal; at_open = c.self.inside.at_open }) c.write.new.journal.disk c.args.event c.in-Ok.ready.event
     c.self.view_is c.in-Ok.ensures.event c.in-Ok-write.ensures.behind

@@ -6,10 +6,10 @@ use Rattle.line_gate.proofs.gate.Gate.new.Goals as goal
 pub invariant_of-pass : goal.invariant_of-pass
 invariant_of-pass g c =
     let t = g.N.GateName.terms in
-    first_seated _ _ _ t _ _ _ _ c.blank.inside.first.me _ _ (subst (Names _ _ _ t) (sym c.blank.view_is) c.requires) c.blank.invariant
+    first_seated _ t _ _ _ _ c.blank.inside.first.me _ _ (subst (Names _ t) (sym c.blank.view_is) c.requires) c.blank.invariant
 
 pub returns-clause-pass : goal.returns-clause-pass
 returns-clause-pass g c =
     let t = g.N.GateName.terms in
     pass_from t 1 _ _
-    (first_seated _ _ _ t _ _ _ _ c.blank.inside.first.me _ _ (subst (Names _ _ _ t) (sym c.blank.view_is) c.requires) c.blank.invariant)
+    (first_seated _ t _ _ _ _ c.blank.inside.first.me _ _ (subst (Names _ t) (sym c.blank.view_is) c.requires) c.blank.invariant)

@@ -33,4 +33,4 @@ returns-in-Ok-clause-crash c x left =
 pub returns-in-Ok-clause-time : goal.returns-in-Ok-clause-time
 returns-in-Ok-clause-time c =
     let d = c.args.self.now in
-    elapses d.first_a.items d.first_b.items d.past.items c.keep_sync.new.past.items _ c.in-Ok.ensures
+    elapses d.first_a.items d.first_b.items d.past.items c.keep_sync.new.past.items _ c.in-Ok.ensures _ _ _ _

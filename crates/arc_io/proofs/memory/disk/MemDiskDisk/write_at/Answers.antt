@@ -37,4 +37,4 @@ returns-in-Ok-clause-crash c =
 pub returns-in-Ok-clause-time : goal.returns-in-Ok-clause-time
 returns-in-Ok-clause-time c =
     let d = c.args.self.now in
-    elapses d.first_a.items d.first_b.items d.past.items c.keep_write-kept.new.past.items _ c.in-Ok.ensures.0.2
+    elapses d.first_a.items d.first_b.items d.past.items c.keep_write-kept.new.past.items _ c.in-Ok.ensures.0.2 _ _ _ _
