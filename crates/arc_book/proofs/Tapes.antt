@@ -4,6 +4,7 @@ use Rattle.std.specs.Prelude.{IfSome}
 use Rattle.std.specs.Io.KnownBytes.{prepend_known}
 use Rattle.arc_io.proofs.KnownMore.{known_taken}
 use Rattle.centre_rules.specs.History.{Entry}
+use Rattle.centre_rules.specs.Summary.{nothing}
 use Rattle.centre_store.specs.Pasts.{IsPast, IsBadAt, HasNoNext}
 use Rattle.disk_journal.specs.Records.{front as bytes_before, bytes_of, IsWhole, IsDamaged, Stands}
 use Rattle.disk_journal.specs.declared.fault.OpenFault.{OpenFault}
@@ -117,7 +118,7 @@ read_on all bodies body gate place next before rest r ahead step = record {
 
 -- the end at a record whose body no entry has
 pub ends_bad : (all : Option (List ℕ)) (bodies : List (List ℕ)) (past : List Entry) (body : List ℕ) (gate next : ℕ) (rest : Option (List ℕ))
-    → IsReadTo all (bodies ++ body ∷ []) gate next rest → HasNoNext bodies past body → IfSome all (EndsAt bodies past)
+    → IsReadTo all (bodies ++ body ∷ []) gate next rest → HasNoNext nothing bodies past body → IfSome all (EndsAt bodies past)
 ends_bad all bodies past body gate next rest r bad =
     told (EndsAt bodies past) all rest (bytes_before (bodies ++ body ∷ []) ++ gate ∷ []) r.is
     (λ bytes behind some some' is. record {
@@ -126,8 +127,8 @@ ends_bad all bodies past body gate next rest r bad =
       lacks = inr (body, gate ∷ behind, refl, bad);
     })
 
-bad_at : (bodies behind : List (List ℕ)) (body : List ℕ) (past : List Entry) (place : ℕ) → IsPast bodies past → place ≡ length (bytes_before bodies)
-    → HasNoNext bodies past body → IsBadAt ((bodies ++ body ∷ []) ++ behind) place
+bad_at : (bodies behind : List (List ℕ)) (body : List ℕ) (past : List Entry) (place : ℕ) → IsPast nothing bodies past → place ≡ length (bytes_before bodies)
+    → HasNoNext nothing bodies past body → IsBadAt nothing ((bodies ++ body ∷ []) ++ behind) place
 bad_at bodies behind body past place p at bad = record {
   front = bodies;
   body = body;
@@ -141,12 +142,12 @@ bad_at bodies behind body past place p at bad = record {
 
 -- what a reading behind a bad body finds is a refusal of the area
 pub bad_end : (all : Option (List ℕ)) (bodies : List (List ℕ)) (past : List Entry) (body : List ℕ) (fault : OpenFault) (place : ℕ)
-    → IfSome all (EndsAt bodies past) → IsPast bodies past → place ≡ length (bytes_before bodies) → HasNoNext bodies past body
+    → IfSome all (EndsAt bodies past) → IsPast nothing bodies past → place ≡ length (bytes_before bodies) → HasNoNext nothing bodies past body
     → ((fault ≡ Open.Damaged place) × ((behind : List (List ℕ)) × IfSome all (λ bytes. Stands bytes ((bodies ++ body ∷ []) ++ behind))))
     ⊎ ((q : ℕ) × (fault ≡ Open.Damaged q) × IfSome all (λ bytes. IsDamaged bytes q))
     → IfSome all (EndsRefused fault bodies past)
 bad_end None bodies past body fault place ends p at bad found = tt
 bad_end (Some bytes) bodies past body fault place ends p at bad (inl f) =
-    subst (λ (x : OpenFault). EndsRefused x bodies past bytes) (sym f.0) (inr ((bodies ++ body ∷ []) ++ f.1.0, f.1.1, bad_at bodies f.1.0 body past place p at bad), ends)
+    subst (λ (x : OpenFault). EndsRefused x bodies past bytes) (sym f.0) (inr (nothing, (bodies ++ body ∷ []) ++ f.1.0, (refl, f.1.1), bad_at bodies f.1.0 body past place p at bad), ends)
 bad_end (Some bytes) bodies past body fault place ends p at bad (inr f) =
     subst (λ (x : OpenFault). EndsRefused x bodies past bytes) (sym f.1) (inl f.2, ends)

@@ -22,7 +22,7 @@ use Rattle.arc_book.proofs.Tapes.{stands_at, begins_at, spent_end, broken_end, e
 pub record Walks (all : Option (List ℕ)) (gate at : ℕ) (rest : Option (List ℕ)) (k0 k : PortSeen) (centre : State) (page : List ℕ) : Type 0 where
   pub bodies : List (List ℕ)
   pub past : List Entry
-  pub is_past : IsPast bodies past
+  pub is_past : IsPast nothing bodies past
   pub read : IsReadTo all bodies gate at rest
   pub stands : StandsFor nothing centre past
   pub text : IsWrittenBut k0.written k.written page (book_of past)
@@ -59,7 +59,7 @@ module _ (all : Option (List ℕ)) (gate at : ℕ) (rest : Option (List ℕ)) (s
   memory_walk = ends Memory (begins_at all w.bodies gate at rest w.read) w.text tt
 
   -- a body was read with which no entry goes on, and then the rest
-  pub bad_walk : (status : Status) (body : List ℕ) (gate' at' : ℕ) (rest' : Option (List ℕ)) → IsReadTo all (w.bodies ++ body ∷ []) gate' at' rest' → HasNoNext w.bodies w.past body
+  pub bad_walk : (status : Status) (body : List ℕ) (gate' at' : ℕ) (rest' : Option (List ℕ)) → IsReadTo all (w.bodies ++ body ∷ []) gate' at' rest' → HasNoNext nothing w.bodies w.past body
       → IsScanned status all (w.bodies ++ body ∷ []) at → (status ≡ ReadFault → Rose s.read_faults s'.read_faults) → IsCompiled status all s s' k0 k page
   bad_walk Done body gate' at' rest' r bad scanned rose = absurd scanned
   bad_walk Usage body gate' at' rest' r bad scanned rose = absurd scanned

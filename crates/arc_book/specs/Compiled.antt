@@ -1,11 +1,13 @@
 -- What is told of an area, and how far.
 use Rattle.std.specs.Prelude.{◌≡◌, ◌⊎◌, ◌≤◌, ◌<◌, ◌^◌, ℕ, List, [], ◌∷◌, ◌++◌, length, take, Option, IfSome}
 use Rattle.std.specs.Io.KnownBytes.{append_known}
+use Rattle.arc_io.specs.Areas.{Areas}
 use Rattle.arc_io.specs.Causes.{Rose}
 use Rattle.arc_io.specs.Seen.{PortSeen}
 use Rattle.arc_io.specs.Told.{OnlyReads, OnlyWrites}
 use Rattle.book_lines.specs.Books.{book_of}
 use Rattle.centre_rules.specs.History.{Entry}
+use Rattle.centre_rules.specs.Summary.{nothing}
 use Rattle.centre_store.specs.Openings.{IsRefused}
 use Rattle.centre_store.specs.Pasts.{IsPast, HasNoNext}
 use Rattle.disk_journal.specs.Records.{Stands, IsWhole, IsDamaged, front as bytes_before, bytes_of}
@@ -13,6 +15,10 @@ use Rattle.disk_journal.specs.declared.fault.OpenFault.{OpenFault}
 use Rattle.disk_journal.specs.declared.fault.OpenFault.TheVariants as Open
 use Rattle.arc_book.specs.declared.status.Status.{Status}
 use Rattle.arc_book.specs.declared.status.Status.TheVariants.{Done, Usage, ReadFault, WriteFault, Journal, Memory, Spent}
+
+-- the areas of a disk of which area A has these bytes, and area B has none
+abbrev pub alone : List ℕ → Areas
+alone bytes = record { a = bytes; b = [] }
 
 -- the area begins with the records of these bodies
 abbrev pub BeginsWith : List (List ℕ) → List ℕ → Type 0
@@ -23,12 +29,12 @@ BeginsWith bodies bytes = (bodies ≡ []) ⊎ ((behind : List ℕ) × (bytes ≡
 pub record EndsAt (bodies : List (List ℕ)) (past : List Entry) (bytes : List ℕ) : Type 0 where
   pub rest : List ℕ
   pub is : bytes ≡ bytes_before bodies ++ 1 ∷ rest
-  pub lacks : (IsWhole rest → ⊥) ⊎ ((body behind : List ℕ) × (rest ≡ bytes_of body ++ behind) × HasNoNext bodies past body)
+  pub lacks : (IsWhole rest → ⊥) ⊎ ((body behind : List ℕ) × (rest ≡ bytes_of body ++ behind) × HasNoNext nothing bodies past body)
 
 -- a refusal of the area, of which the records up to the first that lacks were told: none of an area that is no journal
 abbrev pub EndsRefused : OpenFault → List (List ℕ) → List Entry → List ℕ → Type 0
-EndsRefused (Open.Damaged place) bodies past bytes = IsRefused (Open.Damaged place) bytes × EndsAt bodies past bytes
-EndsRefused fault bodies past bytes = IsRefused fault bytes × (bodies ≡ [])
+EndsRefused (Open.Damaged place) bodies past bytes = IsRefused (Open.Damaged place) (alone bytes) × EndsAt bodies past bytes
+EndsRefused fault bodies past bytes = IsRefused fault (alone bytes) × (bodies ≡ [])
 
 -- what the area's bytes are at an end, by the bodies of the records that were told
 abbrev pub IsEnd : Status → List (List ℕ) → List Entry → List ℕ → Type 0
@@ -62,7 +68,7 @@ HasCauses status s s' k k' = Unit {0}
 pub record IsCompiled (status : Status) (all : Option (List ℕ)) (s s' k k' : PortSeen) (page : List ℕ) : Type 0 where
   pub bodies : List (List ℕ)
   pub past : List Entry
-  pub is_past : IsPast bodies past
+  pub is_past : IsPast nothing bodies past
   pub ended : IfSome all (IsEnd status bodies past)
   pub text : HasText status k.written k'.written page (book_of past)
   pub causes : HasCauses status s s' k k'

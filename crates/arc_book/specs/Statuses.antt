@@ -5,6 +5,7 @@ use Rattle.arc_io.specs.Seen.{PortSeen}
 use Rattle.arc_io.specs.Told.{OnlyReads, OnlyWrites}
 use Rattle.book_lines.specs.Books.{book_of}
 use Rattle.centre_rules.specs.History.{Entry}
+use Rattle.centre_rules.specs.Summary.{nothing}
 use Rattle.centre_store.specs.Pasts.{IsPast}
 use Rattle.disk_journal.specs.declared.fault.OpenFault.{OpenFault}
 use Rattle.disk_journal.specs.declared.fault.OpenFault.TheVariants as Open
@@ -60,7 +61,7 @@ IsWritten status before after book = after ≡ append_known before (book ++ last
 pub record IsTold (status : Status) (all : Option (List ℕ)) (s s' k k' : PortSeen) : Type 0 where
   pub bodies : List (List ℕ)
   pub past : List Entry
-  pub is_past : IsPast bodies past
+  pub is_past : IsPast nothing bodies past
   pub area : IfSome all (λ bytes. IsOfArea status bodies past bytes)
   pub written : IsWritten status k.written k'.written (book_of past)
   pub causes : HasCauses status s s' k k'

@@ -9,6 +9,6 @@ use Rattle.centre_store.specs.Pasts.{IsPast}
 -- an entry goes on from the past with the body; the centre stands for it, and its line is put on the page
 pub record IsTakenUp (bodies : List (List ℕ)) (past : List Entry) (body : List ℕ) (centre : State) (page page' : List ℕ) : Type 0 where
   pub entry : Entry
-  pub is_past : IsPast (bodies ++ body ∷ []) (entry ∷ past)
+  pub is_past : IsPast nothing (bodies ++ body ∷ []) (entry ∷ past)
   pub stands : StandsFor nothing centre (entry ∷ past)
   pub line : page' ≡ page ++ entry_line past entry

@@ -92,10 +92,10 @@ fn walk<S: Source, K: Sink>(
 // Takes the event of a body in, and puts the line of its record on the page. False where no entry goes on with it.
 fn take_up(alloc: Global, centre: &mut Centre, page: &mut Page, body: &[u8]) -> Result<bool, Memory>
     requires room { length page.old ≤ 65536 }
-    ensures taken { IfOk result (λ taken. taken ≡ true → (bodies : List (List ℕ)) (past : List Entry) → IsPast bodies past
+    ensures taken { IfOk result (λ taken. taken ≡ true → (bodies : List (List ℕ)) (past : List Entry) → IsPast nothing bodies past
         → StandsFor nothing centre.old past → IsTakenUp bodies past body.now centre.new page.old page.new) }
-    ensures bad { IfOk result (λ taken. taken ≡ false → (bodies : List (List ℕ)) (past : List Entry) → IsPast bodies past
-        → StandsFor nothing centre.old past → HasNoNext bodies past body.now) }
+    ensures bad { IfOk result (λ taken. taken ≡ false → (bodies : List (List ℕ)) (past : List Entry) → IsPast nothing bodies past
+        → StandsFor nothing centre.old past → HasNoNext nothing bodies past body.now) }
     ensures kept { IfOk result (λ taken. taken ≡ false → page.new ≡ page.old) }
     ensures failed { OnErr result (page.new ≡ page.old) }
 {

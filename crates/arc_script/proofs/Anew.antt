@@ -9,7 +9,7 @@ use Rattle.arc_io.specs.Crashes.{Becomes, IsQuiet, LeavesOnly}
 use Rattle.arc_io.specs.Seen.{PortSeen}
 use Rattle.centre_core.specs.declared.hall.Stop.{Stop}
 use Rattle.centre_rules.specs.History.{Entry, IsMoment, recorded}
-use Rattle.centre_rules.specs.Summary.{nothing}
+use Rattle.centre_rules.specs.Summary.{Summary}
 use Rattle.centre_store.specs.Begins.{begun_after, IsOfBegin}
 use Rattle.centre_store.specs.Bodies.{bodies_of}
 use Rattle.centre_store.specs.Openings.{IsOpened, IsRefused}
@@ -18,8 +18,8 @@ use Rattle.centre_store.specs.Stores.{Stored, StoreStands}
 use Rattle.desk_session.specs.Desks as Desk
 use Rattle.disk_journal.specs.Faults.{HasCounts, IsOfContent}
 use Rattle.disk_journal.specs.Journal.{Holds}
-use Rattle.disk_journal.specs.OtherArea.{SparesB}
-use Rattle.disk_journal.specs.Reading.{GoesOn}
+use Rattle.disk_journal.specs.OtherArea.{SparesOther}
+use Rattle.disk_journal.specs.Standing.{GoesOn}
 use Rattle.disk_journal.specs.declared.journal.OpenRefused.{OpenRefused}
 use Rattle.line_session.specs.Lines as Line
 use Rattle.script_lines.specs.Lines.{Asked, Reopen, spelling}
@@ -82,7 +82,7 @@ pub record IsAnew {D : Type 0} (seen : D → DiskSeen) (script script' : Script)
 
 pub made_anew : {D : Type 0} (seen : D → DiskSeen) (script closed script' : Script) (s mid s' : Stored D) (disk : D) → s.at_open ≤ (seen s.journal.disk).faults
     → disk ≡ s.journal.disk → closed ≡ record script { tally = closing script.tally script.opened_before s.state.sum }
-    → IsOpened seen disk mid → SparesB (seen disk) (seen mid.journal.disk)
+    → IsOpened seen disk mid → SparesOther (seen disk) (seen mid.journal.disk)
     → mid.journal.limits ≡ closed.limits → mid.at_open ≡ (seen mid.journal.disk).faults → (seen disk).faults ≤ (seen mid.journal.disk).faults
     → All (Line.TookStream []) script'.lines.items → All IsNewDesk script'.desks.items
     → script' ≡ record closed {
@@ -113,8 +113,11 @@ module _ {D : Type 0} (seen : D → DiskSeen) (script script' : Script) (s mid s
   abbrev past : List Entry
   past = anew.opened.past
 
-  keeps : Keeps (Tells (seen b.disk)) h past
-  keeps = keeps_recorded seen b h s mid between.store.stands.centre.legal between.store.readable between.store.tells held anew.opened
+  base_is : anew.opened.base ≡ b.base
+  base_is = anew.opened.given ∙ sym between.store.given
+
+  keeps : Keeps (Tells (seen b.disk)) b.base h past
+  keeps = keeps_recorded seen b h s mid between.store.stands.centre.legal between.store.readable between.store.tells held anew.opened base_is
 
   setup_is : script'.setup ≡ b.setup
   setup_is = anew.setup ∙ between.setup
@@ -137,18 +140,21 @@ module _ {D : Type 0} (seen : D → DiskSeen) (script script' : Script) (s mid s
         closed = grows_none (count_of is_closed adds.entries) script.tally.closed adds.closed;
       })
 
-  readable_past : IsReadable past
-  readable_past = subst AreKept (sym (kept_recorded past anew.opened.is_past.kept)) anew.opened.is_past.kept
+  readable_past : IsReadable b.base past
+  readable_past = (between.store.readable.0, subst AreKept (sym (kept_recorded past anew.opened.is_past.kept)) anew.opened.is_past.kept)
+
+  pub opened_stands : StoreStands seen b.base mid past
+  opened_stands = subst (λ (base : Summary). StoreStands seen base mid past) base_is anew.opened.stands
 
   carried : (number : ℕ) (p p' : PortSeen) → IsMoment moment
-      → StoreStands seen nothing s' (begun_after nothing past b.setup moment)
+      → StoreStands seen b.base s' (begun_after b.base past b.setup moment)
       → s'.state.sum.text ≡ Some b.setup → p'.written ≡ append_known p.written (counted_line s'.state.sum.recorded)
       → CarriedOut seen b before count number h Reopen script.tally script' s' p p'
   carried number p p' fits stands text put =
-      let x = begun_after nothing past b.setup moment in
-      let adds = adds_begun b.setup moment past in
-      let count_is : s'.state.sum.recorded ≡ length (recorded x) = (let e = stands.centre.recorded in omega (arith, e)) in
-      let said = counted_line (length (recorded x)) in
+      let x = begun_after b.base past b.setup moment in
+      let adds = adds_begun b.base b.setup moment past in
+      let count_is : s'.state.sum.recorded ≡ b.base.recorded + length (recorded x) = stands.centre.recorded in
+      let said = counted_line (b.base.recorded + length (recorded x)) in
       record {
         step = step_of number adds.entries said;
         history = x;
@@ -178,8 +184,9 @@ module _ {D : Type 0} (seen : D → DiskSeen) (script script' : Script) (s mid s
               (sym (anew.clock ∙ between.clock.is ∙ set)) text;
           taken = taken_anew b.setup (count + length (spelling Reopen)) before script'.lines.items script'.desks.items anew.lines anew.desks;
           store = record {
+            given = between.store.given;
             stands = stands;
-            readable = readable_begun b.setup moment past fits stands.centre.legal readable_past;
+            readable = readable_begun b.base b.setup moment past fits stands.centre.legal readable_past;
             tells = anew.tells ∙ between.store.tells;
             limits_are = limits_are;
             later = later;
@@ -187,11 +194,11 @@ module _ {D : Type 0} (seen : D → DiskSeen) (script script' : Script) (s mid s
         };
       }
 
-  stopped : (stop : Stop) (x : List Entry) → StoreStands seen nothing s' x → BegunUntil None b.setup moment past x
+  stopped : (stop : Stop) (x : List Entry) → StoreStands seen b.base s' x → BegunUntil None b.base b.setup moment past x
       → HasShown seen s' stop moment (IsOfBegin b.setup)
       → StoppedAt seen b before h Reopen stop script.tally script'.tally s'
   stopped stop x stands until cause =
-      let adds = adds_until None b.setup moment past x until in
+      let adds = adds_until None b.base b.setup moment past x until in
       record {
         waiting = [];
         partial = step_of 0 adds.entries [];
@@ -216,8 +223,8 @@ module _ {D : Type 0} (seen : D → DiskSeen) (script script' : Script) (s mid s
 -- by what beginning the run answered
 module _ {D : Type 0} (seen : D → DiskSeen) (script script' : Script) (s mid s' : Stored D) (anew : IsAnew seen script script' s mid s') (moment : ℕ) where
   pub carried_on : (r : Result (Unit {0}) Stop) (p p' : PortSeen) → IsMoment moment
-      → OnOk r ((k : List Entry) → StoreStands seen nothing mid k
-      → StoreStands seen nothing s' (begun_after nothing k script'.setup moment))
+      → OnOk r ((base : Summary) (k : List Entry) → StoreStands seen base mid k
+      → StoreStands seen base s' (begun_after base k script'.setup moment))
       → OnOk r (s'.state.sum.text ≡ Some script'.setup)
       → OnOk r (p'.written ≡ append_known p.written (counted_line s'.state.sum.recorded))
       → OnOk r ((b : Begun D) (before : List Asked) (count number : ℕ) (h : List Entry) → Between seen b before count h script s
@@ -226,14 +233,14 @@ module _ {D : Type 0} (seen : D → DiskSeen) (script script' : Script) (s mid s
   carried_on (Ok done) p p' fits begun text put = λ b before count number h between held set.
       let same = anew.setup ∙ between.setup in
       carried seen script script' s mid s' anew moment b before count h between held set number p p' fits
-      (subst (λ (l : List ℕ). StoreStands seen nothing s' (begun_after nothing anew.opened.past l moment)) same
-      (begun anew.opened.past anew.opened.stands))
+      (subst (λ (l : List ℕ). StoreStands seen b.base s' (begun_after b.base anew.opened.past l moment)) same
+      (begun b.base anew.opened.past (opened_stands seen script script' s mid s' anew moment b before count h between held set)))
       (text ∙ ap Some same) put
   carried_on (Err stop) p p' fits begun text put = tt
 
   pub stopped_on : (r : Result (Unit {0}) Stop)
-      → OnErr r ((k : List Entry) → StoreStands seen nothing mid k
-      → (x : List Entry) × StoreStands seen nothing s' x × BegunUntil None script'.setup moment k x)
+      → OnErr r ((base : Summary) (k : List Entry) → StoreStands seen base mid k
+      → (x : List Entry) × StoreStands seen base s' x × BegunUntil None base script'.setup moment k x)
       → IfErr r (λ stop. HasShown seen s' stop moment (IsOfBegin script'.setup))
       → IfErr r (λ stop. (b : Begun D) (before : List Asked) (count : ℕ) (h : List Entry) → Between seen b before count h script s
       → Holds seen s.journal (bodies_of h) → clock_of before ≡ Some moment
@@ -241,31 +248,31 @@ module _ {D : Type 0} (seen : D → DiskSeen) (script script' : Script) (s mid s
   stopped_on (Ok done) stops cause = tt
   stopped_on (Err stop) stops cause = λ b before count h between held set.
       let same = anew.setup ∙ between.setup in
-      let at = stops anew.opened.past anew.opened.stands in
+      let at = stops b.base anew.opened.past (opened_stands seen script script' s mid s' anew moment b before count h between held set) in
       stopped seen script script' s mid s' anew moment b before count h between held set stop at.0 at.1
-      (subst (λ (l : List ℕ). BegunUntil None l moment anew.opened.past at.0) same at.2)
+      (subst (λ (l : List ℕ). BegunUntil None b.base l moment anew.opened.past at.0) same at.2)
       (subst (λ (l : List ℕ). HasShown seen s' stop moment (IsOfBegin l)) same cause)
 
 -- The journal was not opened again.
 shut : {D : Type 0} (seen : D → DiskSeen) (script : Script) (s : Stored D) (r : OpenRefused D) → s.at_open ≤ (seen s.journal.disk).faults
-    → IfSome (seen s.journal.disk).told (λ a. IsRefused r.fault a.a) → HasCounts r.fault (seen s.journal.disk).faults (seen r.disk).faults
-    → Becomes (seen s.journal.disk).told (seen r.disk).told (λ a c. GoesOn a.a c.a)
-    → LeavesOnly (seen s.journal.disk) (seen r.disk) (λ c. (d : Areas) × (seen s.journal.disk).may_leave d × GoesOn d.a c.a)
+    → IfSome (seen s.journal.disk).told (IsRefused r.fault) → HasCounts r.fault (seen s.journal.disk).faults (seen r.disk).faults
+    → Becomes (seen s.journal.disk).told (seen r.disk).told GoesOn
+    → LeavesOnly (seen s.journal.disk) (seen r.disk) (λ c. (d : Areas) × (seen s.journal.disk).may_leave d × GoesOn d c)
     → (IsOfContent r.fault → IsQuiet (seen s.journal.disk) (seen r.disk))
     → (b : Begun D) (before : List Asked) (count : ℕ) (h : List Entry) → Between seen b before count h script s
     → Holds seen s.journal (bodies_of h) → ShutAt seen b h r.fault r.disk
 shut seen script s r later shown counts told any_moment unwritten b before count h between held = record {
   closed = s.journal.disk;
   later = (let first = between.store.later in omega (arith, first, later));
-  area = recorded_in seen s h s.journal.disk held refl;
+  area = recorded_in seen b.base s h s.journal.disk held refl;
   unopened = record { shown = shown; counts = counts; told = told; any_moment = any_moment; unwritten = unwritten };
 }
 
 pub shut_on : {A D : Type 0} (seen : D → DiskSeen) (script : Script) (s : Stored D) (disk : D) (refused : OpenRefused D) (r : Result A (OpenRefused D))
     → r ≡ Err refused → disk ≡ s.journal.disk → s.at_open ≤ (seen s.journal.disk).faults
-    → IfSome (seen disk).told (λ a. IsRefused refused.fault a.a) → HasCounts refused.fault (seen disk).faults (seen refused.disk).faults
-    → Becomes (seen disk).told (seen refused.disk).told (λ a c. GoesOn a.a c.a)
-    → LeavesOnly (seen disk) (seen refused.disk) (λ c. (d : Areas) × (seen disk).may_leave d × GoesOn d.a c.a)
+    → IfSome (seen disk).told (IsRefused refused.fault) → HasCounts refused.fault (seen disk).faults (seen refused.disk).faults
+    → Becomes (seen disk).told (seen refused.disk).told GoesOn
+    → LeavesOnly (seen disk) (seen refused.disk) (λ c. (d : Areas) × (seen disk).may_leave d × GoesOn d c)
     → (IsOfContent refused.fault → IsQuiet (seen disk) (seen refused.disk))
     → IfErr r (λ o. (b : Begun D) (before : List Asked) (count : ℕ) (h : List Entry) → Between seen b before count h script s
     → Holds seen s.journal (bodies_of h) → ShutAt seen b h o.fault o.disk)
@@ -274,8 +281,8 @@ shut_on {A} {D} seen script s disk refused r is disk_is later shown counts told 
     → Holds seen s.journal (bodies_of h) → ShutAt seen b h o.fault o.disk in
     subst (λ (q : Result A (OpenRefused D)). IfErr q at) (sym is)
     (shut seen script s refused later
-    (subst (λ d. IfSome (seen d).told (λ a. IsRefused refused.fault a.a)) disk_is shown)
+    (subst (λ d. IfSome (seen d).told (IsRefused refused.fault)) disk_is shown)
     (subst (λ d. HasCounts refused.fault (seen d).faults (seen refused.disk).faults) disk_is counts)
-    (subst (λ d. Becomes (seen d).told (seen refused.disk).told (λ a c. GoesOn a.a c.a)) disk_is told)
-    (subst (λ d. LeavesOnly (seen d) (seen refused.disk) (λ c. (e : Areas) × (seen d).may_leave e × GoesOn e.a c.a)) disk_is any_moment)
+    (subst (λ d. Becomes (seen d).told (seen refused.disk).told GoesOn) disk_is told)
+    (subst (λ d. LeavesOnly (seen d) (seen refused.disk) (λ c. (e : Areas) × (seen d).may_leave e × GoesOn e c)) disk_is any_moment)
     (subst (λ d. IsOfContent refused.fault → IsQuiet (seen d) (seen refused.disk)) disk_is unwritten))

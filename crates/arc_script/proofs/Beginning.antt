@@ -3,7 +3,7 @@ use Rattle.std.proofs.Common.{◌≡◌, ◌-◌, ℕ, List, [], length, refl, a
 use Rattle.arc_io.specs.Disks.{DiskSeen}
 use Rattle.arc_io.specs.Seen.{PortSeen}
 use Rattle.centre_rules.specs.History.{Entry}
-use Rattle.centre_rules.specs.Summary.{Summary, nothing}
+use Rattle.centre_rules.specs.Summary.{Summary}
 use Rattle.centre_store.specs.Bodies.{bodies_of}
 use Rattle.centre_store.specs.Stores.{Stored, StoreStands}
 use Rattle.disk_journal.specs.Journal.{Holds}
@@ -26,24 +26,24 @@ untouched sum opened = record {
 }
 
 -- memory was wanted before it was read
-pub unread : {D : Type 0} (seen : D → DiskSeen) (past : List Entry) (s : Stored D) (p : PortSeen) (disk : D) (tally : Tally)
-    → StoreStands seen nothing s past → Holds seen s.journal (bodies_of past) → disk ≡ s.journal.disk
-    → tally ≡ untouched s.state.sum 0 → IsUnread seen past p p disk tally
-unread seen past s p disk tally stands held is tally_as =
+pub unread : {D : Type 0} (seen : D → DiskSeen) (base : Summary) (past : List Entry) (s : Stored D) (p : PortSeen) (disk : D) (tally : Tally)
+    → StoreStands seen base s past → Holds seen s.journal (bodies_of past) → disk ≡ s.journal.disk
+    → tally ≡ untouched s.state.sum 0 → IsUnread seen base past p p disk tally
+unread seen base past s p disk tally stands held is tally_as =
     let none : 0 ≡ s.state.sum.opened - s.state.sum.opened = omega arith in
     record {
       untouched = refl;
-      area = recorded_in seen s past disk held is;
-      counts = tally_is s past past [] (untouched s.state.sum 0) tally s.state.sum.opened stands.centre.same.opened
+      area = recorded_in seen base s past disk held is;
+      counts = tally_is base s past past [] (untouched s.state.sum 0) tally s.state.sum.opened stands.centre.same.opened
           (record { sent = refl; repeats = refl; closed = refl }) stands.centre (tally_as ∙ ap (untouched s.state.sum) none);
     }
 
 -- the transcript of a script that began so
 pub began : {D : Type 0} (seen : D → DiskSeen) (b : Begun D) (setup : List ℕ) (limits : Limits) (p q : PortSeen) (end : ScriptEnd) (disk : D)
     (tally : Tally) → b.setup ≡ setup → b.limits ≡ limits → b.port ≡ p
-    → IsTranscript seen (Tells (seen b.disk)) b.setup b.past b.limits (seen b.disk).faults end b.port q disk tally
-    → IsTranscript seen (Tells (seen b.disk)) setup b.past limits (seen b.disk).faults end p q disk tally
+    → IsTranscript seen (Tells (seen b.disk)) b.base b.setup b.past b.limits (seen b.disk).faults end b.port q disk tally
+    → IsTranscript seen (Tells (seen b.disk)) b.base setup b.past limits (seen b.disk).faults end p q disk tally
 began seen b setup limits p q end disk tally of_setup of_limits of_port is =
-    subst (λ (x : List ℕ). IsTranscript seen (Tells (seen b.disk)) x b.past limits (seen b.disk).faults end p q disk tally) of_setup
-    (subst (λ (x : Limits). IsTranscript seen (Tells (seen b.disk)) b.setup b.past x (seen b.disk).faults end p q disk tally) of_limits
-    (subst (λ (x : PortSeen). IsTranscript seen (Tells (seen b.disk)) b.setup b.past b.limits (seen b.disk).faults end x q disk tally) of_port is))
+    subst (λ (x : List ℕ). IsTranscript seen (Tells (seen b.disk)) b.base x b.past limits (seen b.disk).faults end p q disk tally) of_setup
+    (subst (λ (x : Limits). IsTranscript seen (Tells (seen b.disk)) b.base b.setup b.past x (seen b.disk).faults end p q disk tally) of_limits
+    (subst (λ (x : PortSeen). IsTranscript seen (Tells (seen b.disk)) b.base b.setup b.past b.limits (seen b.disk).faults end x q disk tally) of_port is))

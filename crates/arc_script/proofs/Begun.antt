@@ -8,7 +8,7 @@ use Rattle.arc_data.specs.declared.reply.Reply.TheVariants.{Adopted, Started}
 use Rattle.centre_rules.specs.Answers.{IsLegal}
 use Rattle.centre_rules.specs.History.{Entry, IsMoment, marks, moment_after}
 use Rattle.centre_rules.specs.Marks.{text}
-use Rattle.centre_rules.specs.Summary.{nothing}
+use Rattle.centre_rules.specs.Summary.{Summary}
 use Rattle.centre_store.specs.Begins.{adopted_after, begun_after, is_in_force}
 use Rattle.arc_script.specs.Ends.{BegunUntil}
 use Rattle.arc_script.specs.Standing.{IsReadable}
@@ -43,14 +43,14 @@ adds_more h x e repeats closed adds = record {
 }
 
 -- the Adopt of a setup, where there is one
-abbrev adopt_of : List ℕ → ℕ → List Entry → Entry
-adopt_of setup moment h = record { caller = 0; event = Adopt setup; at = moment_after nothing h moment; reply = Adopted }
+abbrev adopt_of : Summary → List ℕ → ℕ → List Entry → Entry
+adopt_of base setup moment h = record { caller = 0; event = Adopt setup; at = moment_after base h moment; reply = Adopted }
 
-abbrev start_of : List ℕ → ℕ → List Entry → Entry
-start_of setup moment h = record {
+abbrev start_of : Summary → List ℕ → ℕ → List Entry → Entry
+start_of base setup moment h = record {
   caller = 0;
   event = Start;
-  at = moment_after nothing (adopted_after nothing h setup moment) moment;
+  at = moment_after base (adopted_after base h setup moment) moment;
   reply = Started;
 }
 
@@ -58,41 +58,41 @@ adopts_if : (b : Bool) (h : List Entry) (e : Entry) → is_repeat e.reply ≡ fa
 adopts_if true h e repeats closed = adds_none h
 adopts_if false h e repeats closed = adds_more h h e repeats closed (adds_none h)
 
-adds_adopted : (setup : List ℕ) (moment : ℕ) (h : List Entry) → Adds h (adopted_after nothing h setup moment)
-adds_adopted setup moment h = adopts_if (is_in_force (text nothing (marks nothing h)) setup) h (adopt_of setup moment h) refl refl
+adds_adopted : (base : Summary) (setup : List ℕ) (moment : ℕ) (h : List Entry) → Adds h (adopted_after base h setup moment)
+adds_adopted base setup moment h = adopts_if (is_in_force (text base (marks base h)) setup) h (adopt_of base setup moment h) refl refl
 
-pub adds_begun : (setup : List ℕ) (moment : ℕ) (h : List Entry) → Adds h (begun_after nothing h setup moment)
-adds_begun setup moment h =
-    adds_more h (adopted_after nothing h setup moment) (start_of setup moment h) refl refl (adds_adopted setup moment h)
+pub adds_begun : (base : Summary) (setup : List ℕ) (moment : ℕ) (h : List Entry) → Adds h (begun_after base h setup moment)
+adds_begun base setup moment h =
+    adds_more h (adopted_after base h setup moment) (start_of base setup moment h) refl refl (adds_adopted base setup moment h)
 
-pub adds_first : (clock : Option ℕ) (setup : List ℕ) (moment : ℕ) (h : List Entry) → Adds h (before_tick clock setup moment h)
-adds_first None setup moment h = adds_begun setup moment h
-adds_first (Some last) setup moment h = adds_none h
+pub adds_first : (clock : Option ℕ) (base : Summary) (setup : List ℕ) (moment : ℕ) (h : List Entry) → Adds h (before_tick clock base setup moment h)
+adds_first None base setup moment h = adds_begun base setup moment h
+adds_first (Some last) base setup moment h = adds_none h
 
-pub adds_until : (clock : Option ℕ) (setup : List ℕ) (moment : ℕ) (h x : List Entry) → BegunUntil clock setup moment h x → Adds h x
-adds_until None setup moment h x (inl is) = subst (Adds h) (sym is) (adds_none h)
-adds_until None setup moment h x (inr (inl is)) = subst (Adds h) (sym is) (adds_adopted setup moment h)
-adds_until None setup moment h x (inr (inr is)) = subst (Adds h) (sym is) (adds_begun setup moment h)
-adds_until (Some last) setup moment h x is = subst (Adds h) (sym is) (adds_none h)
+pub adds_until : (clock : Option ℕ) (base : Summary) (setup : List ℕ) (moment : ℕ) (h x : List Entry) → BegunUntil clock base setup moment h x → Adds h x
+adds_until None base setup moment h x (inl is) = subst (Adds h) (sym is) (adds_none h)
+adds_until None base setup moment h x (inr (inl is)) = subst (Adds h) (sym is) (adds_adopted base setup moment h)
+adds_until None base setup moment h x (inr (inr is)) = subst (Adds h) (sym is) (adds_begun base setup moment h)
+adds_until (Some last) base setup moment h x is = subst (Adds h) (sym is) (adds_none h)
 
 -- They can be read again: what a store stands for is legal.
 
-pub readable_next : (h : List Entry) (e : Entry) (clock : ℕ) → e.caller ≡ 0 → IsMoment clock → e.at ≡ moment_after nothing h clock
-    → IsLegal nothing (e ∷ h) → IsReadable h → IsReadable (e ∷ h)
-readable_next h e clock caller fits at legal kept = readable_more h e clock caller legal.0.event fits at legal.0.reply kept
+pub readable_next : (base : Summary) (h : List Entry) (e : Entry) (clock : ℕ) → e.caller ≡ 0 → IsMoment clock → e.at ≡ moment_after base h clock
+    → IsLegal base (e ∷ h) → IsReadable base h → IsReadable base (e ∷ h)
+readable_next base h e clock caller fits at legal kept = readable_more base h e clock caller legal.0.event fits at legal.0.reply kept
 
-readable_if : (b : Bool) (h : List Entry) (e : Entry) (clock : ℕ) → e.caller ≡ 0 → IsMoment clock → e.at ≡ moment_after nothing h clock
-    → IsLegal nothing (cond b h (e ∷ h)) → IsReadable h → IsReadable (cond b h (e ∷ h))
-readable_if true h e clock caller fits at legal kept = kept
-readable_if false h e clock caller fits at legal kept = readable_next h e clock caller fits at legal kept
+readable_if : (base : Summary) (b : Bool) (h : List Entry) (e : Entry) (clock : ℕ) → e.caller ≡ 0 → IsMoment clock → e.at ≡ moment_after base h clock
+    → IsLegal base (cond b h (e ∷ h)) → IsReadable base h → IsReadable base (cond b h (e ∷ h))
+readable_if base true h e clock caller fits at legal kept = kept
+readable_if base false h e clock caller fits at legal kept = readable_next base h e clock caller fits at legal kept
 
-pub readable_begun : (setup : List ℕ) (moment : ℕ) (h : List Entry) → IsMoment moment → IsLegal nothing (begun_after nothing h setup moment)
-    → IsReadable h → IsReadable (begun_after nothing h setup moment)
-readable_begun setup moment h fits legal kept =
-    let adopted = readable_if (is_in_force (text nothing (marks nothing h)) setup) h (adopt_of setup moment h) moment refl fits refl legal.1 kept in
-    readable_next (adopted_after nothing h setup moment) (start_of setup moment h) moment refl fits refl legal adopted
+pub readable_begun : (base : Summary) (setup : List ℕ) (moment : ℕ) (h : List Entry) → IsMoment moment → IsLegal base (begun_after base h setup moment)
+    → IsReadable base h → IsReadable base (begun_after base h setup moment)
+readable_begun base setup moment h fits legal kept =
+    let adopted = readable_if base (is_in_force (text base (marks base h)) setup) h (adopt_of base setup moment h) moment refl fits refl legal.1 kept in
+    readable_next base (adopted_after base h setup moment) (start_of base setup moment h) moment refl fits refl legal adopted
 
-pub readable_first : (clock : Option ℕ) (setup : List ℕ) (moment : ℕ) (h : List Entry) → IsMoment moment
-    → IsLegal nothing (before_tick clock setup moment h) → IsReadable h → IsReadable (before_tick clock setup moment h)
-readable_first None setup moment h fits legal kept = readable_begun setup moment h fits legal kept
-readable_first (Some last) setup moment h fits legal kept = kept
+pub readable_first : (clock : Option ℕ) (base : Summary) (setup : List ℕ) (moment : ℕ) (h : List Entry) → IsMoment moment
+    → IsLegal base (before_tick clock base setup moment h) → IsReadable base h → IsReadable base (before_tick clock base setup moment h)
+readable_first None base setup moment h fits legal kept = readable_begun base setup moment h fits legal kept
+readable_first (Some last) base setup moment h fits legal kept = kept

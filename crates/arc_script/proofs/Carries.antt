@@ -12,6 +12,7 @@ use Rattle.arc_io.specs.Seen.{PortSeen}
 use Rattle.centre_core.specs.declared.hall.Stop.{Stop}
 use Rattle.centre_core.specs.declared.hall.Stop.TheVariants.{Memory}
 use Rattle.centre_rules.specs.History.{Entry}
+use Rattle.centre_rules.specs.Summary.{Summary}
 use Rattle.centre_store.specs.Stores.{Stored}
 use Rattle.dc09_frame.specs.Check.{check_of}
 use Rattle.dc09_frame.specs.Frames.{four_digits, frame_of, piece_of, IsBody}
@@ -46,12 +47,12 @@ step_of number asked letter line sent turns = record {
   text = head_of letter line ++ listed (replies_of turns) ++ 10 ∷ [];
 }
 
-counts_step : (setup : List ℕ) (moment : ℕ) (stream bytes : List ℕ) (h x : List Entry) (turns : List Turn) (more : List (List ℕ))
-    (sent : ℕ) (t t' : Tally) (s : Step) → FeedsBehind setup moment stream bytes h x turns more → CountsFed sent turns t t' → s.sent ≡ sent
+counts_step : (base : Summary) (setup : List ℕ) (moment : ℕ) (stream bytes : List ℕ) (h x : List Entry) (turns : List Turn) (more : List (List ℕ))
+    (sent : ℕ) (t t' : Tally) (s : Step) → FeedsBehind base setup moment stream bytes h x turns more → CountsFed sent turns t t' → s.sent ≡ sent
     → s.entries ≡ entries_of line_turns turns → CountsStep s t t'
-counts_step setup moment stream bytes h x turns more sent t t' s fed counts sent_is entries_is =
+counts_step base setup moment stream bytes h x turns more sent t t' s fed counts sent_is entries_is =
     let same : t'.closed ≡ t.closed = ap (λ (k : Tally). k.closed) counts.rest in
-    let none = closes_none h x (entries_of line_turns turns) fed.legal fed.own (turns_lined (meaning setup) h x turns fed.are) in
+    let none = closes_none base h x (entries_of line_turns turns) fed.legal fed.own (turns_lined base (meaning setup) h x turns fed.are) in
     record {
       more = record {
         sent = subst (λ (n : ℕ). GrowsBy n t.sent t'.sent) (sym sent_is) counts.frames;
@@ -63,70 +64,70 @@ counts_step setup moment stream bytes h x turns more sent t t' s fed counts sent
       rest = counts.rest ∙ ap (λ (n : ℕ). record t { sent = t'.sent; repeats = t'.repeats; closed = n }) (sym same);
     }
 
-feeds_of : (setup : List ℕ) (moment number letter line : ℕ) (asked : Asked) (before : List Asked) (bytes : List ℕ) (h x : List Entry)
-    (turns : List Turn) → clock_of before ≡ Some moment → FeedsBehind setup moment (line_fed line before) bytes h x turns []
-    → Feeds setup before letter line bytes h x (step_of number asked letter line (length turns) turns)
+feeds_of : (base : Summary) (setup : List ℕ) (moment number letter line : ℕ) (asked : Asked) (before : List Asked) (bytes : List ℕ) (h x : List Entry)
+    (turns : List Turn) → clock_of before ≡ Some moment → FeedsBehind base setup moment (line_fed line before) bytes h x turns []
+    → Feeds base setup before letter line bytes h x (step_of number asked letter line (length turns) turns)
 unfolding step_of
-feeds_of setup moment number letter line asked before bytes h x turns set fed =
+feeds_of base setup moment number letter line asked before bytes h x turns set fed =
     record { turns = turns; fed = record { clock = moment; set = set; fed = fed }; entries = refl; sent = refl; text = refl }
 
-pub carried : {D : Type 0} (seen : D → DiskSeen) (s' : Stored D) (setup : List ℕ)
+pub carried : {D : Type 0} (seen : D → DiskSeen) (s' : Stored D) (base : Summary) (setup : List ℕ)
     (moment number letter line : ℕ) (asked : Asked) (before : List Asked) (bytes : List ℕ) (h : List Entry) (t t' : Tally) (p p' : PortSeen)
     (written : List ℕ) → IsMoment moment → clock_of before ≡ Some moment
-    → HasFed seen setup moment (line_fed line before) bytes h t t' written s'
+    → HasFed seen base setup moment (line_fed line before) bytes h t t' written s'
     → p'.written ≡ append_known p.written (head_of letter line ++ replied written ++ 10 ∷ [])
-    → Carried seen (λ x s. Feeds setup before letter line bytes h x s) number asked t t' p p' s'
+    → Carried seen base (λ x s. Feeds base setup before letter line bytes h x s) number asked t t' p p' s'
 unfolding step_of
-carried seen s' setup moment number letter line asked before bytes h t t' p p' written at set w put =
+carried seen s' base setup moment number letter line asked before bytes h t t' p p' written at set w put =
     let turns = w.turns in
     let s = step_of number asked letter line (length turns) turns in
     let listed_is : replied written ≡ listed (replies_of turns) =
-    ap replied w.written_is ∙ replied_listed turns (are_replies (meaning setup) moment h w.history turns at w.fed.are w.fed.readings) in
+    ap replied w.written_is ∙ replied_listed turns (are_replies base (meaning setup) moment h w.history turns at w.fed.are w.fed.readings) in
     record {
       step = s;
       history = w.history;
       number_is = refl;
       asked_is = refl;
-      is = feeds_of setup moment number letter line asked before bytes h w.history turns set w.fed;
+      is = feeds_of base setup moment number letter line asked before bytes h w.history turns set w.fed;
       stands = w.stands;
       readable = w.readable;
       text = put ∙ ap (λ (l : List ℕ). append_known p.written (head_of letter line ++ l ++ 10 ∷ [])) listed_is;
-      counts = counts_step setup moment (line_fed line before) bytes h w.history turns [] (length turns) t t' s w.fed w.counts refl refl;
+      counts = counts_step base setup moment (line_fed line before) bytes h w.history turns [] (length turns) t t' s w.fed w.counts refl refl;
     }
 
 -- how far it came, in the words of its contract
-abbrev CameSoFar : {D : Type 0} → (D → DiskSeen) → Stored D → List ℕ → ℕ → ℕ → ℕ → List Asked → List ℕ → List Entry
+abbrev CameSoFar : {D : Type 0} → Summary → (D → DiskSeen) → Stored D → List ℕ → ℕ → ℕ → ℕ → List Asked → List ℕ → List Entry
     → Stop → List Entry → Step → Type 0
-CameSoFar seen s' setup moment letter line before bytes h stop x s =
-    ((waiting : List (List ℕ)) × FedUntil setup before line bytes waiting h x s
+CameSoFar base seen s' setup moment letter line before bytes h stop x s =
+    ((waiting : List (List ℕ)) × FedUntil base setup before line bytes waiting h x s
     × HasShown seen s' stop moment (IsOfFrame setup moment waiting))
-    ⊎ ((stop ≡ Memory) × Feeds setup before letter line bytes h x s)
+    ⊎ ((stop ≡ Memory) × Feeds base setup before letter line bytes h x s)
 
 -- all was fed, and memory was wanted for the output
-pub finished : {D : Type 0} (seen : D → DiskSeen) (s' : Stored D) (setup : List ℕ)
+pub finished : {D : Type 0} (seen : D → DiskSeen) (s' : Stored D) (base : Summary) (setup : List ℕ)
     (moment letter line : ℕ) (asked : Asked) (before : List Asked) (bytes : List ℕ) (h : List Entry) (t t' : Tally) (written : List ℕ)
     (stop : Stop) → stop ≡ Memory → clock_of before ≡ Some moment
-    → HasFed seen setup moment (line_fed line before) bytes h t t' written s'
-    → Halted seen (λ x s. CameSoFar seen s' setup moment letter line before bytes h stop x s) t t' s'
+    → HasFed seen base setup moment (line_fed line before) bytes h t t' written s'
+    → Halted seen base (λ x s. CameSoFar base seen s' setup moment letter line before bytes h stop x s) t t' s'
 unfolding step_of
-finished seen s' setup moment letter line asked before bytes h t t' written stop is set w =
+finished seen s' base setup moment letter line asked before bytes h t t' written stop is set w =
     let s = step_of 0 asked letter line (length w.turns) w.turns in
     record {
       partial = s;
       history = w.history;
-      came = inr (is, feeds_of setup moment 0 letter line asked before bytes h w.history w.turns set w.fed);
+      came = inr (is, feeds_of base setup moment 0 letter line asked before bytes h w.history w.turns set w.fed);
       stands = w.stands;
       readable = w.readable;
-      counts = counts_step setup moment (line_fed line before) bytes h w.history w.turns [] (length w.turns) t t' s w.fed w.counts refl refl;
+      counts = counts_step base setup moment (line_fed line before) bytes h w.history w.turns [] (length w.turns) t t' s w.fed w.counts refl refl;
     }
 
 -- a frame was stopped
-pub halted_at : {D : Type 0} (seen : D → DiskSeen) (s' : Stored D) (setup : List ℕ)
+pub halted_at : {D : Type 0} (seen : D → DiskSeen) (s' : Stored D) (base : Summary) (setup : List ℕ)
     (moment letter line : ℕ) (asked : Asked) (before : List Asked) (bytes : List ℕ) (h : List Entry) (t t' : Tally) (stop : Stop)
-    → clock_of before ≡ Some moment → FeedStops seen setup moment (line_fed line before) bytes h t t' stop s'
-    → Halted seen (λ x s. CameSoFar seen s' setup moment letter line before bytes h stop x s) t t' s'
+    → clock_of before ≡ Some moment → FeedStops seen base setup moment (line_fed line before) bytes h t t' stop s'
+    → Halted seen base (λ x s. CameSoFar base seen s' setup moment letter line before bytes h stop x s) t t' s'
 unfolding step_of
-halted_at seen s' setup moment letter line asked before bytes h t t' stop set w =
+halted_at seen s' base setup moment letter line asked before bytes h t t' stop set w =
     let s = step_of 0 asked letter line w.sent w.turns in
     record {
       partial = s;
@@ -138,7 +139,7 @@ halted_at seen s' setup moment letter line asked before bytes h t t' stop set w 
       );
       stands = w.stands;
       readable = w.readable;
-      counts = counts_step setup moment (line_fed line before) bytes h w.history w.turns w.more w.sent t t' s w.fed w.counts refl refl;
+      counts = counts_step base setup moment (line_fed line before) bytes h w.history w.turns w.more w.sent t t' s w.fed w.counts refl refl;
     }
 
 -- How many bytes are fed.

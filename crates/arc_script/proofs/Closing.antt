@@ -21,7 +21,7 @@ use Rattle.centre_rules.specs.Cases.{has_number, incidents, opened, Ascends, Inc
 use Rattle.centre_rules.specs.Desks.{close_of, close_when, holds, numbered}
 use Rattle.centre_rules.specs.History.{Entry, act_marks, acted_by, claim_marks, close_marks, is_recorded, marks, marks_of, onto, release_marks}
 use Rattle.centre_rules.specs.Marks.{force, Acts, Claims, Closes, Mark, Releases}
-use Rattle.centre_rules.specs.Summary.{nothing}
+use Rattle.centre_rules.specs.Summary.{Summary}
 use Rattle.centre_rules.specs.Tables.{touched_by}
 use Rattle.desk_session.specs.Events.{command_in, event_by, event_of, text_of as said_of}
 use Rattle.desk_session.specs.Turns.{Turn, IsAnswered}
@@ -89,33 +89,33 @@ repeats_not event (Repeat first) is may = absurd (false≢true (sym (no_repeat e
 repeats_not event reply is may = refl
 
 -- how many are open behind marks
-abbrev open_in : List Mark → ℕ
-open_in ms = length (incidents nothing ms)
+abbrev open_in : Summary → List Mark → ℕ
+open_in base ms = length (incidents base ms)
 
 -- the count goes down by this much
-abbrev Falls : List Mark → List Mark → ℕ → Type 0
-Falls ms ns n = open_in ms ≡ open_in ns + n
+abbrev Falls : Summary → List Mark → List Mark → ℕ → Type 0
+Falls base ms ns n = open_in base ms ≡ open_in base ns + n
 
-claims_stay : (operator : List ℕ) (at : ℕ) (reply : Reply) (ms : List Mark) → Falls ms (onto (claim_marks operator at reply) ms) 0
-claims_stay operator at (Claimed number class account) ms =
+claims_stay : (base : Summary) (operator : List ℕ) (at : ℕ) (reply : Reply) (ms : List Mark) → Falls base ms (onto (claim_marks operator at reply) ms) 0
+claims_stay base operator at (Claimed number class account) ms =
     let m = Claims operator number at in
-    let step = ap length (incidents_step nothing m ms) ∙ length-map (incidents nothing ms) (touched_by m) in
+    let step = ap length (incidents_step base m ms) ∙ length-map (incidents base ms) (touched_by m) in
     omega (arith, step)
-claims_stay operator at reply ms = omega arith
+claims_stay base operator at reply ms = omega arith
 
-acts_stay : (acted : Acted) (reply : Reply) (ms : List Mark) → Falls ms (onto (act_marks acted reply) ms) 0
-acts_stay acted (Recorded number left) ms =
+acts_stay : (base : Summary) (acted : Acted) (reply : Reply) (ms : List Mark) → Falls base ms (onto (act_marks acted reply) ms) 0
+acts_stay base acted (Recorded number left) ms =
     let m = Acts number acted in
-    let step = ap length (incidents_step nothing m ms) ∙ length-map (incidents nothing ms) (touched_by m) in
+    let step = ap length (incidents_step base m ms) ∙ length-map (incidents base ms) (touched_by m) in
     omega (arith, step)
-acts_stay acted reply ms = omega arith
+acts_stay base acted reply ms = omega arith
 
-releases_stay : (reply : Reply) (ms : List Mark) → Falls ms (onto (release_marks reply) ms) 0
-releases_stay (Released number) ms =
+releases_stay : (base : Summary) (reply : Reply) (ms : List Mark) → Falls base ms (onto (release_marks reply) ms) 0
+releases_stay base (Released number) ms =
     let m = Releases number in
-    let step = ap length (incidents_step nothing m ms) ∙ length-map (incidents nothing ms) (touched_by m) in
+    let step = ap length (incidents_step base m ms) ∙ length-map (incidents base ms) (touched_by m) in
     omega (arith, step)
-releases_stay reply ms = omega arith
+releases_stay base reply ms = omega arith
 
 -- One of them is closed.
 
@@ -167,32 +167,32 @@ close_found true operator number n (Some i) is = holds_found (holds operator i) 
 close_found false operator number n f is = absurd cc
 
 -- the numbers of the open incidents rise
-numbers : (h : List Entry) → Ascends 0 (incidents nothing (marks nothing h)) (opened nothing (marks nothing h))
-numbers h = rise nothing h (omega arith)
+numbers : (base : Summary) (h : List Entry) → Ascends 0 (incidents base (marks base h)) (opened base (marks base h))
+numbers base h = rise base h (omega arith)
 
-closes_one : (b : Bool) (operator : List ℕ) (number n : ℕ) (h : List Entry)
-    → if_known b (close_of operator number (numbered number (incidents nothing (marks nothing h)))) ≡ Closed n
-    → Falls (marks nothing h) (Closes n ∷ marks nothing h) 1
-closes_one b operator number n h is =
-    let ms = marks nothing h in
-    let found = close_found b operator number n (numbered number (incidents nothing ms)) is in
-    let there : numbered n (incidents nothing ms) ≡ Some found.incident = ap (λ k. numbered k (incidents nothing ms)) found.same ∙ found.is in
-    let less = dropped n 0 (incidents nothing ms) (opened nothing ms) found.incident (numbers h) there in
-    let step = ap length (incidents_step nothing (Closes n) ms) in
+closes_one : (base : Summary) (b : Bool) (operator : List ℕ) (number n : ℕ) (h : List Entry)
+    → if_known b (close_of operator number (numbered number (incidents base (marks base h)))) ≡ Closed n
+    → Falls base (marks base h) (Closes n ∷ marks base h) 1
+closes_one base b operator number n h is =
+    let ms = marks base h in
+    let found = close_found b operator number n (numbered number (incidents base ms)) is in
+    let there : numbered n (incidents base ms) ≡ Some found.incident = ap (λ k. numbered k (incidents base ms)) found.same ∙ found.is in
+    let less = dropped n 0 (incidents base ms) (opened base ms) found.incident (numbers base h) there in
+    let step = ap length (incidents_step base (Closes n) ms) in
     omega (arith, less, step)
 
-falls_if : (r : Bool) (ms ns : List Mark) (n : ℕ) → Falls ms ns n → (r ≡ false → n ≡ 0) → Falls ms (cond r ns ms) n
-falls_if true ms ns n falls none = falls
-falls_if false ms ns n falls none = (let zero = none refl in omega (arith, zero))
+falls_if : (base : Summary) (r : Bool) (ms ns : List Mark) (n : ℕ) → Falls base ms ns n → (r ≡ false → n ≡ 0) → Falls base ms (cond r ns ms) n
+falls_if base true ms ns n falls none = falls
+falls_if base false ms ns n falls none = (let zero = none refl in omega (arith, zero))
 
 -- how much the count falls, by the reply
 abbrev fall_of : Reply → ℕ
 fall_of reply = cond (is_closed reply) 1 0
 
 -- of a reply that closes nothing
-stays_if : (b : Bool) (ms ns : List Mark) → b ≡ false → Falls ms ns 0 → Falls ms ns (cond b 1 0)
-stays_if true ms ns is falls = absurd (false≢true (sym is))
-stays_if false ms ns is falls = falls
+stays_if : (base : Summary) (b : Bool) (ms ns : List Mark) → b ≡ false → Falls base ms ns 0 → Falls base ms ns (cond b 1 0)
+stays_if base true ms ns is falls = absurd (false≢true (sym is))
+stays_if base false ms ns is falls = falls
 
 may_close : (event : Event) (reply : Reply) → ((n : ℕ) → may_answer event (Closed n) ≡ false) → may_answer event reply ≡ true → is_closed reply ≡ false
 may_close event (Closed n) never may = absurd (false≢true (sym (never n) ∙ may))
@@ -202,83 +202,83 @@ quiet_zero : (reply : Reply) → is_recorded reply ≡ false → fall_of reply �
 quiet_zero (Closed n) is = absurd (false≢true (sym is))
 quiet_zero reply is = refl
 
-close_falls : (operator : List ℕ) (number : ℕ) (h : List Entry) (b : Bool) (reply : Reply) (f : Option Incident)
-    → f ≡ numbered number (incidents nothing (marks nothing h)) → reply ≡ if_known b (close_of operator number f)
-    → Falls (marks nothing h) (onto (close_marks reply) (marks nothing h)) (fall_of reply)
-close_falls operator number h b (Closed n) f at is =
-    closes_one b operator number n h (ap (λ (o : Option Incident). if_known b (close_of operator number o)) (sym at) ∙ sym is)
-close_falls operator number h b reply f at is = omega arith
+close_falls : (base : Summary) (operator : List ℕ) (number : ℕ) (h : List Entry) (b : Bool) (reply : Reply) (f : Option Incident)
+    → f ≡ numbered number (incidents base (marks base h)) → reply ≡ if_known b (close_of operator number f)
+    → Falls base (marks base h) (onto (close_marks reply) (marks base h)) (fall_of reply)
+close_falls base operator number h b (Closed n) f at is =
+    closes_one base b operator number n h (ap (λ (o : Option Incident). if_known b (close_of operator number o)) (sym at) ∙ sym is)
+close_falls base operator number h b reply f at is = omega arith
 
-event_falls : (h : List Entry) (event : Event) (at : ℕ) (reply : Reply) → is_desked event ≡ true → may_answer event reply ≡ true
-    → reply ≡ answer nothing h event at
-    → Falls (marks nothing h) (onto (marks_of nothing (marks nothing h) event at reply) (marks nothing h)) (fall_of reply)
-event_falls h (E.Adopt text) at reply is may same = absurd (false≢true is)
-event_falls h E.Start at reply is may same = absurd (false≢true is)
-event_falls h (E.Message m) at reply is may same = absurd (false≢true is)
-event_falls h (E.Beat account) at reply is may same = absurd (false≢true is)
-event_falls h E.Tick at reply is may same = absurd (false≢true is)
-event_falls h (E.Claim operator number) at reply is may same =
-    let ms = marks nothing h in
-    stays_if (is_closed reply) ms (onto (claim_marks operator at reply) ms) (may_close (E.Claim operator number) reply (λ n. refl) may)
-    (claims_stay operator at reply ms)
-event_falls h (E.Next operator) at reply is may same =
-    let ms = marks nothing h in
-    stays_if (is_closed reply) ms (onto (claim_marks operator at reply) ms) (may_close (E.Next operator) reply (λ n. refl) may)
-    (claims_stay operator at reply ms)
-event_falls h (E.Act operator number step outcome) at reply is may same =
-    let ms = marks nothing h in
+event_falls : (base : Summary) (h : List Entry) (event : Event) (at : ℕ) (reply : Reply) → is_desked event ≡ true → may_answer event reply ≡ true
+    → reply ≡ answer base h event at
+    → Falls base (marks base h) (onto (marks_of base (marks base h) event at reply) (marks base h)) (fall_of reply)
+event_falls base h (E.Adopt text) at reply is may same = absurd (false≢true is)
+event_falls base h E.Start at reply is may same = absurd (false≢true is)
+event_falls base h (E.Message m) at reply is may same = absurd (false≢true is)
+event_falls base h (E.Beat account) at reply is may same = absurd (false≢true is)
+event_falls base h E.Tick at reply is may same = absurd (false≢true is)
+event_falls base h (E.Claim operator number) at reply is may same =
+    let ms = marks base h in
+    stays_if base (is_closed reply) ms (onto (claim_marks operator at reply) ms) (may_close (E.Claim operator number) reply (λ n. refl) may)
+    (claims_stay base operator at reply ms)
+event_falls base h (E.Next operator) at reply is may same =
+    let ms = marks base h in
+    stays_if base (is_closed reply) ms (onto (claim_marks operator at reply) ms) (may_close (E.Next operator) reply (λ n. refl) may)
+    (claims_stay base operator at reply ms)
+event_falls base h (E.Act operator number step outcome) at reply is may same =
+    let ms = marks base h in
     let acted = acted_by operator step outcome at in
-    stays_if (is_closed reply) ms (onto (act_marks acted reply) ms) (may_close (E.Act operator number step outcome) reply (λ n. refl) may)
-    (acts_stay acted reply ms)
-event_falls h (E.Release operator number) at reply is may same =
-    let ms = marks nothing h in
-    stays_if (is_closed reply) ms (onto (release_marks reply) ms) (may_close (E.Release operator number) reply (λ n. refl) may)
-    (releases_stay reply ms)
-event_falls h (E.Close operator number code) at reply is may same =
-    close_falls operator number h (knows_operator (force nothing (marks nothing h)) operator) reply (numbered number (incidents nothing (marks nothing h)))
+    stays_if base (is_closed reply) ms (onto (act_marks acted reply) ms) (may_close (E.Act operator number step outcome) reply (λ n. refl) may)
+    (acts_stay base acted reply ms)
+event_falls base h (E.Release operator number) at reply is may same =
+    let ms = marks base h in
+    stays_if base (is_closed reply) ms (onto (release_marks reply) ms) (may_close (E.Release operator number) reply (λ n. refl) may)
+    (releases_stay base reply ms)
+event_falls base h (E.Close operator number code) at reply is may same =
+    close_falls base operator number h (knows_operator (force base (marks base h)) operator) reply (numbered number (incidents base (marks base h)))
     refl same
-event_falls h (E.Show number) at reply is may same =
-    let ms = marks nothing h in stays_if (is_closed reply) ms ms (may_close (E.Show number) reply (λ n. refl) may) (omega arith)
-event_falls h E.List at reply is may same =
-    let ms = marks nothing h in stays_if (is_closed reply) ms ms (may_close E.List reply (λ n. refl) may) (omega arith)
+event_falls base h (E.Show number) at reply is may same =
+    let ms = marks base h in stays_if base (is_closed reply) ms ms (may_close (E.Show number) reply (λ n. refl) may) (omega arith)
+event_falls base h E.List at reply is may same =
+    let ms = marks base h in stays_if base (is_closed reply) ms ms (may_close E.List reply (λ n. refl) may) (omega arith)
 
 -- what is counted of an entry
-pub record IsCounted (h x entries : List Entry) : Type 0 where
+pub record IsCounted (base : Summary) (h x entries : List Entry) : Type 0 where
   pub repeats : count_of is_repeat entries ≡ 0
-  pub closed : open_in (marks nothing h) ≡ open_in (marks nothing x) + count_of is_closed entries
+  pub closed : open_in base (marks base h) ≡ open_in base (marks base x) + count_of is_closed entries
 
 count_one : (test : Reply → Bool) (e : Entry) (b : Bool) → test e.reply ≡ b → count_of test (e ∷ []) ≡ cond b 1 0
 count_one test e true is = ap (λ (v : Bool). length (cond v (e ∷ []) [])) is
 count_one test e false is = ap (λ (v : Bool). length (cond v (e ∷ []) [])) is
 
-entry_counted : (h : List Entry) (e : Entry) → is_desked e.event ≡ true → e.reply ≡ answer nothing h e.event e.at → IsCounted h (e ∷ h) (e ∷ [])
-entry_counted h e is same =
-    let ms = marks nothing h in
-    let may = subst (λ (r : Reply). may_answer e.event r ≡ true) (sym same) (answer_may nothing ms e.event e.at) in
-    let falls = falls_if (is_recorded e.reply) ms (onto (marks_of nothing ms e.event e.at e.reply) ms) (fall_of e.reply)
-    (event_falls h e.event e.at e.reply is may same) (quiet_zero e.reply) in
+entry_counted : (base : Summary) (h : List Entry) (e : Entry) → is_desked e.event ≡ true → e.reply ≡ answer base h e.event e.at → IsCounted base h (e ∷ h) (e ∷ [])
+entry_counted base h e is same =
+    let ms = marks base h in
+    let may = subst (λ (r : Reply). may_answer e.event r ≡ true) (sym same) (answer_may base ms e.event e.at) in
+    let falls = falls_if base (is_recorded e.reply) ms (onto (marks_of base ms e.event e.at e.reply) ms) (fall_of e.reply)
+    (event_falls base h e.event e.at e.reply is may same) (quiet_zero e.reply) in
     let count = count_one is_closed e (is_closed e.reply) refl in
     record {
       repeats = count_one is_repeat e false (repeats_not e.event e.reply is may);
       closed = omega (arith, falls, count);
     }
 
-counted_by : (o : Option Event) (text : List ℕ) (h x : List Entry) (t : Turn) → desked_in o ≡ true → IsAnswered nothing 0 h x t o text → IsLegal nothing x
-    → x ≡ reverse (option_to_list t.entry) ++ h → IsCounted h x (option_to_list t.entry)
+counted_by : (base : Summary) (o : Option Event) (text : List ℕ) (h x : List Entry) (t : Turn) → desked_in o ≡ true → IsAnswered base 0 h x t o text → IsLegal base x
+    → x ≡ reverse (option_to_list t.entry) ++ h → IsCounted base h x (option_to_list t.entry)
 unfolding desked_in
-counted_by None text h x t is w legal added =
+counted_by base None text h x t is w legal added =
     let at : x ≡ h = added ∙ ap (λ (o : Option Entry). reverse (option_to_list o) ++ h) w.entry in
-    subst (λ (o : Option Entry). IsCounted h x (option_to_list o)) (sym w.entry)
-    (subst (λ (k : List Entry). IsCounted h k []) (sym at) (record { repeats = refl; closed = omega arith }))
-counted_by (Some event) text h x t is w legal added =
+    subst (λ (o : Option Entry). IsCounted base h x (option_to_list o)) (sym w.entry)
+    (subst (λ (k : List Entry). IsCounted base h k []) (sym at) (record { repeats = refl; closed = omega arith }))
+counted_by base (Some event) text h x t is w legal added =
     let at : x ≡ w.made ∷ h = added ∙ ap (λ (o : Option Entry). reverse (option_to_list o) ++ h) w.entry in
-    let next = (subst (IsLegal nothing) at legal).0 in
-    subst (λ (o : Option Entry). IsCounted h x (option_to_list o)) (sym w.entry)
-    (subst (λ (k : List Entry). IsCounted h k (w.made ∷ [])) (sym at)
-    (entry_counted h w.made (ap is_desked w.of ∙ is) next.reply))
+    let next = (subst (IsLegal base) at legal).0 in
+    subst (λ (o : Option Entry). IsCounted base h x (option_to_list o)) (sym w.entry)
+    (subst (λ (k : List Entry). IsCounted base h k (w.made ∷ [])) (sym at)
+    (entry_counted base h w.made (ap is_desked w.of ∙ is) next.reply))
 
-pub counted_turn : (setup : List ℕ) (operator : Option (List ℕ)) (clock : ℕ) (text : List ℕ) (h x : List Entry) (t : Turn)
-    → Turned setup operator clock text h x t → IsCounted h x (option_to_list t.entry)
-counted_turn setup operator clock text h x t w =
-    counted_by (event_of operator (command_in t.line)) (said_of (meaning setup) (command_in t.line)) h x t (desked_of operator (command_in t.line)) w.is
+pub counted_turn : (base : Summary) (setup : List ℕ) (operator : Option (List ℕ)) (clock : ℕ) (text : List ℕ) (h x : List Entry) (t : Turn)
+    → Turned base setup operator clock text h x t → IsCounted base h x (option_to_list t.entry)
+counted_turn base setup operator clock text h x t w =
+    counted_by base (event_of operator (command_in t.line)) (said_of (meaning setup) (command_in t.line)) h x t (desked_of operator (command_in t.line)) w.is
     w.legal w.added

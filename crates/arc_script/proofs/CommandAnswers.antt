@@ -10,7 +10,7 @@ use Rattle.centre_core.specs.declared.hall.Stop.{Stop}
 use Rattle.centre_core.specs.declared.hall.Stop.TheVariants.{Memory}
 use Rattle.centre_rules.specs.History.{Entry}
 use Rattle.centre_rules.specs.State.{State}
-use Rattle.centre_rules.specs.Summary.{nothing}
+use Rattle.centre_rules.specs.Summary.{Summary}
 use Rattle.centre_store.specs.Stores.{Stored, StoreStands}
 use Rattle.desk_session.specs.Desks as Desk
 use Rattle.desk_session.specs.Sessions.{ReadsNothing}
@@ -47,11 +47,11 @@ stop_is : (stop : Stop) (r : Result (Unit {0}) Stop) → r ≡ Err stop → r �
 stop_is stop r at memory = cc
 
 -- memory was wanted for the head of the line
-pub halted_first : {D : Type 0} (seen : D → DiskSeen) (s : Stored D) (setup : List ℕ)
+pub halted_first : {D : Type 0} (seen : D → DiskSeen) (s : Stored D) (base : Summary) (setup : List ℕ)
     (clock desk : ℕ) (before : List Asked) (text : List ℕ) (h : List Entry) (t : Tally) (stop : Stop) (r : Result (Unit {0}) Stop) → r ≡ Err stop
-    → r ≡ Err Memory → StoreStands seen nothing s h → IsReadable h
-    → Halted seen (λ x k. CameSoFar seen s setup clock desk before text h stop x k) t t s
-halted_first seen s setup clock desk before text h t stop r at memory stands readable =
+    → r ≡ Err Memory → StoreStands seen base s h → IsReadable base h
+    → Halted seen base (λ x k. CameSoFar base seen s setup clock desk before text h stop x k) t t s
+halted_first seen s base setup clock desk before text h t stop r at memory stands readable =
     let partial : Step = record { number = 0; asked = Command desk text; entries = []; sent = 0; text = [] } in
     record {
       partial = partial;
@@ -85,18 +85,18 @@ module _ {D : Type 0} (seen : D → DiskSeen) (s s' : Stored D) (setup : List �
 
   -- Of the ends that are no stops a failed write alone can come: memory was wanted for it.
   ended : (end : DeskEnd) → ReadsNothing (Err end) → r ≡ Err end → Closings s.state s'.state t t'
-      → (before : List Asked) (clock count : ℕ) (h : List Entry) → IsNext (meaning setup) clock count before (Command desk text) lines desks
-      → p ≡ blank clock → StoreStands seen nothing s h → IsReadable h
-      → Halted seen (λ x k. CameSoFar seen s' setup clock desk before text h (stop_in end) x k) t t' s'
-  ended InputEnded reads is sums before clock count h next empty stands readable = absurd reads
-  ended ReadFault reads is sums before clock count h next empty stands readable = absurd reads
-  ended WriteFault reads is sums before clock count h next empty stands readable =
-      fails_at seen s s' setup desk text lines desks was now t t' p page page' given (given_as (Err WriteFault) is) sums before
+      → (base : Summary) (before : List Asked) (clock count : ℕ) (h : List Entry) → IsNext (meaning setup) clock count before (Command desk text) lines desks
+      → p ≡ blank clock → StoreStands seen base s h → IsReadable base h
+      → Halted seen base (λ x k. CameSoFar base seen s' setup clock desk before text h (stop_in end) x k) t t' s'
+  ended InputEnded reads is sums base before clock count h next empty stands readable = absurd reads
+  ended ReadFault reads is sums base before clock count h next empty stands readable = absurd reads
+  ended WriteFault reads is sums base before clock count h next empty stands readable =
+      fails_at seen s s' base setup desk text lines desks was now t t' p page page' given (given_as (Err WriteFault) is) sums before
       clock
       count h next empty stands readable
-  ended Spent reads is sums before clock count h next empty stands readable =
+  ended Spent reads is sums base before clock count h next empty stands readable =
       let at = given_as (Err Spent) is in
-      let w = has_served seen s s' setup clock count desk before text h lines desks was now p page page' given (Err Spent) at
+      let w = has_served seen s s' base setup clock count desk before text h lines desks was now p page page' given (Err Spent) at
       next empty
       stands readable in
       let same : setup ≡ text_of s.state = sym (ap (λ (o : Option (List ℕ)). unwrap_or o []) at.set) in
@@ -104,8 +104,8 @@ module _ {D : Type 0} (seen : D → DiskSeen) (s s' : Stored D) (setup : List �
       let over = subst (λ (l : List ℕ). input_limit ≤ length (w.has.stream ++ l)) at.line spent.0 in
       let short = command_short (meaning setup) clock count desk before text w.has.stream lines desks next w.has.few in
       absurd (omega (arith, short, over))
-  ended Quit reads is sums before clock count h next empty stands readable =
-      let w = quits_on seen s s' setup desk text lines desks was now t t' p page page' given (given_as (Err Quit) is) sums
+  ended Quit reads is sums base before clock count h next empty stands readable =
+      let w = quits_on seen s s' base setup desk text lines desks was now t t' p page page' given (given_as (Err Quit) is) sums
       before clock
       count 0 h next empty stands readable in
       record {
@@ -116,16 +116,16 @@ module _ {D : Type 0} (seen : D → DiskSeen) (s s' : Stored D) (setup : List �
         readable = w.readable;
         counts = w.counts;
       }
-  ended (Stopped stop) reads is sums before clock count h next empty stands readable =
-      stops_at seen s s' setup desk text lines desks was now t t' p page page' given stop (given_as (Err (Stopped stop)) is)
+  ended (Stopped stop) reads is sums base before clock count h next empty stands readable =
+      stops_at seen s s' base setup desk text lines desks was now t t' p page page' given stop (given_as (Err (Stopped stop)) is)
       sums before
       clock count h next empty stands readable
 
   pub ended_as : (end : DeskEnd) (stop : Stop) → r ≡ Err end → stop ≡ stop_in end → ReadsNothing r → Closings s.state s'.state t t'
-      → (before : List Asked) (clock count : ℕ) (h : List Entry) → IsNext (meaning setup) clock count before (Command desk text) lines desks
-      → p ≡ blank clock → StoreStands seen nothing s h → IsReadable h
-      → Halted seen (λ x k. CameSoFar seen s' setup clock desk before text h stop x k) t t' s'
-  ended_as end stop is same reads sums before clock count h next empty stands readable =
-      subst (λ (k : Stop). Halted seen (λ x q. CameSoFar seen s' setup clock desk before text h k x q) t t'
+      → (base : Summary) (before : List Asked) (clock count : ℕ) (h : List Entry) → IsNext (meaning setup) clock count before (Command desk text) lines desks
+      → p ≡ blank clock → StoreStands seen base s h → IsReadable base h
+      → Halted seen base (λ x k. CameSoFar base seen s' setup clock desk before text h stop x k) t t' s'
+  ended_as end stop is same reads sums base before clock count h next empty stands readable =
+      subst (λ (k : Stop). Halted seen base (λ x q. CameSoFar base seen s' setup clock desk before text h k x q) t t'
       s')
-      (sym same) (ended end (subst ReadsNothing is reads) is sums before clock count h next empty stands readable)
+      (sym same) (ended end (subst ReadsNothing is reads) is sums base before clock count h next empty stands readable)

@@ -20,7 +20,7 @@ use Rattle.centre_core.specs.Setting.{text_of as text_in}
 use Rattle.centre_core.specs.declared.hall.Stop.{Stop}
 use Rattle.centre_rules.specs.Answers.{IsLegal}
 use Rattle.centre_rules.specs.History.{Entry, Extends}
-use Rattle.centre_rules.specs.Summary.{nothing}
+use Rattle.centre_rules.specs.Summary.{Summary}
 use Rattle.centre_store.specs.Stores.{Stored, StoreStands, Shows}
 use Rattle.desk_session.proofs.Quitting.{quits_next, up_next}
 use Rattle.desk_session.specs.Desks.{ServesLines}
@@ -101,23 +101,23 @@ no_more : (later mid x : List Entry) → x ≡ later ++ mid → length x ≤ len
 no_more [] mid x is few = is
 no_more (e ∷ later) mid x is few = (let size = ap length is ∙ length-append (e ∷ later) mid in absurd (omega (arith, size, few)))
 
-settled : (o : Option Event) (text : List ℕ) (h mid x : List Entry) (t : Turn) → IsAnswered nothing 0 h mid t o text
+settled : (base : Summary) (o : Option Event) (text : List ℕ) (h mid x : List Entry) (t : Turn) → IsAnswered base 0 h mid t o text
     → x ≡ reverse (option_to_list t.entry) ++ h → Extends mid x → x ≡ mid
-settled None text h mid x t w own more =
+settled base None text h mid x t w own more =
     let size = ap length (own ∙ ap (λ (o : Option Entry). reverse (option_to_list o) ++ h) w.entry) in
     let long = ap length w.extends.1 ∙ length-append w.extends.0 h in
     no_more more.0 mid x more.1 (omega (arith, size, long))
-settled (Some event) text h mid x t w own more =
+settled base (Some event) text h mid x t w own more =
     let size = ap length (own ∙ ap (λ (o : Option Entry). reverse (option_to_list o) ++ h) w.entry) in
     let long = ap length w.extends.1 ∙ length-append w.extends.0 h in
     let count = ap length w.is in
     no_more more.0 mid x more.1 (omega (arith, size, long, count))
 
 -- a turn that answers this text at this moment, and stands alone behind a history
-pub record Turned (setup : List ℕ) (operator : Option (List ℕ)) (clock : ℕ) (text : List ℕ) (h x : List Entry) (turn : Turn) : Type 0 where
+pub record Turned (base : Summary) (setup : List ℕ) (operator : Option (List ℕ)) (clock : ℕ) (text : List ℕ) (h x : List Entry) (turn : Turn) : Type 0 where
   pub line : turn.line ≡ text
-  pub is : IsTurn nothing (meaning setup) 0 operator h x turn
-  pub legal : IsLegal nothing x
+  pub is : IsTurn base (meaning setup) 0 operator h x turn
+  pub legal : IsLegal base x
   pub reading : IfSome turn.reading (λ r. r ≡ clock)
   pub added : x ≡ reverse (option_to_list turn.entry) ++ h
 
@@ -126,15 +126,15 @@ reading_at None clock n is = tt
 reading_at (Some r) clock zero is = absurd cc
 reading_at (Some r) clock (suc n) is = ap (λ (l : List ℕ). slice_index l 0) is
 
-turned_by : (setup : List ℕ) (operator : Option (List ℕ)) (clock n : ℕ) (text : List ℕ) (h x : List Entry) (t : Turn) → t.line ≡ text
-    → AreTurns nothing (meaning setup) 0 operator h x (t ∷ []) → IsLegal nothing x → x ≡ reverse (option_to_list t.entry ++ []) ++ h
-    → option_to_list t.reading ++ [] ≡ replicate n clock → Turned setup operator clock text h x t
-turned_by setup operator clock n text h x t line are legal own readings =
+turned_by : (base : Summary) (setup : List ℕ) (operator : Option (List ℕ)) (clock n : ℕ) (text : List ℕ) (h x : List Entry) (t : Turn) → t.line ≡ text
+    → AreTurns base (meaning setup) 0 operator h x (t ∷ []) → IsLegal base x → x ≡ reverse (option_to_list t.entry ++ []) ++ h
+    → option_to_list t.reading ++ [] ≡ replicate n clock → Turned base setup operator clock text h x t
+turned_by base setup operator clock n text h x t line are legal own readings =
     let added : x ≡ reverse (option_to_list t.entry) ++ h = own ∙ ap (λ (l : List Entry). reverse l ++ h) (append-nil (option_to_list t.entry)) in
-    let at = settled (event_of operator (command_in t.line)) (said_of (meaning setup) (command_in t.line)) h are.0 x t are.1 added are.2 in
+    let at = settled base (event_of operator (command_in t.line)) (said_of (meaning setup) (command_in t.line)) h are.0 x t are.1 added are.2 in
     record {
       line = line;
-      is = subst (λ (k : List Entry). IsTurn nothing (meaning setup) 0 operator h k t) (sym at) are.1;
+      is = subst (λ (k : List Entry). IsTurn base (meaning setup) 0 operator h k t) (sym at) are.1;
       legal = legal;
       reading = reading_at t.reading clock n readings;
       added = added;
@@ -142,27 +142,27 @@ turned_by setup operator clock n text h x t line are legal own readings =
 
 -- The desk answered the line, or would have: the store stands for the history with its turn.
 pub record Answers {D : Type 0} (seen : D → DiskSeen) (s' : Stored D)
-    (setup : List ℕ) (operator : Option (List ℕ)) (clock : ℕ) (text : List ℕ) (h : List Entry) : Type 0 where
+    (base : Summary) (setup : List ℕ) (operator : Option (List ℕ)) (clock : ℕ) (text : List ℕ) (h : List Entry) : Type 0 where
   pub turn : Turn
   pub history : List Entry
-  pub turned : Turned setup operator clock text h history turn
-  pub stands : StoreStands seen nothing s' history
-  pub readable : IsReadable history
+  pub turned : Turned base setup operator clock text h history turn
+  pub stands : StoreStands seen base s' history
+  pub readable : IsReadable base history
 
 -- all was answered
 pub record Said {D : Type 0} (seen : D → DiskSeen) (s' : Stored D)
-    (setup : List ℕ) (operator : Option (List ℕ)) (clock : ℕ) (text : List ℕ) (h : List Entry) (p p' : PortSeen) : Type 0 where
-  pub answers : Answers seen s' setup operator clock text h
+    (base : Summary) (setup : List ℕ) (operator : Option (List ℕ)) (clock : ℕ) (text : List ℕ) (h : List Entry) (p p' : PortSeen) : Type 0 where
+  pub answers : Answers seen s' base setup operator clock text h
   pub text_is : p'.written ≡ append_known p.written answers.turn.reply
 
-one_added : {D : Type 0} (seen : D → DiskSeen) (s s' : Stored D) (setup : List ℕ)
+one_added : {D : Type 0} (seen : D → DiskSeen) (s s' : Stored D) (base : Summary) (setup : List ℕ)
     (operator : Option (List ℕ)) (clock : ℕ) (text : List ℕ) (h x : List Entry) (p p' : PortSeen) (turns : List Turn) (readings : List ℕ)
     → (page : PageTells clock p p') → text ∷ [] ≡ pieces_of desk_turns turns ++ []
-    → AreTurns nothing (meaning setup) 0 operator h x turns → IsLegal nothing x → x ≡ reverse (entries_of desk_turns turns) ++ h
+    → AreTurns base (meaning setup) 0 operator h x turns → IsLegal base x → x ≡ reverse (entries_of desk_turns turns) ++ h
     → p'.readings ≡ append_known p.readings readings → readings ≡ readings_of desk_turns turns
-    → StoreStands seen nothing s' x → IsReadable x
-    → (answers : Answers seen s' setup operator clock text h) × (text_of desk_turns turns ≡ answers.turn.reply)
-one_added seen s s' setup operator clock text h x p p' turns readings page whole are legal own tells same stands readable =
+    → StoreStands seen base s' x → IsReadable base x
+    → (answers : Answers seen s' base setup operator clock text h) × (text_of desk_turns turns ≡ answers.turn.reply)
+one_added seen s s' base setup operator clock text h x p p' turns readings page whole are legal own tells same stands readable =
     let one = one_turn turns text whole in
     let t = one.turn in
     let list = option_to_list t.reading ++ [] in
@@ -173,8 +173,8 @@ one_added seen s s' setup operator clock text h x p p' turns readings page whole
       record {
         turn = t;
         history = x;
-        turned = turned_by setup operator clock (length list) text h x t one.line
-            (subst (λ (ts : List Turn). AreTurns nothing (meaning setup) 0 operator h x ts) one.is are) legal
+        turned = turned_by base setup operator clock (length list) text h x t one.line
+            (subst (λ (ts : List Turn). AreTurns base (meaning setup) 0 operator h x ts) one.is are) legal
             (own ∙ ap (λ (ts : List Turn). reverse (entries_of desk_turns ts) ++ h) one.is) at.same;
         stands = stands;
         readable = readable;
@@ -209,13 +209,13 @@ none_before (t ∷ []) text piece more is = absurd cc
 none_before (t ∷ u ∷ ts) text piece more is = absurd cc
 
 -- all was answered: the desk goes on, or the line was a `quit`
-pub says : {D : Type 0} (seen : D → DiskSeen) (s s' : Stored D) (setup : List ℕ)
+pub says : {D : Type 0} (seen : D → DiskSeen) (s s' : Stored D) (base : Summary) (setup : List ℕ)
     (clock : ℕ) (stream text : List ℕ) (h : List Entry) (p p' : PortSeen) → text_in s.state ≡ setup → (page : PageTells clock p p')
     → EndsAs stream text → quits (ended_lines stream) ≡ false
-    → ServesLines (Ok tt) (ended_lines stream) (ended_lines (stream ++ (text ++ 13 ∷ 10 ∷ []))) nothing h (script_seen seen s)
+    → ServesLines (Ok tt) (ended_lines stream) (ended_lines (stream ++ (text ++ 13 ∷ 10 ∷ []))) base h (script_seen seen s)
     (script_seen seen s') p p'
-    → Said seen s' setup (acts_over (meaning setup) None (ended_lines stream)) clock text h p p'
-says seen s s' setup clock stream text h p p' same page ends none serves =
+    → Said seen s' base setup (acts_over (meaning setup) None (ended_lines stream)) clock text h p p'
+says seen s s' base setup clock stream text h p p' same page ends none serves =
     let session = serves.desk.session in
     let turns = session.turns in
     let told_of = session.adds.told in
@@ -224,31 +224,31 @@ says seen s s' setup clock stream text h p p' same page ends none serves =
     let operator = acts_over (meaning (text_in s.state)) None (ended_lines stream) in
     let whole : text ∷ [] ≡ pieces_of desk_turns turns ++ [] =
     sym more ∙ session.taken ∙ ap (λ l. pieces_of desk_turns turns ++ l) session.ended.none_left in
-    let one = one_added seen s s' (text_in s.state) operator clock text h session.history p p' turns session.added.readings page whole
+    let one = one_added seen s s' base (text_in s.state) operator clock text h session.history p p' turns session.added.readings page whole
     session.each.0 session.legal session.own (ap (λ (q : PortSeen). q.readings) told_of) (ap (λ a. a.readings) added) session.holds.0.stands (session.holds.1 refl) in
-    subst (λ (t : List ℕ). Said seen s' t (acts_over (meaning t) None (ended_lines stream)) clock text h p p') same
+    subst (λ (t : List ℕ). Said seen s' base t (acts_over (meaning t) None (ended_lines stream)) clock text h p p') same
     (record {
       answers = one.0;
       text_is = ap (λ (q : PortSeen). q.written) told_of ∙ ap (λ (l : List ℕ). append_known p.written l) (ap (λ a. a.text) added ∙ one.1);
     })
 
-pub says_quit : {D : Type 0} (seen : D → DiskSeen) (s s' : Stored D) (setup : List ℕ)
+pub says_quit : {D : Type 0} (seen : D → DiskSeen) (s s' : Stored D) (base : Summary) (setup : List ℕ)
     (clock : ℕ) (stream text : List ℕ) (h : List Entry) (p p' : PortSeen) → text_in s.state ≡ setup → (page : PageTells clock p p')
     → EndsAs stream text → quits (ended_lines stream) ≡ false
-    → ServesLines (Err Quit) (ended_lines stream) (ended_lines (stream ++ (text ++ 13 ∷ 10 ∷ []))) nothing h (script_seen seen s)
+    → ServesLines (Err Quit) (ended_lines stream) (ended_lines (stream ++ (text ++ 13 ∷ 10 ∷ []))) base h (script_seen seen s)
     (script_seen seen s') p p'
-    → Said seen s' setup (acts_over (meaning setup) None (ended_lines stream)) clock text h p p'
-says_quit seen s s' setup clock stream text h p p' same page ends none serves =
-    says seen s s' setup clock stream text h p p' same page ends none (record { more = serves.more; came = serves.came; desk = serves.desk })
+    → Said seen s' base setup (acts_over (meaning setup) None (ended_lines stream)) clock text h p p'
+says_quit seen s s' base setup clock stream text h p p' same page ends none serves =
+    says seen s s' base setup clock stream text h p p' same page ends none (record { more = serves.more; came = serves.came; desk = serves.desk })
 
 -- a write failed: the line has its turn all the same
-pub unsaid : {D : Type 0} (seen : D → DiskSeen) (s s' : Stored D) (setup : List ℕ)
+pub unsaid : {D : Type 0} (seen : D → DiskSeen) (s s' : Stored D) (base : Summary) (setup : List ℕ)
     (clock : ℕ) (stream text : List ℕ) (h : List Entry) (p p' : PortSeen) → text_in s.state ≡ setup → (page : PageTells clock p p')
     → EndsAs stream text → quits (ended_lines stream) ≡ false
-    → ServesLines (Err WriteFault) (ended_lines stream) (ended_lines (stream ++ (text ++ 13 ∷ 10 ∷ []))) nothing h
+    → ServesLines (Err WriteFault) (ended_lines stream) (ended_lines (stream ++ (text ++ 13 ∷ 10 ∷ []))) base h
     (script_seen seen s) (script_seen seen s') p p'
-    → Answers seen s' setup (acts_over (meaning setup) None (ended_lines stream)) clock text h
-unsaid seen s s' setup clock stream text h p p' same page ends none serves =
+    → Answers seen s' base setup (acts_over (meaning setup) None (ended_lines stream)) clock text h
+unsaid seen s s' base setup clock stream text h p p' same page ends none serves =
     let session = serves.desk.session in
     let turns = session.turns in
     let ended = session.ended in
@@ -256,23 +256,23 @@ unsaid seen s s' setup clock stream text h p p' same page ends none serves =
     let operator = acts_over (meaning (text_in s.state)) None (ended_lines stream) in
     let whole : text ∷ [] ≡ pieces_of desk_turns turns ++ [] = only_left turns ended.front session.behind ended.last text session.left ended.split
     (sym more ∙ session.taken) in
-    let one = one_added seen s s' (text_in s.state) operator clock text h session.history p p' turns session.added.readings page whole
+    let one = one_added seen s s' base (text_in s.state) operator clock text h session.history p p' turns session.added.readings page whole
     session.each.0 session.legal session.own (ap (λ (q : PortSeen). q.readings) session.adds.told) (ap (λ a. a.readings) ended.added) session.holds.0.stands (session.holds.1 refl) in
-    subst (λ (t : List ℕ). Answers seen s' t (acts_over (meaning t) None (ended_lines stream)) clock text h) same one.0
+    subst (λ (t : List ℕ). Answers seen s' base t (acts_over (meaning t) None (ended_lines stream)) clock text h) same one.0
 
 -- the store stopped for the line
 pub record StoppedFor {D : Type 0} (seen : D → DiskSeen) (s' : Stored D)
-    (setup : List ℕ) (operator : Option (List ℕ)) (clock : ℕ) (text : List ℕ) (h : List Entry) (stop : Stop) : Type 0 where
-  pub stands : StoreStands seen nothing s' h
+    (base : Summary) (setup : List ℕ) (operator : Option (List ℕ)) (clock : ℕ) (text : List ℕ) (h : List Entry) (stop : Stop) : Type 0 where
+  pub stands : StoreStands seen base s' h
   pub cause : HasShown seen s' stop clock (λ event. event_of operator (command_in text) ≡ Some event)
 
-pub stops : {D : Type 0} (seen : D → DiskSeen) (s s' : Stored D) (setup : List ℕ)
+pub stops : {D : Type 0} (seen : D → DiskSeen) (s s' : Stored D) (base : Summary) (setup : List ℕ)
     (clock : ℕ) (stream text : List ℕ) (h : List Entry) (p p' : PortSeen) (stop : Stop) → text_in s.state ≡ setup → (page : PageTells clock p p')
     → EndsAs stream text → quits (ended_lines stream) ≡ false
-    → ServesLines (Err (Stopped stop)) (ended_lines stream) (ended_lines (stream ++ (text ++ 13 ∷ 10 ∷ []))) nothing h
+    → ServesLines (Err (Stopped stop)) (ended_lines stream) (ended_lines (stream ++ (text ++ 13 ∷ 10 ∷ []))) base h
     (script_seen seen s) (script_seen seen s') p p'
-    → StoppedFor seen s' setup (acts_over (meaning setup) None (ended_lines stream)) clock text h stop
-stops seen s s' setup clock stream text h p p' stop same page ends none serves =
+    → StoppedFor seen s' base setup (acts_over (meaning setup) None (ended_lines stream)) clock text h stop
+stops seen s s' base setup clock stream text h p p' stop same page ends none serves =
     let session = serves.desk.session in
     let turns = session.turns in
     let ended = session.ended in
@@ -290,9 +290,9 @@ stops seen s s' setup clock stream text h p p' stop same page ends none serves =
     (ap (λ a. a.readings) ended.added ∙ ap (λ (ts : List Turn). readings_of desk_turns ts ++ list) none_done.turns) in
     let at : ended.reading ≡ clock = ap (λ (l : List ℕ). slice_index l 0) (still page.list page.calls clock list page.one known).same in
     let cause = ended.cause in
-    subst (λ (t : List ℕ). StoppedFor seen s' t (acts_over (meaning t) None (ended_lines stream)) clock text h stop) same
+    subst (λ (t : List ℕ). StoppedFor seen s' base t (acts_over (meaning t) None (ended_lines stream)) clock text h stop) same
     (record {
-      stands = subst (λ (x : List Entry). StoreStands seen nothing s' x) back session.holds.0.stands;
+      stands = subst (λ (x : List Entry). StoreStands seen base s' x) back session.holds.0.stands;
       cause = inr (
         cause.0,
         ap (λ (o : Option (List ℕ)). event_of o (command_in text)) last ∙ ap (λ (l : List ℕ). event_of serves.desk.last (command_in l)) (sym none_done.piece) ∙ cause.1,

@@ -14,7 +14,7 @@ use Rattle.centre_core.specs.Setting.{IsSetting, text_of}
 use Rattle.centre_core.specs.declared.hall.Stop.{Stop}
 use Rattle.centre_core.specs.declared.hall.Stop.TheVariants.{Memory}
 use Rattle.centre_rules.specs.History.{Entry}
-use Rattle.centre_rules.specs.Summary.{nothing}
+use Rattle.centre_rules.specs.Summary.{Summary}
 use Rattle.centre_store.specs.StoreHalls.{IsStoreFor}
 use Rattle.centre_store.specs.Stores.{Stored, StoreStands}
 use Rattle.desk_session.specs.Desks as Desk
@@ -54,19 +54,19 @@ pub record IsGiven {D : Type 0} (seen : D → DiskSeen) (s s' : Stored D) (setup
   pub one : length (clock_list page'.port.clock) ≡ 1
   pub silent : noise_list page'.port.noise ≡ []
   pub taken : (stream : List ℕ) → Desk.TookStream (meaning (text_of s.state)) stream was → Desk.IsTaken r (meaning (text_of s.state)) stream given now
-  pub served : (stream : List ℕ) (h : List Entry) → Desk.TookStream (meaning (text_of s.state)) stream was
-      → IsStoreFor seen nothing s h → IsReadable h
-      → Desk.ServesBytes r stream (in_limit stream given) nothing h (script_seen seen s) (script_seen seen s')
+  pub served : (base : Summary) (stream : List ℕ) (h : List Entry) → Desk.TookStream (meaning (text_of s.state)) stream was
+      → IsStoreFor seen base s h → IsReadable base h
+      → Desk.ServesBytes r stream (in_limit stream given) base h (script_seen seen s) (script_seen seen s')
       (page_seen page) (page_seen page')
 
 -- what the desk had read, and what it did
-pub record HasServed {D : Type 0} (seen : D → DiskSeen) (s s' : Stored D) (setup : List ℕ)
+pub record HasServed {D : Type 0} (seen : D → DiskSeen) (s s' : Stored D) (base : Summary) (setup : List ℕ)
     (clock count desk : ℕ) (before : List Asked) (text : List ℕ) (h : List Entry) (was : Desk.DeskValue) (p p' : PortSeen)
     (r : Result (Unit {0}) DeskEnd) : Type 0 where
   pub has : HasRead (meaning setup) count (desk_read desk before) was
   pub ends : EndsAs has.stream text
   pub none : quits (ended_lines has.stream) ≡ false
-  pub serves : Desk.ServesLines r (ended_lines has.stream) (ended_lines (has.stream ++ (text ++ 13 ∷ 10 ∷ []))) nothing h
+  pub serves : Desk.ServesLines r (ended_lines has.stream) (ended_lines (has.stream ++ (text ++ 13 ∷ 10 ∷ []))) base h
       (script_seen seen s) (script_seen seen s') p p'
   pub page : PageTells clock p p'
 
@@ -89,25 +89,25 @@ whole_given stream text given line short =
     let fits : length bytes ≤ input_limit - length stream = omega (arith, long, short) in
     ap (in_limit stream) line ∙ all_in_limit stream bytes fits
 
-pub has_served : {D : Type 0} (seen : D → DiskSeen) (s s' : Stored D) (setup : List ℕ)
+pub has_served : {D : Type 0} (seen : D → DiskSeen) (s s' : Stored D) (base : Summary) (setup : List ℕ)
     (clock count desk : ℕ) (before : List Asked) (text : List ℕ) (h : List Entry) (lines : List Line.LineValue) (desks : List Desk.DeskValue)
     (was now : Desk.DeskValue) (p : PortSeen) (page page' : Page) (given : List ℕ) (r : Result (Unit {0}) DeskEnd)
     → IsGiven seen s s' setup desk text desks was now p page page' given r
     → IsNext (meaning setup) clock count before (Command desk text) lines desks → p ≡ blank clock
-    → StoreStands seen nothing s h → IsReadable h
-    → HasServed seen s s' setup clock count desk before text h was (page_seen page) (page_seen page') r
-has_served seen s s' setup clock count desk before text h lines desks was now p page page' given r g next empty stands readable =
+    → StoreStands seen base s h → IsReadable base h
+    → HasServed seen s s' base setup clock count desk before text h was (page_seen page) (page_seen page') r
+has_served seen s s' base setup clock count desk before text h lines desks was now p page page' given r g next empty stands readable =
     let has = had_read (meaning setup) clock count desk before text lines desks was g.low g.there next in
     let same = text_is s setup g.set in
     let took = subst (λ (t : List ℕ). Desk.TookStream (meaning t) has.stream was) (sym same) has.took in
     let short = command_short (meaning setup) clock count desk before text has.stream lines desks next has.few in
-    let serves = g.served has.stream h took (record { stands = stands; setting = g.setting }) readable in
+    let serves = g.served base has.stream h took (record { stands = stands; setting = g.setting }) readable in
     let whole = whole_given has.stream text given g.line short in
     record {
       has = has;
       ends = ends_as has.stream text (text_unbroken desk text next.unbroken) has.none;
       none = has.took.taken.goes_on;
-      serves = subst (λ (l : List ℕ). Desk.ServesLines r (ended_lines has.stream) (ended_lines (has.stream ++ l)) nothing h
+      serves = subst (λ (l : List ℕ). Desk.ServesLines r (ended_lines has.stream) (ended_lines (has.stream ++ l)) base h
           (script_seen seen s) (script_seen seen s') (page_seen page) (page_seen page')) whole serves;
       page = page_tells clock page page'
           (ap (λ (q : PortSeen). q.readings) g.only.rest ∙ ap (λ (q : PortSeen). q.readings) empty)
@@ -116,59 +116,59 @@ has_served seen s s' setup clock count desk before text h lines desks was now p 
 
 -- The desk goes on, or the line was a `quit`.
 
-pub goes_on : {D : Type 0} (seen : D → DiskSeen) (s s' : Stored D) (setup : List ℕ)
+pub goes_on : {D : Type 0} (seen : D → DiskSeen) (s s' : Stored D) (base : Summary) (setup : List ℕ)
     (desk : ℕ) (text : List ℕ) (lines : List Line.LineValue) (desks : List Desk.DeskValue) (was now : Desk.DeskValue) (t t' : Tally) (p : PortSeen)
     (page page' : Page) (given : List ℕ) → IsGiven seen s s' setup desk text desks was now p page page' given (Ok tt)
     → Closings s.state s'.state t t'
     → (before : List Asked) (clock count number : ℕ) (h : List Entry) → IsNext (meaning setup) clock count before (Command desk text) lines desks
-    → p ≡ blank clock → StoreStands seen nothing s h → IsReadable h
-    → Carried seen (λ x k. Commands setup before desk text h x k) number (Command desk text) t t' p (page_seen page') s'
-goes_on seen s s' setup desk text lines desks was now t t' p page page' given g closings before clock count number h next empty stands readable =
-    let w = has_served seen s s' setup clock count desk before text h lines desks was now p page page' given (Ok tt) g next empty stands readable in
-    let said = says seen s s' setup clock w.has.stream text h (page_seen page) (page_seen page') (text_is s setup g.set) w.page w.ends w.none w.serves in
-    commanded seen s s' setup clock number desk before text (ended_lines w.has.stream) h t t' p (page_seen page) (page_seen page')
+    → p ≡ blank clock → StoreStands seen base s h → IsReadable base h
+    → Carried seen base (λ x k. Commands base setup before desk text h x k) number (Command desk text) t t' p (page_seen page') s'
+goes_on seen s s' base setup desk text lines desks was now t t' p page page' given g closings before clock count number h next empty stands readable =
+    let w = has_served seen s s' base setup clock count desk before text h lines desks was now p page page' given (Ok tt) g next empty stands readable in
+    let said = says seen s s' base setup clock w.has.stream text h (page_seen page) (page_seen page') (text_is s setup g.set) w.page w.ends w.none w.serves in
+    commanded seen s s' base setup clock number desk before text (ended_lines w.has.stream) h t t' p (page_seen page) (page_seen page')
     next.set w.has.ended stands said g.head closings
 
-pub quits_on : {D : Type 0} (seen : D → DiskSeen) (s s' : Stored D) (setup : List ℕ)
+pub quits_on : {D : Type 0} (seen : D → DiskSeen) (s s' : Stored D) (base : Summary) (setup : List ℕ)
     (desk : ℕ) (text : List ℕ) (lines : List Line.LineValue) (desks : List Desk.DeskValue) (was now : Desk.DeskValue) (t t' : Tally) (p : PortSeen)
     (page page' : Page) (given : List ℕ) → IsGiven seen s s' setup desk text desks was now p page page' given (Err Quit)
     → Closings s.state s'.state t t'
     → (before : List Asked) (clock count number : ℕ) (h : List Entry) → IsNext (meaning setup) clock count before (Command desk text) lines desks
-    → p ≡ blank clock → StoreStands seen nothing s h → IsReadable h
-    → Carried seen (λ x k. Commands setup before desk text h x k) number (Command desk text) t t' p (page_seen page') s'
-quits_on seen s s' setup desk text lines desks was now t t' p page page' given g closings before clock count number h next empty stands readable =
-    let w = has_served seen s s' setup clock count desk before text h lines desks was now p page page' given (Err Quit) g next empty stands readable in
-    let said = says_quit seen s s' setup clock w.has.stream text h (page_seen page) (page_seen page') (text_is s setup g.set) w.page w.ends w.none w.serves in
-    commanded seen s s' setup clock number desk before text (ended_lines w.has.stream) h t t' p (page_seen page) (page_seen page')
+    → p ≡ blank clock → StoreStands seen base s h → IsReadable base h
+    → Carried seen base (λ x k. Commands base setup before desk text h x k) number (Command desk text) t t' p (page_seen page') s'
+quits_on seen s s' base setup desk text lines desks was now t t' p page page' given g closings before clock count number h next empty stands readable =
+    let w = has_served seen s s' base setup clock count desk before text h lines desks was now p page page' given (Err Quit) g next empty stands readable in
+    let said = says_quit seen s s' base setup clock w.has.stream text h (page_seen page) (page_seen page') (text_is s setup g.set) w.page w.ends w.none w.serves in
+    commanded seen s s' base setup clock number desk before text (ended_lines w.has.stream) h t t' p (page_seen page) (page_seen page')
     next.set w.has.ended stands said g.head closings
 
 -- the store stopped for the command
-pub stops_at : {D : Type 0} (seen : D → DiskSeen) (s s' : Stored D) (setup : List ℕ)
+pub stops_at : {D : Type 0} (seen : D → DiskSeen) (s s' : Stored D) (base : Summary) (setup : List ℕ)
     (desk : ℕ) (text : List ℕ) (lines : List Line.LineValue) (desks : List Desk.DeskValue) (was now : Desk.DeskValue) (t t' : Tally) (p : PortSeen)
     (page page' : Page) (given : List ℕ) (stop : Stop)
     → IsGiven seen s s' setup desk text desks was now p page page' given (Err (Stopped stop)) → Closings s.state s'.state t t'
     → (before : List Asked) (clock count : ℕ) (h : List Entry) → IsNext (meaning setup) clock count before (Command desk text) lines desks
-    → p ≡ blank clock → StoreStands seen nothing s h → IsReadable h
-    → Halted seen (λ x k. CameSoFar seen s' setup clock desk before text h stop x k) t t' s'
-stops_at seen s s' setup desk text lines desks was now t t' p page page' given stop g closings before clock count h next empty stands readable =
-    let w = has_served seen s s' setup clock count desk before text h lines desks was now p page page' given (Err (Stopped stop)) g next empty stands readable in
-    let stopped = stops seen s s' setup clock w.has.stream text h (page_seen page) (page_seen page') stop (text_is s setup g.set) w.page w.ends w.none w.serves in
+    → p ≡ blank clock → StoreStands seen base s h → IsReadable base h
+    → Halted seen base (λ x k. CameSoFar base seen s' setup clock desk before text h stop x k) t t' s'
+stops_at seen s s' base setup desk text lines desks was now t t' p page page' given stop g closings before clock count h next empty stands readable =
+    let w = has_served seen s s' base setup clock count desk before text h lines desks was now p page page' given (Err (Stopped stop)) g next empty stands readable in
+    let stopped = stops seen s s' base setup clock w.has.stream text h (page_seen page) (page_seen page') stop (text_is s setup g.set) w.page w.ends w.none w.serves in
     let cause = subst (λ (ls : List (List ℕ)). HasShown seen s' stop clock
     (λ event. event_of (acts_over (meaning setup) None ls) (command_in text) ≡ Some event)) w.has.ended stopped.cause in
-    halted_before seen s s' setup clock desk before text h t t' stop stands stopped.stands readable cause closings
+    halted_before seen s s' base setup clock desk before text h t t' stop stands stopped.stands readable cause closings
 
 -- A write failed, or nothing like that can be.
-pub fails_at : {D : Type 0} (seen : D → DiskSeen) (s s' : Stored D) (setup : List ℕ)
+pub fails_at : {D : Type 0} (seen : D → DiskSeen) (s s' : Stored D) (base : Summary) (setup : List ℕ)
     (desk : ℕ) (text : List ℕ) (lines : List Line.LineValue) (desks : List Desk.DeskValue) (was now : Desk.DeskValue) (t t' : Tally) (p : PortSeen)
     (page page' : Page) (given : List ℕ) → IsGiven seen s s' setup desk text desks was now p page page' given (Err WriteFault)
     → Closings s.state s'.state t t'
     → (before : List Asked) (clock count : ℕ) (h : List Entry) → IsNext (meaning setup) clock count before (Command desk text) lines desks
-    → p ≡ blank clock → StoreStands seen nothing s h → IsReadable h
-    → Halted seen (λ x k. CameSoFar seen s' setup clock desk before text h Memory x k) t t' s'
-fails_at seen s s' setup desk text lines desks was now t t' p page page' given g closings before clock count h next empty stands readable =
-    let w = has_served seen s s' setup clock count desk before text h lines desks was now p page page' given (Err WriteFault) g next empty stands readable in
-    let answers = unsaid seen s s' setup clock w.has.stream text h (page_seen page) (page_seen page') (text_is s setup g.set) w.page w.ends w.none w.serves in
-    unsaid_all seen s s' setup clock desk before text (ended_lines w.has.stream) h t t' next.set w.has.ended stands answers closings
+    → p ≡ blank clock → StoreStands seen base s h → IsReadable base h
+    → Halted seen base (λ x k. CameSoFar base seen s' setup clock desk before text h Memory x k) t t' s'
+fails_at seen s s' base setup desk text lines desks was now t t' p page page' given g closings before clock count h next empty stands readable =
+    let w = has_served seen s s' base setup clock count desk before text h lines desks was now p page page' given (Err WriteFault) g next empty stands readable in
+    let answers = unsaid seen s s' base setup clock w.has.stream text h (page_seen page) (page_seen page') (text_is s setup g.set) w.page w.ends w.none w.serves in
+    unsaid_all seen s s' base setup clock desk before text (ended_lines w.has.stream) h t t' next.set w.has.ended stands answers closings
 
 -- What the desks took.
 

@@ -14,7 +14,7 @@ use Rattle.centre_rules.specs.Answers.{answer, if_known, knows_account, repeat_o
 use Rattle.centre_rules.specs.History.{Entry, is_recorded, marks, recorded}
 use Rattle.centre_rules.specs.Marks.{force}
 use Rattle.centre_rules.specs.State.{State, StandsFor}
-use Rattle.centre_rules.specs.Summary.{nothing}
+use Rattle.centre_rules.specs.Summary.{Summary}
 use Rattle.arc_script.specs.Carrying.{GrowsBy}
 use Rattle.arc_script.specs.Tallies.{count_of, is_closed, is_repeat, told}
 use Rattle.arc_script.proofs.Answered.{is_lined, AreLined, lined_reverse}
@@ -31,23 +31,23 @@ taken_reply : (o : Option ℕ) → IsLineReply (taken_or o)
 taken_reply None = record { quiet = refl; stays = refl }
 taken_reply (Some first) = record { quiet = refl; stays = refl }
 
-line_reply : (h : List Entry) (event : Event) (at : ℕ) (reply : Reply) → is_lined event ≡ true → reply ≢ Unknown → reply ≡ answer nothing h event at
+line_reply : (base : Summary) (h : List Entry) (event : Event) (at : ℕ) (reply : Reply) → is_lined event ≡ true → reply ≢ Unknown → reply ≡ answer base h event at
     → IsLineReply reply
-line_reply h (E.Adopt text) at reply is known same = absurd (false≢true is)
-line_reply h E.Start at reply is known same = absurd (false≢true is)
-line_reply h (E.Message m) at reply is known same =
-    let b = knows_account (force nothing (marks nothing h)) m.account && has_signals m.token m.content in
-    let first = repeat_of nothing (marks nothing h) m at in
+line_reply base h (E.Adopt text) at reply is known same = absurd (false≢true is)
+line_reply base h E.Start at reply is known same = absurd (false≢true is)
+line_reply base h (E.Message m) at reply is known same =
+    let b = knows_account (force base (marks base h)) m.account && has_signals m.token m.content in
+    let first = repeat_of base (marks base h) m at in
     known_reply b (taken_or first) reply (taken_reply first) known same
-line_reply h (E.Beat account) at reply is known same = known_reply (knows_account (force nothing (marks nothing h)) account) Heard reply (record { quiet = refl; stays = refl }) known same
-line_reply h E.Tick at reply is known same = absurd (false≢true is)
-line_reply h (E.Claim operator number) at reply is known same = absurd (false≢true is)
-line_reply h (E.Next operator) at reply is known same = absurd (false≢true is)
-line_reply h (E.Act operator number step outcome) at reply is known same = absurd (false≢true is)
-line_reply h (E.Release operator number) at reply is known same = absurd (false≢true is)
-line_reply h (E.Close operator number code) at reply is known same = absurd (false≢true is)
-line_reply h (E.Show number) at reply is known same = absurd (false≢true is)
-line_reply h E.List at reply is known same = absurd (false≢true is)
+line_reply base h (E.Beat account) at reply is known same = known_reply (knows_account (force base (marks base h)) account) Heard reply (record { quiet = refl; stays = refl }) known same
+line_reply base h E.Tick at reply is known same = absurd (false≢true is)
+line_reply base h (E.Claim operator number) at reply is known same = absurd (false≢true is)
+line_reply base h (E.Next operator) at reply is known same = absurd (false≢true is)
+line_reply base h (E.Act operator number step outcome) at reply is known same = absurd (false≢true is)
+line_reply base h (E.Release operator number) at reply is known same = absurd (false≢true is)
+line_reply base h (E.Close operator number code) at reply is known same = absurd (false≢true is)
+line_reply base h (E.Show number) at reply is known same = absurd (false≢true is)
+line_reply base h E.List at reply is known same = absurd (false≢true is)
 
 -- Counts do not depend on the order.
 pub count_reverse : (test : Reply → Bool) (es : List Entry) → count_of test (reverse es) ≡ count_of test es
@@ -66,23 +66,23 @@ quiet_step true false e kept found n m is sum = omega (arith, sum)
 quiet_step false true e kept found n m is sum = omega (arith, sum)
 quiet_step false false e kept found n m is sum = absurd (false≢true is)
 
-quiet_more : (es h : List Entry) → AreLined es → IsLegal nothing (es ++ h)
+quiet_more : (base : Summary) (es h : List Entry) → AreLined es → IsLegal base (es ++ h)
     → length (recorded (es ++ h)) + count_of is_repeat es ≡ length (recorded h) + length es
-quiet_more [] h lined legal = omega arith
-quiet_more (e ∷ es) h lined legal =
-    let reply = line_reply (es ++ h) e.event e.at e.reply lined.0.lined lined.0.known legal.0.reply in
+quiet_more base [] h lined legal = omega arith
+quiet_more base (e ∷ es) h lined legal =
+    let reply = line_reply base (es ++ h) e.event e.at e.reply lined.0.lined lined.0.known legal.0.reply in
     quiet_step (is_recorded e.reply) (is_repeat e.reply) e (recorded (es ++ h)) (filter (λ (d : Entry). is_repeat d.reply) es)
-    (length (recorded h)) (length es) reply.quiet (quiet_more es h lined.1 legal.1)
+    (length (recorded h)) (length es) reply.quiet (quiet_more base es h lined.1 legal.1)
 
 closed_step : (b : Bool) (e : Entry) (found : List Entry) → b ≡ false → length found ≡ 0 → length (cond b (e ∷ found) found) ≡ 0
 closed_step true e found is none = absurd (false≢true (sym is))
 closed_step false e found is none = none
 
-closed_none : (es h : List Entry) → AreLined es → IsLegal nothing (es ++ h) → count_of is_closed es ≡ 0
-closed_none [] h lined legal = refl
-closed_none (e ∷ es) h lined legal =
-    let reply = line_reply (es ++ h) e.event e.at e.reply lined.0.lined lined.0.known legal.0.reply in
-    closed_step (is_closed e.reply) e (filter (λ (d : Entry). is_closed d.reply) es) reply.stays (closed_none es h lined.1 legal.1)
+closed_none : (base : Summary) (es h : List Entry) → AreLined es → IsLegal base (es ++ h) → count_of is_closed es ≡ 0
+closed_none base [] h lined legal = refl
+closed_none base (e ∷ es) h lined legal =
+    let reply = line_reply base (es ++ h) e.event e.at e.reply lined.0.lined lined.0.known legal.0.reply in
+    closed_step (is_closed e.reply) e (filter (λ (d : Entry). is_closed d.reply) es) reply.stays (closed_none base es h lined.1 legal.1)
 
 few_if : (b : Bool) (e : Entry) (kept : List Entry) (n : ℕ) → length kept ≤ n → length (cond b (e ∷ kept) kept) ≤ suc n
 few_if true e kept n few = omega (arith, few)
@@ -97,20 +97,20 @@ abbrev pub quiet_in : State → ℕ
 quiet_in s = s.entries - s.sum.recorded
 
 -- a line's entries were added to a history: the repeats among them are those entries more that are not recorded
-pub repeats_told : (s s' : State) (h x : List Entry) (entries : List Entry) → StandsFor nothing s h → StandsFor nothing s' x
+pub repeats_told : (base : Summary) (s s' : State) (h x : List Entry) (entries : List Entry) → StandsFor base s h → StandsFor base s' x
     → x ≡ reverse entries ++ h → AreLined entries → quiet_in s' - quiet_in s ≡ count_of is_repeat entries
-repeats_told s s' h x entries before behind own lined =
+repeats_told base s s' h x entries before behind own lined =
     let es = reverse entries in
-    let legal : IsLegal nothing (es ++ h) = subst (IsLegal nothing) own behind.legal in
-    let quiet = quiet_more es h (lined_reverse entries lined) legal in
+    let legal : IsLegal base (es ++ h) = subst (IsLegal base) own behind.legal in
+    let quiet = quiet_more base es h (lined_reverse entries lined) legal in
     let count = ap (λ (l : List Entry). length (recorded l)) own in
     let long = ap length own ∙ length-append es h in
     omega (arith, before.entries, before.recorded, behind.entries, behind.recorded, quiet, count, long, count_reverse is_repeat entries, recorded_few h)
 
-pub closes_none : (h x : List Entry) (entries : List Entry) → IsLegal nothing x → x ≡ reverse entries ++ h → AreLined entries
+pub closes_none : (base : Summary) (h x : List Entry) (entries : List Entry) → IsLegal base x → x ≡ reverse entries ++ h → AreLined entries
     → count_of is_closed entries ≡ 0
-closes_none h x entries legal own lined =
-    sym (count_reverse is_closed entries) ∙ closed_none (reverse entries) h (lined_reverse entries lined) (subst (IsLegal nothing) own legal)
+closes_none base h x entries legal own lined =
+    sym (count_reverse is_closed entries) ∙ closed_none base (reverse entries) h (lined_reverse entries lined) (subst (IsLegal base) own legal)
 
 -- Counts stand still at the last value of u64.
 

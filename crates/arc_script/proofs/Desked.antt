@@ -18,7 +18,7 @@ use Rattle.centre_rules.proofs.Steps.{incidents_begin}
 use Rattle.centre_rules.specs.Cases.{incidents}
 use Rattle.centre_rules.specs.History.{Entry, marks}
 use Rattle.centre_rules.specs.State.{State, StandsFor}
-use Rattle.centre_rules.specs.Summary.{nothing}
+use Rattle.centre_rules.specs.Summary.{Summary}
 use Rattle.centre_store.specs.Stores.{Stored, StoreStands}
 use Rattle.desk_session.specs.Desks as Desk
 use Rattle.desk_session.specs.Events.{acts_over, is_quit, quits}
@@ -45,24 +45,24 @@ pub record Closings (s s' : State) (t t' : Tally) : Type 0 where
   pub closed : t'.closed ≡ min (t.closed + (length s.sum.incidents - length s'.sum.incidents)) (2 ^ 64 - 1)
   pub rest : t' ≡ record t { closed = t'.closed }
 
-open_told : (s : State) (h : List Entry) → StandsFor nothing s h → length s.sum.incidents ≡ length (incidents nothing (marks nothing h))
-open_told s h stands = ap length (sym (incidents_begin s.sum) ∙ stands.same.incidents)
+open_told : (base : Summary) (s : State) (h : List Entry) → StandsFor base s h → length s.sum.incidents ≡ length (incidents base (marks base h))
+open_told base s h stands = ap length (sym (incidents_begin s.sum) ∙ stands.same.incidents)
 
-fewer : (s s' : State) (h x entries : List Entry) → StandsFor nothing s h → StandsFor nothing s' x → IsCounted h x entries
+fewer : (base : Summary) (s s' : State) (h x entries : List Entry) → StandsFor base s h → StandsFor base s' x → IsCounted base h x entries
     → length s.sum.incidents - length s'.sum.incidents ≡ count_of is_closed entries
-fewer s s' h x entries before behind counted =
-    let first = open_told s h before in
-    let other = open_told s' x behind in
+fewer base s s' h x entries before behind counted =
+    let first = open_told base s h before in
+    let other = open_told base s' x behind in
     let closed = counted.closed in
     omega (arith, first, other, closed)
 
-command_counts : (s s' : State) (t t' : Tally) (h x : List Entry) (step : Step) (entries : List Entry) → StandsFor nothing s h → StandsFor nothing s' x
-    → IsCounted h x entries → Closings s s' t t' → step.entries ≡ entries → step.sent ≡ 0 → CountsStep step t t'
-command_counts s s' t t' h x step entries before behind counted w entries_is sent_is =
+command_counts : (base : Summary) (s s' : State) (t t' : Tally) (h x : List Entry) (step : Step) (entries : List Entry) → StandsFor base s h → StandsFor base s' x
+    → IsCounted base h x entries → Closings s s' t t' → step.entries ≡ entries → step.sent ≡ 0 → CountsStep step t t'
+command_counts base s s' t t' h x step entries before behind counted w entries_is sent_is =
     let sent : t'.sent ≡ t.sent = ap (λ (k : Tally). k.sent) w.rest in
     let repeats : t'.repeats ≡ t.repeats = ap (λ (k : Tally). k.repeats) w.rest in
     let closed : t'.closed ≡ told (t.closed + count_of is_closed entries) =
-    w.closed ∙ ap (λ (n : ℕ). told (t.closed + n)) (fewer s s' h x entries before behind counted) in
+    w.closed ∙ ap (λ (n : ℕ). told (t.closed + n)) (fewer base s s' h x entries before behind counted) in
     record {
       more = record {
         sent = subst (λ (n : ℕ). GrowsBy step.sent t.sent n) (sym sent) (grows_none step.sent t.sent sent_is);
@@ -84,12 +84,12 @@ step_of number desk text reply entries = record {
   text = head_of 68 desk ++ 32 ∷ reply;
 }
 
-commands_of : (setup : List ℕ) (clock number desk : ℕ) (before : List Asked) (text : List ℕ) (lines : List (List ℕ)) (h x : List Entry) (turn : Turn)
-    → clock_of before ≡ Some clock → lines ≡ desk_read desk before → Turned setup (acts_over (meaning setup) None lines) clock text h x turn
-    → Commands setup before desk text h x (step_of number desk text turn.reply (option_to_list turn.entry))
+commands_of : (base : Summary) (setup : List ℕ) (clock number desk : ℕ) (before : List Asked) (text : List ℕ) (lines : List (List ℕ)) (h x : List Entry) (turn : Turn)
+    → clock_of before ≡ Some clock → lines ≡ desk_read desk before → Turned base setup (acts_over (meaning setup) None lines) clock text h x turn
+    → Commands base setup before desk text h x (step_of number desk text turn.reply (option_to_list turn.entry))
 unfolding step_of
-commands_of setup clock number desk before text lines h x turn set same w =
-    let here = subst (λ (ls : List (List ℕ)). Turned setup (acts_over (meaning setup) None ls) clock text h x turn) same w in
+commands_of base setup clock number desk before text lines h x turn set same w =
+    let here = subst (λ (ls : List (List ℕ)). Turned base setup (acts_over (meaning setup) None ls) clock text h x turn) same w in
     record {
       turn = turn;
       clock = clock;
@@ -104,74 +104,74 @@ commands_of setup clock number desk before text lines h x turn set same w =
       text = refl;
     }
 
-pub commanded : {D : Type 0} (seen : D → DiskSeen) (s s' : Stored D) (setup : List ℕ)
+pub commanded : {D : Type 0} (seen : D → DiskSeen) (s s' : Stored D) (base : Summary) (setup : List ℕ)
     (clock number desk : ℕ) (before : List Asked) (text : List ℕ) (lines : List (List ℕ)) (h : List Entry) (t t' : Tally) (p q p' : PortSeen)
-    → clock_of before ≡ Some clock → lines ≡ desk_read desk before → StoreStands seen nothing s h
-    → Said seen s' setup (acts_over (meaning setup) None lines) clock text h q p'
+    → clock_of before ≡ Some clock → lines ≡ desk_read desk before → StoreStands seen base s h
+    → Said seen s' base setup (acts_over (meaning setup) None lines) clock text h q p'
     → q.written ≡ append_known p.written (head_of 68 desk ++ 32 ∷ []) → Closings s.state s'.state t t'
-    → Carried seen (λ x s. Commands setup before desk text h x s) number (Command desk text) t t' p p' s'
+    → Carried seen base (λ x s. Commands base setup before desk text h x s) number (Command desk text) t t' p p' s'
 unfolding step_of
-commanded seen s s' setup clock number desk before text lines h t t' p q p' set same stands w head closings =
+commanded seen s s' base setup clock number desk before text lines h t t' p q p' set same stands w head closings =
     let a = w.answers in
     let entries = option_to_list a.turn.entry in
     let step = step_of number desk text a.turn.reply entries in
-    let counted = counted_turn setup (acts_over (meaning setup) None lines) clock text h a.history a.turn a.turned in
+    let counted = counted_turn base setup (acts_over (meaning setup) None lines) clock text h a.history a.turn a.turned in
     record {
       step = step;
       history = a.history;
       number_is = refl;
       asked_is = refl;
-      is = commands_of setup clock number desk before text lines h a.history a.turn set same a.turned;
+      is = commands_of base setup clock number desk before text lines h a.history a.turn set same a.turned;
       stands = a.stands;
       readable = a.readable;
       text = w.text_is ∙ ap (λ (k : Option (List ℕ)). append_known k a.turn.reply) head
           ∙ known_both p.written (head_of 68 desk ++ 32 ∷ []) a.turn.reply
           ∙ ap (append_known p.written) (append_assoc (head_of 68 desk) (32 ∷ []) a.turn.reply);
-      counts = command_counts s.state s'.state t t' h a.history step entries stands.centre a.stands.centre counted closings refl refl;
+      counts = command_counts base s.state s'.state t t' h a.history step entries stands.centre a.stands.centre counted closings refl refl;
     }
 
 -- how far it came, in the words of its contract
-abbrev pub CameSoFar : {D : Type 0} → (D → DiskSeen) → Stored D → List ℕ → ℕ → ℕ → List Asked → List ℕ → List Entry
+abbrev pub CameSoFar : {D : Type 0} → Summary → (D → DiskSeen) → Stored D → List ℕ → ℕ → ℕ → List Asked → List ℕ → List Entry
     → Stop → List Entry → Step → Type 0
-CameSoFar seen s' setup clock desk before text h stop x s =
+CameSoFar base seen s' setup clock desk before text h stop x s =
     ((x ≡ h) × AddedBy h x s × HasShown seen s' stop clock (IsOfCommand setup before desk text))
-    ⊎ ((stop ≡ Memory) × Commands setup before desk text h x s)
+    ⊎ ((stop ≡ Memory) × Commands base setup before desk text h x s)
 
 -- the desk had answered, and memory was wanted for it
-pub unsaid_all : {D : Type 0} (seen : D → DiskSeen) (s s' : Stored D) (setup : List ℕ)
+pub unsaid_all : {D : Type 0} (seen : D → DiskSeen) (s s' : Stored D) (base : Summary) (setup : List ℕ)
     (clock desk : ℕ) (before : List Asked) (text : List ℕ) (lines : List (List ℕ)) (h : List Entry) (t t' : Tally)
-    → clock_of before ≡ Some clock → lines ≡ desk_read desk before → StoreStands seen nothing s h
-    → Answers seen s' setup (acts_over (meaning setup) None lines) clock text h → Closings s.state s'.state t t'
-    → Halted seen (λ x s. CameSoFar seen s' setup clock desk before text h Memory x s) t t' s'
+    → clock_of before ≡ Some clock → lines ≡ desk_read desk before → StoreStands seen base s h
+    → Answers seen s' base setup (acts_over (meaning setup) None lines) clock text h → Closings s.state s'.state t t'
+    → Halted seen base (λ x s. CameSoFar base seen s' setup clock desk before text h Memory x s) t t' s'
 unfolding step_of
-unsaid_all seen s s' setup clock desk before text lines h t t' set same stands a closings =
+unsaid_all seen s s' base setup clock desk before text lines h t t' set same stands a closings =
     let entries = option_to_list a.turn.entry in
     let step = step_of 0 desk text a.turn.reply entries in
-    let counted = counted_turn setup (acts_over (meaning setup) None lines) clock text h a.history a.turn a.turned in
+    let counted = counted_turn base setup (acts_over (meaning setup) None lines) clock text h a.history a.turn a.turned in
     record {
       partial = step;
       history = a.history;
-      came = inr (refl, commands_of setup clock 0 desk before text lines h a.history a.turn set same a.turned);
+      came = inr (refl, commands_of base setup clock 0 desk before text lines h a.history a.turn set same a.turned);
       stands = a.stands;
       readable = a.readable;
-      counts = command_counts s.state s'.state t t' h a.history step entries stands.centre a.stands.centre counted closings refl refl;
+      counts = command_counts base s.state s'.state t t' h a.history step entries stands.centre a.stands.centre counted closings refl refl;
     }
 
 none_added : (h : List Entry) (desk : ℕ) (text : List ℕ) → AddedBy h h (step_of 0 desk text [] [])
 unfolding step_of
 none_added h desk text = record { added = refl; sent = refl }
 
-none_counted : (h : List Entry) → IsCounted h h []
-none_counted h = record { repeats = refl; closed = omega arith }
+none_counted : (base : Summary) (h : List Entry) → IsCounted base h h []
+none_counted base h = record { repeats = refl; closed = omega arith }
 
 -- nothing was done for it
-pub halted_before : {D : Type 0} (seen : D → DiskSeen) (s s' : Stored D) (setup : List ℕ)
+pub halted_before : {D : Type 0} (seen : D → DiskSeen) (s s' : Stored D) (base : Summary) (setup : List ℕ)
     (clock desk : ℕ) (before : List Asked) (text : List ℕ) (h : List Entry) (t t' : Tally) (stop : Stop)
-    → StoreStands seen nothing s h → StoreStands seen nothing s' h → IsReadable h
+    → StoreStands seen base s h → StoreStands seen base s' h → IsReadable base h
     → HasShown seen s' stop clock (IsOfCommand setup before desk text) → Closings s.state s'.state t t'
-    → Halted seen (λ x s. CameSoFar seen s' setup clock desk before text h stop x s) t t' s'
+    → Halted seen base (λ x s. CameSoFar base seen s' setup clock desk before text h stop x s) t t' s'
 unfolding step_of
-halted_before seen s s' setup clock desk before text h t t' stop was stands readable shown closings =
+halted_before seen s s' base setup clock desk before text h t t' stop was stands readable shown closings =
     let step = step_of 0 desk text [] [] in
     record {
       partial = step;
@@ -179,7 +179,7 @@ halted_before seen s s' setup clock desk before text h t t' stop was stands read
       came = inl (refl, none_added h desk text, shown);
       stands = stands;
       readable = readable;
-      counts = command_counts s.state s'.state t t' h h step [] was.centre stands.centre (none_counted h) closings refl refl;
+      counts = command_counts base s.state s'.state t t' h h step [] was.centre stands.centre (none_counted base h) closings refl refl;
     }
 
 -- The line and what the desk took.

@@ -8,15 +8,16 @@ use Rattle.arc_data.specs.declared.reply.Reply.{Reply}
 use Rattle.centre_rules.specs.Cases.{opened, begun, incident_of}
 use Rattle.centre_rules.specs.History.{Entry, marks}
 use Rattle.centre_rules.specs.State.{StandsFor}
-use Rattle.centre_rules.specs.Summary.{nothing}
+use Rattle.centre_rules.specs.Summary.{Summary}
 use Rattle.centre_store.specs.Bodies.{bodies_of}
+use Rattle.centre_store.specs.Given.{HasRecorded}
 use Rattle.centre_store.specs.Stores.{Stored}
 use Rattle.disk_journal.specs.Journal.{Holds}
 use Rattle.disk_journal.specs.Records.{AtRest, Stands}
 use Rattle.script_lines.specs.Lines.{Asked, Time, Feed, Message, Command, Reopen, Asks}
 use Rattle.arc_script.specs.Between.{Begun, CountsSteps, IsClock, SoFar}
 use Rattle.arc_script.specs.Carrying.{CountsMore}
-use Rattle.arc_script.specs.Ends.{Tells, HasRecorded, Played}
+use Rattle.arc_script.specs.Ends.{Tells, Played}
 use Rattle.arc_script.specs.Fed.{clock_of}
 use Rattle.arc_script.specs.Halting.{Halts, Whole, closing}
 use Rattle.arc_script.specs.Playing.{moment_at}
@@ -36,10 +37,10 @@ at_rest None bodies rests = rests
 at_rest (Some s) bodies rests = inr rests
 
 -- the disk of a journal that holds the bodies of the recorded entries
-pub recorded_in : {D : Type 0} (seen : D → DiskSeen) (s : Stored D) (h : List Entry) (disk : D) → Holds seen s.journal (bodies_of h)
-    → disk ≡ s.journal.disk → HasRecorded (seen disk) h
-recorded_in seen s h disk holds is =
-    subst (λ d. HasRecorded (seen d) h) (sym is) (record {
+pub recorded_in : {D : Type 0} (seen : D → DiskSeen) (base : Summary) (s : Stored D) (h : List Entry) (disk : D) → Holds seen s.journal (bodies_of h)
+    → disk ≡ s.journal.disk → HasRecorded (seen disk) base h
+recorded_in seen base s h disk holds is =
+    subst (λ d. HasRecorded (seen d) base h) (sym is) (record {
       area = at_rest (seen s.journal.disk).told (bodies_of h) holds.kept.file;
       images = λ c left. inr (holds.kept.images c left);
     })
@@ -48,15 +49,15 @@ open_count : (xs : List Incident) → length (map incident_of (map begun xs)) �
 open_count xs = length-map (map begun xs) incident_of ∙ length-map xs begun
 
 -- the tally at the end
-pub tally_is : {D : Type 0} (s : Stored D) (past h : List Entry) (steps : List Step) (t t' : Tally) (opened_before : ℕ)
-    → opened_before ≡ opened nothing (marks nothing past) → CountsSteps steps t → StandsFor nothing s.state h
-    → t' ≡ closing t opened_before s.state.sum → IsTally past steps h t'
-tally_is s past h steps t t' opened_before before counts stands is =
-    subst (λ (k : Tally). IsTally past steps h k) (sym is) (record {
+pub tally_is : {D : Type 0} (base : Summary) (s : Stored D) (past h : List Entry) (steps : List Step) (t t' : Tally) (opened_before : ℕ)
+    → opened_before ≡ opened base (marks base past) → CountsSteps steps t → StandsFor base s.state h
+    → t' ≡ closing t opened_before s.state.sum → IsTally base past steps h t'
+tally_is base s past h steps t t' opened_before before counts stands is =
+    subst (λ (k : Tally). IsTally base past steps h k) (sym is) (record {
       sent = counts.sent;
       repeats = counts.repeats;
       closed = counts.closed;
-      opened = ap (λ n. n - opened_before) stands.same.opened ∙ ap (λ n. opened nothing (marks nothing h) - n) before;
+      opened = ap (λ n. n - opened_before) stands.same.opened ∙ ap (λ n. opened base (marks base h) - n) before;
       recorded = omega (arith, stands.recorded);
       total = sym (open_count s.state.sum.incidents) ∙ ap length stands.same.incidents;
     })
@@ -107,11 +108,11 @@ may_follow clock (first ∷ before) a moment is set = tt
 module _ {D : Type 0} (seen : D → DiskSeen) (b : Begun D) (lines : List (List ℕ)) (script : Script) (s : Stored D) (p : PortSeen)
     (so : SoFar seen b lines script s p) (disk : D) (tally : Tally) (disk_is : disk ≡ s.journal.disk)
     (tally_as : tally ≡ closing script.tally script.opened_before s.state.sum) where
-  area : HasRecorded (seen disk) so.history
-  area = recorded_in seen s so.history disk so.held disk_is
+  area : HasRecorded (seen disk) b.base so.history
+  area = recorded_in seen b.base s so.history disk so.held disk_is
 
-  counts : IsTally b.past so.steps so.history tally
-  counts = tally_is s b.past so.history so.steps script.tally tally script.opened_before so.opened_before so.counts so.between.store.stands.centre tally_as
+  counts : IsTally b.base b.past so.steps so.history tally
+  counts = tally_is b.base s b.past so.history so.steps script.tally tally script.opened_before so.opened_before so.counts so.between.store.stands.centre tally_as
 
   -- all of them were carried out
   pub whole : Whole seen b lines p disk tally
@@ -137,7 +138,7 @@ module _ {D : Type 0} (seen : D → DiskSeen) (b : Begun D) (lines : List (List 
   next_split line more is = counted_next lines line more is
 
   -- those before a line
-  abbrev before_line : (line : List ℕ) (more : List (List ℕ)) → is_passed line ≡ false → Played (Tells (seen b.disk)) b.setup b.past (counted (lines ++ line ∷ more))
+  abbrev before_line : (line : List ℕ) (more : List (List ℕ)) → is_passed line ≡ false → Played (Tells (seen b.disk)) b.base b.setup b.past (counted (lines ++ line ∷ more))
   before_line line more is = record {
     front = counted lines;
     behind = (1 + length lines, line) ∷ behind more;

@@ -9,7 +9,7 @@ use Rattle.centre_core.specs.declared.hall.Stop.{Stop}
 use Rattle.centre_core.specs.declared.hall.Stop.TheVariants.{Memory}
 use Rattle.centre_rules.specs.History.{Entry}
 use Rattle.centre_rules.specs.State.{State}
-use Rattle.centre_rules.specs.Summary.{nothing}
+use Rattle.centre_rules.specs.Summary.{Summary}
 use Rattle.centre_store.specs.Stores.{Stored, StoreStands}
 use Rattle.line_session.specs.Lines as Line
 use Rattle.line_session.specs.Sessions.{ReadsNothing}
@@ -54,20 +54,20 @@ module _ {D : Type 0} (seen : D → DiskSeen) (s s' : Stored D) (setup : List �
   taking_as : (q : Result (Unit {0}) LineEnd) → r ≡ q → IsTaking seen s s' setup moment place lines was page page' given q
   taking_as q is = subst (λ (q : Result (Unit {0}) LineEnd). IsTaking seen s s' setup moment place lines was page page' given q) is taking
 
-  pub ended_fed : r ≡ Ok tt → (stream : List ℕ) (h : List Entry) → TookAt stream lines place → length (stream ++ given) < input_limit
-      → StoreStands seen nothing s h → IsReadable h
-      → HasFed seen setup moment stream given h t t' (sink_bytes page'.port.sink) s'
+  pub ended_fed : r ≡ Ok tt → (base : Summary) (stream : List ℕ) (h : List Entry) → TookAt stream lines place → length (stream ++ given) < input_limit
+      → StoreStands seen base s h → IsReadable base h
+      → HasFed seen base setup moment stream given h t t' (sink_bytes page'.port.sink) s'
   ended_fed is = all_fed seen s s' setup moment place lines was page page' given t t' sums (taking_as (Ok tt) is)
 
-  pub ended_stopped : (stop : Stop) → r ≡ Err (Stopped stop) → (stream : List ℕ) (h : List Entry) → TookAt stream lines place
-      → length (stream ++ given) < input_limit → StoreStands seen nothing s h → IsReadable h
-      → FeedStops seen setup moment stream given h t t' stop s'
+  pub ended_stopped : (stop : Stop) → r ≡ Err (Stopped stop) → (base : Summary) (stream : List ℕ) (h : List Entry) → TookAt stream lines place
+      → length (stream ++ given) < input_limit → StoreStands seen base s h → IsReadable base h
+      → FeedStops seen base setup moment stream given h t t' stop s'
   ended_stopped stop is =
       fed_stopped seen s s' setup moment place lines was page page' given t t' sums stop (taking_as (Err (Stopped stop)) is)
 
-  wanting : (stream : List ℕ) (h : List Entry) (stop : Stop) → FeedStops seen setup moment stream given h t t' stop s'
-      → FeedStops seen setup moment stream given h t t' Memory s'
-  wanting stream h stop w = record {
+  wanting : (base : Summary) (stream : List ℕ) (h : List Entry) (stop : Stop) → FeedStops seen base setup moment stream given h t t' stop s'
+      → FeedStops seen base setup moment stream given h t t' Memory s'
+  wanting base stream h stop w = record {
     turns = w.turns;
     more = w.more;
     history = w.history;
@@ -83,25 +83,25 @@ module _ {D : Type 0} (seen : D → DiskSeen) (s s' : Stored D) (setup : List �
   -- Of the other ends a failed write alone can come: memory was wanted for it.
   otherwise : (end : LineEnd) (now : Line.LineValue) → ReadsNothing (Err end)
       → ((stream : List ℕ) → Line.TookStream stream was → Line.IsTaken (Err end) stream given now) → r ≡ Err end
-      → (stream : List ℕ) (h : List Entry) → TookAt stream lines place → length (stream ++ given) < input_limit
-      → StoreStands seen nothing s h → IsReadable h
-      → FeedStops seen setup moment stream given h t t' Memory s'
-  otherwise InputEnded now reads taken is stream h took short stands readable = absurd reads
-  otherwise ReadFault now reads taken is stream h took short stands readable = absurd reads
-  otherwise WriteFault now reads taken is stream h took short stands readable =
-      fed_failed seen s s' setup moment place lines was page page' given t t' sums (taking_as (Err WriteFault) is) stream h took short
+      → (base : Summary) (stream : List ℕ) (h : List Entry) → TookAt stream lines place → length (stream ++ given) < input_limit
+      → StoreStands seen base s h → IsReadable base h
+      → FeedStops seen base setup moment stream given h t t' Memory s'
+  otherwise InputEnded now reads taken is base stream h took short stands readable = absurd reads
+  otherwise ReadFault now reads taken is base stream h took short stands readable = absurd reads
+  otherwise WriteFault now reads taken is base stream h took short stands readable =
+      fed_failed seen s s' setup moment place lines was page page' given t t' sums (taking_as (Err WriteFault) is) base stream h took short
       stands readable
-  otherwise Spent now reads taken is stream h took short stands readable =
+  otherwise Spent now reads taken is base stream h took short stands readable =
       let over = taken stream (took_was stream lines place was taking.there took) in
       absurd (omega (arith, short, over))
-  otherwise (Stopped stop) now reads taken is stream h took short stands readable =
-      wanting stream h stop (ended_stopped stop is stream h took short stands readable)
+  otherwise (Stopped stop) now reads taken is base stream h took short stands readable =
+      wanting base stream h stop (ended_stopped stop is base stream h took short stands readable)
 
   pub ended_otherwise : (end : LineEnd) (now : Line.LineValue) → r ≡ Err end → ReadsNothing r
       → ((stream : List ℕ) → Line.TookStream stream was → Line.IsTaken r stream given now)
-      → (stream : List ℕ) (h : List Entry) → TookAt stream lines place → length (stream ++ given) < input_limit
-      → StoreStands seen nothing s h → IsReadable h
-      → FeedStops seen setup moment stream given h t t' Memory s'
+      → (base : Summary) (stream : List ℕ) (h : List Entry) → TookAt stream lines place → length (stream ++ given) < input_limit
+      → StoreStands seen base s h → IsReadable base h
+      → FeedStops seen base setup moment stream given h t t' Memory s'
   ended_otherwise end now is reads taken =
       otherwise end now (subst ReadsNothing is reads)
       (λ stream took. subst (λ (q : Result (Unit {0}) LineEnd). Line.IsTaken q stream given now) is (taken stream took)) is

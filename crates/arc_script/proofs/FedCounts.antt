@@ -10,7 +10,7 @@ use Rattle.centre_core.specs.declared.hall.Stop.{Stop}
 use Rattle.centre_core.specs.declared.hall.Stop.TheVariants.{Memory}
 use Rattle.centre_rules.specs.History.{Entry}
 use Rattle.centre_rules.specs.State.{State, StandsFor}
-use Rattle.centre_rules.specs.Summary.{nothing}
+use Rattle.centre_rules.specs.Summary.{Summary}
 use Rattle.centre_store.specs.Stores.{Stored, StoreStands}
 use Rattle.dc09_frame.specs.Frames.{bodies}
 use Rattle.line_session.proofs.Fed.{bodies_more}
@@ -47,39 +47,39 @@ pub record Tallied (calls : ℕ) (s s' : State) (t t' : Tally) : Type 0 where
   pub repeats : t'.repeats ≡ min (t.repeats + (s'.entries - s'.sum.recorded - (s.entries - s.sum.recorded))) (2 ^ 64 - 1)
   pub rest : t' ≡ record t { sent = t'.sent; repeats = t'.repeats }
 
-counts_fed : (setup : List ℕ) (calls sent : ℕ) (s s' : State) (t t' : Tally) (h x : List Entry) (turns : List Turn) → StandsFor nothing s h
-    → StandsFor nothing s' x → AreTurns nothing (meaning setup) 0 h x turns → x ≡ reverse (entries_of line_turns turns) ++ h
+counts_fed : (base : Summary) (setup : List ℕ) (calls sent : ℕ) (s s' : State) (t t' : Tally) (h x : List Entry) (turns : List Turn) → StandsFor base s h
+    → StandsFor base s' x → AreTurns base (meaning setup) 0 h x turns → x ≡ reverse (entries_of line_turns turns) ++ h
     → calls ≡ sent + 1 → Tallied calls s s' t t' → CountsFed sent turns t t'
-counts_fed setup calls sent s s' t t' h x turns before behind are own count w = record {
+counts_fed base setup calls sent s s' t t' h x turns before behind are own count w = record {
   frames = grows_told sent t.sent t'.sent (w.frames ∙ sent_told t.sent calls sent count);
   repeats = grows_told (count_of is_repeat (entries_of line_turns turns)) t.repeats t'.repeats
       (w.repeats ∙ ap (λ (n : ℕ). told (t.repeats + n))
-      (repeats_told s s' h x (entries_of line_turns turns) before behind own (turns_lined (meaning setup) h x turns are)));
+      (repeats_told base s s' h x (entries_of line_turns turns) before behind own (turns_lined base (meaning setup) h x turns are)));
   rest = w.rest;
 }
 
 pub has_fed : {D : Type 0} (seen : D → DiskSeen) (s s' : Stored D)
-    (setup : List ℕ) (clock : ℕ) (stream bytes : List ℕ) (h : List Entry) (t t' : Tally) (page page' : Page) (calls : ℕ)
-    → StoreStands seen nothing s h → (page_seen page).written ≡ Some []
-    → FedBy seen s' setup clock stream bytes h (page_seen page) (page_seen page') calls
+    (base : Summary) (setup : List ℕ) (clock : ℕ) (stream bytes : List ℕ) (h : List Entry) (t t' : Tally) (page page' : Page) (calls : ℕ)
+    → StoreStands seen base s h → (page_seen page).written ≡ Some []
+    → FedBy seen s' base setup clock stream bytes h (page_seen page) (page_seen page') calls
     → Tallied calls s.state s'.state t t'
-    → HasFed seen setup clock stream bytes h t t' (sink_bytes page'.port.sink) s'
-has_fed seen s s' setup clock stream bytes h t t' page page' calls before empty w tallied = record {
+    → HasFed seen base setup clock stream bytes h t t' (sink_bytes page'.port.sink) s'
+has_fed seen s s' base setup clock stream bytes h t t' page page' calls before empty w tallied = record {
   turns = w.turns;
   history = w.history;
   fed = w.fed;
   stands = w.stands;
   readable = w.readable;
   written_is = ap (λ (k : Option (List ℕ)). unwrap_or k []) (w.written ∙ ap (λ (k : Option (List ℕ)). append_known k (text_of line_turns w.turns)) empty);
-  counts = counts_fed setup calls (length w.turns) s.state s'.state t t' h w.history w.turns before.centre w.stands.centre w.fed.are w.fed.own w.count
+  counts = counts_fed base setup calls (length w.turns) s.state s'.state t t' h w.history w.turns before.centre w.stands.centre w.fed.are w.fed.own w.count
       tallied;
 }
 
 pub feed_stops : {D : Type 0} (seen : D → DiskSeen) (s s' : Stored D)
-    (setup : List ℕ) (clock : ℕ) (stream bytes : List ℕ) (h : List Entry) (t t' : Tally) (stop : Stop) (calls : ℕ)
-    → StoreStands seen nothing s h → FedUpTo seen s' setup clock stream bytes h stop calls
-    → Tallied calls s.state s'.state t t' → FeedStops seen setup clock stream bytes h t t' stop s'
-feed_stops seen s s' setup clock stream bytes h t t' stop calls before w tallied = record {
+    (base : Summary) (setup : List ℕ) (clock : ℕ) (stream bytes : List ℕ) (h : List Entry) (t t' : Tally) (stop : Stop) (calls : ℕ)
+    → StoreStands seen base s h → FedUpTo seen s' base setup clock stream bytes h stop calls
+    → Tallied calls s.state s'.state t t' → FeedStops seen base setup clock stream bytes h t t' stop s'
+feed_stops seen s s' base setup clock stream bytes h t t' stop calls before w tallied = record {
   turns = w.turns;
   more = w.more;
   history = w.history;
@@ -89,14 +89,14 @@ feed_stops seen s s' setup clock stream bytes h t t' stop calls before w tallied
   readable = w.readable;
   cause = w.cause;
   sent_is = w.sent_is;
-  counts = counts_fed setup calls w.sent s.state s'.state t t' h w.history w.turns before.centre w.stands.centre w.fed.are w.fed.own w.count tallied;
+  counts = counts_fed base setup calls w.sent s.state s'.state t t' h w.history w.turns before.centre w.stands.centre w.fed.are w.fed.own w.count tallied;
 }
 
 -- Memory was wanted before anything was fed.
-pub none_fed : {D : Type 0} (seen : D → DiskSeen) (s : Stored D) (setup : List ℕ)
-    (clock : ℕ) (stream bytes : List ℕ) (h : List Entry) (t : Tally) → StoreStands seen nothing s h → IsReadable h
-    → FeedStops seen setup clock stream bytes h t t Memory s
-none_fed seen s setup clock stream bytes h t stands readable =
+pub none_fed : {D : Type 0} (seen : D → DiskSeen) (s : Stored D) (base : Summary) (setup : List ℕ)
+    (clock : ℕ) (stream bytes : List ℕ) (h : List Entry) (t : Tally) → StoreStands seen base s h → IsReadable base h
+    → FeedStops seen base setup clock stream bytes h t t Memory s
+none_fed seen s base setup clock stream bytes h t stands readable =
     let more = bodies_more stream bytes in
     record {
       turns = [];

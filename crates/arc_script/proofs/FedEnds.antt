@@ -9,7 +9,7 @@ use Rattle.centre_core.specs.Setting.{IsSetting, text_of}
 use Rattle.centre_core.specs.declared.hall.Stop.{Stop}
 use Rattle.centre_core.specs.declared.hall.Stop.TheVariants.{Memory}
 use Rattle.centre_rules.specs.History.{Entry}
-use Rattle.centre_rules.specs.Summary.{nothing}
+use Rattle.centre_rules.specs.Summary.{Summary}
 use Rattle.centre_store.specs.StoreHalls.{IsStoreFor}
 use Rattle.centre_store.specs.Stores.{Stored, StoreStands}
 use Rattle.line_session.specs.Lines as Line
@@ -35,8 +35,8 @@ pub record IsTaking {D : Type 0} (seen : D → DiskSeen) (s s' : Stored D) (setu
   pub empty : page_seen page ≡ blank moment
   pub one : length (clock_list page'.port.clock) ≡ 1
   pub silent : noise_list page'.port.noise ≡ []
-  pub served : (stream : List ℕ) (h : List Entry) → Line.TookStream stream was → IsStoreFor seen nothing s h → IsReadable h
-      → Line.ServesBytes r stream (in_limit stream given) nothing h (script_seen seen s) (script_seen seen s')
+  pub served : (base : Summary) (stream : List ℕ) (h : List Entry) → Line.TookStream stream was → IsStoreFor seen base s h → IsReadable base h
+      → Line.ServesBytes r stream (in_limit stream given) base h (script_seen seen s) (script_seen seen s')
       (page_seen page) (page_seen page')
 
 pub took_was : (stream : List ℕ) (lines : List Line.LineValue) (place : ℕ) (was : Line.LineValue) → slice_get lines place ≡ Some was
@@ -54,32 +54,32 @@ module _ {D : Type 0} (seen : D → DiskSeen) (s s' : Stored D) (setup : List �
   tells r g = page_tells moment page page' (ap (λ (q : PortSeen). q.readings) g.empty) (ap (λ (q : PortSeen). q.noise) g.empty) g.one g.silent
 
   pub all_fed : IsTaking seen s s' setup moment place lines was page page' given (Ok tt)
-      → (stream : List ℕ) (h : List Entry) → TookAt stream lines place → length (stream ++ given) < input_limit
-      → StoreStands seen nothing s h → IsReadable h
-      → HasFed seen setup moment stream given h t t' (sink_bytes page'.port.sink) s'
-  all_fed g stream h took short stands readable =
-      let serves = g.served stream h (took_was stream lines place was g.there took) (record { stands = stands; setting = g.setting }) readable in
-      has_fed seen s s' setup moment stream given h t t' page page' (clock_calls page'.port.clock) stands
+      → (base : Summary) (stream : List ℕ) (h : List Entry) → TookAt stream lines place → length (stream ++ given) < input_limit
+      → StoreStands seen base s h → IsReadable base h
+      → HasFed seen base setup moment stream given h t t' (sink_bytes page'.port.sink) s'
+  all_fed g base stream h took short stands readable =
+      let serves = g.served base stream h (took_was stream lines place was g.there took) (record { stands = stands; setting = g.setting }) readable in
+      has_fed seen s s' base setup moment stream given h t t' page page' (clock_calls page'.port.clock) stands
       (ap (λ (q : PortSeen). q.written) g.empty)
-      (feeds seen s s' setup moment stream given h (page_seen page) (page_seen page') (same_text (Ok tt) g) short (tells (Ok tt) g) serves)
+      (feeds seen s s' base setup moment stream given h (page_seen page) (page_seen page') (same_text (Ok tt) g) short (tells (Ok tt) g) serves)
       tallied
 
   pub fed_stopped : (stop : Stop) → IsTaking seen s s' setup moment place lines was page page' given (Err (Stopped stop))
-      → (stream : List ℕ) (h : List Entry) → TookAt stream lines place → length (stream ++ given) < input_limit
-      → StoreStands seen nothing s h → IsReadable h
-      → FeedStops seen setup moment stream given h t t' stop s'
-  fed_stopped stop g stream h took short stands readable =
-      let serves = g.served stream h (took_was stream lines place was g.there took) (record { stands = stands; setting = g.setting }) readable in
-      feed_stops seen s s' setup moment stream given h t t' stop (clock_calls page'.port.clock) stands
-      (stopped_at seen s s' setup moment stream given h (page_seen page) (page_seen page') stop (same_text (Err (Stopped stop)) g) short
+      → (base : Summary) (stream : List ℕ) (h : List Entry) → TookAt stream lines place → length (stream ++ given) < input_limit
+      → StoreStands seen base s h → IsReadable base h
+      → FeedStops seen base setup moment stream given h t t' stop s'
+  fed_stopped stop g base stream h took short stands readable =
+      let serves = g.served base stream h (took_was stream lines place was g.there took) (record { stands = stands; setting = g.setting }) readable in
+      feed_stops seen s s' base setup moment stream given h t t' stop (clock_calls page'.port.clock) stands
+      (stopped_at seen s s' base setup moment stream given h (page_seen page) (page_seen page') stop (same_text (Err (Stopped stop)) g) short
       (tells (Err (Stopped stop)) g) serves) tallied
 
   pub fed_failed : IsTaking seen s s' setup moment place lines was page page' given (Err WriteFault)
-      → (stream : List ℕ) (h : List Entry) → TookAt stream lines place → length (stream ++ given) < input_limit
-      → StoreStands seen nothing s h → IsReadable h
-      → FeedStops seen setup moment stream given h t t' Memory s'
-  fed_failed g stream h took short stands readable =
-      let serves = g.served stream h (took_was stream lines place was g.there took) (record { stands = stands; setting = g.setting }) readable in
-      feed_stops seen s s' setup moment stream given h t t' Memory (clock_calls page'.port.clock) stands
-      (cut_short seen s s' setup moment stream given h (page_seen page) (page_seen page') (same_text (Err WriteFault) g) short
+      → (base : Summary) (stream : List ℕ) (h : List Entry) → TookAt stream lines place → length (stream ++ given) < input_limit
+      → StoreStands seen base s h → IsReadable base h
+      → FeedStops seen base setup moment stream given h t t' Memory s'
+  fed_failed g base stream h took short stands readable =
+      let serves = g.served base stream h (took_was stream lines place was g.there took) (record { stands = stands; setting = g.setting }) readable in
+      feed_stops seen s s' base setup moment stream given h t t' Memory (clock_calls page'.port.clock) stands
+      (cut_short seen s s' base setup moment stream given h (page_seen page) (page_seen page') (same_text (Err WriteFault) g) short
       (tells (Err WriteFault) g) serves) tallied

@@ -8,7 +8,7 @@ use Rattle.arc_io.specs.Lists.{readings_of as given_of, noise_of as noise_given}
 use Rattle.arc_io.specs.Seen.{PortSeen}
 use Rattle.centre_core.specs.Setting.{text_of as text_in}
 use Rattle.centre_rules.specs.History.{Entry}
-use Rattle.centre_rules.specs.Summary.{nothing}
+use Rattle.centre_rules.specs.Summary.{Summary}
 use Rattle.centre_store.specs.Stores.{Stored, StoreStands}
 use Rattle.dc09_frame.specs.Frames.{bodies}
 use Rattle.line_session.proofs.Ported.{all_in_limit}
@@ -33,12 +33,12 @@ pub record PageTells (clock : ℕ) (p p' : PortSeen) : Type 0 where
 
 -- all frames have their turns
 pub record FedBy {D : Type 0} (seen : D → DiskSeen) (s' : Stored D)
-    (setup : List ℕ) (clock : ℕ) (stream bytes : List ℕ) (h : List Entry) (p p' : PortSeen) (calls : ℕ) : Type 0 where
+    (base : Summary) (setup : List ℕ) (clock : ℕ) (stream bytes : List ℕ) (h : List Entry) (p p' : PortSeen) (calls : ℕ) : Type 0 where
   pub turns : List Turn
   pub history : List Entry
-  pub fed : FeedsBehind setup clock stream bytes h history turns []
-  pub stands : StoreStands seen nothing s' history
-  pub readable : IsReadable history
+  pub fed : FeedsBehind base setup clock stream bytes h history turns []
+  pub stands : StoreStands seen base s' history
+  pub readable : IsReadable base history
   pub written : p'.written ≡ append_known p.written (text_of line_turns turns)
   pub count : calls ≡ length turns + 1
 
@@ -47,11 +47,11 @@ readings_count [] = refl
 readings_count (t ∷ ts) = ap suc (readings_count ts)
 
 pub feeds : {D : Type 0} (seen : D → DiskSeen) (s s' : Stored D)
-    (setup : List ℕ) (clock : ℕ) (stream bytes : List ℕ) (h : List Entry) (p p' : PortSeen) → text_in s.state ≡ setup
+    (base : Summary) (setup : List ℕ) (clock : ℕ) (stream bytes : List ℕ) (h : List Entry) (p p' : PortSeen) → text_in s.state ≡ setup
     → length (stream ++ bytes) < input_limit → (page : PageTells clock p p')
-    → ServesBytes (Ok tt) stream (in_limit stream bytes) nothing h (script_seen seen s) (script_seen seen s') p p'
-    → FedBy seen s' setup clock stream bytes h p p' page.calls
-feeds seen s s' setup clock stream bytes h p p' same short page serves =
+    → ServesBytes (Ok tt) stream (in_limit stream bytes) base h (script_seen seen s) (script_seen seen s') p p'
+    → FedBy seen s' base setup clock stream bytes h p p' page.calls
+feeds seen s s' base setup clock stream bytes h p p' same short page serves =
     let session = serves.session in
     let turns = session.turns in
     let fits : length bytes ≤ input_limit - length stream = (let long = length-append stream bytes in omega (arith, long, short)) in
@@ -72,7 +72,7 @@ feeds seen s s' setup clock stream bytes h p p' same short page serves =
         ended = ap (λ l. bodies (stream ++ l)) (sym all) ∙ serves.ended ∙ ap (λ l. bodies stream ++ l) session.taken
             ∙ ap (λ l. bodies stream ++ (map (λ (t : Turn). t.body) turns ++ l)) session.ended.none_left
             ∙ sym (append_assoc (bodies stream) (map (λ (t : Turn). t.body) turns) []);
-        are = subst (λ (text : List ℕ). AreTurns nothing (meaning text) 0 h session.history turns) same session.each;
+        are = subst (λ (text : List ℕ). AreTurns base (meaning text) 0 h session.history turns) same session.each;
         legal = session.legal;
         readings = stands.same ∙ ap (λ n. replicate n clock) (readings_count turns);
         noise = silent page.tens (noise_of line_turns turns) noise;

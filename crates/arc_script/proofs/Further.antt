@@ -8,7 +8,7 @@ use Rattle.arc_io.specs.Disks.{DiskSeen}
 use Rattle.arc_io.specs.Seen.{PortSeen}
 use Rattle.centre_core.specs.declared.hall.Stop.{Stop}
 use Rattle.centre_rules.specs.History.{Entry}
-use Rattle.centre_rules.specs.Summary.{nothing}
+use Rattle.centre_rules.specs.Summary.{Summary}
 use Rattle.centre_store.specs.Bodies.{bodies_of}
 use Rattle.centre_store.specs.Stores.{Stored, StoreStands, HasFailed}
 use Rattle.disk_journal.specs.Journal.{Holds}
@@ -28,9 +28,9 @@ use Rattle.arc_script.proofs.Ended.{recorded_in, tally_is, counts_last}
 use Rattle.arc_script.proofs.Sizes.{size_last}
 
 -- a store whose disk has not failed
-held_up : {D : Type 0} (seen : D → DiskSeen) (s : Stored D) (h : List Entry) → StoreStands seen nothing s h
+held_up : {D : Type 0} (seen : D → DiskSeen) (base : Summary) (s : Stored D) (h : List Entry) → StoreStands seen base s h
     → (HasFailed seen s → ⊥) → Holds seen s.journal (bodies_of h)
-held_up seen s h stands up =
+held_up seen base s h stands up =
     elim stands.journal as (λ j. Holds seen s.journal (bodies_of h)) [
       | inl holds ↦ holds
       | inr torn ↦ absurd (up torn.0)
@@ -49,7 +49,7 @@ module _ {D : Type 0} (seen : D → DiskSeen) (b : Begun D) (lines : List (List 
   abbrev behind : List (List ℕ) → List (ℕ × List ℕ)
   behind more = filter is_played (numbered_from (1 + length lines + 1) more)
 
-  abbrev before_line : (more : List (List ℕ)) → Played (Tells (seen b.disk)) b.setup b.past (counted (lines ++ line ∷ more))
+  abbrev before_line : (more : List (List ℕ)) → Played (Tells (seen b.disk)) b.base b.setup b.past (counted (lines ++ line ∷ more))
   before_line more = record {
     front = counted lines;
     behind = (number, line) ∷ behind more;
@@ -87,7 +87,7 @@ module _ {D : Type 0} (seen : D → DiskSeen) (b : Begun D) (lines : List (List 
       later = at.later;
       handed = disk_is;
       output = so.written;
-      counts = tally_is s' b.past at.history (so.steps ++ at.partial ∷ []) script'.tally tally script'.opened_before (kept ∙ so.opened_before)
+      counts = tally_is b.base s' b.past at.history (so.steps ++ at.partial ∷ []) script'.tally tally script'.opened_before (kept ∙ so.opened_before)
           (counts_last so.steps at.partial script.tally script'.tally so.counts at.counts) at.stands.centre tally_as;
     };
     more = [];
@@ -110,7 +110,7 @@ module _ {D : Type 0} (seen : D → DiskSeen) (b : Begun D) (lines : List (List 
       area = at.area;
       unopened = at.unopened;
       output = so.written;
-      counts = tally_is s b.past so.history so.steps script.tally tally script.opened_before so.opened_before so.counts
+      counts = tally_is b.base s b.past so.history so.steps script.tally tally script.opened_before so.opened_before so.counts
           so.between.store.stands.centre tally_as;
     };
     more = [];
@@ -131,7 +131,7 @@ module _ {D : Type 0} (seen : D → DiskSeen) (b : Begun D) (lines : List (List 
     of = of_last [] (counted lines) so.steps (number, line) out.step so.of out.number_is playable
 
     held : Holds seen s'.journal (bodies_of out.history)
-    held = held_up seen s' out.history out.between.store.stands up
+    held = held_up seen b.base s' out.history out.between.store.stands up
 
     -- what the page has
     pub text_is : (text : List ℕ) → q'.written ≡ Some text → text ≡ out.step.text
@@ -146,8 +146,8 @@ module _ {D : Type 0} (seen : D → DiskSeen) (b : Begun D) (lines : List (List 
       steps = steps;
       history = out.history;
       of = subst (λ (l : List (ℕ × List ℕ)). AreOf [] l steps) (sym (counted_next lines line [] passed)) of;
-      are = are_last (Tells (seen b.disk)) b.setup [] b.past so.history out.history so.steps out.step so.are
-          (subst (λ (a : Asked). IsStepOf (Tells (seen b.disk)) b.setup (asked_after [] so.steps) so.history out.history out.step a) (sym out.asked_is) out.is);
+      are = are_last (Tells (seen b.disk)) b.base b.setup [] b.past so.history out.history so.steps out.step so.are
+          (subst (λ (a : Asked). IsStepOf (Tells (seen b.disk)) b.base b.setup (asked_after [] so.steps) so.history out.history out.step a) (sym out.asked_is) out.is);
       between = subst (λ (n : ℕ). Between seen b (asked_after [] steps) n out.history script' s')
           (ap (λ (l : List ℕ). size_of lines + length l) (sym spelled) ∙ sym (size_last lines line))
           (subst (λ (before : List Asked). Between seen b before (size_of lines + length (spelling asked)) out.history script' s')
@@ -173,8 +173,8 @@ module _ {D : Type 0} (seen : D → DiskSeen) (b : Begun D) (lines : List (List 
         history = out.history;
         split = counted_next lines line more passed ∙ sym (append_assoc (counted lines) ((number, line) ∷ []) (behind more));
         of = of;
-        are = are_last (Tells (seen b.disk)) b.setup [] b.past so.history out.history so.steps out.step so.are
-            (subst (λ (a : Asked). IsStepOf (Tells (seen b.disk)) b.setup (asked_after [] so.steps) so.history out.history out.step a) (sym out.asked_is) out.is);
+        are = are_last (Tells (seen b.disk)) b.base b.setup [] b.past so.history out.history so.steps out.step so.are
+            (subst (λ (a : Asked). IsStepOf (Tells (seen b.disk)) b.base b.setup (asked_after [] so.steps) so.history out.history out.step a) (sym out.asked_is) out.is);
       };
       ends = (
         rose_since b.port.write_faults p.write_faults p'.write_faults so.writes rose,
@@ -187,8 +187,8 @@ module _ {D : Type 0} (seen : D → DiskSeen) (b : Begun D) (lines : List (List 
           output = put ∙ ap (λ k. append_known k (take n text)) so.written
               ∙ ap (λ l. append_known (append_known b.port.written (output_of so.steps)) (take n l)) (text_is text is)
               ∙ known_both b.port.written (output_of so.steps) (take n out.step.text);
-          area = recorded_in seen s' out.history disk held disk_is;
-          counts = tally_is s' b.past out.history steps script'.tally tally script'.opened_before (kept ∙ so.opened_before)
+          area = recorded_in seen b.base s' out.history disk held disk_is;
+          counts = tally_is b.base s' b.past out.history steps script'.tally tally script'.opened_before (kept ∙ so.opened_before)
               (counts_last so.steps out.step script.tally script'.tally so.counts out.counts) out.between.store.stands.centre tally_as;
         },
       );

@@ -6,7 +6,7 @@ use Rattle.arc_data.specs.declared.event.Event.{Event}
 use Rattle.arc_io.specs.Disks.{DiskSeen}
 use Rattle.centre_rules.specs.Answers.{IsLegal, answer}
 use Rattle.centre_rules.specs.History.{Entry, IsMoment, moment_after}
-use Rattle.centre_rules.specs.Summary.{Summary, nothing}
+use Rattle.centre_rules.specs.Summary.{Summary}
 use Rattle.centre_core.specs.Halls.{GoesOn, Waits}
 use Rattle.centre_core.specs.Setting.{IsSetting}
 use Rattle.centre_core.specs.declared.hall.Stop.{Stop}
@@ -22,7 +22,7 @@ module _ {D : Type 0} (seen : D → DiskSeen) (old new : Stored D)
       → IfOk r (λ d. (b : Summary) (h : List Entry) → StoreStands seen b old h
       → Takes seen b new h clock (record { caller = 0; event = event; at = d.at; reply = d.reply }))
       → IfOk r (λ d. d.caller ≡ 0)
-      → IfOk r (λ d. (b : Summary) (h : List Entry) → IsStoreFor seen b old h × (b ≡ nothing → IsReadable h)
+      → IfOk r (λ d. (b : Summary) (h : List Entry) → IsStoreFor seen b old h × IsReadable b h
       → GoesOn b (script_seen seen old) (script_seen seen new) h clock
       (record { caller = d.caller; event = event; at = d.at; reply = d.reply }))
   goes_on clock event (Err s) formed fits done by = tt
@@ -38,9 +38,7 @@ module _ {D : Type 0} (seen : D → DiskSeen) (old new : Stored D)
             stands = subst (λ (e : Entry). StoreStands seen b new (e ∷ h)) is takes.stands;
             setting = subst IsSetting (sym text) w.0.setting;
           },
-          λ same. readable_more h (record { caller = d.caller; event = event; at = d.at; reply = d.reply }) clock by formed fits
-              (subst (λ (s : Summary). d.at ≡ moment_after s h clock) same takes.at)
-              (subst (λ (s : Summary). d.reply ≡ answer s h event d.at) same takes.reply) (w.1 same),
+          readable_more b h (record { caller = d.caller; event = event; at = d.at; reply = d.reply }) clock by formed fits takes.at takes.reply w.1,
         );
         legal = subst (λ (e : Entry). IsLegal b (e ∷ h)) is takes.stands.centre.legal;
         at = takes.at;
@@ -49,7 +47,7 @@ module _ {D : Type 0} (seen : D → DiskSeen) (old new : Stored D)
 
   pub waits : (r : Result Done Stop)
       → OnErr r ((b : Summary) (h : List Entry) → StoreStands seen b old h → StoreStands seen b new h)
-      → OnErr r ((b : Summary) (h : List Entry) → IsStoreFor seen b old h × (b ≡ nothing → IsReadable h)
+      → OnErr r ((b : Summary) (h : List Entry) → IsStoreFor seen b old h × IsReadable b h
       → Waits b (script_seen seen old) (script_seen seen new) h)
   waits (Ok d) stays = tt
   waits (Err s) stays = λ b h w.

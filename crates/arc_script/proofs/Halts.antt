@@ -11,7 +11,7 @@ use Rattle.centre_core.specs.Setting.{text_of as text_in}
 use Rattle.centre_core.specs.declared.hall.Stop.{Stop}
 use Rattle.centre_core.specs.declared.hall.Stop.TheVariants.{Memory}
 use Rattle.centre_rules.specs.History.{Entry}
-use Rattle.centre_rules.specs.Summary.{nothing}
+use Rattle.centre_rules.specs.Summary.{Summary}
 use Rattle.centre_store.specs.Stores.{Stored, StoreStands, Shows}
 use Rattle.dc09_frame.specs.Frames.{bodies}
 use Rattle.dc09_message.specs.Verdicts.{verdict_of}
@@ -30,14 +30,14 @@ use Rattle.arc_script.specs.Steps.{FeedsBehind}
 
 -- the frames before the one that was stopped have their turns; that one may have taken its reading
 pub record FedUpTo {D : Type 0} (seen : D → DiskSeen) (s' : Stored D)
-    (setup : List ℕ) (clock : ℕ) (stream bytes : List ℕ) (h : List Entry) (stop : Stop) (calls : ℕ) : Type 0 where
+    (base : Summary) (setup : List ℕ) (clock : ℕ) (stream bytes : List ℕ) (h : List Entry) (stop : Stop) (calls : ℕ) : Type 0 where
   pub turns : List Turn
   pub more : List (List ℕ)
   pub history : List Entry
   pub sent : ℕ
-  pub fed : FeedsBehind setup clock stream bytes h history turns more
-  pub stands : StoreStands seen nothing s' history
-  pub readable : IsReadable history
+  pub fed : FeedsBehind base setup clock stream bytes h history turns more
+  pub stands : StoreStands seen base s' history
+  pub readable : IsReadable base history
   pub cause : HasShown seen s' stop clock (IsOfFrame setup clock more)
   pub sent_is : (sent ≡ length turns) ⊎ (sent ≡ suc (length turns))
   pub count : calls ≡ sent + 1
@@ -56,11 +56,11 @@ without_behind turns front behind split none = sym (split ∙ ap (λ l. front ++
 
 -- a write failed within a reply
 pub cut_short : {D : Type 0} (seen : D → DiskSeen) (s s' : Stored D)
-    (setup : List ℕ) (clock : ℕ) (stream bytes : List ℕ) (h : List Entry) (p p' : PortSeen) → text_in s.state ≡ setup
+    (base : Summary) (setup : List ℕ) (clock : ℕ) (stream bytes : List ℕ) (h : List Entry) (p p' : PortSeen) → text_in s.state ≡ setup
     → length (stream ++ bytes) < input_limit → (page : PageTells clock p p')
-    → ServesBytes (Err WriteFault) stream (in_limit stream bytes) nothing h (script_seen seen s) (script_seen seen s') p p'
-    → FedUpTo seen s' setup clock stream bytes h Memory page.calls
-cut_short seen s s' setup clock stream bytes h p p' same short page serves =
+    → ServesBytes (Err WriteFault) stream (in_limit stream bytes) base h (script_seen seen s) (script_seen seen s') p p'
+    → FedUpTo seen s' base setup clock stream bytes h Memory page.calls
+cut_short seen s s' base setup clock stream bytes h p p' same short page serves =
     let session = serves.session in
     let turns = session.turns in
     let ended = session.ended in
@@ -80,7 +80,7 @@ cut_short seen s s' setup clock stream bytes h p p' same short page serves =
       sent = length turns;
       fed = record {
         ended = parted stream bytes serves.whole session.left turns short serves.ended session.taken;
-        are = subst (λ (text : List ℕ). AreTurns nothing (meaning text) 0 h session.history turns) same session.each;
+        are = subst (λ (text : List ℕ). AreTurns base (meaning text) 0 h session.history turns) same session.each;
         legal = session.legal;
         readings = stands.same ∙ ap (λ n. replicate n clock) (readings_count turns);
         noise = silent page.tens (noise_of line_turns turns) noise;
@@ -107,11 +107,11 @@ all_at (r ∷ rs) reading clock (suc n) is =
     record { last = more.last; rest = ap (λ x. x ∷ rs) (ap (λ (l : List ℕ). slice_index l 0) is) ∙ ap (λ l. clock ∷ l) more.rest }
 
 caused : {D : Type 0} (seen : D → DiskSeen) (s s' : Stored D)
-    (setup : List ℕ) (clock reading : ℕ) (stop : Stop) (body : List ℕ) (more : List (List ℕ)) → text_in s.state ≡ setup → reading ≡ clock
+    (base : Summary) (setup : List ℕ) (clock reading : ℕ) (stop : Stop) (body : List ℕ) (more : List (List ℕ)) → text_in s.state ≡ setup → reading ≡ clock
     → HasStopped (script_seen seen s) (script_seen seen s') stop body reading
     → HasShown seen s' stop clock (IsOfFrame setup clock (body ∷ more))
-caused seen s s' setup clock reading stop body more same at (inl wanted) = inl wanted.0
-caused seen s s' setup clock reading stop body more same at (inr w) = inr (
+caused seen s s' base setup clock reading stop body more same at (inl wanted) = inl wanted.0
+caused seen s s' base setup clock reading stop body more same at (inr w) = inr (
   w.0,
   sym (ap (λ (r : ℕ). event_of (verdict_of (meaning (text_in s.state)) r body)) at ∙ ap (λ (text : List ℕ). event_of (verdict_of (meaning text) clock body)) same)
       ∙ w.1,
@@ -120,12 +120,12 @@ caused seen s s' setup clock reading stop body more same at (inr w) = inr (
 
 -- the store stopped for a frame
 pub stopped_at : {D : Type 0} (seen : D → DiskSeen) (s s' : Stored D)
-    (setup : List ℕ) (clock : ℕ) (stream bytes : List ℕ) (h : List Entry) (p p' : PortSeen) (stop : Stop) → text_in s.state ≡ setup
+    (base : Summary) (setup : List ℕ) (clock : ℕ) (stream bytes : List ℕ) (h : List Entry) (p p' : PortSeen) (stop : Stop) → text_in s.state ≡ setup
     → length (stream ++ bytes) < input_limit → (page : PageTells clock p p')
-    → ServesBytes (Err (Stopped stop)) stream (in_limit stream bytes) nothing h (script_seen seen s)
+    → ServesBytes (Err (Stopped stop)) stream (in_limit stream bytes) base h (script_seen seen s)
     (script_seen seen s') p p'
-    → FedUpTo seen s' setup clock stream bytes h stop page.calls
-stopped_at seen s s' setup clock stream bytes h p p' stop same short page serves =
+    → FedUpTo seen s' base setup clock stream bytes h stop page.calls
+stopped_at seen s s' base setup clock stream bytes h p p' stop same short page serves =
     let session = serves.session in
     let turns = session.turns in
     let ended = session.ended in
@@ -150,7 +150,7 @@ stopped_at seen s s' setup clock stream bytes h p p' stop same short page serves
       fed = record {
         ended = parted stream bytes serves.whole (ended.piece ∷ ended.more) turns short serves.ended
             (session.taken ∙ ap (λ l. map (λ (t : Turn). t.body) turns ++ l) ended.next);
-        are = subst (λ (text : List ℕ). AreTurns nothing (meaning text) 0 h session.history turns) same session.each;
+        are = subst (λ (text : List ℕ). AreTurns base (meaning text) 0 h session.history turns) same session.each;
         legal = session.legal;
         readings = at.rest ∙ ap (λ n. replicate n clock) count;
         noise = silent page.tens (noise_of line_turns turns) noise;
@@ -158,7 +158,7 @@ stopped_at seen s s' setup clock stream bytes h p p' stop same short page serves
       };
       stands = session.holds.0.stands;
       readable = session.holds.1 refl;
-      cause = caused seen s s' setup clock ended.reading stop ended.piece ended.more same at.last ended.cause;
+      cause = caused seen s s' base setup clock ended.reading stop ended.piece ended.more same at.last ended.cause;
       sent_is = inr refl;
       count = omega (arith, stands.count, size, count);
     }

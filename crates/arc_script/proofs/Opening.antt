@@ -5,16 +5,17 @@ use Rattle.alarm_rules.specs.Setups.{meaning}
 use Rattle.arc_io.proofs.KnownMore.{known_none}
 use Rattle.arc_io.specs.Disks.{DiskSeen}
 use Rattle.centre_rules.specs.History.{IsMoment}
+use Rattle.centre_rules.specs.Summary.{Summary}
 use Rattle.centre_store.specs.Bodies.{bodies_of}
+use Rattle.centre_store.specs.Given.{IsGiven, BeginsWith}
 use Rattle.centre_store.specs.Openings.{IsOpened}
 use Rattle.centre_store.specs.Pasts.{AreKept}
-use Rattle.centre_store.specs.Stores.{Stored}
+use Rattle.centre_store.specs.Stores.{Stored, StoreStands}
 use Rattle.desk_session.specs.Desks as Desk
 use Rattle.disk_journal.specs.Journal.{Holds}
 use Rattle.line_session.specs.Lines as Line
 use Rattle.arc_script.specs.Between.{Begun, IsStoreSoFar, SoFar}
 use Rattle.arc_script.specs.Carrying.{HasRead, HaveTaken}
-use Rattle.arc_script.specs.Ends.{BeginsWith}
 use Rattle.arc_script.specs.Playing.{IsNewDesk}
 use Rattle.arc_script.specs.Standing.{is_told}
 use Rattle.arc_script.specs.declared.script.Script.{Script}
@@ -39,13 +40,18 @@ taken_none setup lines desks new_lines new_desks = record {
   read = λ i. new_read setup (slice_get desks i) 0 (all_at IsNewDesk desks i new_desks);
 }
 
+-- the last moment of a summary that areas give
+given_moment : (base : Summary) → IsGiven base → IsMoment base.last
+given_moment base is = subst (λ (s : Summary). IsMoment s.last) (sym is) (omega arith)
+
 -- what a store that was opened stands for
-pub store_opened : {D : Type 0} (seen : D → DiskSeen) (b : Begun D) (s : Stored D) (o : IsOpened seen b.disk s)
+pub store_opened : {D : Type 0} (seen : D → DiskSeen) (b : Begun D) (s : Stored D) (o : IsOpened seen b.disk s) → o.base ≡ b.base
     → is_told (seen s.journal.disk).told ≡ is_told (seen b.disk).told → s.journal.limits ≡ b.limits → (seen b.disk).faults ≤ s.at_open
     → IsStoreSoFar seen b o.past s
-store_opened seen b s o tells limits later = record {
-  stands = o.stands;
-  readable = subst AreKept (sym (kept_recorded o.past o.is_past.kept)) o.is_past.kept;
+store_opened seen b s o same tells limits later = record {
+  given = subst IsGiven same o.given;
+  stands = subst (λ (base : Summary). StoreStands seen base s o.past) same o.stands;
+  readable = (given_moment b.base (subst IsGiven same o.given), subst AreKept (sym (kept_recorded o.past o.is_past.kept)) o.is_past.kept);
   tells = tells;
   limits_are = limits;
   later = later;
@@ -55,8 +61,8 @@ pub held_opened : {D : Type 0} (seen : D → DiskSeen) (disk : D) (s : Stored D)
     → Holds seen s.journal (bodies_of o.past)
 held_opened seen disk s o = subst (λ (l : List (List ℕ)). Holds seen s.journal l) o.is_past.is o.held
 
-pub begins_with : {D : Type 0} (seen : D → DiskSeen) (disk : D) (s : Stored D) (o : IsOpened seen disk s) → BeginsWith (seen disk) o.past
-begins_with seen disk s o = record { bodies = o.bodies; is_past = o.is_past; area = o.area }
+pub begins_with : {D : Type 0} (seen : D → DiskSeen) (disk : D) (s : Stored D) (o : IsOpened seen disk s) → BeginsWith (seen disk) o.base o.past
+begins_with seen disk s o = record { bodies = o.bodies; given = o.given; is_past = o.is_past; area = o.area }
 
 -- no line was carried out
 pub so_far_none : {D : Type 0} (seen : D → DiskSeen) (b : Begun D) (script : Script) (s : Stored D) → script.setup ≡ b.setup → script.limits ≡ b.limits

@@ -8,7 +8,7 @@ use Rattle.arc_io.specs.Seen.{PortSeen}
 use Rattle.centre_core.specs.declared.hall.Stop.{Stop}
 use Rattle.centre_core.specs.declared.hall.Stop.TheVariants.{Memory}
 use Rattle.centre_rules.specs.History.{Entry, IsMoment}
-use Rattle.centre_rules.specs.Summary.{nothing}
+use Rattle.centre_rules.specs.Summary.{Summary}
 use Rattle.centre_store.specs.Bodies.{bodies_of}
 use Rattle.centre_store.specs.Stores.{Stored, StoreStands}
 use Rattle.disk_journal.specs.Journal.{Holds}
@@ -42,14 +42,14 @@ module _ {D : Type 0} (seen : D → DiskSeen) (script script' : Script) (s s' : 
   whose = is ∙ ap Time same
 
   pub time_carries : (p p' : PortSeen) (r : Result (Unit {0}) Stop)
-      → OnOk r ((h : List Entry) → StoreStands seen nothing s h
-      → Ticked seen (before_tick script.clock script.setup at h) at s' p p')
+      → OnOk r ((base : Summary) (h : List Entry) → StoreStands seen base s h
+      → Ticked seen base (before_tick script.clock base script.setup at h) at s' p p')
       → OnOk r (s'.state.sum.text ≡ Some script.setup) → OnOk r (script'.clock ≡ Some at)
       → OnOk r (Carries seen moment a script script' s s' p p')
   time_carries p p' (Ok done) ticked text clock = λ b before count number h between next holds.
       let tally : script'.tally ≡ script.tally = ap (λ (k : Script). k.tally) rest in
-      let there = subst (λ (n : ℕ). Ticked seen (before_tick script.clock script.setup n h) n s' p p') same
-      (ticked h between.store.stands) in
+      let there = subst (λ (n : ℕ). Ticked seen b.base (before_tick script.clock b.base script.setup n h) n s' p p') same
+      (ticked b.base h between.store.stands) in
       let out = time_carried seen b before count h moment script script' s s' between fits tally number p p' there in
       let set : clock_of (Time moment ∷ before) ≡ Some moment = refl in
       subst (λ (k : Asked). CarriedOut seen b before count number h k script.tally script' s' p p') (sym whose)
@@ -58,15 +58,15 @@ module _ {D : Type 0} (seen : D → DiskSeen) (script script' : Script) (s s' : 
   time_carries p p' (Err stop) ticked text clock = tt
 
   pub time_stops : (r : Result (Unit {0}) Stop)
-      → IfErr r (λ stop. (h : List Entry) → StoreStands seen nothing s h
-      → TickStops seen script.clock script.setup at h stop s')
+      → IfErr r (λ stop. (base : Summary) (h : List Entry) → StoreStands seen base s h
+      → TickStops seen script.clock base script.setup at h stop s')
       → IfErr r (λ stop. HasShown seen s' stop at (IsOfTime script.clock script.setup))
       → IfErr r (λ stop. Stops seen moment a script script' s s' stop)
   time_stops (Ok done) stops shown = tt
   time_stops (Err stop) stops shown = λ b before count h between next holds.
       let tally : script'.tally ≡ script.tally = ap (λ (k : Script). k.tally) rest in
-      let there = subst (λ (n : ℕ). TickStops seen script.clock script.setup n h stop s') same
-      (stops h between.store.stands) in
+      let there = subst (λ (n : ℕ). TickStops seen script.clock b.base script.setup n h stop s') same
+      (stops b.base h between.store.stands) in
       let by = subst (λ (n : ℕ). HasShown seen s' stop n (IsOfTime script.clock script.setup)) same shown in
       subst (λ (k : Asked). StoppedAt seen b before h k stop script.tally script'.tally s') (sym whose)
       (time_stopped seen b before count h moment script script' s s' between fits tally stop stays there by)
@@ -74,12 +74,12 @@ module _ {D : Type 0} (seen : D → DiskSeen) (script script' : Script) (s s' : 
 -- The other lines over the store.
 
 -- how far such a line came
-abbrev pub CameSoFar : {D : Type 0} → (D → DiskSeen) → Type 0 → List ℕ → ℕ → List Asked → Asked → List Entry → Stored D → Stop → List Entry → Step
+abbrev pub CameSoFar : {D : Type 0} → Summary → (D → DiskSeen) → Type 0 → List ℕ → ℕ → List Asked → Asked → List Entry → Stored D → Stop → List Entry → Step
     → Type 0
-CameSoFar seen Told setup moment before asked h s' stop x st =
-    ((waiting : List (List ℕ)) × CameTo Told setup before waiting h x st asked
+CameSoFar base seen Told setup moment before asked h s' stop x st =
+    ((waiting : List (List ℕ)) × CameTo Told base setup before waiting h x st asked
     × HasShown seen s' stop moment (Submits setup before moment waiting asked))
-    ⊎ ((stop ≡ Memory) × IsStepOf Told setup before h x st asked)
+    ⊎ ((stop ≡ Memory) × IsStepOf Told base setup before h x st asked)
 
 module _ {D : Type 0} (seen : D → DiskSeen) (script script' : Script) (s s' : Stored D) (a : Asked) (moment : ℕ) (stays : Stays seen script script' s s')
     (fits : IsMoment moment) where
@@ -90,18 +90,18 @@ module _ {D : Type 0} (seen : D → DiskSeen) (script script' : Script) (s s' : 
       subst (λ (l : List ℕ). IsNext (meaning l) moment count before a script.lines.items script.desks.items) (sym between.setup) next
 
   pub line_carries : (p p' : PortSeen) (r : Result (Unit {0}) Stop) → script'.clock ≡ Some moment
-      → ((Told : Type 0) → OnOk r ((before : List Asked) (count number : ℕ) (h : List Entry)
+      → ((Told : Type 0) → OnOk r ((base : Summary) (before : List Asked) (count number : ℕ) (h : List Entry)
       → IsNext (meaning script.setup) moment count before a script.lines.items script.desks.items
-      → StoreStands seen nothing s h → IsReadable h
-      → Carried seen (λ x st. IsStepOf Told script.setup before h x st a) number a script.tally script'.tally p p' s'))
+      → StoreStands seen base s h → IsReadable base h
+      → Carried seen base (λ x st. IsStepOf Told base script.setup before h x st a) number a script.tally script'.tally p p' s'))
       → OnOk r ((before : List Asked) (count : ℕ) → IsNext (meaning script.setup) moment count before a script.lines.items script.desks.items
       → HaveTakenWith (meaning script.setup) count before a script'.lines.items script'.desks.items)
       → s'.state.sum.text ≡ Some script.setup
       → OnOk r (Carries seen moment a script script' s s' p p')
   line_carries p p' (Ok done) clock fed took text = λ b before count number h between next holds.
       let n = next_with b before count h between next in
-      let out = subst (λ (l : List ℕ). Carried seen (λ x st. IsStepOf (Tells (seen b.disk)) l before h x st a) number a
-      script.tally script'.tally p p' s') between.setup (fed (Tells (seen b.disk)) before count number h n between.store.stands between.store.readable) in
+      let out = subst (λ (l : List ℕ). Carried seen b.base (λ x st. IsStepOf (Tells (seen b.disk)) b.base l before h x st a) number a
+      script.tally script'.tally p p' s') between.setup (fed (Tells (seen b.disk)) b.base before count number h n between.store.stands between.store.readable) in
       let taken = subst (λ (l : List ℕ). HaveTakenWith (meaning l) count before a script'.lines.items script'.desks.items) between.setup
       (took before count n) in
       carried_out seen b before count h a moment script script' s s' between stays fits next.set number p p' out taken clock
@@ -109,17 +109,17 @@ module _ {D : Type 0} (seen : D → DiskSeen) (script script' : Script) (s s' : 
   line_carries p p' (Err stop) clock fed took text = tt
 
   pub line_stops : (r : Result (Unit {0}) Stop)
-      → ((Told : Type 0) → IfErr r (λ stop. (before : List Asked) (count : ℕ) (h : List Entry)
+      → ((Told : Type 0) → IfErr r (λ stop. (base : Summary) (before : List Asked) (count : ℕ) (h : List Entry)
       → IsNext (meaning script.setup) moment count before a script.lines.items script.desks.items
-      → StoreStands seen nothing s h → IsReadable h
-      → Halted seen (λ x st. CameSoFar seen Told script.setup moment before a h s' stop x st) script.tally script'.tally s'))
+      → StoreStands seen base s h → IsReadable base h
+      → Halted seen base (λ x st. CameSoFar base seen Told script.setup moment before a h s' stop x st) script.tally script'.tally s'))
       → IfErr r (λ stop. Stops seen moment a script script' s s' stop)
   line_stops (Ok done) stops = tt
   line_stops (Err stop) stops = λ b before count h between next holds.
       let Told = Tells (seen b.disk) in
       let n = next_with b before count h between next in
-      let out = subst (λ (l : List ℕ). Halted seen (λ x st. CameSoFar seen Told l moment before a h s' stop x st)
-      script.tally script'.tally s') between.setup (stops Told before count h n between.store.stands between.store.readable) in
+      let out = subst (λ (l : List ℕ). Halted seen b.base (λ x st. CameSoFar b.base seen Told l moment before a h s' stop x st)
+      script.tally script'.tally s') between.setup (stops Told b.base before count h n between.store.stands between.store.readable) in
       elim out.came as (λ came. StoppedAt seen b before h a stop script.tally script'.tally s') [
         | inl until ↦ stopped_at seen b before count h a moment script script' s s' between stays fits next.set stop until.0 (record {
           partial = out.partial;
@@ -177,15 +177,15 @@ still_stops seen moment a script script' s s' p p' r (Err stop) how carries stop
     ]
 
 -- a command that was stopped added nothing
-pub command_came : {D : Type 0} (seen : D → DiskSeen) (Told : Type 0) (setup : List ℕ) (moment : ℕ) (before : List Asked) (desk : ℕ) (text : List ℕ)
+pub command_came : {D : Type 0} (seen : D → DiskSeen) (Told : Type 0) (base : Summary) (setup : List ℕ) (moment : ℕ) (before : List Asked) (desk : ℕ) (text : List ℕ)
     (h : List Entry) (s' : Stored D) (stop : Stop) (t t' : Tally)
-    → Halted seen (λ x st. ((x ≡ h) × AddedBy h x st
+    → Halted seen base (λ x st. ((x ≡ h) × AddedBy h x st
     × HasShown seen s' stop moment (IsOfCommand setup before desk text))
-    ⊎ ((stop ≡ Memory) × Commands setup before desk text h x st)) t t' s'
-    → Halted seen (λ x st. CameSoFar seen Told setup moment before (Command desk text) h s' stop x st) t t' s'
-command_came {D} seen Told setup moment before desk text h s' stop t t' out =
-    let IsIt = λ (x : List Entry) (st : Step). CameSoFar seen Told setup moment before (Command desk text) h s' stop x st in
-    elim out.came as (λ came. Halted seen IsIt t t' s') [
+    ⊎ ((stop ≡ Memory) × Commands base setup before desk text h x st)) t t' s'
+    → Halted seen base (λ x st. CameSoFar base seen Told setup moment before (Command desk text) h s' stop x st) t t' s'
+command_came {D} seen Told base setup moment before desk text h s' stop t t' out =
+    let IsIt = λ (x : List Entry) (st : Step). CameSoFar base seen Told setup moment before (Command desk text) h s' stop x st in
+    elim out.came as (λ came. Halted seen base IsIt t t' s') [
       | inl until ↦ record {
         partial = out.partial;
         history = out.history;

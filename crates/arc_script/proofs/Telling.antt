@@ -6,10 +6,11 @@ use Rattle.arc_io.specs.Disks.{DiskSeen}
 use Rattle.arc_io.specs.Crashes.{Becomes}
 use Rattle.centre_rules.specs.Answers.{answer}
 use Rattle.centre_rules.specs.History.{Entry, IsMoment, is_recorded, last, moment_after, recorded}
-use Rattle.centre_rules.specs.Summary.{nothing}
+use Rattle.centre_rules.specs.Summary.{Summary}
 use Rattle.centre_store.proofs.Bodies.{kept_event}
 use Rattle.centre_store.specs.Pasts.{IsKept, AreKept}
-use Rattle.disk_journal.specs.OtherArea.{SparesB}
+use Rattle.disk_journal.specs.OtherArea.{SparesOther}
+use Rattle.disk_journal.specs.Standing.{IsOtherSame}
 use Rattle.arc_script.specs.Standing.{IsReadable, is_told}
 
 becomes_told : (x y : Option Areas) (R : Areas → Areas → Type 0) → Becomes x y R → is_told y ≡ is_told x
@@ -18,21 +19,21 @@ becomes_told None (Some t) R is = absurd is
 becomes_told (Some s) None R is = absurd is
 becomes_told (Some s) (Some t) R is = refl
 
-pub spared_tells : {old new : DiskSeen} → SparesB old new → is_told new.told ≡ is_told old.told
-spared_tells {old} {new} spared = becomes_told old.told new.told (λ s t. t.b ≡ s.b) spared.same
+pub spared_tells : {old new : DiskSeen} → SparesOther old new → is_told new.told ≡ is_told old.told
+spared_tells {old} {new} spared = becomes_told old.told new.told IsOtherSame spared.same
 
-last_step : (e : Entry) (h : List Entry) (t : Bool) → is_recorded e.reply ≡ t → AreKept (cond t (e ∷ recorded h) (recorded h))
-    → (AreKept (recorded h) → IsMoment (last nothing h)) → IsMoment (cond t e.at (last nothing h))
-last_step e h true is kept before = kept.0.spelled.moment
-last_step e h false is kept before = before kept
+last_step : (base : Summary) (e : Entry) (h : List Entry) (t : Bool) → is_recorded e.reply ≡ t → AreKept (cond t (e ∷ recorded h) (recorded h))
+    → (AreKept (recorded h) → IsMoment (last base h)) → IsMoment (cond t e.at (last base h))
+last_step base e h true is kept before = kept.0.spelled.moment
+last_step base e h false is kept before = before kept
 
 -- the moment of the last recorded entry
-pub last_moment : (h : List Entry) → IsReadable h → IsMoment (last nothing h)
-last_moment [] kept = omega arith
-last_moment (e ∷ h) kept = last_step e h (is_recorded e.reply) refl kept (last_moment h)
+pub last_moment : (base : Summary) (h : List Entry) → IsReadable base h → IsMoment (last base h)
+last_moment base [] kept = kept.0
+last_moment base (e ∷ h) kept = last_step base e h (is_recorded e.reply) refl kept.1 (λ before. last_moment base h (kept.0, before))
 
-pub moment_fits : (h : List Entry) (clock : ℕ) → IsMoment clock → IsReadable h → IsMoment (moment_after nothing h clock)
-moment_fits h clock fits kept = let before = last_moment h kept in omega (arith, fits, before)
+pub moment_fits : (base : Summary) (h : List Entry) (clock : ℕ) → IsMoment clock → IsReadable base h → IsMoment (moment_after base h clock)
+moment_fits base h clock fits kept = let before = last_moment base h kept in omega (arith, fits, before)
 
 readable_step : (e : Entry) (h : List Entry) (t : Bool) → is_recorded e.reply ≡ t → (is_recorded e.reply ≡ true → IsKept e) → AreKept (recorded h)
     → AreKept (cond t (e ∷ recorded h) (recorded h))
@@ -40,15 +41,17 @@ readable_step e h true is one kept = (one is, kept)
 readable_step e h false is one kept = kept
 
 -- one entry more
-pub readable_more : (h : List Entry) (e : Entry) (clock : ℕ) → e.caller ≡ 0 → IsWellFormed e.event → IsMoment clock → e.at ≡ moment_after nothing h clock
-    → e.reply ≡ answer nothing h e.event e.at → IsReadable h → IsReadable (e ∷ h)
-readable_more h e clock caller formed fits at reply kept =
-    readable_step e h (is_recorded e.reply) refl (λ is. record {
-      caller = caller;
-      recorded = is;
-      spelled = record {
-        kept = kept_event nothing h e.event e.at (ap is_recorded (sym reply) ∙ is);
-        well_formed = formed;
-        moment = subst IsMoment (sym at) (moment_fits h clock fits kept);
-      };
-    }) kept
+pub readable_more : (base : Summary) (h : List Entry) (e : Entry) (clock : ℕ) → e.caller ≡ 0 → IsWellFormed e.event → IsMoment clock → e.at ≡ moment_after base h clock
+    → e.reply ≡ answer base h e.event e.at → IsReadable base h → IsReadable base (e ∷ h)
+readable_more base h e clock caller formed fits at reply kept = (
+  kept.0,
+  readable_step e h (is_recorded e.reply) refl (λ is. record {
+    caller = caller;
+    recorded = is;
+    spelled = record {
+      kept = kept_event base h e.event e.at (ap is_recorded (sym reply) ∙ is);
+      well_formed = formed;
+      moment = subst IsMoment (sym at) (moment_fits base h clock fits kept);
+    };
+  }) kept.1,
+)

@@ -8,7 +8,7 @@ use Rattle.arc_io.specs.Seen.{PortSeen}
 use Rattle.centre_core.specs.declared.hall.Stop.{Stop}
 use Rattle.centre_rules.specs.Answers.{IsLegal}
 use Rattle.centre_rules.specs.History.{Entry, IsMoment}
-use Rattle.centre_rules.specs.Summary.{nothing}
+use Rattle.centre_rules.specs.Summary.{Summary}
 use Rattle.centre_store.specs.Stores.{Stored, StoreStands}
 use Rattle.desk_wire.specs.Replies.{line_of}
 use Rattle.script_lines.specs.Lines.{Asked, Time, spelling}
@@ -29,29 +29,29 @@ use Rattle.arc_script.proofs.Counts.{grows_none}
 use Rattle.arc_script.proofs.Passed.{taken_more}
 
 -- the history behind the Tick
-abbrev ticked_by : Option ℕ → List ℕ → ℕ → List Entry → List Entry
-ticked_by clock setup moment h = entry_after (before_tick clock setup moment h) Tick moment ∷ before_tick clock setup moment h
+abbrev ticked_by : Summary → Option ℕ → List ℕ → ℕ → List Entry → List Entry
+ticked_by base clock setup moment h = entry_after base (before_tick clock base setup moment h) Tick moment ∷ before_tick clock base setup moment h
 
-adds_tick : (clock : Option ℕ) (setup : List ℕ) (moment : ℕ) (h : List Entry) → Adds h (ticked_by clock setup moment h)
-adds_tick clock setup moment h =
-    adds_more h (before_tick clock setup moment h) (entry_after (before_tick clock setup moment h) Tick moment) refl refl
-    (adds_first clock setup moment h)
+adds_tick : (clock : Option ℕ) (base : Summary) (setup : List ℕ) (moment : ℕ) (h : List Entry) → Adds h (ticked_by base clock setup moment h)
+adds_tick clock base setup moment h =
+    adds_more h (before_tick clock base setup moment h) (entry_after base (before_tick clock base setup moment h) Tick moment) refl refl
+    (adds_first clock base setup moment h)
 
-readable_tick : (clock : Option ℕ) (setup : List ℕ) (moment : ℕ) (h : List Entry) → IsMoment moment
-    → IsLegal nothing (ticked_by clock setup moment h) → IsReadable h → IsReadable (ticked_by clock setup moment h)
-readable_tick clock setup moment h fits legal kept =
-    readable_next (before_tick clock setup moment h) (entry_after (before_tick clock setup moment h) Tick moment) moment refl fits refl legal
-    (readable_first clock setup moment h fits legal.1 kept)
+readable_tick : (clock : Option ℕ) (base : Summary) (setup : List ℕ) (moment : ℕ) (h : List Entry) → IsMoment moment
+    → IsLegal base (ticked_by base clock setup moment h) → IsReadable base h → IsReadable base (ticked_by base clock setup moment h)
+readable_tick clock base setup moment h fits legal kept =
+    readable_next base (before_tick clock base setup moment h) (entry_after base (before_tick clock base setup moment h) Tick moment) moment refl fits refl legal
+    (readable_first clock base setup moment h fits legal.1 kept)
 
 -- The step.
 
-abbrev step_of : ℕ → ℕ → Option ℕ → List ℕ → List Entry → List Entry → Step
-step_of number moment clock setup h entries = record {
+abbrev step_of : Summary → ℕ → ℕ → Option ℕ → List ℕ → List Entry → List Entry → Step
+step_of base number moment clock setup h entries = record {
   number = number;
   asked = Time moment;
   entries = entries;
   sent = 0;
-  text = codes "T " ++ line_of (entry_after (before_tick clock setup moment h) Tick moment).reply;
+  text = codes "T " ++ line_of (entry_after base (before_tick clock base setup moment h) Tick moment).reply;
 }
 
 counts_none : (s : Step) (t t' : Tally) → s.sent ≡ 0 → count_of is_repeat s.entries ≡ 0 → count_of is_closed s.entries ≡ 0 → t' ≡ t
@@ -78,37 +78,37 @@ time_taken setup count moment before script script' taken rest =
 
 module _ {D : Type 0} (seen : D → DiskSeen) (b : Begun D) (before : List Asked) (count : ℕ) (h : List Entry) (moment : ℕ) (script script' : Script)
     (s s' : Stored D) (between : Between seen b before count h script s) (fits : IsMoment moment) (same : script'.tally ≡ script.tally) where
-  first_is : before_tick script.clock script.setup moment h ≡ before_tick (clock_of before) b.setup moment h
+  first_is : before_tick script.clock b.base script.setup moment h ≡ before_tick (clock_of before) b.base b.setup moment h
   first_is =
-      ap (λ (c : Option ℕ). before_tick c script.setup moment h) between.clock.is
-      ∙ ap (λ (l : List ℕ). before_tick (clock_of before) l moment h) between.setup
+      ap (λ (c : Option ℕ). before_tick c b.base script.setup moment h) between.clock.is
+      ∙ ap (λ (l : List ℕ). before_tick (clock_of before) b.base l moment h) between.setup
 
   pub time_carried : (number : ℕ) (p p' : PortSeen)
-      → Ticked seen (before_tick script.clock script.setup moment h) moment s' p p'
-      → Carried seen (λ x st. IsStepOf (Tells (seen b.disk)) b.setup before h x st (Time moment)) number (Time moment)
+      → Ticked seen b.base (before_tick script.clock b.base script.setup moment h) moment s' p p'
+      → Carried seen b.base (λ x st. IsStepOf (Tells (seen b.disk)) b.base b.setup before h x st (Time moment)) number (Time moment)
       script.tally script'.tally p p' s'
   time_carried number p p' ticked =
-      let t = subst (λ (x : List Entry). Ticked seen x moment s' p p') first_is ticked in
-      let adds = adds_tick (clock_of before) b.setup moment h in
-      let st = step_of number moment (clock_of before) b.setup h adds.entries in
+      let t = subst (λ (x : List Entry). Ticked seen b.base x moment s' p p') first_is ticked in
+      let adds = adds_tick (clock_of before) b.base b.setup moment h in
+      let st = step_of b.base number moment (clock_of before) b.setup h adds.entries in
       record {
         step = st;
-        history = ticked_by (clock_of before) b.setup moment h;
+        history = ticked_by b.base (clock_of before) b.setup moment h;
         number_is = refl;
         asked_is = refl;
         is = record { is = refl; added = adds.is; sent = refl; text = refl };
         stands = t.stands;
-        readable = readable_tick (clock_of before) b.setup moment h fits t.stands.centre.legal between.store.readable;
+        readable = readable_tick (clock_of before) b.base b.setup moment h fits t.stands.centre.legal between.store.readable;
         text = t.text;
         counts = counts_none st script.tally script'.tally refl adds.repeats adds.closed same;
       }
 
   stop_with : (stop : Stop) → Stays seen script script' s s' → HasShown seen s' stop moment (IsOfTime (clock_of before) b.setup)
-      → (x : List Entry) → StoreStands seen nothing s' x → (adds : Adds h x)
-      → CameFor stop (Tells (seen b.disk)) b.setup before [] h x (step_of 0 moment (clock_of before) b.setup h adds.entries) (Time moment)
+      → (x : List Entry) → StoreStands seen b.base s' x → (adds : Adds h x)
+      → CameFor stop (Tells (seen b.disk)) b.base b.setup before [] h x (step_of b.base 0 moment (clock_of before) b.setup h adds.entries) (Time moment)
       → StoppedAt seen b before h (Time moment) stop script.tally script'.tally s'
   stop_with stop stays shown x stands adds came =
-      let st = step_of 0 moment (clock_of before) b.setup h adds.entries in
+      let st = step_of b.base 0 moment (clock_of before) b.setup h adds.entries in
       record {
         waiting = [];
         partial = st;
@@ -123,7 +123,7 @@ module _ {D : Type 0} (seen : D → DiskSeen) (b : Begun D) (before : List Asked
         counts = (counts_none st script.tally script'.tally refl adds.repeats adds.closed same).more;
       }
 
-  pub time_stopped : (stop : Stop) → Stays seen script script' s s' → TickStops seen script.clock script.setup moment h stop s'
+  pub time_stopped : (stop : Stop) → Stays seen script script' s s' → TickStops seen script.clock b.base script.setup moment h stop s'
       → HasShown seen s' stop moment (IsOfTime script.clock script.setup)
       → StoppedAt seen b before h (Time moment) stop script.tally script'.tally s'
   time_stopped stop stays stops shown =
@@ -131,14 +131,14 @@ module _ {D : Type 0} (seen : D → DiskSeen) (b : Begun D) (before : List Asked
       (subst (λ (c : Option ℕ). HasShown seen s' stop moment (IsOfTime c script.setup)) between.clock.is shown) in
       elim stops.came as (λ came. StoppedAt seen b before h (Time moment) stop script.tally script'.tally s') [
         | inl until ↦
-            let begun = subst (λ (l : List ℕ). BegunUntil (clock_of before) l moment h stops.history) between.setup
-            (subst (λ (c : Option ℕ). BegunUntil c script.setup moment h stops.history) between.clock.is until) in
-            let adds = adds_until (clock_of before) b.setup moment h stops.history begun in
+            let begun = subst (λ (l : List ℕ). BegunUntil (clock_of before) b.base l moment h stops.history) between.setup
+            (subst (λ (c : Option ℕ). BegunUntil c b.base script.setup moment h stops.history) between.clock.is until) in
+            let adds = adds_until (clock_of before) b.base b.setup moment h stops.history begun in
             stop_with stop stays by stops.history stops.stands adds (inl (begun, record { added = adds.is; sent = refl }))
         | inr whole ↦
-            let is : stops.history ≡ ticked_by (clock_of before) b.setup moment h =
-            whole.1 ∙ ap (λ (x : List Entry). entry_after x Tick moment ∷ x) first_is in
-            let adds = subst (Adds h) (sym is) (adds_tick (clock_of before) b.setup moment h) in
+            let is : stops.history ≡ ticked_by b.base (clock_of before) b.setup moment h =
+            whole.1 ∙ ap (λ (x : List Entry). entry_after b.base x Tick moment ∷ x) first_is in
+            let adds = subst (Adds h) (sym is) (adds_tick (clock_of before) b.base b.setup moment h) in
             stop_with stop stays by stops.history stops.stands adds
             (inr (whole.0, inr (record { is = is; added = adds.is; sent = refl; text = refl })))
       ]

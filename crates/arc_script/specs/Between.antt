@@ -9,8 +9,9 @@ use Rattle.arc_text.specs.Lines.{is_feed}
 use Rattle.centre_core.specs.declared.hall.Stop.{Stop}
 use Rattle.centre_rules.specs.Cases.{opened}
 use Rattle.centre_rules.specs.History.{Entry, IsMoment, marks}
-use Rattle.centre_rules.specs.Summary.{nothing}
+use Rattle.centre_rules.specs.Summary.{Summary}
 use Rattle.centre_store.specs.Bodies.{bodies_of}
+use Rattle.centre_store.specs.Given.{IsGiven, HasRecorded}
 use Rattle.centre_store.specs.Stores.{Stored, StoreStands}
 use Rattle.disk_journal.specs.Journal.{Holds}
 use Rattle.disk_journal.specs.declared.fault.OpenFault.{OpenFault}
@@ -19,7 +20,7 @@ use Rattle.script_lines.specs.Lines.{Asked, spelling}
 use Rattle.session_rules.specs.Inputs.{input_limit}
 use Rattle.arc_script.specs.Carrying.{CountsMore, HaveTaken, IsNext}
 use Rattle.arc_script.specs.Causes.{HasShown, Submits}
-use Rattle.arc_script.specs.Ends.{Tells, HasRecorded, IsUnopened, CameFor}
+use Rattle.arc_script.specs.Ends.{Tells, IsUnopened, CameFor}
 use Rattle.arc_script.specs.Fed.{clock_of}
 use Rattle.arc_script.specs.Standing.{IsReadable, is_told}
 use Rattle.arc_script.specs.Steps.{Step, IsStepOf, AreSteps, asked_after, output_of}
@@ -28,11 +29,12 @@ use Rattle.arc_script.specs.Texts.{AreOf, counted}
 use Rattle.arc_script.specs.declared.script.Script.{Script}
 use Rattle.arc_script.specs.declared.script_end.Tally.{Tally}
 
--- how a script began: over which disk, with which setup and limits, over which past, and what its port told
+-- how a script began: over which disk, with which setup and limits, over which summary and past, and what its port told
 pub record Begun (D : Type 0) : Type 0 where
   pub disk : D
   pub setup : List ℕ
   pub limits : Limits
+  pub base : Summary
   pub past : List Entry
   pub port : PortSeen
 
@@ -62,10 +64,11 @@ pub record IsReady (clock : Option ℕ) (setup : List ℕ) (text : Option (List 
   pub moment : IfSome clock IsMoment
   pub set : IfSome clock (λ last. text ≡ Some setup)
 
--- The store stands for the history. It was opened later, with these limits, over a disk that tells as much.
+-- The store stands for the history over a summary that areas give. It was opened later, with these limits, over a disk that tells as much.
 pub record IsStoreSoFar {D : Type 0} (seen : D → DiskSeen) (b : Begun D) (h : List Entry) (s : Stored D) : Type 0 where
-  pub stands : StoreStands seen nothing s h
-  pub readable : IsReadable h
+  pub given : IsGiven b.base
+  pub stands : StoreStands seen b.base s h
+  pub readable : IsReadable b.base h
   pub tells : is_told (seen s.journal.disk).told ≡ is_told (seen b.disk).told
   pub limits_are : s.journal.limits ≡ b.limits
   pub later : (seen b.disk).faults ≤ s.at_open
@@ -92,11 +95,11 @@ pub record SoFar {D : Type 0} (seen : D → DiskSeen) (b : Begun D) (lines : Lis
   pub steps : List Step
   pub history : List Entry
   pub of : AreOf [] (counted lines) steps
-  pub are : AreSteps (Tells (seen b.disk)) b.setup [] b.past history steps
+  pub are : AreSteps (Tells (seen b.disk)) b.base b.setup [] b.past history steps
   pub between : Between seen b (asked_after [] steps) (size_of lines) history script s
   pub held : Holds seen s.journal (bodies_of history)
   pub counts : CountsSteps steps script.tally
-  pub opened_before : script.opened_before ≡ opened nothing (marks nothing b.past)
+  pub opened_before : script.opened_before ≡ opened b.base (marks b.base b.past)
   pub written : p.written ≡ append_known b.port.written (output_of steps)
   pub writes : b.port.write_faults ≤ p.write_faults
 
@@ -107,7 +110,7 @@ pub record CarriedOut {D : Type 0} (seen : D → DiskSeen) (b : Begun D) (before
   pub history : List Entry
   pub number_is : step.number ≡ number
   pub asked_is : step.asked ≡ asked
-  pub is : IsStepOf (Tells (seen b.disk)) b.setup before h history step asked
+  pub is : IsStepOf (Tells (seen b.disk)) b.base b.setup before h history step asked
   pub text : p'.written ≡ append_known p.written step.text
   pub counts : CountsMore step t script.tally
   pub between : Between seen b (asked ∷ before) (count + length (spelling asked)) history script s
@@ -119,10 +122,10 @@ pub record StoppedAt {D : Type 0} (seen : D → DiskSeen) (b : Begun D) (before 
   pub partial : Step
   pub history : List Entry
   pub clock : ℕ
-  pub came : CameFor stop (Tells (seen b.disk)) b.setup before waiting h history partial asked
+  pub came : CameFor stop (Tells (seen b.disk)) b.base b.setup before waiting h history partial asked
   pub set : clock_of (asked ∷ before) ≡ Some clock
   pub cause : HasShown seen s stop clock (Submits b.setup before clock waiting asked)
-  pub stands : StoreStands seen nothing s history
+  pub stands : StoreStands seen b.base s history
   pub limits_are : s.journal.limits ≡ b.limits
   pub later : (seen b.disk).faults ≤ s.at_open
   pub counts : CountsMore partial t t'
@@ -131,7 +134,7 @@ pub record StoppedAt {D : Type 0} (seen : D → DiskSeen) (b : Begun D) (before 
 pub record ShutAt {D : Type 0} (seen : D → DiskSeen) (b : Begun D) (h : List Entry) (fault : OpenFault) (disk : D) : Type 0 where
   pub closed : D
   pub later : (seen b.disk).faults ≤ (seen closed).faults
-  pub area : HasRecorded (seen closed) h
+  pub area : HasRecorded (seen closed) b.base h
   pub unopened : IsUnopened fault (seen closed) (seen disk)
 
 -- behind each script that comes to this line it is carried out

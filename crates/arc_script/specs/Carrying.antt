@@ -7,7 +7,7 @@ use Rattle.arc_io.specs.Disks.{DiskSeen}
 use Rattle.arc_io.specs.Seen.{PortSeen}
 use Rattle.arc_text.specs.Lines.{is_feed, ended_lines, rest_of}
 use Rattle.centre_rules.specs.History.{Entry}
-use Rattle.centre_rules.specs.Summary.{nothing}
+use Rattle.centre_rules.specs.Summary.{Summary}
 use Rattle.centre_store.specs.Stores.{Stored, StoreStands}
 use Rattle.desk_session.specs.Desks as Desk
 use Rattle.line_session.specs.Lines as Line
@@ -68,22 +68,22 @@ pub record CountsStep (s : Step) (t t' : Tally) : Type 0 where
 
 -- The line has its step: its output was put, it is counted, and the store stands for the history behind it.
 pub record Carried {D : Type 0} (seen : D → DiskSeen)
-    (IsStep : List Entry → Step → Type 0) (number : ℕ) (asked : Asked) (t t' : Tally) (p p' : PortSeen) (s : Stored D) : Type 0 where
+    (base : Summary) (IsStep : List Entry → Step → Type 0) (number : ℕ) (asked : Asked) (t t' : Tally) (p p' : PortSeen) (s : Stored D) : Type 0 where
   pub step : Step
   pub history : List Entry
   pub number_is : step.number ≡ number
   pub asked_is : step.asked ≡ asked
   pub is : IsStep history step
-  pub stands : StoreStands seen nothing s history
-  pub readable : IsReadable history
+  pub stands : StoreStands seen base s history
+  pub readable : IsReadable base history
   pub text : p'.written ≡ append_known p.written step.text
   pub counts : CountsStep step t t'
 
 -- The line was stopped: it came so far, that is counted, and the store stands for it.
-pub record Halted {D : Type 0} (seen : D → DiskSeen) (CameTo : List Entry → Step → Type 0) (t t' : Tally) (s : Stored D) : Type 0 where
+pub record Halted {D : Type 0} (seen : D → DiskSeen) (base : Summary) (CameTo : List Entry → Step → Type 0) (t t' : Tally) (s : Stored D) : Type 0 where
   pub partial : Step
   pub history : List Entry
   pub came : CameTo history partial
-  pub stands : StoreStands seen nothing s history
-  pub readable : IsReadable history
+  pub stands : StoreStands seen base s history
+  pub readable : IsReadable base history
   pub counts : CountsStep partial t t'

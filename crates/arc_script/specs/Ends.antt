@@ -12,17 +12,15 @@ use Rattle.arc_text.specs.Lines.{ended_lines}
 use Rattle.centre_core.specs.declared.hall.Stop.{Stop}
 use Rattle.centre_core.specs.declared.hall.Stop.TheVariants.{Memory}
 use Rattle.centre_rules.specs.History.{Entry}
-use Rattle.centre_rules.specs.Summary.{nothing}
+use Rattle.centre_rules.specs.Summary.{Summary}
 use Rattle.centre_store.specs.Begins.{adopted_after, begun_after}
-use Rattle.centre_store.specs.Bodies.{bodies_of}
+use Rattle.centre_store.specs.Given.{HasRecorded, BeginsWith}
 use Rattle.centre_store.specs.Openings.{IsRefused}
-use Rattle.centre_store.specs.Pasts.{IsPast}
 use Rattle.centre_store.specs.Stores.{Stored, StoreStands}
 use Rattle.dc09_frame.specs.Frames.{frame_of}
 use Rattle.desk_session.specs.Desks.{lines_read}
 use Rattle.disk_journal.specs.Faults.{IsOfContent, HasCounts}
-use Rattle.disk_journal.specs.Reading.{GoesOn}
-use Rattle.disk_journal.specs.Records.{Stands}
+use Rattle.disk_journal.specs.Standing.{GoesOn}
 use Rattle.disk_journal.specs.declared.fault.OpenFault.{OpenFault}
 use Rattle.disk_journal.specs.declared.journal.Limits.{Limits}
 use Rattle.line_session.specs.Turns.{Turn, line_turns}
@@ -42,75 +40,64 @@ use Rattle.arc_script.specs.declared.script_end.Tally.{Tally}
 abbrev pub Tells : DiskSeen → Type 0
 Tells disk = (areas : Areas) × (disk.told ≡ Some areas)
 
--- what a read gives of the area stands for bodies that have this past
-pub record BeginsWith (disk : DiskSeen) (past : List Entry) : Type 0 where
-  pub bodies : List (List ℕ)
-  pub is_past : IsPast bodies past
-  pub area : IfSome disk.told (λ s. Stands s.a bodies)
-
--- what a read gives of the area, and all that a crash may leave there now, stands for the bodies of the recorded entries
-pub record HasRecorded (disk : DiskSeen) (h : List Entry) : Type 0 where
-  pub area : IfSome disk.told (λ s. Stands s.a (bodies_of h))
-  pub images : (c : Areas) → disk.may_leave c → Stands c.a (bodies_of h)
-
--- The journal of a disk was not opened, for this fault: it shows what stands there, or that the disk failed. What the area stood for it
--- stands for still, after a crash at any moment too.
+-- The journal of a disk was not opened, for this fault: it shows what stands there, or that the disk failed. What the areas stood for
+-- they stand for still, after a crash at any moment too.
 pub record IsUnopened (fault : OpenFault) (disk disk' : DiskSeen) : Type 0 where
-  pub shown : IfSome disk.told (λ s. IsRefused fault s.a)
+  pub shown : IfSome disk.told (IsRefused fault)
   pub counts : HasCounts fault disk.faults disk'.faults
-  pub told : Becomes disk.told disk'.told (λ s t. GoesOn s.a t.a)
-  pub any_moment : LeavesOnly disk disk' (λ c. (d : Areas) × disk.may_leave d × GoesOn d.a c.a)
+  pub told : Becomes disk.told disk'.told GoesOn
+  pub any_moment : LeavesOnly disk disk' (λ c. (d : Areas) × disk.may_leave d × GoesOn d c)
   pub unwritten : IsOfContent fault → IsQuiet disk disk'
 
 -- What a script did, of these lines, over a past: the first of them have their steps, which go on from the past to a history. Those
 -- behind were not carried out.
-pub record Played (Told : Type 0) (setup : List ℕ) (past : List Entry) (lines : List (ℕ × List ℕ)) : Type 0 where
+pub record Played (Told : Type 0) (base : Summary) (setup : List ℕ) (past : List Entry) (lines : List (ℕ × List ℕ)) : Type 0 where
   pub front : List (ℕ × List ℕ)
   pub behind : List (ℕ × List ℕ)
   pub steps : List Step
   pub history : List Entry
   pub split : lines ≡ front ++ behind
   pub of : AreOf [] front steps
-  pub are : AreSteps Told setup [] past history steps
+  pub are : AreSteps Told base setup [] past history steps
 
 -- all lines have their steps, the output is theirs, and the area stands for the history's recorded entries
-pub record IsWhole {D : Type 0} (seen : D → DiskSeen) (Told : Type 0) (setup : List ℕ) (past : List Entry) (lines : List (ℕ × List ℕ))
-    (played : Played Told setup past lines) (p p' : PortSeen) (disk' : D) (tally : Tally) : Type 0 where
+pub record IsWhole {D : Type 0} (seen : D → DiskSeen) (Told : Type 0) (base : Summary) (setup : List ℕ) (past : List Entry) (lines : List (ℕ × List ℕ))
+    (played : Played Told base setup past lines) (p p' : PortSeen) (disk' : D) (tally : Tally) : Type 0 where
   pub none_behind : played.behind ≡ []
   pub output : p'.written ≡ append_known p.written (output_of played.steps)
-  pub area : HasRecorded (seen disk') played.history
-  pub counts : IsTally past played.steps played.history tally
+  pub area : HasRecorded (seen disk') base played.history
+  pub counts : IsTally base past played.steps played.history tally
 
 -- the next line, of this number, asks for nothing; the output is that of the lines before it
-pub record IsBad {D : Type 0} (seen : D → DiskSeen) (Told : Type 0) (setup : List ℕ) (past : List Entry) (lines : List (ℕ × List ℕ))
-    (played : Played Told setup past lines) (number : ℕ) (p p' : PortSeen) (disk' : D) (tally : Tally) : Type 0 where
+pub record IsBad {D : Type 0} (seen : D → DiskSeen) (Told : Type 0) (base : Summary) (setup : List ℕ) (past : List Entry) (lines : List (ℕ × List ℕ))
+    (played : Played Told base setup past lines) (number : ℕ) (p p' : PortSeen) (disk' : D) (tally : Tally) : Type 0 where
   pub line : List ℕ
   pub more : List (ℕ × List ℕ)
   pub next : played.behind ≡ (number, line) ∷ more
   pub wrong : (asked : Asked) → IsPlayable (asked_after [] played.steps) line asked → ⊥
   pub output : p'.written ≡ append_known p.written (output_of played.steps)
-  pub area : HasRecorded (seen disk') played.history
-  pub counts : IsTally past played.steps played.history tally
+  pub area : HasRecorded (seen disk') base played.history
+  pub counts : IsTally base past played.steps played.history tally
 
 -- the output of the last step was cut short: it lacks a byte at least. All that the step recorded stands.
-pub record IsCutOff {D : Type 0} (seen : D → DiskSeen) (Told : Type 0) (setup : List ℕ) (past : List Entry) (lines : List (ℕ × List ℕ))
-    (played : Played Told setup past lines) (p p' : PortSeen) (disk' : D) (tally : Tally) : Type 0 where
+pub record IsCutOff {D : Type 0} (seen : D → DiskSeen) (Told : Type 0) (base : Summary) (setup : List ℕ) (past : List Entry) (lines : List (ℕ × List ℕ))
+    (played : Played Told base setup past lines) (p p' : PortSeen) (disk' : D) (tally : Tally) : Type 0 where
   pub front : List Step
   pub last : Step
   pub count : ℕ
   pub split : played.steps ≡ front ++ last ∷ []
   pub short : count < length last.text
   pub output : p'.written ≡ append_known p.written (output_of front ++ take count last.text)
-  pub area : HasRecorded (seen disk') played.history
-  pub counts : IsTally past played.steps played.history tally
+  pub area : HasRecorded (seen disk') base played.history
+  pub counts : IsTally base past played.steps played.history tally
 
 -- How far a line came that was stopped: the history that it left, from h on. A `T` may have begun the run, or adopted its setup, before; so
 -- may an `X`, but over what the journal keeps, for it has closed the store; of a line those frames have their turns that came before the
 -- one that was stopped. That one is the first that waits.
-pub record FedUntil (setup : List ℕ) (before : List Asked) (line : ℕ) (bytes : List ℕ)
+pub record FedUntil (base : Summary) (setup : List ℕ) (before : List Asked) (line : ℕ) (bytes : List ℕ)
     (waiting : List (List ℕ)) (h x : List Entry) (s : Step) : Type 0 where
   pub turns : List Turn
-  pub fed : FeedsLine setup before line bytes h x turns waiting
+  pub fed : FeedsLine base setup before line bytes h x turns waiting
   pub entries : s.entries ≡ entries_of line_turns turns
   pub sent : (s.sent ≡ length turns) ⊎ (s.sent ≡ suc (length turns))
 
@@ -119,37 +106,37 @@ pub record AddedBy (h x : List Entry) (s : Step) : Type 0 where
   pub sent : s.sent ≡ 0
 
 -- how far the beginning of a run came, which may have adopted its setup, or ended; none begins where a clock was set before
-abbrev pub BegunUntil : Option ℕ → List ℕ → ℕ → List Entry → List Entry → Type 0
-BegunUntil None setup moment h x = (x ≡ h) ⊎ (x ≡ adopted_after nothing h setup moment) ⊎ (x ≡ begun_after nothing h setup moment)
-BegunUntil (Some last) setup moment h x = x ≡ h
+abbrev pub BegunUntil : Option ℕ → Summary → List ℕ → ℕ → List Entry → List Entry → Type 0
+BegunUntil None base setup moment h x = (x ≡ h) ⊎ (x ≡ adopted_after base h setup moment) ⊎ (x ≡ begun_after base h setup moment)
+BegunUntil (Some last) base setup moment h x = x ≡ h
 
-pub record ReopenedUntil (Told : Type 0) (setup : List ℕ) (before : List Asked) (h x : List Entry) (s : Step) : Type 0 where
+pub record ReopenedUntil (Told : Type 0) (base : Summary) (setup : List ℕ) (before : List Asked) (h x : List Entry) (s : Step) : Type 0 where
   pub kept : List Entry
-  pub keeps : Keeps Told h kept
+  pub keeps : Keeps Told base h kept
   pub clock : ℕ
   pub set : clock_of before ≡ Some clock
-  pub until : BegunUntil None setup clock kept x
+  pub until : BegunUntil None base setup clock kept x
   pub by : AddedBy kept x s
 
-abbrev pub CameTo : Type 0 → List ℕ → List Asked → List (List ℕ) → List Entry → List Entry → Step → Asked → Type 0
-CameTo Told setup before waiting h x s (Time moment) = BegunUntil (clock_of before) setup moment h x × AddedBy h x s
-CameTo Told setup before waiting h x s (Feed line digits) = FedUntil setup before line (bytes_spelled digits) waiting h x s
-CameTo Told setup before waiting h x s (Message line body) = FedUntil setup before line (frame_of body) waiting h x s
-CameTo Told setup before waiting h x s (Command desk text) = (x ≡ h) × AddedBy h x s
-CameTo Told setup before waiting h x s Reopen = ReopenedUntil Told setup before h x s
+abbrev pub CameTo : Type 0 → Summary → List ℕ → List Asked → List (List ℕ) → List Entry → List Entry → Step → Asked → Type 0
+CameTo Told base setup before waiting h x s (Time moment) = BegunUntil (clock_of before) base setup moment h x × AddedBy h x s
+CameTo Told base setup before waiting h x s (Feed line digits) = FedUntil base setup before line (bytes_spelled digits) waiting h x s
+CameTo Told base setup before waiting h x s (Message line body) = FedUntil base setup before line (frame_of body) waiting h x s
+CameTo Told base setup before waiting h x s (Command desk text) = (x ≡ h) × AddedBy h x s
+CameTo Told base setup before waiting h x s Reopen = ReopenedUntil Told base setup before h x s
 
 -- How far it came that was stopped for this. Where memory was wanted it may have done nothing yet, as an `X` that has not closed the store,
 -- or all but its output.
-abbrev pub CameFor : Stop → Type 0 → List ℕ → List Asked → List (List ℕ) → List Entry → List Entry → Step → Asked → Type 0
-CameFor stop Told setup before waiting h x s asked =
-    CameTo Told setup before waiting h x s asked
-    ⊎ ((stop ≡ Memory) × (((x ≡ h) × AddedBy h x s) ⊎ IsStepOf Told setup before h x s asked))
+abbrev pub CameFor : Stop → Type 0 → Summary → List ℕ → List Asked → List (List ℕ) → List Entry → List Entry → Step → Asked → Type 0
+CameFor stop Told base setup before waiting h x s asked =
+    CameTo Told base setup before waiting h x s asked
+    ⊎ ((stop ≡ Memory) × (((x ≡ h) × AddedBy h x s) ⊎ IsStepOf Told base setup before h x s asked))
 
 -- The next line was stopped. It has no output, and what it recorded before stands: the store that showed the stop, for an event of this
 -- line at the moment that is set, stands for it, and its disk is handed back. So the area stands for it, and after a fault of the disk for
 -- it with the one event that met the fault or without.
-pub record IsHalted {D : Type 0} (seen : D → DiskSeen) (Told : Type 0) (setup : List ℕ) (past : List Entry) (lines : List (ℕ × List ℕ))
-    (played : Played Told setup past lines) (stop : Stop) (limits : Limits) (entry : ℕ) (p p' : PortSeen) (disk' : D)
+pub record IsHalted {D : Type 0} (seen : D → DiskSeen) (Told : Type 0) (base : Summary) (setup : List ℕ) (past : List Entry) (lines : List (ℕ × List ℕ))
+    (played : Played Told base setup past lines) (stop : Stop) (limits : Limits) (entry : ℕ) (p p' : PortSeen) (disk' : D)
     (tally : Tally) : Type 0 where
   pub number : ℕ
   pub line : List ℕ
@@ -162,25 +149,25 @@ pub record IsHalted {D : Type 0} (seen : D → DiskSeen) (Told : Type 0) (setup 
   pub last : Stored D
   pub next : played.behind ≡ (number, line) ∷ more
   pub asks : IsPlayable (asked_after [] played.steps) line asked
-  pub came : CameFor stop Told setup (asked_after [] played.steps) waiting played.history history partial asked
+  pub came : CameFor stop Told base setup (asked_after [] played.steps) waiting played.history history partial asked
   pub set : clock_of (asked ∷ asked_after [] played.steps) ≡ Some clock
   pub cause : HasShown seen last stop clock (Submits setup (asked_after [] played.steps) clock waiting asked)
-  pub stands : StoreStands seen nothing last history
+  pub stands : StoreStands seen base last history
   pub limits_are : last.journal.limits ≡ limits
   pub later : entry ≤ last.at_open
   pub handed : disk' ≡ last.journal.disk
   pub output : p'.written ≡ append_known p.written (output_of played.steps)
-  pub counts : IsTally past (played.steps ++ partial ∷ []) history tally
+  pub counts : IsTally base past (played.steps ++ partial ∷ []) history tally
 
 -- Memory was wanted before the script was read: nothing was done.
-pub record IsUnread {D : Type 0} (seen : D → DiskSeen) (past : List Entry) (p p' : PortSeen) (disk' : D) (tally : Tally) : Type 0 where
+pub record IsUnread {D : Type 0} (seen : D → DiskSeen) (base : Summary) (past : List Entry) (p p' : PortSeen) (disk' : D) (tally : Tally) : Type 0 where
   pub untouched : p' ≡ p
-  pub area : HasRecorded (seen disk') past
-  pub counts : IsTally past [] past tally
+  pub area : HasRecorded (seen disk') base past
+  pub counts : IsTally base past [] past tally
 
 -- The next line, an `X`, could not open the journal again.
-pub record IsShut {D : Type 0} (seen : D → DiskSeen) (Told : Type 0) (setup : List ℕ) (past : List Entry) (lines : List (ℕ × List ℕ))
-    (played : Played Told setup past lines) (fault : OpenFault) (entry : ℕ) (p p' : PortSeen) (disk' : D) (tally : Tally) : Type 0 where
+pub record IsShut {D : Type 0} (seen : D → DiskSeen) (Told : Type 0) (base : Summary) (setup : List ℕ) (past : List Entry) (lines : List (ℕ × List ℕ))
+    (played : Played Told base setup past lines) (fault : OpenFault) (entry : ℕ) (p p' : PortSeen) (disk' : D) (tally : Tally) : Type 0 where
   pub number : ℕ
   pub line : List ℕ
   pub more : List (ℕ × List ℕ)
@@ -188,28 +175,28 @@ pub record IsShut {D : Type 0} (seen : D → DiskSeen) (Told : Type 0) (setup : 
   pub asks : IsPlayable (asked_after [] played.steps) line Reopen
   pub closed : D
   pub later : entry ≤ (seen closed).faults
-  pub area : HasRecorded (seen closed) played.history
+  pub area : HasRecorded (seen closed) base played.history
   pub unopened : IsUnopened fault (seen closed) (seen disk')
   pub output : p'.written ≡ append_known p.written (output_of played.steps)
-  pub counts : IsTally past played.steps played.history tally
+  pub counts : IsTally base past played.steps played.history tally
 
 -- What a script's end says of what was played, of the bytes that were read.
-abbrev pub EndsAs : {D : Type 0} → (D → DiskSeen) → (Told : Type 0) (setup : List ℕ) (past : List Entry) → List ℕ → (lines : List (ℕ × List ℕ))
-    → Played Told setup past lines → Limits → ℕ → ScriptEnd → PortSeen → PortSeen → D → Tally → Type 0
-EndsAs seen Told setup past read lines played limits entry Done p p' disk' tally =
-    IsReadOut p' × (length read < input_limit) × IsWhole seen Told setup past lines played p p' disk' tally
-EndsAs seen Told setup past read lines played limits entry ReadFault p p' disk' tally =
-    Rose p.read_faults p'.read_faults × (length read < input_limit) × IsWhole seen Told setup past lines played p p' disk' tally
-EndsAs seen Told setup past read lines played limits entry Spent p p' disk' tally =
-    (length read ≡ input_limit) × IsWhole seen Told setup past lines played p p' disk' tally
-EndsAs seen Told setup past read lines played limits entry WriteFault p p' disk' tally =
-    Rose p.write_faults p'.write_faults × IsCutOff seen Told setup past lines played p p' disk' tally
-EndsAs seen Told setup past read lines played limits entry (BadScript number) p p' disk' tally =
-    IsBad seen Told setup past lines played number p p' disk' tally
-EndsAs seen Told setup past read lines played limits entry (Stopped stop) p p' disk' tally =
-    IsHalted seen Told setup past lines played stop limits entry p p' disk' tally
-EndsAs seen Told setup past read lines played limits entry (Refused fault) p p' disk' tally =
-    IsShut seen Told setup past lines played fault entry p p' disk' tally
+abbrev pub EndsAs : {D : Type 0} → (D → DiskSeen) → (Told : Type 0) (base : Summary) (setup : List ℕ) (past : List Entry) → List ℕ → (lines : List (ℕ × List ℕ))
+    → Played Told base setup past lines → Limits → ℕ → ScriptEnd → PortSeen → PortSeen → D → Tally → Type 0
+EndsAs seen Told base setup past read lines played limits entry Done p p' disk' tally =
+    IsReadOut p' × (length read < input_limit) × IsWhole seen Told base setup past lines played p p' disk' tally
+EndsAs seen Told base setup past read lines played limits entry ReadFault p p' disk' tally =
+    Rose p.read_faults p'.read_faults × (length read < input_limit) × IsWhole seen Told base setup past lines played p p' disk' tally
+EndsAs seen Told base setup past read lines played limits entry Spent p p' disk' tally =
+    (length read ≡ input_limit) × IsWhole seen Told base setup past lines played p p' disk' tally
+EndsAs seen Told base setup past read lines played limits entry WriteFault p p' disk' tally =
+    Rose p.write_faults p'.write_faults × IsCutOff seen Told base setup past lines played p p' disk' tally
+EndsAs seen Told base setup past read lines played limits entry (BadScript number) p p' disk' tally =
+    IsBad seen Told base setup past lines played number p p' disk' tally
+EndsAs seen Told base setup past read lines played limits entry (Stopped stop) p p' disk' tally =
+    IsHalted seen Told base setup past lines played stop limits entry p p' disk' tally
+EndsAs seen Told base setup past read lines played limits entry (Refused fault) p p' disk' tally =
+    IsShut seen Told base setup past lines played fault entry p p' disk' tally
 
 -- Not far ahead: all lines but those that end in the last bytes read, at most 4,096 of them, were carried out.
 pub record IsNotAhead (read : List ℕ) (carried : List (ℕ × List ℕ)) : Type 0 where
@@ -232,14 +219,14 @@ ReadsNoFurther (Refused fault) read carried = IsNotAhead read carried
 
 -- The transcript of a script over a past, of the bytes that were read of the port: their lines and what was played of them. Where a read
 -- has met the input's end, that is all of it. All but what is about reading and writing stayed.
-pub record IsTranscript {D : Type 0} (seen : D → DiskSeen) (Told : Type 0) (setup : List ℕ) (past : List Entry) (limits : Limits)
+pub record IsTranscript {D : Type 0} (seen : D → DiskSeen) (Told : Type 0) (base : Summary) (setup : List ℕ) (past : List Entry) (limits : Limits)
     (entry : ℕ) (end : ScriptEnd) (p p' : PortSeen) (disk' : D) (tally : Tally) : Type 0 where
   pub read : List ℕ
   pub taken : p.left ≡ prepend_known read p'.left
   pub out : p'.ended ≡ true → IsAtEnd p'.left
   pub most : length read ≤ input_limit
-  pub played : Played Told setup past (counted (lines_read p'.ended read))
-  pub ends : EndsAs seen Told setup past read (counted (lines_read p'.ended read)) played limits entry end p p' disk' tally
+  pub played : Played Told base setup past (counted (lines_read p'.ended read))
+  pub ends : EndsAs seen Told base setup past read (counted (lines_read p'.ended read)) played limits entry end p p' disk' tally
   pub ahead : ReadsNoFurther end read played.front
   pub others : p' ≡ record p {
     left = p'.left;
@@ -254,6 +241,6 @@ pub record IsTranscript {D : Type 0} (seen : D → DiskSeen) (Told : Type 0) (se
 abbrev pub IsScript : {D : Type 0} → (D → DiskSeen) → List ℕ → Limits → ScriptEnd → PortSeen → PortSeen → D → D → Tally → Type 0
 IsScript seen setup limits end p p' disk disk' tally =
     ((fault : OpenFault) × (end ≡ Refused fault) × IsUnopened fault (seen disk) (seen disk') × (p' ≡ p) × (tally ≡ no_tally))
-    ⊎ ((past : List Entry) × BeginsWith (seen disk) past
-    × (IsTranscript seen (Tells (seen disk)) setup past limits (seen disk).faults end p p' disk' tally
-    ⊎ ((end ≡ Stopped Memory) × IsUnread seen past p p' disk' tally)))
+    ⊎ ((base : Summary) × (past : List Entry) × BeginsWith (seen disk) base past
+    × (IsTranscript seen (Tells (seen disk)) base setup past limits (seen disk).faults end p p' disk' tally
+    ⊎ ((end ≡ Stopped Memory) × IsUnread seen base past p p' disk' tally)))

@@ -4,7 +4,7 @@ use Rattle.std.specs.List.{slice_get}
 use Rattle.arc_io.specs.Disks.{DiskSeen}
 use Rattle.centre_core.specs.declared.hall.Stop.{Stop}
 use Rattle.centre_rules.specs.History.{Entry}
-use Rattle.centre_rules.specs.Summary.{nothing}
+use Rattle.centre_rules.specs.Summary.{Summary}
 use Rattle.centre_store.specs.Stores.{Stored, StoreStands}
 use Rattle.line_session.specs.Lines.{LineValue, TookStream}
 use Rattle.line_session.specs.Turns.{Turn, line_turns}
@@ -26,26 +26,26 @@ pub record CountsFed (sent : ℕ) (turns : List Turn) (t t' : Tally) : Type 0 wh
   pub rest : t' ≡ record t { sent = t'.sent; repeats = t'.repeats }
 
 -- each frame has its turn, and the replies were written
-pub record HasFed {D : Type 0} (seen : D → DiskSeen) (setup : List ℕ) (clock : ℕ)
+pub record HasFed {D : Type 0} (seen : D → DiskSeen) (base : Summary) (setup : List ℕ) (clock : ℕ)
     (stream bytes : List ℕ) (h : List Entry) (t t' : Tally) (written : List ℕ) (s : Stored D) : Type 0 where
   pub turns : List Turn
   pub history : List Entry
-  pub fed : FeedsBehind setup clock stream bytes h history turns []
-  pub stands : StoreStands seen nothing s history
-  pub readable : IsReadable history
+  pub fed : FeedsBehind base setup clock stream bytes h history turns []
+  pub stands : StoreStands seen base s history
+  pub readable : IsReadable base history
   pub written_is : written ≡ text_of line_turns turns
   pub counts : CountsFed (length turns) turns t t'
 
 -- A frame was stopped: those before it have their turns, and it may be counted. The store showed the stop for its event.
-pub record FeedStops {D : Type 0} (seen : D → DiskSeen) (setup : List ℕ) (clock : ℕ)
+pub record FeedStops {D : Type 0} (seen : D → DiskSeen) (base : Summary) (setup : List ℕ) (clock : ℕ)
     (stream bytes : List ℕ) (h : List Entry) (t t' : Tally) (stop : Stop) (s : Stored D) : Type 0 where
   pub turns : List Turn
   pub more : List (List ℕ)
   pub history : List Entry
   pub sent : ℕ
-  pub fed : FeedsBehind setup clock stream bytes h history turns more
-  pub stands : StoreStands seen nothing s history
-  pub readable : IsReadable history
+  pub fed : FeedsBehind base setup clock stream bytes h history turns more
+  pub stands : StoreStands seen base s history
+  pub readable : IsReadable base history
   pub cause : HasShown seen s stop clock (IsOfFrame setup clock more)
   pub sent_is : (sent ≡ length turns) ⊎ (sent ≡ suc (length turns))
   pub counts : CountsFed sent turns t t'

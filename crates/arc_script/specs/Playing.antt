@@ -7,7 +7,7 @@ use Rattle.arc_io.specs.Seen.{PortSeen}
 use Rattle.centre_core.specs.declared.hall.Stop.{Stop}
 use Rattle.centre_core.specs.declared.hall.Stop.TheVariants.{Memory}
 use Rattle.centre_rules.specs.History.{Entry}
-use Rattle.centre_rules.specs.Summary.{nothing}
+use Rattle.centre_rules.specs.Summary.{Summary}
 use Rattle.centre_store.specs.Stores.{Stored, StoreStands}
 use Rattle.alarm_rules.specs.Setups.{Setup}
 use Rattle.desk_session.specs.Desks.{DeskValue, TookStream}
@@ -38,13 +38,13 @@ pub record IsNewDesk (desk : DeskValue) : Type 0 where
 
 -- A `T` was stopped: before its Tick; or, where memory was wanted for its output, behind it. The store stands for what was recorded.
 pub record TickStops {D : Type 0} (seen : D → DiskSeen)
-    (clock : Option ℕ) (setup : List ℕ) (moment : ℕ) (h : List Entry) (stop : Stop) (s : Stored D) : Type 0 where
+    (clock : Option ℕ) (base : Summary) (setup : List ℕ) (moment : ℕ) (h : List Entry) (stop : Stop) (s : Stored D) : Type 0 where
   pub history : List Entry
-  pub stands : StoreStands seen nothing s history
-  pub came : BegunUntil clock setup moment h history
-      ⊎ ((stop ≡ Memory) × (history ≡ entry_after (before_tick clock setup moment h) Tick moment ∷ before_tick clock setup moment h))
+  pub stands : StoreStands seen base s history
+  pub came : BegunUntil clock base setup moment h history
+      ⊎ ((stop ≡ Memory) × (history ≡ entry_after base (before_tick clock base setup moment h) Tick moment ∷ before_tick clock base setup moment h))
 
 -- the store stands for the history with the Tick, whose reply was put behind the letter
-pub record Ticked {D : Type 0} (seen : D → DiskSeen) (before : List Entry) (moment : ℕ) (s : Stored D) (p p' : PortSeen) : Type 0 where
-  pub stands : StoreStands seen nothing s (entry_after before Tick moment ∷ before)
-  pub text : p'.written ≡ append_known p.written (codes "T " ++ line_of (entry_after before Tick moment).reply)
+pub record Ticked {D : Type 0} (seen : D → DiskSeen) (base : Summary) (before : List Entry) (moment : ℕ) (s : Stored D) (p p' : PortSeen) : Type 0 where
+  pub stands : StoreStands seen base s (entry_after base before Tick moment ∷ before)
+  pub text : p'.written ≡ append_known p.written (codes "T " ++ line_of (entry_after base before Tick moment).reply)

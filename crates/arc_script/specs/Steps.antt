@@ -1,5 +1,5 @@
 -- The steps of a script: what each of its lines does to the history, and its line of output.
-use Rattle.std.specs.Prelude.{◌≡◌, ◌-◌, ℕ, List, [], ◌∷◌, ◌++◌, not, Option, Some, None, IfSome}
+use Rattle.std.specs.Prelude.{◌≡◌, ◌+◌, ◌-◌, ℕ, List, [], ◌∷◌, ◌++◌, not, Option, Some, None, IfSome}
 use Rattle.std.specs.Prelude.{map, filter, reverse, length, take, drop, replicate, codes, decimal}
 use Rattle.std.specs.List.{flat_map}
 use Rattle.std.specs.Option.{option_to_list}
@@ -10,7 +10,7 @@ use Rattle.arc_data.specs.declared.event.Event.{Event}
 use Rattle.arc_data.specs.declared.event.Event.TheVariants.{Tick}
 use Rattle.centre_rules.specs.Answers.{IsLegal, answer}
 use Rattle.centre_rules.specs.History.{Entry, moment_after, recorded}
-use Rattle.centre_rules.specs.Summary.{nothing}
+use Rattle.centre_rules.specs.Summary.{Summary}
 use Rattle.centre_store.specs.Begins.{begun_after}
 use Rattle.centre_store.specs.Bodies.{bodies_of}
 use Rattle.centre_store.specs.Pasts.{IsPast}
@@ -34,42 +34,42 @@ pub record Step : Type 0 where
   pub text : List ℕ
 
 -- the entry of an event that is submitted at a reading after a history: one caller, and the answer of one thread
-abbrev pub entry_after : List Entry → Event → ℕ → Entry
-entry_after h event clock = record {
+abbrev pub entry_after : Summary → List Entry → Event → ℕ → Entry
+entry_after base h event clock = record {
   caller = 0;
   event = event;
-  at = moment_after nothing h clock;
-  reply = answer nothing h event (moment_after nothing h clock);
+  at = moment_after base h clock;
+  reply = answer base h event (moment_after base h clock);
 }
 
 -- `T`: where no clock was set before, the run begins, with the setup's text; then there is a Tick.
-abbrev pub before_tick : Option ℕ → List ℕ → ℕ → List Entry → List Entry
-before_tick None setup moment h = begun_after nothing h setup moment
-before_tick (Some last) setup moment h = h
+abbrev pub before_tick : Option ℕ → Summary → List ℕ → ℕ → List Entry → List Entry
+before_tick None base setup moment h = begun_after base h setup moment
+before_tick (Some last) base setup moment h = h
 
-pub record Ticks (setup : List ℕ) (before : List Asked) (moment : ℕ) (h x : List Entry) (s : Step) : Type 0 where
-  pub is : x ≡ entry_after (before_tick (clock_of before) setup moment h) Tick moment ∷ before_tick (clock_of before) setup moment h
+pub record Ticks (base : Summary) (setup : List ℕ) (before : List Asked) (moment : ℕ) (h x : List Entry) (s : Step) : Type 0 where
+  pub is : x ≡ entry_after base (before_tick (clock_of before) base setup moment h) Tick moment ∷ before_tick (clock_of before) base setup moment h
   pub added : x ≡ reverse s.entries ++ h
   pub sent : s.sent ≡ 0
-  pub text : s.text ≡ codes "T " ++ line_of (entry_after (before_tick (clock_of before) setup moment h) Tick moment).reply
+  pub text : s.text ≡ codes "T " ++ line_of (entry_after base (before_tick (clock_of before) base setup moment h) Tick moment).reply
 
 -- The turns of a line that took a stream and was fed bytes: one for each whole frame that ends in them, at this moment, with zeros for
 -- noise. They stand behind one another in the history, and nothing else does. More frames may have no turn.
-pub record FeedsBehind (setup : List ℕ) (clock : ℕ) (stream bytes : List ℕ) (h x : List Entry) (turns : List Turn)
+pub record FeedsBehind (base : Summary) (setup : List ℕ) (clock : ℕ) (stream bytes : List ℕ) (h x : List Entry) (turns : List Turn)
     (more : List (List ℕ)) : Type 0 where
   pub ended : bodies (stream ++ bytes) ≡ bodies stream ++ map (λ t. t.body) turns ++ more
-  pub are : AreTurns nothing (meaning setup) 0 h x turns
-  pub legal : IsLegal nothing x
+  pub are : AreTurns base (meaning setup) 0 h x turns
+  pub legal : IsLegal base x
   pub readings : readings_of line_turns turns ≡ replicate (length turns) clock
   pub noise : noise_of line_turns turns ≡ replicate (length (noise_of line_turns turns)) 0
   pub own : x ≡ reverse (entries_of line_turns turns) ++ h
 
 -- the same of a line that took what it was fed before, at the moment that was set last
-pub record FeedsLine (setup : List ℕ) (before : List Asked) (line : ℕ) (bytes : List ℕ) (h x : List Entry) (turns : List Turn)
+pub record FeedsLine (base : Summary) (setup : List ℕ) (before : List Asked) (line : ℕ) (bytes : List ℕ) (h x : List Entry) (turns : List Turn)
     (more : List (List ℕ)) : Type 0 where
   pub clock : ℕ
   pub set : clock_of before ≡ Some clock
-  pub fed : FeedsBehind setup clock (line_fed line before) bytes h x turns more
+  pub fed : FeedsBehind base setup clock (line_fed line before) bytes h x turns more
 
 -- a frame without its line feed and its carriage return
 abbrev pub bare : List ℕ → List ℕ
@@ -85,22 +85,22 @@ listed [] = codes " -"
 listed (reply ∷ replies) = flat_map (λ r. 32 ∷ bare r) (reply ∷ replies)
 
 -- `L` and `M`, with this letter: bytes are fed to a line, and its replies are the output.
-pub record Feeds (setup : List ℕ) (before : List Asked) (letter line : ℕ) (bytes : List ℕ) (h x : List Entry) (s : Step) : Type 0 where
+pub record Feeds (base : Summary) (setup : List ℕ) (before : List Asked) (letter line : ℕ) (bytes : List ℕ) (h x : List Entry) (s : Step) : Type 0 where
   pub turns : List Turn
-  pub fed : FeedsLine setup before line bytes h x turns []
+  pub fed : FeedsLine base setup before line bytes h x turns []
   pub entries : s.entries ≡ entries_of line_turns turns
   pub sent : s.sent ≡ length turns
   pub text : s.text ≡ head_of letter line ++ listed (replies_of turns) ++ 10 ∷ []
 
 -- `D`: a desk reads the text as one line, all of it, for the operator who logged in last since the desk was made anew, and its
 -- answer is the output.
-pub record Commands (setup : List ℕ) (before : List Asked) (desk : ℕ) (given : List ℕ) (h x : List Entry) (s : Step) : Type 0 where
+pub record Commands (base : Summary) (setup : List ℕ) (before : List Asked) (desk : ℕ) (given : List ℕ) (h x : List Entry) (s : Step) : Type 0 where
   pub turn : Desk.Turn
   pub clock : ℕ
   pub set : clock_of before ≡ Some clock
   pub line : turn.line ≡ given
-  pub is : Desk.IsTurn nothing (meaning setup) 0 (acts_over (meaning setup) None (desk_read desk before)) h x turn
-  pub legal : IsLegal nothing x
+  pub is : Desk.IsTurn base (meaning setup) 0 (acts_over (meaning setup) None (desk_read desk before)) h x turn
+  pub legal : IsLegal base x
   pub reading : IfSome turn.reading (λ r. r ≡ clock)
   pub entries : s.entries ≡ option_to_list turn.entry
   pub added : x ≡ reverse s.entries ++ h
@@ -109,33 +109,33 @@ pub record Commands (setup : List ℕ) (before : List Asked) (desk : ℕ) (given
 
 -- `X`: what the journal keeps of the history is its recorded entries. From these a run begins, with the same setup. Of a disk that does
 -- not tell what it holds no more is known than that it keeps a past.
-pub record Keeps (Told : Type 0) (h kept : List Entry) : Type 0 where
-  pub past : IsPast (bodies_of kept) kept
+pub record Keeps (Told : Type 0) (base : Summary) (h kept : List Entry) : Type 0 where
+  pub past : IsPast base (bodies_of kept) kept
   pub same : Told → kept ≡ recorded h
 
-pub record Reopens (Told : Type 0) (setup : List ℕ) (before : List Asked) (h x : List Entry) (s : Step) : Type 0 where
+pub record Reopens (Told : Type 0) (base : Summary) (setup : List ℕ) (before : List Asked) (h x : List Entry) (s : Step) : Type 0 where
   pub kept : List Entry
-  pub keeps : Keeps Told h kept
+  pub keeps : Keeps Told base h kept
   pub clock : ℕ
   pub set : clock_of before ≡ Some clock
-  pub is : x ≡ begun_after nothing kept setup clock
+  pub is : x ≡ begun_after base kept setup clock
   pub added : x ≡ reverse s.entries ++ kept
   pub sent : s.sent ≡ 0
-  pub text : s.text ≡ codes "X recorded " ++ decimal (length (recorded x)) ++ 10 ∷ []
+  pub text : s.text ≡ codes "X recorded " ++ decimal (base.recorded + length (recorded x)) ++ 10 ∷ []
 
 -- the step of a line that asks for this, behind what was asked before, from the history h on, to x
-abbrev pub IsStepOf : Type 0 → List ℕ → List Asked → List Entry → List Entry → Step → Asked → Type 0
-IsStepOf Told setup before h x s (Time moment) = Ticks setup before moment h x s
-IsStepOf Told setup before h x s (Feed line digits) = Feeds setup before 76 line (bytes_spelled digits) h x s
-IsStepOf Told setup before h x s (Message line body) = Feeds setup before 77 line (frame_of body) h x s
-IsStepOf Told setup before h x s (Command desk text) = Commands setup before desk text h x s
-IsStepOf Told setup before h x s Reopen = Reopens Told setup before h x s
+abbrev pub IsStepOf : Type 0 → Summary → List ℕ → List Asked → List Entry → List Entry → Step → Asked → Type 0
+IsStepOf Told base setup before h x s (Time moment) = Ticks base setup before moment h x s
+IsStepOf Told base setup before h x s (Feed line digits) = Feeds base setup before 76 line (bytes_spelled digits) h x s
+IsStepOf Told base setup before h x s (Message line body) = Feeds base setup before 77 line (frame_of body) h x s
+IsStepOf Told base setup before h x s (Command desk text) = Commands base setup before desk text h x s
+IsStepOf Told base setup before h x s Reopen = Reopens Told base setup before h x s
 
 -- The steps stand behind one another, from h on, to x.
-abbrev pub AreSteps : Type 0 → List ℕ → List Asked → List Entry → List Entry → List Step → Type 0
-AreSteps Told setup before h x [] = x ≡ h
-AreSteps Told setup before h x (s ∷ steps) =
-    (mid : List Entry) × IsStepOf Told setup before h mid s s.asked × AreSteps Told setup (s.asked ∷ before) mid x steps
+abbrev pub AreSteps : Type 0 → Summary → List ℕ → List Asked → List Entry → List Entry → List Step → Type 0
+AreSteps Told base setup before h x [] = x ≡ h
+AreSteps Told base setup before h x (s ∷ steps) =
+    (mid : List Entry) × IsStepOf Told base setup before h mid s s.asked × AreSteps Told base setup (s.asked ∷ before) mid x steps
 
 -- what was asked in these steps and before them, the newest first
 abbrev pub asked_after : List Asked → List Step → List Asked

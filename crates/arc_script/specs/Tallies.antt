@@ -6,7 +6,7 @@ use Rattle.arc_data.specs.declared.reply.Reply.TheVariants.{Repeat}
 use Rattle.arc_data.specs.declared.reply.Reply.TheVariants.{Closed}
 use Rattle.centre_rules.specs.Cases.{opened, incidents}
 use Rattle.centre_rules.specs.History.{Entry, marks, recorded}
-use Rattle.centre_rules.specs.Summary.{nothing}
+use Rattle.centre_rules.specs.Summary.{Summary}
 use Rattle.arc_script.specs.Steps.{Step}
 use Rattle.arc_script.specs.declared.script_end.Tally.{Tally}
 
@@ -40,14 +40,14 @@ abbrev pub GrowsBy : ℕ → ℕ → ℕ → Type 0
 GrowsBy more t t' = (n : ℕ) → t ≡ told n → t' ≡ told (n + more)
 
 -- The tally of steps from a past on, to a history: the frames that were fed, the replies Repeat and the replies Closed of the steps, and
--- the incidents that were opened; and of the history at the end its recorded entries and its open incidents.
-pub record IsTally (past : List Entry) (steps : List Step) (x : List Entry) (t : Tally) : Type 0 where
+-- the incidents that were opened; and of the history at the end its recorded entries, those of the summary counted, and its open incidents.
+pub record IsTally (base : Summary) (past : List Entry) (steps : List Step) (x : List Entry) (t : Tally) : Type 0 where
   pub sent : t.sent ≡ told (sent_by steps)
   pub repeats : t.repeats ≡ told (count_of is_repeat (entries_of steps))
   pub closed : t.closed ≡ told (count_of is_closed (entries_of steps))
-  pub opened : t.opened ≡ opened nothing (marks nothing x) - opened nothing (marks nothing past)
-  pub recorded : t.recorded ≡ length (recorded x)
-  pub total : t.total ≡ length (incidents nothing (marks nothing x))
+  pub opened : t.opened ≡ opened base (marks base x) - opened base (marks base past)
+  pub recorded : t.recorded ≡ base.recorded + length (recorded x)
+  pub total : t.total ≡ length (incidents base (marks base x))
 
 -- of a script whose journal was not opened
 abbrev pub no_tally : Tally

@@ -1,7 +1,7 @@
 // How a run of a script begins.
 ghost use Rattle.std.specs.Prelude.{◌≡◌, ◌<◌, ◌≤◌, ◌⊎◌, List, Some, OnOk, OnErr, IfErr};
 ghost use Rattle.centre_rules.specs.History.{Entry};
-ghost use Rattle.centre_rules.specs.Summary.{nothing};
+ghost use Rattle.centre_rules.specs.Summary.{Summary};
 ghost use Rattle.centre_store.specs.Begins.{adopted_after, begun_after, IsOfBegin};
 ghost use Rattle.centre_store.specs.Stores.{StoreStands};
 ghost use Rattle.arc_script.specs.Causes.{HasShown};
@@ -22,12 +22,12 @@ pub(crate) fn begin<D: Disk>(
     moment: u64,
 ) -> Result<(), Stop>
     requires { moment < 253_402_300_800 }
-    ensures begun { OnOk result ((h : List Entry) → StoreStands D.seen nothing store.old h
-        → StoreStands D.seen nothing store.new (begun_after nothing h script.now.setup moment)) }
+    ensures begun { OnOk result ((base : Summary) (h : List Entry) → StoreStands D.seen base store.old h
+        → StoreStands D.seen base store.new (begun_after base h script.now.setup moment)) }
     ensures text { OnOk result (store.new.state.sum.text ≡ Some script.now.setup) }
-    ensures stop { OnErr result ((h : List Entry) → StoreStands D.seen nothing store.old h
-        → StoreStands D.seen nothing store.new h
-        ⊎ StoreStands D.seen nothing store.new (adopted_after nothing h script.now.setup moment)) }
+    ensures stop { OnErr result ((base : Summary) (h : List Entry) → StoreStands D.seen base store.old h
+        → StoreStands D.seen base store.new h
+        ⊎ StoreStands D.seen base store.new (adopted_after base h script.now.setup moment)) }
     ensures cause { IfErr result (λ s. HasShown D.seen store.new s moment (IsOfBegin script.now.setup)) }
     ensures tells { is_told (D.seen store.new.journal.disk).told ≡ is_told (D.seen store.old.journal.disk).told }
     ensures at_open { store.new.at_open ≡ store.old.at_open }

@@ -4,7 +4,7 @@ ghost use Rattle.std.specs.Io.KnownBytes.{append_known};
 ghost use Rattle.alarm_rules.specs.Setups.{meaning};
 ghost use Rattle.arc_io.specs.Told.{OnlyWrites};
 ghost use Rattle.centre_rules.specs.History.{Entry};
-ghost use Rattle.centre_rules.specs.Summary.{nothing};
+ghost use Rattle.centre_rules.specs.Summary.{Summary};
 ghost use Rattle.centre_store.specs.Stores.{StoreStands};
 ghost use Rattle.script_lines.specs.Lines.{Asked, IsNumber, Command};
 ghost use Rattle.arc_script.specs.Carrying.{IsNext, HaveTakenWith, Carried, Halted};
@@ -40,20 +40,20 @@ pub(crate) fn command<D: Disk>(
     requires desk { IsNumber 8 desk }
     requires few { length text.now ≤ 1000 }
     requires set { store.state.sum.text ≡ Some script.old.setup }
-    ensures answered { OnOk result.1 ((before : List Asked) (clock count number : ℕ) (h : List Entry)
+    ensures answered { OnOk result.1 ((base : Summary) (before : List Asked) (clock count number : ℕ) (h : List Entry)
         → IsNext (meaning script.old.setup) clock count before (Command desk text.now) script.old.lines.items script.old.desks.items
-        → page_seen page.old ≡ blank clock → StoreStands D.seen nothing store h → IsReadable h
-        → Carried D.seen (λ x s. Commands script.old.setup before desk text.now h x s)
+        → page_seen page.old ≡ blank clock → StoreStands D.seen base store h → IsReadable base h
+        → Carried D.seen base (λ x s. Commands base script.old.setup before desk text.now h x s)
         number (Command desk text.now) script.old.tally script.new.tally (page_seen page.old) (page_seen page.new) result.0) }
     ensures took { OnOk result.1 ((before : List Asked) (clock count : ℕ)
         → IsNext (meaning script.old.setup) clock count before (Command desk text.now) script.old.lines.items script.old.desks.items
         → HaveTakenWith (meaning script.old.setup) count before (Command desk text.now) script.new.lines.items script.new.desks.items) }
-    ensures stop { IfErr result.1 (λ stop. (before : List Asked) (clock count : ℕ) (h : List Entry)
+    ensures stop { IfErr result.1 (λ stop. (base : Summary) (before : List Asked) (clock count : ℕ) (h : List Entry)
         → IsNext (meaning script.old.setup) clock count before (Command desk text.now) script.old.lines.items script.old.desks.items
-        → page_seen page.old ≡ blank clock → StoreStands D.seen nothing store h → IsReadable h
-        → Halted D.seen (λ x s. ((x ≡ h) × AddedBy h x s
+        → page_seen page.old ≡ blank clock → StoreStands D.seen base store h → IsReadable base h
+        → Halted D.seen base (λ x s. ((x ≡ h) × AddedBy h x s
         × HasShown D.seen result.0 stop clock (IsOfCommand script.old.setup before desk text.now))
-        ⊎ ((stop ≡ Stop.Memory) × Commands script.old.setup before desk text.now h x s))
+        ⊎ ((stop ≡ Stop.Memory) × Commands base script.old.setup before desk text.now h x s))
         script.old.tally script.new.tally result.0) }
     ensures set { result.0.state.sum.text ≡ Some script.old.setup }
     ensures rest { script.new ≡ record script.old {

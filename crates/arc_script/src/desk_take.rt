@@ -4,7 +4,7 @@ ghost use Rattle.alarm_rules.specs.Setups.{meaning};
 ghost use Rattle.arc_io.specs.Added.{Answers};
 ghost use Rattle.centre_core.specs.Setting.{IsSetting, text_of};
 ghost use Rattle.centre_rules.specs.History.{Entry};
-ghost use Rattle.centre_rules.specs.Summary.{nothing};
+ghost use Rattle.centre_rules.specs.Summary.{Summary};
 ghost use Rattle.centre_store.specs.StoreHalls.{IsStoreFor};
 ghost use Rattle.session_rules.specs.Inputs.{in_limit};
 ghost use Rattle.session_rules.specs.Sessions.{HasShown};
@@ -32,9 +32,9 @@ pub(crate) fn take_desk<D: Disk, P: Port>(
         → IsTaken result.0 (meaning (text_of store.state)) stream bytes.now desk.new }
     ensures ready { IsSetting result.1.state.sum.text }
     ensures text { text_of result.1.state ≡ text_of store.state }
-    ensures served { (stream : List ℕ) (h : List Entry) → TookStream (meaning (text_of store.state)) stream desk.old
-        → IsStoreFor D.seen nothing store h → IsReadable h
-        → ServesBytes result.0 stream (in_limit stream bytes.now) nothing h (script_seen D.seen store)
+    ensures served { (base : Summary) (stream : List ℕ) (h : List Entry) → TookStream (meaning (text_of store.state)) stream desk.old
+        → IsStoreFor D.seen base store h → IsReadable base h
+        → ServesBytes result.0 stream (in_limit stream bytes.now) base h (script_seen D.seen store)
         (script_seen D.seen result.1) (P.seen port.old) (P.seen port.new) }
     ensures ends { ReadsNothing result.0 }
     ensures stop { HasShown (script_seen D.seen result.1) (ending_of result.0) }
@@ -62,9 +62,9 @@ fn take_opened<D: Disk, P: Port, K: Lasting>(
         → IsTaken result.0 (meaning (text_of store.state)) stream bytes.now desk.new }
     ensures ready { IsSetting result.1.state.sum.text }
     ensures text { text_of result.1.state ≡ text_of store.state }
-    ensures served { (stream : List ℕ) (h : List Entry) → TookStream (meaning (text_of store.state)) stream desk.old
-        → IsStoreFor D.seen nothing store h → IsReadable h
-        → ServesBytes result.0 stream (in_limit stream bytes.now) nothing h (script_seen D.seen store)
+    ensures served { (base : Summary) (stream : List ℕ) (h : List Entry) → TookStream (meaning (text_of store.state)) stream desk.old
+        → IsStoreFor D.seen base store h → IsReadable base h
+        → ServesBytes result.0 stream (in_limit stream bytes.now) base h (script_seen D.seen store)
         (script_seen D.seen result.1) (P.seen port.old) (P.seen port.new) }
     ensures ends { ReadsNothing result.0 }
     ensures stop { HasShown (script_seen D.seen result.1) (ending_of result.0) }

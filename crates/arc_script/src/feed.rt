@@ -5,7 +5,7 @@ ghost use Rattle.alarm_rules.specs.Setups.{meaning};
 ghost use Rattle.arc_data.specs.Digits.{bytes_spelled};
 ghost use Rattle.arc_io.specs.Memory.{sink_bytes};
 ghost use Rattle.centre_rules.specs.History.{Entry};
-ghost use Rattle.centre_rules.specs.Summary.{nothing};
+ghost use Rattle.centre_rules.specs.Summary.{Summary};
 ghost use Rattle.centre_store.specs.Stores.{StoreStands};
 ghost use Rattle.dc09_frame.specs.Frames.{IsBody, frame_of};
 ghost use Rattle.script_lines.specs.Lines.{Asked, AreDigits, IsNumber, Feed, Message};
@@ -46,21 +46,21 @@ pub(crate) fn feed<D: Disk>(
     requires digits { AreDigits digits.now }
     requires few { length digits.now ≤ 16_384 }
     requires set { store.state.sum.text ≡ Some script.old.setup }
-    ensures fed { OnOk result.1 ((before : List Asked) (count number : ℕ) (h : List Entry)
+    ensures fed { OnOk result.1 ((base : Summary) (before : List Asked) (count number : ℕ) (h : List Entry)
         → IsNext (meaning script.old.setup) moment count before (Feed line digits.now) script.old.lines.items script.old.desks.items
-        → StoreStands D.seen nothing store h → IsReadable h
-        → Carried D.seen (λ x s. Feeds script.old.setup before 76 line (bytes_spelled digits.now) h x s)
+        → StoreStands D.seen base store h → IsReadable base h
+        → Carried D.seen base (λ x s. Feeds base script.old.setup before 76 line (bytes_spelled digits.now) h x s)
         number (Feed line digits.now) script.old.tally script.new.tally (page_seen page.old) (page_seen page.new) result.0) }
     ensures took { OnOk result.1 ((before : List Asked) (count : ℕ)
         → IsNext (meaning script.old.setup) moment count before (Feed line digits.now) script.old.lines.items script.old.desks.items
         → HaveTakenWith (meaning script.old.setup) count before (Feed line digits.now) script.new.lines.items script.new.desks.items) }
-    ensures stop { IfErr result.1 (λ stop. (before : List Asked) (count : ℕ) (h : List Entry)
+    ensures stop { IfErr result.1 (λ stop. (base : Summary) (before : List Asked) (count : ℕ) (h : List Entry)
         → IsNext (meaning script.old.setup) moment count before (Feed line digits.now) script.old.lines.items script.old.desks.items
-        → StoreStands D.seen nothing store h → IsReadable h
-        → Halted D.seen (λ x s.
-        ((waiting : List (List ℕ)) × FedUntil script.old.setup before line (bytes_spelled digits.now) waiting h x s
+        → StoreStands D.seen base store h → IsReadable base h
+        → Halted D.seen base (λ x s.
+        ((waiting : List (List ℕ)) × FedUntil base script.old.setup before line (bytes_spelled digits.now) waiting h x s
         × HasShown D.seen result.0 stop moment (IsOfFrame script.old.setup moment waiting))
-        ⊎ ((stop ≡ Stop.Memory) × Feeds script.old.setup before 76 line (bytes_spelled digits.now) h x s))
+        ⊎ ((stop ≡ Stop.Memory) × Feeds base script.old.setup before 76 line (bytes_spelled digits.now) h x s))
         script.old.tally script.new.tally result.0) }
     ensures set { result.0.state.sum.text ≡ Some script.old.setup }
     ensures rest { script.new ≡ record script.old {
@@ -92,21 +92,21 @@ pub(crate) fn message<D: Disk>(
     requires line { IsNumber 16 line }
     requires body { IsBody body.now }
     requires set { store.state.sum.text ≡ Some script.old.setup }
-    ensures fed { OnOk result.1 ((before : List Asked) (count number : ℕ) (h : List Entry)
+    ensures fed { OnOk result.1 ((base : Summary) (before : List Asked) (count number : ℕ) (h : List Entry)
         → IsNext (meaning script.old.setup) moment count before (Message line body.now) script.old.lines.items script.old.desks.items
-        → StoreStands D.seen nothing store h → IsReadable h
-        → Carried D.seen (λ x s. Feeds script.old.setup before 77 line (frame_of body.now) h x s)
+        → StoreStands D.seen base store h → IsReadable base h
+        → Carried D.seen base (λ x s. Feeds base script.old.setup before 77 line (frame_of body.now) h x s)
         number (Message line body.now) script.old.tally script.new.tally (page_seen page.old) (page_seen page.new) result.0) }
     ensures took { OnOk result.1 ((before : List Asked) (count : ℕ)
         → IsNext (meaning script.old.setup) moment count before (Message line body.now) script.old.lines.items script.old.desks.items
         → HaveTakenWith (meaning script.old.setup) count before (Message line body.now) script.new.lines.items script.new.desks.items) }
-    ensures stop { IfErr result.1 (λ stop. (before : List Asked) (count : ℕ) (h : List Entry)
+    ensures stop { IfErr result.1 (λ stop. (base : Summary) (before : List Asked) (count : ℕ) (h : List Entry)
         → IsNext (meaning script.old.setup) moment count before (Message line body.now) script.old.lines.items script.old.desks.items
-        → StoreStands D.seen nothing store h → IsReadable h
-        → Halted D.seen (λ x s.
-        ((waiting : List (List ℕ)) × FedUntil script.old.setup before line (frame_of body.now) waiting h x s
+        → StoreStands D.seen base store h → IsReadable base h
+        → Halted D.seen base (λ x s.
+        ((waiting : List (List ℕ)) × FedUntil base script.old.setup before line (frame_of body.now) waiting h x s
         × HasShown D.seen result.0 stop moment (IsOfFrame script.old.setup moment waiting))
-        ⊎ ((stop ≡ Stop.Memory) × Feeds script.old.setup before 77 line (frame_of body.now) h x s))
+        ⊎ ((stop ≡ Stop.Memory) × Feeds base script.old.setup before 77 line (frame_of body.now) h x s))
         script.old.tally script.new.tally result.0) }
     ensures set { result.0.state.sum.text ≡ Some script.old.setup }
     ensures rest { script.new ≡ record script.old {
@@ -148,15 +148,15 @@ fn fed<D: Disk>(
     requires clock { moment < 253_402_300_800 }
     requires line { IsNumber 16 line }
     requires set { store.state.sum.text ≡ Some script.old.setup }
-    ensures fed { IfOk result.1 (λ frames. (stream : List ℕ) (h : List Entry) → TookAt stream script.old.lines.items (line - 1)
-        → length (stream ++ bytes.now) < input_limit → StoreStands D.seen nothing store h → IsReadable h
-        → HasFed D.seen script.old.setup moment stream bytes.now h script.old.tally script.new.tally
+    ensures fed { IfOk result.1 (λ frames. (base : Summary) (stream : List ℕ) (h : List Entry) → TookAt stream script.old.lines.items (line - 1)
+        → length (stream ++ bytes.now) < input_limit → StoreStands D.seen base store h → IsReadable base h
+        → HasFed D.seen base script.old.setup moment stream bytes.now h script.old.tally script.new.tally
         (sink_bytes frames.port.sink) result.0) }
     ensures took { OnOk result.1 ((stream : List ℕ) → TookAt stream script.old.lines.items (line - 1)
         → length (stream ++ bytes.now) < input_limit → TookAt (stream ++ bytes.now) script.new.lines.items (line - 1)) }
-    ensures stop { IfErr result.1 (λ stop. (stream : List ℕ) (h : List Entry) → TookAt stream script.old.lines.items (line - 1)
-        → length (stream ++ bytes.now) < input_limit → StoreStands D.seen nothing store h → IsReadable h
-        → FeedStops D.seen script.old.setup moment stream bytes.now h script.old.tally script.new.tally stop result.0) }
+    ensures stop { IfErr result.1 (λ stop. (base : Summary) (stream : List ℕ) (h : List Entry) → TookAt stream script.old.lines.items (line - 1)
+        → length (stream ++ bytes.now) < input_limit → StoreStands D.seen base store h → IsReadable base h
+        → FeedStops D.seen base script.old.setup moment stream bytes.now h script.old.tally script.new.tally stop result.0) }
     ensures set { result.0.state.sum.text ≡ Some script.old.setup }
     ensures others { (i : ℕ) → i ≢ line - 1 → slice_get script.new.lines.items i ≡ slice_get script.old.lines.items i }
     ensures rest { script.new ≡ record script.old {

@@ -2,7 +2,7 @@
 ghost use Rattle.std.specs.Prelude.{◌≡◌, ◌<◌, ℕ, List, None, Some, IfErr, IfOk, OnErr, OnOk};
 ghost use Rattle.std.specs.Io.KnownBytes.{append_known};
 ghost use Rattle.centre_rules.specs.History.{Entry};
-ghost use Rattle.centre_rules.specs.Summary.{nothing};
+ghost use Rattle.centre_rules.specs.Summary.{Summary};
 ghost use Rattle.centre_store.specs.Begins.{begun_after, IsOfBegin};
 ghost use Rattle.centre_store.specs.Bodies.{bodies_of};
 ghost use Rattle.centre_store.specs.Stores.{StoreStands};
@@ -70,14 +70,14 @@ fn begin_again<D: Disk>(
     page: &mut Page,
 ) -> Result<(), Stop>
     requires clock { moment < 253_402_300_800 }
-    ensures begun { OnOk result ((h : List Entry) → StoreStands D.seen nothing store.old h
-        → StoreStands D.seen nothing store.new (begun_after nothing h script.now.setup moment)) }
+    ensures begun { OnOk result ((base : Summary) (h : List Entry) → StoreStands D.seen base store.old h
+        → StoreStands D.seen base store.new (begun_after base h script.now.setup moment)) }
     ensures set { OnOk result (store.new.state.sum.text ≡ Some script.now.setup) }
     ensures text { OnOk result ((page_seen page.new).written
         ≡ append_known (page_seen page.old).written (counted_line store.new.state.sum.recorded)) }
-    ensures stop { OnErr result ((h : List Entry) → StoreStands D.seen nothing store.old h
-        → (x : List Entry) × StoreStands D.seen nothing store.new x
-        × BegunUntil None script.now.setup moment h x) }
+    ensures stop { OnErr result ((base : Summary) (h : List Entry) → StoreStands D.seen base store.old h
+        → (x : List Entry) × StoreStands D.seen base store.new x
+        × BegunUntil None base script.now.setup moment h x) }
     ensures cause { IfErr result (λ s. HasShown D.seen store.new s moment (IsOfBegin script.now.setup)) }
     ensures tells { is_told (D.seen store.new.journal.disk).told ≡ is_told (D.seen store.old.journal.disk).told }
     ensures at_open { store.new.at_open ≡ store.old.at_open }

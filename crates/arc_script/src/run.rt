@@ -75,9 +75,9 @@ fn run_over<D: Disk, P: Port>(
     requires not_ended { (P.seen port.old).ended ≡ false }
     ensures ran { (b : Begun D) → b.setup ≡ setup → b.limits ≡ limits → b.port ≡ P.seen port.old
         → IsStoreSoFar D.seen b b.past store → Holds D.seen store.journal (bodies_of b.past)
-        → IsTranscript D.seen (Tells (D.seen b.disk)) setup b.past limits (D.seen b.disk).faults
+        → IsTranscript D.seen (Tells (D.seen b.disk)) b.base setup b.past limits (D.seen b.disk).faults
         result.end (P.seen port.old) (P.seen port.new) result.disk result.tally
-        ⊎ ((result.end ≡ ScriptEnd.Stopped Stop.Memory) × IsUnread D.seen b.past (P.seen port.old) (P.seen port.new) result.disk result.tally) }
+        ⊎ ((result.end ≡ ScriptEnd.Stopped Stop.Memory) × IsUnread D.seen b.base b.past (P.seen port.old) (P.seen port.new) result.disk result.tally) }
 {
     match Script::new(alloc, setup, limits, store.centre()) {
         Ok(mut script) => {
@@ -107,7 +107,7 @@ fn read_script<D: Disk, P: Port>(
     requires ready { IsReady script.old.clock script.old.setup store.state.sum.text }
     ensures ran { (b : Begun D) → b.port ≡ P.seen port.old → script.old.number ≡ 0
         → SoFar D.seen b [] script.old store (P.seen port.old)
-        → IsTranscript D.seen (Tells (D.seen b.disk)) b.setup b.past b.limits (D.seen b.disk).faults
+        → IsTranscript D.seen (Tells (D.seen b.disk)) b.base b.setup b.past b.limits (D.seen b.disk).faults
         result.0 b.port (P.seen port.new) result.1 script.new.tally }
 {
     let mut store = store;

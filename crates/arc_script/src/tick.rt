@@ -3,7 +3,7 @@ ghost use Rattle.std.specs.Prelude.{◌≡◌, ◌<◌, ◌≤◌, ◌++◌, Lis
 ghost use Rattle.std.specs.Io.KnownBytes.{append_known};
 ghost use Rattle.centre_core.specs.Setting.{IsSetting};
 ghost use Rattle.centre_rules.specs.History.{Entry};
-ghost use Rattle.centre_rules.specs.Summary.{nothing};
+ghost use Rattle.centre_rules.specs.Summary.{Summary};
 ghost use Rattle.centre_store.specs.Stores.{StoreStands};
 ghost use Rattle.desk_wire.specs.Replies.{line_of};
 ghost use Rattle.arc_script.specs.Causes.{HasShown, IsOfTime};
@@ -34,14 +34,14 @@ pub(crate) fn tick<D: Disk>(
 ) -> Result<(), Stop>
     requires clock { moment < 253_402_300_800 }
     requires set { IfSome script.old.clock (λ last. store.old.state.sum.text ≡ Some script.old.setup) }
-    ensures ticked { OnOk result ((h : List Entry) → StoreStands D.seen nothing store.old h
-        → Ticked D.seen (before_tick script.old.clock script.old.setup moment h) moment store.new
+    ensures ticked { OnOk result ((base : Summary) (h : List Entry) → StoreStands D.seen base store.old h
+        → Ticked D.seen base (before_tick script.old.clock base script.old.setup moment h) moment store.new
         (page_seen page.old) (page_seen page.new)) }
     ensures set { OnOk result (store.new.state.sum.text ≡ Some script.old.setup) }
     ensures clock { OnOk result (script.new.clock ≡ Some moment) }
     ensures rest { script.new ≡ record script.old { clock = script.new.clock } }
-    ensures stop { IfErr result (λ s. (h : List Entry) → StoreStands D.seen nothing store.old h
-        → TickStops D.seen script.old.clock script.old.setup moment h s store.new) }
+    ensures stop { IfErr result (λ s. (base : Summary) (h : List Entry) → StoreStands D.seen base store.old h
+        → TickStops D.seen script.old.clock base script.old.setup moment h s store.new) }
     ensures cause { IfErr result (λ s. HasShown D.seen store.new s moment
         (IsOfTime script.old.clock script.old.setup)) }
     ensures tells { is_told (D.seen store.new.journal.disk).told ≡ is_told (D.seen store.old.journal.disk).told }
@@ -74,13 +74,13 @@ fn begin_first<D: Disk>(
 ) -> Result<(), Stop>
     requires clock { moment < 253_402_300_800 }
     requires set { IfSome script.now.clock (λ last. store.old.state.sum.text ≡ Some script.now.setup) }
-    ensures begun { OnOk result ((h : List Entry) → StoreStands D.seen nothing store.old h
-        → StoreStands D.seen nothing store.new (before_tick script.now.clock script.now.setup moment h)) }
+    ensures begun { OnOk result ((base : Summary) (h : List Entry) → StoreStands D.seen base store.old h
+        → StoreStands D.seen base store.new (before_tick script.now.clock base script.now.setup moment h)) }
     ensures set { OnOk result (store.new.state.sum.text ≡ Some script.now.setup) }
     ensures ready { OnOk result (IsSetting store.new.state.sum.text) }
-    ensures stop { OnErr result ((h : List Entry) → StoreStands D.seen nothing store.old h
-        → (x : List Entry) × StoreStands D.seen nothing store.new x
-        × BegunUntil script.now.clock script.now.setup moment h x) }
+    ensures stop { OnErr result ((base : Summary) (h : List Entry) → StoreStands D.seen base store.old h
+        → (x : List Entry) × StoreStands D.seen base store.new x
+        × BegunUntil script.now.clock base script.now.setup moment h x) }
     ensures cause { IfErr result (λ s. HasShown D.seen store.new s moment
         (IsOfTime script.now.clock script.now.setup)) }
     ensures tells { is_told (D.seen store.new.journal.disk).told ≡ is_told (D.seen store.old.journal.disk).told }

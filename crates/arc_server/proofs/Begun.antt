@@ -15,17 +15,18 @@ use Rattle.arc_serving.specs.Serving.{ServesStore, GoesOnFrom}
 use Rattle.arc_serving.specs.declared.station.Crew.{Crew}
 use Rattle.centre_core.specs.Setting.{text_of}
 use Rattle.centre_rules.specs.Cases.{incidents}
-use Rattle.centre_rules.specs.Summary.{Summary, nothing}
+use Rattle.centre_rules.specs.Summary.{Summary}
 use Rattle.centre_rules.specs.Sums.{summary_of}
 use Rattle.centre_rules.specs.History.{Entry, marks}
 use Rattle.centre_rules.specs.State.{State, StandsFor}
 use Rattle.centre_rules.proofs.Steps.{incidents_begin}
 use Rattle.centre_store.specs.Begins.{begun_after}
+use Rattle.centre_store.specs.Given.{HasRecorded}
 use Rattle.centre_store.specs.StoreHalls.{IsStoreFor}
 use Rattle.centre_store.specs.Stores.{Stored, StoreStands, HasFailed}
 use Rattle.line_gate.specs.Entries.{Extends}
 use Rattle.line_gate.specs.Passes.{PassSeen}
-use Rattle.arc_server.specs.Areas.{EndsWith, HasRecorded, shipped}
+use Rattle.arc_server.specs.Areas.{EndsWith, shipped}
 use Rattle.arc_server.specs.ServeRuns.{summary_line, line_after, WritesLine, ServesAll}
 use Rattle.arc_server.specs.Servings.{occurred, first_of, met_by, where_so}
 use Rattle.arc_server.specs.declared.status.Status.{Status}
@@ -39,11 +40,11 @@ abbrev line_of : ℕ → List Incident → List ℕ
 line_of r is = (codes "recorded " ++ decimal r) ++ ((codes ", open " ++ decimal (length is)) ++ codes "\n")
 
 -- the line of a centre that stands for a history is that of the history
-line_is : (s : State) (h : List Entry) → StandsFor nothing s h → summary_line s.sum ≡ line_after h
-line_is s h stands =
-    let of_history : s.sum.incidents ≡ incidents nothing (marks nothing h) = sym (incidents_begin s.sum) ∙ stands.same.incidents in
+line_is : (s : State) (base : Summary) (h : List Entry) → StandsFor base s h → summary_line s.sum ≡ line_after base h
+line_is s base h stands =
+    let of_history : s.sum.incidents ≡ incidents base (marks base h) = sym (incidents_begin s.sum) ∙ stands.same.incidents in
     ap (λ (r : ℕ). line_of r s.sum.incidents) stands.recorded
-    ∙ ap (λ (is : List Incident). line_of (summary_of nothing h).recorded is) of_history
+    ∙ ap (λ (is : List Incident). line_of (summary_of base h).recorded is) of_history
 
 whole_or_cut : {T E : Type 0} (p p' : PortSeen) (result : Result T E) (line : List ℕ)
     → Puts p p' result line → WritesLine (is_err result) line p p'
@@ -53,50 +54,50 @@ whole_or_cut p p' (Err e) line puts = (puts.taken, puts.cause.failed, puts.other
 -- the line that was put is that of the history for which the store stands
 pub puts_line : {D T E : Type 0} {seen : D → DiskSeen}
     (p p' : PortSeen) (result : Result T E) (last : Stored D) → Puts p p' result (summary_line last.state.sum)
-    → (h : List Entry) → StoreStands seen nothing last h → WritesLine (is_err result) (line_after h) p p'
-puts_line p p' result last puts h stands =
-    subst (λ (l : List ℕ). WritesLine (is_err result) l p p') (line_is last.state h stands.centre)
+    → (base : Summary) (h : List Entry) → StoreStands seen base last h → WritesLine (is_err result) (line_after base h) p p'
+puts_line p p' result last puts base h stands =
+    subst (λ (l : List ℕ). WritesLine (is_err result) l p p') (line_is last.state base h stands.centre)
     (whole_or_cut p p' result (summary_line last.state.sum) puts)
 
 -- a disk that has recorded the history ends with it, whatever the status
-ends_recorded : (status : Status) (disk : DiskSeen) (h : List Entry) → HasRecorded disk h → EndsWith status disk h
-ends_recorded (DiskFault before now) disk h has = inl has
-ends_recorded Done disk h has = has
-ends_recorded Usage disk h has = has
-ends_recorded (SetupBad fault) disk h has = has
-ends_recorded (ReadFault which before now) disk h has = has
-ends_recorded (WriteFault before now) disk h has = has
-ends_recorded (Journal fault) disk h has = has
-ends_recorded (Full used need records) disk h has = has
-ends_recorded (BadScript line) disk h has = has
-ends_recorded (DoorFault door before now) disk h has = has
-ends_recorded NoMemory disk h has = has
-ends_recorded Spent disk h has = has
-ends_recorded (Worn count) disk h has = has
+ends_recorded : (status : Status) (disk : DiskSeen) (base : Summary) (h : List Entry) → HasRecorded disk base h → EndsWith status disk base h
+ends_recorded (DiskFault before now) disk base h has = inl has
+ends_recorded Done disk base h has = has
+ends_recorded Usage disk base h has = has
+ends_recorded (SetupBad fault) disk base h has = has
+ends_recorded (ReadFault which before now) disk base h has = has
+ends_recorded (WriteFault before now) disk base h has = has
+ends_recorded (Journal fault) disk base h has = has
+ends_recorded (Full used need records) disk base h has = has
+ends_recorded (BadScript line) disk base h has = has
+ends_recorded (DoorFault door before now) disk base h has = has
+ends_recorded NoMemory disk base h has = has
+ends_recorded Spent disk base h has = has
+ends_recorded (Worn count) disk base h has = has
 
 -- by whether the disk has failed
 ends_by : {D : Type 0} {seen : D → DiskSeen}
-    (failed : Bool) (status : Status) (entry now : ℕ) (others : List Status) (last : Stored D) (h : List Entry)
+    (failed : Bool) (status : Status) (entry now : ℕ) (others : List Status) (last : Stored D) (base : Summary) (h : List Entry)
     → status ≡ first_of (where_so failed (DiskFault entry now) ++ others)
     → (failed ≡ false → HasFailed seen last → ⊥)
-    → StoreStands seen nothing last h → EndsWith status (seen last.journal.disk) h
-ends_by {D} {seen} true status entry now others last h is up stands =
-    subst (λ (s : Status). EndsWith s (seen last.journal.disk) h) (sym is) (kept last entry now stands)
-ends_by {D} {seen} false status entry now others last h is up stands =
-    ends_recorded status (seen last.journal.disk) h (kept_up last stands (up refl))
+    → StoreStands seen base last h → EndsWith status (seen last.journal.disk) base h
+ends_by {D} {seen} true status entry now others last base h is up stands =
+    subst (λ (s : Status). EndsWith s (seen last.journal.disk) base h) (sym is) (kept last entry now stands)
+ends_by {D} {seen} false status entry now others last base h is up stands =
+    ends_recorded status (seen last.journal.disk) base h (kept_up last stands (up refl))
 
 -- the disk that is handed back ends with the history for which the store stands
 pub ends_first : {D : Type 0} {seen : D → DiskSeen}
     (status : Status) (entry first now : ℕ) (others : List Status) (last : Stored D) (disk' : D)
     → status ≡ first_of (where_so (nat_le (next_count entry) now) (DiskFault entry now) ++ others)
     → last.at_open ≡ first → entry ≤ first → disk' ≡ last.journal.disk → now ≡ (seen disk').faults
-    → (h : List Entry) → StoreStands seen nothing last h → EndsWith status (seen disk') h
-ends_first {D} {seen} status entry first now others last disk' is opened since handed counted h stands =
+    → (base : Summary) (h : List Entry) → StoreStands seen base last h → EndsWith status (seen disk') base h
+ends_first {D} {seen} status entry first now others last disk' is opened since handed counted base h stands =
     let up : nat_le (next_count entry) now ≡ false → HasFailed seen last → ⊥ =
     up_to_end seen entry first now last disk' (nat_le (next_count entry) now) opened since handed counted
     (λ rose. le-leb (next_count entry) now rose) in
-    subst (λ (d : D). EndsWith status (seen d) h) (sym handed)
-    (ends_by (nat_le (next_count entry) now) status entry now others last h is up stands)
+    subst (λ (d : D). EndsWith status (seen d) base h) (sym handed)
+    (ends_by (nat_le (next_count entry) now) status entry now others last base h is up stands)
 
 abbrev first_by : ℕ → Bool → Result CameSeen Memory → ℕ → ℕ → ℕ → Status
 first_by entry cut came end writes late =
@@ -115,21 +116,21 @@ occurs status entry end counted writes late p p' cut came counts was is first =
 -- all of a run that began: by whether the callers ran
 pub serves_all : {D : Type 0} {seen : D → DiskSeen}
     (came : Result CameSeen Memory) (cut : Bool) (first last : Stored D) (crew : Crew) (status : Status)
-    (past : List Entry) (text : List ℕ) (clock : ℕ) (p p' : PortSeen) (around around' : StationSeen) (entry : ℕ) (disk' : D)
-    → IsStoreFor seen nothing first (begun_after nothing past text clock) → text_of first.state ≡ text
+    (base : Summary) (past : List Entry) (text : List ℕ) (clock : ℕ) (p p' : PortSeen) (around around' : StationSeen) (entry : ℕ) (disk' : D)
+    → IsStoreFor seen base first (begun_after base past text clock) → text_of first.state ≡ text
     → IfOk came (λ came. ServesStore seen first crew around around' came last)
     → OnErr came ((b : Summary) (h : List Entry) → StoreStands seen b first h → GoesOnFrom seen b h last)
     → OnErr came (around' ≡ around)
     → last.journal.limits ≡ shipped → disk' ≡ last.journal.disk → entry ≤ first.at_open
-    → ((h : List Entry) → StoreStands seen nothing last h → EndsWith status (seen disk') h)
-    → ((h : List Entry) → StoreStands seen nothing last h → WritesLine cut (line_after h) p p')
+    → ((b : Summary) (h : List Entry) → StoreStands seen b last h → EndsWith status (seen disk') b h)
+    → ((b : Summary) (h : List Entry) → StoreStands seen b last h → WritesLine cut (line_after b h) p p')
     → status ≡ first_of (occurred entry (seen disk').faults p p' cut came)
-    → ServesAll seen crew status past text clock p p' around around' entry disk'
-serves_all {D} {seen} (Ok came) cut first last crew status past text clock p p' around around' entry disk' begins under served refused untouched limits handed since ends line is =
-    let base : List Entry = begun_after nothing past text clock in
-    let stood : StoreStands seen nothing served.gate.store base =
-    subst (λ (s : Stored D). StoreStands seen nothing s base) (sym served.from_is) begins.stands in
-    let all = served.serves.stands nothing base stood in record {
+    → ServesAll seen crew status base past text clock p p' around around' entry disk'
+serves_all {D} {seen} (Ok came) cut first last crew status base past text clock p p' around around' entry disk' begins under served refused untouched limits handed since ends line is =
+    let begun : List Entry = begun_after base past text clock in
+    let stood : StoreStands seen base served.gate.store begun =
+    subst (λ (s : Stored D). StoreStands seen base s begun) (sym served.from_is) begins.stands in
+    let all = served.serves.stands base begun stood in record {
       first = first;
       begins = begins;
       under = under;
@@ -139,29 +140,29 @@ serves_all {D} {seen} (Ok came) cut first last crew status past text clock p p' 
       stands = all;
       limits = limits;
       handed = handed;
-      ends = ends all.from.history all.from.stands;
+      ends = ends base all.from.history all.from.stands;
       cut = cut;
-      line = line all.from.history all.from.stands;
+      line = line base all.from.history all.from.stands;
       status_is = is;
       shows =
-          shown (Ok came) cut status entry (seen disk').faults p p' is (λ written. rose_line cut (line_after all.from.history) p p' written (line all.from.history all.from.stands))
+          shown (Ok came) cut status entry (seen disk').faults p p' is (λ written. rose_line cut (line_after base all.from.history) p p' written (line base all.from.history all.from.stands))
           (λ up. all_may first last crew around around' came entry disk' served since handed up);
     }
-serves_all {D} {seen} (Err none) cut first last crew status past text clock p p' around around' entry disk' begins under served refused untouched limits handed since ends line is =
-    let base : List Entry = begun_after nothing past text clock in
-    let from : GoesOnFrom seen nothing base last = refused nothing base begins.stands in record {
+serves_all {D} {seen} (Err none) cut first last crew status base past text clock p p' around around' entry disk' begins under served refused untouched limits handed since ends line is =
+    let begun : List Entry = begun_after base past text clock in
+    let from : GoesOnFrom seen base begun last = refused base begun begins.stands in record {
       first = first;
       begins = begins;
       under = under;
       last = last;
       came = Err none;
       served = untouched;
-      stands = record { from = from; all_seen = All-nil (λ (p : PassSeen). Extends (p.since ++ base) from.history) };
+      stands = record { from = from; all_seen = All-nil (λ (p : PassSeen). Extends (p.since ++ begun) from.history) };
       limits = limits;
       handed = handed;
-      ends = ends from.history from.stands;
+      ends = ends base from.history from.stands;
       cut = cut;
-      line = line from.history from.stands;
+      line = line base from.history from.stands;
       status_is = is;
-      shows = shown (Err none) cut status entry (seen disk').faults p p' is (λ written. rose_line cut (line_after from.history) p p' written (line from.history from.stands)) (λ up. tt);
+      shows = shown (Err none) cut status entry (seen disk').faults p p' is (λ written. rose_line cut (line_after base from.history) p p' written (line base from.history from.stands)) (λ up. tt);
     }

@@ -12,7 +12,7 @@ use Rattle.arc_io.specs.declared.memory.disk.MemDisk.{MemDisk}
 use Rattle.arc_io.specs.Causes.{Rose}
 use Rattle.arc_io.specs.Seen.{PortSeen, untold}
 use Rattle.arc_io.specs.Told.{Puts}
-use Rattle.arc_script.specs.Ends.{BeginsWith, IsScript, IsTranscript, Tells}
+use Rattle.arc_script.specs.Ends.{IsScript, IsTranscript, Tells}
 use Rattle.arc_script.specs.Steps.{Step, Keeps, IsStepOf, AreSteps}
 use Rattle.arc_script.specs.Tallies.{IsTally}
 use Rattle.arc_script.specs.Texts.{AreOf, counted}
@@ -20,10 +20,12 @@ use Rattle.arc_script.specs.declared.script_end.ScriptEnd.{ScriptEnd}
 use Rattle.arc_script.specs.declared.script_end.ScriptEnd.TheVariants.{Done}
 use Rattle.arc_script.specs.declared.script_end.Tally.{Tally}
 use Rattle.centre_rules.specs.History.{Entry}
+use Rattle.centre_rules.specs.Summary.{Summary, nothing}
 use Rattle.centre_store.proofs.OpeningOnce.{one_opening}
 use Rattle.centre_store.proofs.PastSteps.{no_past}
+use Rattle.centre_store.specs.Given.{BeginsWith}
 use Rattle.desk_session.specs.Desks.{lines_read}
-use Rattle.disk_journal.specs.Records.{Stands}
+use Rattle.disk_journal.specs.Standing.{AreasStand}
 use Rattle.disk_journal.specs.declared.journal.Limits.{Limits}
 use Rattle.script_lines.specs.Lines.{Asked, Time, Feed, Message, Command, Reopen}
 use Rattle.arc_server.specs.DrillRuns.{IsDrilled, IsDrillRun, drill_line}
@@ -31,16 +33,16 @@ use Rattle.arc_server.specs.declared.status.Status.TheVariants.{Done as StatusDo
 
 -- steps over a disk that tells what it holds
 
-told_keeps : {Told : Type 0} {h kept : List Entry} → Told → Keeps Told h kept → Keeps (Unit {0}) h kept
+told_keeps : {Told : Type 0} {base : Summary} {h kept : List Entry} → Told → Keeps Told base h kept → Keeps (Unit {0}) base h kept
 told_keeps known keeps = record { past = keeps.past; same = λ u. keeps.same known }
 
-told_step : {Told : Type 0} (setup : List ℕ) (before : List Asked) (h x : List Entry) (s : Step) (asked : Asked)
-    → Told → IsStepOf Told setup before h x s asked → IsStepOf (Unit {0}) setup before h x s asked
-told_step setup before h x s (Time moment) known step = step
-told_step setup before h x s (Feed line digits) known step = step
-told_step setup before h x s (Message line body) known step = step
-told_step setup before h x s (Command desk text) known step = step
-told_step setup before h x s Reopen known step = record {
+told_step : {Told : Type 0} (base : Summary) (setup : List ℕ) (before : List Asked) (h x : List Entry) (s : Step) (asked : Asked)
+    → Told → IsStepOf Told base setup before h x s asked → IsStepOf (Unit {0}) base setup before h x s asked
+told_step base setup before h x s (Time moment) known step = step
+told_step base setup before h x s (Feed line digits) known step = step
+told_step base setup before h x s (Message line body) known step = step
+told_step base setup before h x s (Command desk text) known step = step
+told_step base setup before h x s Reopen known step = record {
   kept = step.kept;
   keeps = told_keeps known step.keeps;
   clock = step.clock;
@@ -51,13 +53,13 @@ told_step setup before h x s Reopen known step = record {
   text = step.text;
 }
 
-told_steps : {Told : Type 0} (setup : List ℕ) (before : List Asked) (h x : List Entry) (steps : List Step)
-    → Told → AreSteps Told setup before h x steps → AreSteps (Unit {0}) setup before h x steps
-told_steps setup before h x [] known are = are
-told_steps setup before h x (s ∷ steps) known are = (
+told_steps : {Told : Type 0} (base : Summary) (setup : List ℕ) (before : List Asked) (h x : List Entry) (steps : List Step)
+    → Told → AreSteps Told base setup before h x steps → AreSteps (Unit {0}) base setup before h x steps
+told_steps base setup before h x [] known are = are
+told_steps base setup before h x (s ∷ steps) known are = (
   are.0,
-  told_step setup before h are.0 s s.asked known are.1,
-  told_steps setup (s.asked ∷ before) are.0 x steps known are.2,
+  told_step base setup before h are.0 s s.asked known are.1,
+  told_steps base setup (s.asked ∷ before) are.0 x steps known are.2,
 )
 
 -- all of a known input was read
@@ -68,20 +70,21 @@ all_read text read left (Some xs) is taken end =
     ap (λ (o : Option (List ℕ)). elim o [ None ↦ text | Some l ↦ l ]) same ∙ ap (λ (l : List ℕ). read ++ l) end ∙ append-nil read
 
 -- an area without bytes has no past
-new_past : {D : Type 0} (seen : D → DiskSeen) (disk : D) (past : List Entry) → (seen disk).told ≡ Some (record { a = []; b = [] })
-    → BeginsWith (seen disk) past → past ≡ []
-new_past seen disk past is begins =
-    let area : Stands [] begins.bodies = subst (λ (o : Option Areas). IfSome o (λ s. Stands s.a begins.bodies)) is begins.area in
-    (one_opening []).pasts begins.bodies [] past [] area (inl (omega arith, refl)) begins.is_past no_past
+new_past : {D : Type 0} (seen : D → DiskSeen) (disk : D) (base : Summary) (past : List Entry) → (seen disk).told ≡ Some (record { a = []; b = [] })
+    → BeginsWith (seen disk) base past → past ≡ []
+new_past seen disk base past is begins =
+    let empty : Areas = record { a = []; b = [] } in
+    let area : AreasStand empty begins.bodies = subst (λ (o : Option Areas). IfSome o (λ s. AreasStand s begins.bodies)) is begins.area in
+    (one_opening empty).pasts base nothing begins.bodies [] past [] (begins.given, area) (refl, inl (omega arith, refl)) begins.is_past no_past
 
-drilled_by : {D : Type 0} (seen : D → DiskSeen) (n : ℕ) (past : List Entry) (limits : Limits) (entry : ℕ) (p p' : PortSeen) (disk disk' : D)
-    (tally : Tally) → p.left ≡ Some (drill_text n) → (seen disk).told ≡ Some (record { a = []; b = [] }) → BeginsWith (seen disk) past
-    → IsTranscript seen (Tells (seen disk)) drill_setup past limits entry Done p p' disk' tally → IsDrilled n tally
-drilled_by seen n past limits entry p p' disk disk' tally left is begins t =
+drilled_by : {D : Type 0} (seen : D → DiskSeen) (n : ℕ) (base : Summary) (past : List Entry) (limits : Limits) (entry : ℕ) (p p' : PortSeen) (disk disk' : D)
+    (tally : Tally) → p.left ≡ Some (drill_text n) → (seen disk).told ≡ Some (record { a = []; b = [] }) → BeginsWith (seen disk) base past
+    → IsTranscript seen (Tells (seen disk)) base drill_setup past limits entry Done p p' disk' tally → IsDrilled n tally
+drilled_by seen n base past limits entry p p' disk disk' tally left is begins t =
     let steps = t.played.steps in
     let history = t.played.history in
     let whole = t.ends.2 in
-    let none : past ≡ [] = new_past seen disk past is begins in
+    let none : past ≡ [] = new_past seen disk base past is begins in
     let read : drill_text n ≡ t.read = all_read (drill_text n) t.read p.left p'.left left t.taken t.ends.0.left in
     let lines_are : counted (lines_read p'.ended t.read) ≡ counted (lines (drill_text n)) =
     ap (λ (b : Bool). counted (lines_read b t.read)) t.ends.0.ended ∙ ap (λ (l : List ℕ). counted (lines l)) (sym read) in
@@ -91,18 +94,20 @@ drilled_by seen n past limits entry p p' disk disk' tally left is begins t =
       steps = steps;
       history = history;
       of = subst (λ (l : List (ℕ × List ℕ)). AreOf [] l steps) front t.played.of;
-      are = told_steps drill_setup [] [] history steps (record { a = []; b = [] }, is)
-          (subst (λ (h : List Entry). AreSteps (Tells (seen disk)) drill_setup [] h history steps) none t.played.are);
-      counts = subst (λ (h : List Entry). IsTally h steps history tally) none whole.counts;
+      are = told_steps nothing drill_setup [] [] history steps (record { a = []; b = [] }, is)
+          (subst (λ (b : Summary). AreSteps (Tells (seen disk)) b drill_setup [] [] history steps) begins.given
+          (subst (λ (h : List Entry). AreSteps (Tells (seen disk)) base drill_setup [] h history steps) none t.played.are));
+      counts = subst (λ (b : Summary). IsTally b [] steps history tally) begins.given
+          (subst (λ (h : List Entry). IsTally base h steps history tally) none whole.counts);
     }
 
 drilled : {D : Type 0} (seen : D → DiskSeen) (n : ℕ) (limits : Limits) (p p' : PortSeen) (disk disk' : D) (tally : Tally)
     → p.left ≡ Some (drill_text n) → (seen disk).told ≡ Some (record { a = []; b = [] })
     → IsScript seen drill_setup limits Done p p' disk disk' tally → IsDrilled n tally
 drilled seen n limits p p' disk disk' tally left is (inl refused) = let no = refused.1 in cc
-drilled seen n limits p p' disk disk' tally left is (inr (past, begins, inl t)) =
-    drilled_by seen n past limits (seen disk).faults p p' disk disk' tally left is begins t
-drilled seen n limits p p' disk disk' tally left is (inr (past, begins, inr unread)) = let no = unread.0 in cc
+drilled seen n limits p p' disk disk' tally left is (inr (base, past, begins, inl t)) =
+    drilled_by seen n base past limits (seen disk).faults p p' disk disk' tally left is begins t
+drilled seen n limits p p' disk disk' tally left is (inr (base, past, begins, inr unread)) = let no = unread.0 in cc
 
 -- a script that was done, under the drill's setup and over the drill's port
 pub drilled_to_end : {D : Type 0} (seen : D → DiskSeen) (n : ℕ) (setup : List ℕ) (limits : Limits) (end : ScriptEnd) (p p' : PortSeen)

@@ -8,13 +8,14 @@ use Rattle.centre_core.specs.Halls.{HallSeen}
 use Rattle.centre_core.specs.Setting.{text_of}
 use Rattle.centre_core.specs.declared.hall.Stop.{Stop}
 use Rattle.centre_core.specs.declared.hall.Stop.TheVariants.{Memory, Down, Full, Worn}
-use Rattle.centre_rules.specs.Summary.{nothing}
+use Rattle.centre_rules.specs.Summary.{Summary}
 use Rattle.centre_rules.specs.History.{Entry}
 use Rattle.centre_store.specs.Begins.{begun_after}
+use Rattle.centre_store.specs.Given.{HasRecorded}
 use Rattle.centre_store.specs.StoreHalls.{IsStoreFor, store_seen}
 use Rattle.centre_store.specs.Stores.{Stored, StoreStands, HasFailed, Shows}
 use Rattle.session_rules.specs.Sessions.{IsShownFor}
-use Rattle.arc_server.specs.Areas.{EndsWith, HasRecorded, shipped}
+use Rattle.arc_server.specs.Areas.{EndsWith, shipped}
 use Rattle.arc_server.specs.Made.{made_of_end}
 use Rattle.arc_server.specs.Counts.{HasRisen}
 use Rattle.arc_server.specs.SessionRuns.{Did, history_by, ServesRun, IsServed}
@@ -30,57 +31,57 @@ use Rattle.arc_server.specs.declared.status.Which.TheVariants.{Input}
 use Rattle.arc_server.proofs.Kept.{kept, kept_up}
 
 -- the hall stands for the history that the session ended with
-pub holds_of : (side : Side) (end : SessionEnd) (h : List Entry) (hall hall' : HallSeen) (p p' : PortSeen)
-    (did : Did side end h hall hall' p p') → hall'.stands nothing (history_by side end h hall hall' p p' did)
-holds_of side end h hall hall' p p' did = (is_after side end did.0 nothing h hall hall' p p' did.2).holds
+pub holds_of : (side : Side) (end : SessionEnd) (base : Summary) (h : List Entry) (hall hall' : HallSeen) (p p' : PortSeen)
+    (did : Did side end base h hall hall' p p') → hall'.stands base (history_by side end base h hall hall' p p' did)
+holds_of side end base h hall hall' p p' did = (is_after side end did.0 base h hall hall' p p' did.2).holds
 
 pub risen : (first second entry end : ℕ) → first ≡ entry → second ≡ end → Rose entry end → HasRisen first second entry end
 risen first second entry end before now rose = record { before = before; now = now; rose = subst (λ n. Rose n second) (sym before) (subst (λ n. Rose entry n) (sym now) rose) }
 
 -- What is known of a session that was served over a store from the beginning of a run on, and of the disk that was handed back.
 pub record Session {D : Type 0} (seen : D → DiskSeen)
-    (side : Side) (end : SessionEnd) (past : List Entry) (text : List ℕ) (clock : ℕ) (p p' : PortSeen) (disk' : D) (first last : Stored D) : Type 0 where
-  pub begins : IsStoreFor seen nothing first (begun_after nothing past text clock)
+    (side : Side) (end : SessionEnd) (base : Summary) (past : List Entry) (text : List ℕ) (clock : ℕ) (p p' : PortSeen) (disk' : D) (first last : Stored D) : Type 0 where
+  pub begins : IsStoreFor seen base first (begun_after base past text clock)
   pub under : text_of first.state ≡ text
-  pub did : Did side end (begun_after nothing past text clock) (store_seen seen first) (store_seen seen last) p p'
+  pub did : Did side end base (begun_after base past text clock) (store_seen seen first) (store_seen seen last) p p'
   pub shown : ShowsEnd end (store_seen seen last)
   pub limits : last.journal.limits ≡ shipped
   pub handed : disk' ≡ last.journal.disk
 
 -- the history that it ended with, and that the store stands for it
 abbrev pub ends_with : {D : Type 0} {seen : D → DiskSeen}
-    (side : Side) (end : SessionEnd) {past : List Entry} {text : List ℕ} {clock : ℕ} {p p' : PortSeen} {disk' : D} {first last : Stored D}
-    → Session seen side end past text clock p p' disk' first last → List Entry
-ends_with {D} {seen} side end {past} {text} {clock} {p} {p'} {disk'} {first} {last} s =
-    history_by side end (begun_after nothing past text clock) (store_seen seen first) (store_seen seen last) p p' s.did
+    (side : Side) (end : SessionEnd) {base : Summary} {past : List Entry} {text : List ℕ} {clock : ℕ} {p p' : PortSeen} {disk' : D} {first last : Stored D}
+    → Session seen side end base past text clock p p' disk' first last → List Entry
+ends_with {D} {seen} side end {base} {past} {text} {clock} {p} {p'} {disk'} {first} {last} s =
+    history_by side end base (begun_after base past text clock) (store_seen seen first) (store_seen seen last) p p' s.did
 
 stands_for : {D : Type 0} {seen : D → DiskSeen}
-    (side : Side) (end : SessionEnd) {past : List Entry} {text : List ℕ} {clock : ℕ} {p p' : PortSeen} {disk' : D} {first last : Stored D}
-    → (s : Session seen side end past text clock p p' disk' first last)
-    → StoreStands seen nothing last (ends_with side end s)
-stands_for {D} {seen} side end {past} {text} {clock} {p} {p'} {disk'} {first} {last} s =
-    (holds_of side end (begun_after nothing past text clock) (store_seen seen first) (store_seen seen last) p p' s.did).stands
+    (side : Side) (end : SessionEnd) {base : Summary} {past : List Entry} {text : List ℕ} {clock : ℕ} {p p' : PortSeen} {disk' : D} {first last : Stored D}
+    → (s : Session seen side end base past text clock p p' disk' first last)
+    → StoreStands seen base last (ends_with side end s)
+stands_for {D} {seen} side end {base} {past} {text} {clock} {p} {p'} {disk'} {first} {last} s =
+    (holds_of side end base (begun_after base past text clock) (store_seen seen first) (store_seen seen last) p p' s.did).stands
 
 served : {D : Type 0} {seen : D → DiskSeen}
-    (side : Side) (end : SessionEnd) (status : Status) {past : List Entry} {text : List ℕ} {clock : ℕ} {p p' : PortSeen} {disk' : D} {first last : Stored D}
-    → (s : Session seen side end past text clock p p' disk' first last)
-    → EndsWith status (seen last.journal.disk) (ends_with side end s)
-    → ServesRun seen side end status past text clock p p' disk' last
-served {D} {seen} side end status {first = first} s ends = record {
+    (side : Side) (end : SessionEnd) (status : Status) {base : Summary} {past : List Entry} {text : List ℕ} {clock : ℕ} {p p' : PortSeen} {disk' : D} {first last : Stored D}
+    → (s : Session seen side end base past text clock p p' disk' first last)
+    → EndsWith status (seen last.journal.disk) base (ends_with side end s)
+    → ServesRun seen side end status base past text clock p p' disk' last
+served {D} {seen} side end status {base = base} {first = first} s ends = record {
   first = first;
   begins = s.begins;
   under = s.under;
   did = s.did;
   limits = s.limits;
   handed = s.handed;
-  ends = subst (λ (d : D). EndsWith status (seen d) (ends_with side end s)) (sym s.handed) ends;
+  ends = subst (λ (d : D). EndsWith status (seen d) base (ends_with side end s)) (sym s.handed) ends;
 }
 
 -- where the disk has not failed, it has recorded that history
 recorded_up : {D : Type 0} {seen : D → DiskSeen}
-    (side : Side) (end : SessionEnd) {past : List Entry} {text : List ℕ} {clock : ℕ} {p p' : PortSeen} {disk' : D} {first last : Stored D}
-    → (s : Session seen side end past text clock p p' disk' first last) → (HasFailed seen last → ⊥)
-    → HasRecorded (seen last.journal.disk) (ends_with side end s)
+    (side : Side) (end : SessionEnd) {base : Summary} {past : List Entry} {text : List ℕ} {clock : ℕ} {p p' : PortSeen} {disk' : D} {first last : Stored D}
+    → (s : Session seen side end base past text clock p p' disk' first last) → (HasFailed seen last → ⊥)
+    → HasRecorded (seen last.journal.disk) base (ends_with side end s)
 recorded_up side end {last = last} s up = kept_up last (stands_for side end s) up
 
 -- the later of two counts at entry rose no sooner than the earlier
@@ -99,10 +100,10 @@ up_to_end {D = D} seen before first now last disk' risen opened since handed is 
 
 -- where the disk has failed
 pub served_down : {D : Type 0} {seen : D → DiskSeen}
-    (side : Side) (end : SessionEnd) {past : List Entry} {text : List ℕ} {clock : ℕ} {p p' : PortSeen} {disk' : D} {first last : Stored D}
-    (before now : ℕ) → (s : Session seen side end past text clock p p' disk' first last)
+    (side : Side) (end : SessionEnd) {base : Summary} {past : List Entry} {text : List ℕ} {clock : ℕ} {p p' : PortSeen} {disk' : D} {first last : Stored D}
+    (before now : ℕ) → (s : Session seen side end base past text clock p p' disk' first last)
     → now ≡ (seen disk').faults → Rose before now
-    → IsServed seen side (DiskFault before now) past text clock p p' before disk'
+    → IsServed seen side (DiskFault before now) base past text clock p p' before disk'
 served_down {D} {seen} side end {last = last} before now s is rose =
     (record { before = refl; now = is; rose = rose }, (end, last, served side end (DiskFault before now) s (kept last before now (stands_for side end s))))
 
@@ -113,19 +114,19 @@ shown_but_memory hall' stop (inr shown) other = shown
 
 -- a stop other than want of memory was shown by the store
 shown_at : {D : Type 0} {seen : D → DiskSeen}
-    (side : Side) (stop : Stop) {past : List Entry} {text : List ℕ} {clock : ℕ} {p p' : PortSeen} {disk' : D} {first last : Stored D}
-    → Session seen side (Stopped stop) past text clock p p' disk' first last → (stop ≡ Memory → ⊥)
+    (side : Side) (stop : Stop) {base : Summary} {past : List Entry} {text : List ℕ} {clock : ℕ} {p p' : PortSeen} {disk' : D} {first last : Stored D}
+    → Session seen side (Stopped stop) base past text clock p p' disk' first last → (stop ≡ Memory → ⊥)
     → (event : Event) × (reading : ℕ) × Shows seen last stop event reading
 shown_at {D} {seen} side stop {last = last} s other =
     shown_but_memory (store_seen seen last) stop s.shown other
 
 -- where the disk has not failed
 pub served_up : {D : Type 0} {seen : D → DiskSeen}
-    (side : Side) (end : SessionEnd) {past : List Entry} {text : List ℕ} {clock : ℕ} {p p' : PortSeen} {disk' : D} {first last : Stored D}
-    (before now : ℕ) → (s : Session seen side end past text clock p p' disk' first last)
+    (side : Side) (end : SessionEnd) {base : Summary} {past : List Entry} {text : List ℕ} {clock : ℕ} {p p' : PortSeen} {disk' : D} {first last : Stored D}
+    (before now : ℕ) → (s : Session seen side end base past text clock p p' disk' first last)
     → (HasFailed seen last → ⊥)
     → (end ≡ ReadFault → Rose p.read_faults p'.read_faults) → (end ≡ WriteFault → Rose p.write_faults p'.write_faults)
-    → IsServed seen side (made_of_end end before now p p') past text clock p p' before disk'
+    → IsServed seen side (made_of_end end before now p p') base past text clock p p' before disk'
 served_up {D} {seen} side Quit {last = last} before now s up read write =
     (Quit, tt, (last, served side Quit Done s (recorded_up side Quit s up)))
 served_up {D} {seen} side InputEnded {last = last} before now s up read write =

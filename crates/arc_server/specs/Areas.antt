@@ -1,12 +1,10 @@
--- For which history area A of the disk stands, at the beginning of a run and at its end.
-use Rattle.std.specs.Prelude.{◌⊎◌, ℕ, List, IfSome}
-use Rattle.arc_io.specs.Areas.{Areas}
+-- For which history the areas of the disk stand at a run's end.
+use Rattle.std.specs.Prelude.{◌⊎◌, List}
 use Rattle.arc_io.specs.Disks.{DiskSeen}
+use Rattle.centre_rules.specs.Summary.{Summary}
 use Rattle.centre_rules.specs.History.{Entry}
-use Rattle.disk_journal.specs.Records.{Stands}
 use Rattle.disk_journal.specs.declared.journal.Limits.{Limits}
-use Rattle.centre_store.specs.Bodies.{bodies_of}
-use Rattle.centre_store.specs.Pasts.{IsPast}
+use Rattle.centre_store.specs.Given.{HasRecorded}
 use Rattle.centre_store.specs.Stores.{IsTorn}
 use Rattle.arc_server.specs.declared.status.Status.{Status}
 use Rattle.arc_server.specs.declared.status.Status.TheVariants.{Done, Usage, SetupBad, ReadFault, WriteFault, DiskFault, Journal, Full}
@@ -16,30 +14,19 @@ use Rattle.arc_server.specs.declared.status.Status.TheVariants.{BadScript, DoorF
 abbrev pub shipped : Limits
 shipped = record { bytes = 268_435_456; records = 1_000_000 }
 
--- what a read gives of the area stands for bodies that have this past
-pub record BeginsWith (disk : DiskSeen) (past : List Entry) : Type 0 where
-  pub bodies : List (List ℕ)
-  pub is_past : IsPast bodies past
-  pub area : IfSome disk.told (λ s. Stands s.a bodies)
-
--- what a read gives of the area, and all that a crash may leave there now, stands for the bodies of the recorded entries of this history
-pub record HasRecorded (disk : DiskSeen) (h : List Entry) : Type 0 where
-  pub area : IfSome disk.told (λ s. Stands s.a (bodies_of h))
-  pub images : (c : Areas) → disk.may_leave c → Stands c.a (bodies_of h)
-
--- The area at a run's end, by the status, after this history: it stands for the recorded entries; and where the disk failed, for
--- these or for these with one more, that of the event that met the fault.
-abbrev pub EndsWith : Status → DiskSeen → List Entry → Type 0
-EndsWith (DiskFault before now) disk h = HasRecorded disk h ⊎ IsTorn disk h
-EndsWith Done disk h = HasRecorded disk h
-EndsWith Usage disk h = HasRecorded disk h
-EndsWith (SetupBad fault) disk h = HasRecorded disk h
-EndsWith (ReadFault which before now) disk h = HasRecorded disk h
-EndsWith (WriteFault before now) disk h = HasRecorded disk h
-EndsWith (Journal fault) disk h = HasRecorded disk h
-EndsWith (Full used need records) disk h = HasRecorded disk h
-EndsWith (BadScript line) disk h = HasRecorded disk h
-EndsWith (DoorFault door before now) disk h = HasRecorded disk h
-EndsWith Memory disk h = HasRecorded disk h
-EndsWith Spent disk h = HasRecorded disk h
-EndsWith (Worn count) disk h = HasRecorded disk h
+-- The areas at a run's end, by the status, after this history over a summary: they stand for the recorded entries; and where the disk
+-- failed, for these or for these with one more, a next one that may be read again, of the event that met the fault.
+abbrev pub EndsWith : Status → DiskSeen → Summary → List Entry → Type 0
+EndsWith (DiskFault before now) disk base h = HasRecorded disk base h ⊎ IsTorn disk base h
+EndsWith Done disk base h = HasRecorded disk base h
+EndsWith Usage disk base h = HasRecorded disk base h
+EndsWith (SetupBad fault) disk base h = HasRecorded disk base h
+EndsWith (ReadFault which before now) disk base h = HasRecorded disk base h
+EndsWith (WriteFault before now) disk base h = HasRecorded disk base h
+EndsWith (Journal fault) disk base h = HasRecorded disk base h
+EndsWith (Full used need records) disk base h = HasRecorded disk base h
+EndsWith (BadScript line) disk base h = HasRecorded disk base h
+EndsWith (DoorFault door before now) disk base h = HasRecorded disk base h
+EndsWith Memory disk base h = HasRecorded disk base h
+EndsWith Spent disk base h = HasRecorded disk base h
+EndsWith (Worn count) disk base h = HasRecorded disk base h

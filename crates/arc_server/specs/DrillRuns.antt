@@ -10,6 +10,7 @@ use Rattle.arc_script.specs.Tallies.{IsTally}
 use Rattle.arc_script.specs.Texts.{AreOf, counted}
 use Rattle.arc_script.specs.declared.script_end.Tally.{Tally}
 use Rattle.centre_rules.specs.History.{Entry}
+use Rattle.centre_rules.specs.Summary.{nothing}
 use Rattle.arc_server.specs.Counts.{HasRisen}
 use Rattle.arc_server.specs.declared.status.Status.{Status}
 use Rattle.arc_server.specs.declared.status.Status.TheVariants.{Done, Usage, SetupBad, ReadFault, WriteFault, DiskFault, Journal, Full}
@@ -27,8 +28,8 @@ pub record IsDrilled (n : ℕ) (t : Tally) : Type 0 where
   pub steps : List Step
   pub history : List Entry
   pub of : AreOf [] (counted (lines (drill_text n))) steps
-  pub are : AreSteps (Unit {0}) drill_setup [] [] history steps
-  pub counts : IsTally [] steps history t
+  pub are : AreSteps (Unit {0}) nothing drill_setup [] [] history steps
+  pub counts : IsTally nothing [] steps history t
 
 -- What a status shows: the line of the drill's tally was written; or a front of it, which lacks a byte at least, and the sink failed; or
 -- memory was wanted, and the port was not touched.

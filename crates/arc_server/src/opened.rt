@@ -2,7 +2,7 @@
 ghost use Rattle.std.specs.Prelude.{◌≡◌, false, List, Some};
 ghost use Rattle.arc_io.specs.Causes.{Rose};
 ghost use Rattle.centre_core.specs.Setting.{IsSetting};
-ghost use Rattle.centre_rules.specs.Summary.{nothing};
+ghost use Rattle.centre_rules.specs.Summary.{Summary};
 ghost use Rattle.centre_rules.specs.History.{Entry};
 ghost use Rattle.centre_store.specs.StoreHalls.{IsStoreFor, store_seen};
 ghost use Rattle.arc_sessions.specs.Served.{ShowsEnd};
@@ -69,8 +69,8 @@ pub(crate) fn serve_over<D: Disk, P: Port>(
 ) -> (SessionEnd, Store<D>)
     requires ready { IsSetting store.state.sum.text }
     requires port { (P.seen port.old).ended ≡ false }
-    ensures did { (h : List Entry) → IsStoreFor D.seen nothing store h →
-        Did side result.0 h (store_seen D.seen store) (store_seen D.seen result.1)
+    ensures did { (base : Summary) (h : List Entry) → IsStoreFor D.seen base store h →
+        Did side result.0 base h (store_seen D.seen store) (store_seen D.seen result.1)
         (P.seen port.old) (P.seen port.new) }
     ensures stop { ShowsEnd result.0 (store_seen D.seen result.1) }
     ensures at_open { result.1.at_open ≡ store.at_open }
@@ -92,8 +92,8 @@ fn serve_opened<D: Disk, P: Port, K: Lasting>(
     requires port { (P.seen port.old).ended ≡ false }
     requires at_open { store.at_open ≡ K.at_open }
     requires limits { store.journal.limits ≡ K.limits }
-    ensures did { (h : List Entry) → IsStoreFor D.seen nothing store h →
-        Did side result.0 h (store_seen D.seen store) (store_seen D.seen result.1)
+    ensures did { (base : Summary) (h : List Entry) → IsStoreFor D.seen base store h →
+        Did side result.0 base h (store_seen D.seen store) (store_seen D.seen result.1)
         (P.seen port.old) (P.seen port.new) }
     ensures stop { ShowsEnd result.0 (store_seen D.seen result.1) }
     ensures at_open { result.1.at_open ≡ K.at_open }

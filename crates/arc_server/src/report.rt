@@ -1,7 +1,7 @@
 // A run that reports what the journal has.
 ghost use Rattle.std.specs.Prelude.{◌≡◌, ◌≢◌, ◌≤◌, List};
 ghost use Rattle.centre_rules.specs.History.{Entry};
-ghost use Rattle.centre_rules.specs.Summary.{nothing};
+ghost use Rattle.centre_rules.specs.Summary.{Summary};
 ghost use Rattle.centre_store.specs.Stores.{StoreStands};
 ghost use Rattle.arc_server.specs.Areas.{EndsWith};
 ghost use Rattle.arc_server.specs.Reports.{IsReportRun, IsReported};
@@ -32,9 +32,9 @@ fn write_report<P: Port, D: Disk>(before: u64, port: &mut P, store: Store<D>) ->
     requires before { before ≤ store.at_open }
     ensures usage { result.0 ≢ Status.Usage }
     ensures handed { result.1 ≡ store.journal.disk }
-    ensures shown { (past : List Entry) → StoreStands D.seen nothing store past →
-        EndsWith result.0 (D.seen result.1) past
-        × IsReported result.0 past (P.seen port.old) (P.seen port.new) before (D.seen result.1).faults }
+    ensures shown { (base : Summary) (past : List Entry) → StoreStands D.seen base store past →
+        EndsWith result.0 (D.seen result.1) base past
+        × IsReported result.0 base past (P.seen port.old) (P.seen port.new) before (D.seen result.1).faults }
 {
     let writes = port.write_faults();
     let written = report(store.centre(), port);

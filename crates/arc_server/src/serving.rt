@@ -4,7 +4,7 @@ ghost use Rattle.alarm_rules.specs.Setups.{setup_of};
 ghost use Rattle.arc_io.specs.Causes.{next_count};
 ghost use Rattle.centre_core.specs.Setting.{IsSetting, text_of};
 ghost use Rattle.centre_rules.specs.History.{Entry};
-ghost use Rattle.centre_rules.specs.Summary.{nothing};
+ghost use Rattle.centre_rules.specs.Summary.{Summary};
 ghost use Rattle.centre_store.specs.Begins.{begun_after};
 ghost use Rattle.centre_store.specs.StoreHalls.{IsStoreFor};
 ghost use Rattle.centre_store.specs.Stores.{StoreStands};
@@ -132,8 +132,8 @@ fn serve_from<
     requires lines { crew.lines ≤ length station.lines }
     requires desks { crew.desks ≤ length station.desks }
     ensures usage { result.status ≢ Status.Usage }
-    ensures ran { (past : List Entry) → StoreStands D.seen nothing store past →
-        ServesFrom D.seen crew result.status past setup
+    ensures ran { (base : Summary) (past : List Entry) → StoreStands D.seen base store past →
+        ServesFrom D.seen crew result.status base past setup
         (P.seen port.old) (P.seen port.new) station result.station before result.disk }
 {
     let mut store = store;
@@ -174,9 +174,9 @@ fn serve_begun<
     requires lines { crew.lines ≤ length station.lines }
     requires desks { crew.desks ≤ length station.desks }
     ensures usage { result.status ≢ Status.Usage }
-    ensures served { (past : List Entry) (text : List ℕ) (clock : ℕ)
-        → IsStoreFor D.seen nothing store (begun_after nothing past text clock) → text_of store.state ≡ text
-        → ServesAll D.seen crew result.status past text clock
+    ensures served { (base : Summary) (past : List Entry) (text : List ℕ) (clock : ℕ)
+        → IsStoreFor D.seen base store (begun_after base past text clock) → text_of store.state ≡ text
+        → ServesAll D.seen crew result.status base past text clock
         (P.seen port.old) (P.seen port.new) station result.station before result.disk }
 {
     let ServedStore {

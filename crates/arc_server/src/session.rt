@@ -3,7 +3,7 @@ ghost use Rattle.std.specs.Prelude.{◌≡◌, ◌≢◌, ◌≤◌, List, ℕ, 
 ghost use Rattle.alarm_rules.specs.Setups.{setup_of};
 ghost use Rattle.centre_core.specs.Setting.{IsSetting, text_of};
 ghost use Rattle.centre_rules.specs.History.{Entry};
-ghost use Rattle.centre_rules.specs.Summary.{nothing};
+ghost use Rattle.centre_rules.specs.Summary.{Summary};
 ghost use Rattle.centre_store.specs.Begins.{begun_after};
 ghost use Rattle.centre_store.specs.StoreHalls.{IsStoreFor};
 ghost use Rattle.centre_store.specs.Stores.{StoreStands};
@@ -76,8 +76,8 @@ fn run_store<P: Port, D: Disk>(
     requires before { before ≤ store.at_open }
     requires limits { store.journal.limits ≡ shipped }
     ensures usage { result.0 ≢ Status.Usage }
-    ensures ran { (past : List Entry) → StoreStands D.seen nothing store past →
-        GoesOnFrom D.seen side result.0 past setup (P.seen port.old) (P.seen port.new) before result.1 }
+    ensures ran { (base : Summary) (past : List Entry) → StoreStands D.seen base store past →
+        GoesOnFrom D.seen side result.0 base past setup (P.seen port.old) (P.seen port.new) before result.1 }
 {
     let mut store = store;
     let clock = port.now();
@@ -103,9 +103,9 @@ fn serve_store<P: Port, D: Disk>(
     requires before { before ≤ store.at_open }
     requires limits { store.journal.limits ≡ shipped }
     ensures usage { result.0 ≢ Status.Usage }
-    ensures served { (past : List Entry) (text : List ℕ) (clock : ℕ)
-        → IsStoreFor D.seen nothing store (begun_after nothing past text clock) → text_of store.state ≡ text
-        → IsServed D.seen side result.0 past text clock (P.seen port.old) (P.seen port.new) before result.1 }
+    ensures served { (base : Summary) (past : List Entry) (text : List ℕ) (clock : ℕ)
+        → IsStoreFor D.seen base store (begun_after base past text clock) → text_of store.state ≡ text
+        → IsServed D.seen side result.0 base past text clock (P.seen port.old) (P.seen port.new) before result.1 }
 {
     let reads = port.read_faults();
     let writes = port.write_faults();

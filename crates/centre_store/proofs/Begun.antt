@@ -16,10 +16,10 @@ use Rattle.centre_rules.specs.History.{Entry, Extends, marks, moment_after}
 use Rattle.centre_rules.specs.Answers.{if_known}
 use Rattle.centre_rules.specs.State.{State, StandsFor}
 use Rattle.centre_core.specs.declared.hall.Stop.{Stop}
-use Rattle.disk_journal.specs.Records.{Stands}
-use Rattle.disk_journal.specs.Journal.{StandsForEither}
+use Rattle.disk_journal.specs.Standing.{AreasStand}
 use Rattle.event_codec.specs.Spelling.{spelling}
 use Rattle.centre_store.specs.Bodies.{bodies_of}
+use Rattle.centre_store.specs.Given.{StandFor, StandForEither}
 use Rattle.centre_store.specs.Stores.{Stored, HasFailed, StoreStands, Takes, Shows}
 use Rattle.centre_store.specs.Begins.{is_in_force, adopted_after, begun_after, IsOfBegin, StandsWithin}
 use Rattle.centre_store.proofs.Bodies.{bodies_more}
@@ -51,34 +51,34 @@ begun_extends b h setup clock =
 
 -- What a crash leaves.
 
-pub within_before : (b : Summary) (h : List Entry) (setup : List ℕ) (clock : ℕ) (bytes : List ℕ) → Stands bytes (bodies_of h) → StandsWithin b h setup clock bytes
-within_before b h setup clock bytes stands = record { so_far = h; from_h = ([], refl); to_begun = begun_extends b h setup clock; stands = stands }
+pub within_before : (b : Summary) (h : List Entry) (setup : List ℕ) (clock : ℕ) (areas : Areas) → StandFor b h areas → StandsWithin b h setup clock areas
+within_before b h setup clock areas stands = record { so_far = h; from_h = ([], refl); to_begun = begun_extends b h setup clock; stands = stands }
 
-within_adopted : (b : Summary) (h : List Entry) (setup : List ℕ) (clock : ℕ) (bytes : List ℕ) → Stands bytes (bodies_of (adopted_after b h setup clock))
-    → StandsWithin b h setup clock bytes
-within_adopted b h setup clock bytes stands = record {
+within_adopted : (b : Summary) (h : List Entry) (setup : List ℕ) (clock : ℕ) (areas : Areas) → StandFor b (adopted_after b h setup clock) areas
+    → StandsWithin b h setup clock areas
+within_adopted b h setup clock areas stands = record {
   so_far = adopted_after b h setup clock;
   from_h = adopted_extends b h setup clock;
   to_begun = (started_entry b (adopted_after b h setup clock) clock ∷ [], refl);
   stands = stands;
 }
 
-pub within_adopt : (b : Summary) (h : List Entry) (setup : List ℕ) (clock : ℕ) (bytes : List ℕ) → is_in_force (text b (marks b h)) setup ≡ false
-    → StandsForEither (bodies_of h) (spelling (Adopt setup) (moment_after b h clock)) bytes → StandsWithin b h setup clock bytes
-within_adopt b h setup clock bytes is (inl old) = within_before b h setup clock bytes old
-within_adopt b h setup clock bytes is (inr new) =
-    within_adopted b h setup clock bytes
-    (subst (λ (bs : List (List ℕ)). Stands bytes bs) (sym (ap bodies_of (one_adopt b h setup clock is) ∙ bodies_more (adopted_entry b h setup clock) h refl)) new)
+pub within_adopt : (b : Summary) (h : List Entry) (setup : List ℕ) (clock : ℕ) (areas : Areas) → is_in_force (text b (marks b h)) setup ≡ false
+    → StandForEither b h (spelling (Adopt setup) (moment_after b h clock)) areas → StandsWithin b h setup clock areas
+within_adopt b h setup clock areas is (inl old) = within_before b h setup clock areas old
+within_adopt b h setup clock areas is (inr new) =
+    within_adopted b h setup clock areas
+    (subst (λ (bs : List (List ℕ)). AreasStand areas bs) (sym (ap bodies_of (one_adopt b h setup clock is) ∙ bodies_more (adopted_entry b h setup clock) h refl)) new)
 
-pub within_start : (b : Summary) (h : List Entry) (setup : List ℕ) (clock : ℕ) (bytes : List ℕ)
-    → StandsForEither (bodies_of (adopted_after b h setup clock)) (spelling Start (moment_after b (adopted_after b h setup clock) clock)) bytes
-    → StandsWithin b h setup clock bytes
-within_start b h setup clock bytes (inl old) = within_adopted b h setup clock bytes old
-within_start b h setup clock bytes (inr new) = record {
+pub within_start : (b : Summary) (h : List Entry) (setup : List ℕ) (clock : ℕ) (areas : Areas)
+    → StandForEither b (adopted_after b h setup clock) (spelling Start (moment_after b (adopted_after b h setup clock) clock)) areas
+    → StandsWithin b h setup clock areas
+within_start b h setup clock areas (inl old) = within_adopted b h setup clock areas old
+within_start b h setup clock areas (inr new) = record {
   so_far = begun_after b h setup clock;
   from_h = begun_extends b h setup clock;
   to_begun = ([], refl);
-  stands = subst (λ (bs : List (List ℕ)). Stands bytes bs)
+  stands = subst (λ (bs : List (List ℕ)). AreasStand areas bs)
       (sym (bodies_more (started_entry b (adopted_after b h setup clock) clock) (adopted_after b h setup clock) refl)) new;
 }
 
@@ -107,21 +107,21 @@ module _ {D : Type 0} (seen : D → DiskSeen) where
   -- before any call of the disk
   pub still_within : (b : Summary) (s : Stored D) (h : List Entry) (setup : List ℕ) (clock : ℕ) → ((d : D) (c : Areas) → (seen d).left_since (seen d).moment c → (seen d).may_leave c)
       → (HasFailed seen s → ⊥) → StoreStands seen b s h
-      → LeavesOnly (seen s.journal.disk) (seen s.journal.disk) (λ c. StandsWithin b h setup clock c.a)
+      → LeavesOnly (seen s.journal.disk) (seen s.journal.disk) (StandsWithin b h setup clock)
   still_within b s h setup clock only_now up w =
       started (seen s.journal.disk) _
-      (λ c left. within_before b h setup clock c.a (inr ((held seen b s h up w).kept.images c (only_now s.journal.disk c left))))
+      (λ c left. within_before b h setup clock c (inr ((held seen b s h up w).kept.images c (only_now s.journal.disk c left))))
 
   -- while the Adopt is made
   pub adopt_within : (b : Summary) (s : Stored D) (new : D) (h : List Entry) (setup taken : List ℕ) (clock : ℕ) → taken ≡ setup
       → is_in_force s.state.sum.text setup ≡ false → StoreStands seen b s h
-      → LeavesOnly (seen s.journal.disk) (seen new) (λ c. StandsForEither (bodies_of h) (spelling (Adopt taken) (moment_after b h clock)) c.a)
-      → LeavesOnly (seen s.journal.disk) (seen new) (λ c. StandsWithin b h setup clock c.a)
+      → LeavesOnly (seen s.journal.disk) (seen new) (StandForEither b h (spelling (Adopt taken) (moment_after b h clock)))
+      → LeavesOnly (seen s.journal.disk) (seen new) (StandsWithin b h setup clock)
   adopt_within b s new h setup taken clock same is w run =
       let other : is_in_force (text b (marks b h)) setup ≡ false = ap (λ t. is_in_force t setup) (sym w.centre.same.text) ∙ is in
-      weaker (seen s.journal.disk) (seen new) (λ c. StandsWithin b h setup clock c.a) _ run
-      (λ c either. within_adopt b h setup clock c.a other
-      (subst (λ (t : List ℕ). StandsForEither (bodies_of h) (spelling (Adopt t) (moment_after b h clock)) c.a) same either))
+      weaker (seen s.journal.disk) (seen new) (StandsWithin b h setup clock) _ run
+      (λ c either. within_adopt b h setup clock c other
+      (subst (λ (t : List ℕ). StandForEither b h (spelling (Adopt t) (moment_after b h clock)) c) same either))
 
 -- in force or not, after the history as in the state
 pub known_force : (b : Summary) (s : State) (h : List Entry) (setup : List ℕ) (v : Bool) → StandsFor b s h → is_in_force s.sum.text setup ≡ v

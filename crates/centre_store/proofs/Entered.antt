@@ -1,18 +1,27 @@
 -- What a store stands for after a call that made an entry, or none.
-use Rattle.std.proofs.Common.{◌≡◌, ℕ, List, [], ◌∷◌, ◌++◌, true, false, inl, inr, sym, ap, subst, ◌∙◌}
+use Rattle.std.proofs.Common.{◌≡◌, ◌≤◌, ℕ, List, [], ◌∷◌, ◌++◌, true, false, inl, inr, sym, ap, subst, ◌∙◌, arith}
+use Rattle.arc_data.specs.WellFormed.{IsWellFormed}
 use Rattle.arc_data.specs.declared.event.Event.{Event}
 use Rattle.arc_data.specs.declared.reply.Reply.{Reply}
+use Rattle.arc_io.specs.Causes.{Rose}
 use Rattle.arc_io.specs.Disks.{DiskSeen}
 use Rattle.arc_io.specs.Crashes.{LeavesOnly}
 use Rattle.centre_rules.specs.Summary.{Summary}
-use Rattle.centre_rules.specs.History.{Entry, moment_after, is_recorded}
+use Rattle.centre_rules.specs.History.{Entry, last, moment_after, is_recorded}
+use Rattle.centre_rules.specs.Answers.{answer}
 use Rattle.centre_rules.specs.State.{State, StandsFor, Plan, entry_of}
-use Rattle.disk_journal.specs.Journal.{Holds, StandsForEither}
+use Rattle.centre_core.specs.declared.hall.Stop.{Stop}
+use Rattle.centre_core.specs.declared.hall.Stop.TheVariants.{Memory, Down, Full, Worn}
+use Rattle.disk_journal.specs.Journal.{Holds}
+use Rattle.disk_journal.specs.Standing.{StandsForEither}
 use Rattle.disk_journal.specs.declared.journal.Journal.{Journal}
-use Rattle.event_codec.specs.Spelling.{spelling}
+use Rattle.event_codec.specs.Spelling.{HasSpelling, spelling}
 use Rattle.centre_store.specs.Bodies.{bodies_of}
-use Rattle.centre_store.specs.Stores.{Stored, HasFailed, StoreStands, Takes}
+use Rattle.centre_store.specs.Given.{StandForEither, Leaves}
+use Rattle.centre_store.specs.Stores.{Stored, HasFailed, IsTorn, StoreStands, Takes}
+use Rattle.centre_store.specs.Writes.{IsUnwritten}
 use Rattle.centre_store.proofs.Bodies.{bodies_more, bodies_same}
+use Rattle.centre_store.proofs.Written.{holds_same}
 
 -- the parts of a store in one
 abbrev pub stored : {D : Type 0} → State → Journal D → ℕ → Stored D
@@ -78,10 +87,50 @@ module _ {D : Type 0} (seen : D → DiskSeen) where
 
     pub written_moment : (new : D) (clock : ℕ) (event : Event) (p : Plan) → p.event ≡ event
         → (StandsFor b r h → p.at ≡ moment_after b h clock)
-        → (Holds seen j (bodies_of h) → LeavesOnly (seen j.disk) (seen new) (λ c. StandsForEither (bodies_of h) (spelling p.event p.at) c.a))
-        → LeavesOnly (seen old.journal.disk) (seen new) (λ c. StandsForEither (bodies_of h) (spelling event (moment_after b h clock)) c.a)
+        → (Holds seen j (bodies_of h) → LeavesOnly (seen j.disk) (seen new) (StandsForEither (bodies_of h) (spelling p.event p.at)))
+        → LeavesOnly (seen old.journal.disk) (seen new) (StandForEither b h (spelling event (moment_after b h clock)))
     written_moment new clock event p event_is at run =
         let body : spelling p.event p.at ≡ spelling event (moment_after b h clock) = ap (λ (x : Event). spelling x p.at) event_is ∙ ap (spelling event) (at kept) in
-        subst (λ (d : D). LeavesOnly (seen d) (seen new) (λ c. StandsForEither (bodies_of h) (spelling event (moment_after b h clock)) c.a))
+        subst (λ (d : D). LeavesOnly (seen d) (seen new) (StandForEither b h (spelling event (moment_after b h clock))))
         (ap (λ (x : Stored D). x.journal.disk) is)
-        (subst (λ (bs : List ℕ). LeavesOnly (seen j.disk) (seen new) (λ c. StandsForEither (bodies_of h) bs c.a)) body (run holds))
+        (subst (λ (bs : List ℕ). LeavesOnly (seen j.disk) (seen new) (StandForEither b h bs)) body (run holds))
+
+    -- the disk failed when the record was written
+    torn : (k : Journal D) (clock : ℕ) (event : Event) (p : Plan) → p.event ≡ event → IsWellFormed event
+        → (StandsFor b r h → p.at ≡ moment_after b h clock) → (StandsFor b r h → p.reply ≡ answer b h event p.at) → is_recorded p.reply ≡ true
+        → HasSpelling p.event p.at → (Holds seen j (bodies_of h) → Leaves (seen k.disk) (bodies_of h) (spelling p.event p.at))
+        → IsTorn (seen k.disk) b h
+    torn k clock event p event_is formed at reply recorded spelled met =
+        let moment : p.at ≡ moment_after b h clock = at kept in
+        let late : last b h ≤ p.at = omega (arith, moment) in
+        record {
+          entry = entry_of 0 p;
+          goes_on = record {
+            next = record {
+              event = subst IsWellFormed (sym event_is) formed;
+              reply = reply kept ∙ ap (λ (x : Event). answer b h x p.at) (sym event_is);
+              late = late;
+            };
+            recorded = recorded;
+            spelled = spelled;
+          };
+          leaves = met holds;
+        }
+
+    -- no record was written, or it is torn: the store stands for what it stood for
+    pub stands_stopped : (k : Journal D) (clock need : ℕ) (event : Event) (p : Plan) → p.event ≡ event → IsWellFormed event
+        → (StandsFor b r h → p.at ≡ moment_after b h clock) → (StandsFor b r h → p.reply ≡ answer b h event p.at) → is_recorded p.reply ≡ true
+        → HasSpelling p.event p.at → (Holds seen j (bodies_of h) → Leaves (seen k.disk) (bodies_of h) (spelling p.event p.at))
+        → (stop : Stop) → IsUnwritten seen n j k need stop → StoreStands seen b (stored r k n) h
+    stands_stopped k clock need event p event_is formed at reply recorded spelled met Memory same =
+        record { centre = kept; journal = inl (holds_same seen j k (bodies_of h) same holds) }
+    stands_stopped k clock need event p event_is formed at reply recorded spelled met (Down before now) down = record {
+      centre = kept;
+      journal = inr (
+        subst (λ (m : ℕ). Rose n m) down.1 down.2,
+        torn k clock event p event_is formed at reply recorded spelled met,
+      );
+    }
+    stands_stopped k clock need event p event_is formed at reply recorded spelled met (Full used wanted records) full =
+        record { centre = kept; journal = inl (holds_same seen j k (bodies_of h) full.same holds) }
+    stands_stopped k clock need event p event_is formed at reply recorded spelled met (Worn count) never = absurd never

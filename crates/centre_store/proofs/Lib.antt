@@ -9,3 +9,4 @@ pub mod PastOnce
 pub mod OpeningOnce
 pub mod OpeningSteps
 pub mod OpeningLoop
+pub mod Recorded

@@ -1,49 +1,78 @@
--- Bytes have one opening.
+-- Areas have one opening.
 use Rattle.std.proofs.Common.{◌≡◌, ◌⊎◌, ℕ, List, sym, ap, ◌∙◌, subst, inl, inr}
+use Rattle.arc_io.specs.Areas.{Areas}
+use Rattle.centre_rules.specs.Summary.{Summary}
 use Rattle.centre_rules.specs.History.{Entry}
-use Rattle.disk_journal.specs.Records.{Stands}
+use Rattle.disk_journal.specs.Standing.{chosen_part, AreasStand}
 use Rattle.disk_journal.specs.Faults.{IsShown, IsOfContent}
 use Rattle.disk_journal.specs.declared.fault.OpenFault.{OpenFault}
 use Rattle.disk_journal.specs.declared.fault.OpenFault.TheVariants.{DiskFault, NotJournal, WrongVersion, Damaged, Memory}
 use Rattle.disk_journal.proofs.Once.{one_answer}
+use Rattle.centre_store.specs.Given.{AreasGive}
 use Rattle.centre_store.specs.Pasts.{IsPast, IsBadAt}
 use Rattle.centre_store.specs.Openings.{IsRefused, HasOneOpening}
 use Rattle.centre_store.proofs.PastOnce.{one_past, one_place, never_bad}
 
--- bodies that have no past, from this place on
-record IsBroken (fault : OpenFault) (bytes : List ℕ) : Type 0 where
+-- bodies that have no past over their summary, from this place on
+record IsBroken (fault : OpenFault) (areas : Areas) : Type 0 where
+  base : Summary
   bodies : List (List ℕ)
   place : ℕ
   is : fault ≡ Damaged place
-  stands : Stands bytes bodies
-  bad : IsBadAt bodies place
+  gives : AreasGive areas base bodies
+  bad : IsBadAt base bodies place
 
-causes : (fault : OpenFault) (bytes : List ℕ) → IsRefused fault bytes → IsShown fault bytes ⊎ IsBroken fault bytes
-causes (Damaged place) bytes (inl shown) = inl shown
-causes (Damaged place) bytes (inr t) = inr (record { bodies = t.0; place = place; is = λ i. Damaged place; stands = t.1; bad = t.2 })
-causes (DiskFault before now) bytes shown = inl shown
-causes (NotJournal byte) bytes shown = inl shown
-causes (WrongVersion found) bytes shown = inl shown
-causes Memory bytes shown = inl shown
+one_base : (areas : Areas) (base other : Summary) (bodies behind : List (List ℕ)) → AreasGive areas base bodies → AreasGive areas other behind
+    → base ≡ other
+one_base areas base other bodies behind one two = one.0 ∙ sym two.0
 
-same_fault : (bytes : List ℕ) (one other : OpenFault) → IsOfContent one → IsOfContent other → IsShown one bytes ⊎ IsBroken one bytes → IsShown other bytes ⊎ IsBroken other bytes → one ≡ other
-same_fault bytes one other of_one of_other (inl a) (inl b) = (one_answer bytes).faults one other of_one of_other a b
-same_fault bytes one other of_one of_other (inl a) (inr b) = absurd ((one_answer bytes).apart b.bodies one of_one b.stands a)
-same_fault bytes one other of_one of_other (inr a) (inl b) = absurd ((one_answer bytes).apart a.bodies other of_other a.stands b)
-same_fault bytes one other of_one of_other (inr a) (inr b) =
-    let same : a.bodies ≡ b.bodies = (one_answer bytes).lists a.bodies b.bodies a.stands b.stands in
-    let bad : IsBadAt b.bodies a.place = subst (λ (l : List (List ℕ)). IsBadAt l a.place) same a.bad in
-    a.is ∙ ap Damaged (one_place b.bodies a.place b.place bad b.bad) ∙ sym b.is
+one_list : (areas : Areas) (base other : Summary) (bodies behind : List (List ℕ)) → AreasGive areas base bodies → AreasGive areas other behind
+    → bodies ≡ behind
+one_list areas base other bodies behind one two = (one_answer (chosen_part areas)).lists bodies behind one.1 two.1
 
-never_both : (bytes : List ℕ) (bodies : List (List ℕ)) (h : List Entry) (fault : OpenFault) → IsOfContent fault → Stands bytes bodies → IsPast bodies h
-    → IsShown fault bytes ⊎ IsBroken fault bytes → ⊥
-never_both bytes bodies h fault of stands p (inl a) = (one_answer bytes).apart bodies fault of stands a
-never_both bytes bodies h fault of stands p (inr a) =
-    never_bad bodies h a.place p (subst (λ (l : List (List ℕ)). IsBadAt l a.place) ((one_answer bytes).lists a.bodies bodies a.stands stands) a.bad)
+-- the past that one of them has, and the place where it is bad, said of the other
+past_of : (areas : Areas) (base other : Summary) (bodies behind : List (List ℕ)) (h : List Entry) → AreasGive areas base bodies → AreasGive areas other behind
+    → IsPast base bodies h → IsPast other behind h
+past_of areas base other bodies behind h one two p =
+    subst (λ (s : Summary). IsPast s behind h) (one_base areas base other bodies behind one two)
+    (subst (λ (l : List (List ℕ)). IsPast base l h) (one_list areas base other bodies behind one two) p)
 
-pub one_opening : (bytes : List ℕ) → HasOneOpening bytes
-one_opening bytes = record {
-  pasts = λ bodies other h k one two p q. one_past bodies other h k ((one_answer bytes).lists bodies other one two) p q;
-  faults = λ one other of_one of_other a b. same_fault bytes one other of_one of_other (causes one bytes a) (causes other bytes b);
-  apart = λ bodies h fault of stands p refused. never_both bytes bodies h fault of stands p (causes fault bytes refused);
+bad_of : (areas : Areas) (base other : Summary) (bodies behind : List (List ℕ)) (place : ℕ) → AreasGive areas base bodies → AreasGive areas other behind
+    → IsBadAt base bodies place → IsBadAt other behind place
+bad_of areas base other bodies behind place one two bad =
+    subst (λ (s : Summary). IsBadAt s behind place) (one_base areas base other bodies behind one two)
+    (subst (λ (l : List (List ℕ)). IsBadAt base l place) (one_list areas base other bodies behind one two) bad)
+
+causes : (fault : OpenFault) (areas : Areas) → IsRefused fault areas → IsShown fault (chosen_part areas) ⊎ IsBroken fault areas
+causes (Damaged place) areas (inl shown) = inl shown
+causes (Damaged place) areas (inr t) =
+    inr (record { base = t.0; bodies = t.1; place = place; is = λ i. Damaged place; gives = t.2; bad = t.3 })
+causes (DiskFault before now) areas shown = inl shown
+causes (NotJournal byte) areas shown = inl shown
+causes (WrongVersion found) areas shown = inl shown
+causes Memory areas shown = inl shown
+
+same_fault : (areas : Areas) (one other : OpenFault) → IsOfContent one → IsOfContent other → IsShown one (chosen_part areas) ⊎ IsBroken one areas
+    → IsShown other (chosen_part areas) ⊎ IsBroken other areas → one ≡ other
+same_fault areas one other of_one of_other (inl a) (inl b) = (one_answer (chosen_part areas)).faults one other of_one of_other a b
+same_fault areas one other of_one of_other (inl a) (inr b) = absurd ((one_answer (chosen_part areas)).apart b.bodies one of_one b.gives.1 a)
+same_fault areas one other of_one of_other (inr a) (inl b) = absurd ((one_answer (chosen_part areas)).apart a.bodies other of_other a.gives.1 b)
+same_fault areas one other of_one of_other (inr a) (inr b) =
+    let bad : IsBadAt b.base b.bodies a.place = bad_of areas a.base b.base a.bodies b.bodies a.place a.gives b.gives a.bad in
+    a.is ∙ ap Damaged (one_place b.base b.bodies a.place b.place bad b.bad) ∙ sym b.is
+
+never_both : (areas : Areas) (base : Summary) (bodies : List (List ℕ)) (h : List Entry) (fault : OpenFault) → IsOfContent fault → AreasGive areas base bodies
+    → IsPast base bodies h → IsShown fault (chosen_part areas) ⊎ IsBroken fault areas → ⊥
+never_both areas base bodies h fault of gives p (inl a) = (one_answer (chosen_part areas)).apart bodies fault of gives.1 a
+never_both areas base bodies h fault of gives p (inr a) =
+    never_bad base bodies h a.place p (bad_of areas a.base base a.bodies bodies a.place a.gives gives a.bad)
+
+pub one_opening : (areas : Areas) → HasOneOpening areas
+one_opening areas = record {
+  bases = λ base other bodies behind one two.
+      (one_base areas base other bodies behind one two, one_list areas base other bodies behind one two);
+  pasts = λ base other bodies behind h k one two p q.
+      one_past other behind behind h k (λ i. behind) (past_of areas base other bodies behind h one two p) q;
+  faults = λ one other of_one of_other a b. same_fault areas one other of_one of_other (causes one areas a) (causes other areas b);
+  apart = λ base bodies h fault of gives p refused. never_both areas base bodies h fault of gives p (causes fault areas refused);
 }

@@ -1,9 +1,9 @@
 -- What one more body does to a centre that stands for the past of those before it.
-use Rattle.std.proofs.Common.{◌≡◌, ◌≤◌, ◌<◌, ◌^◌, ℕ, List, [], ◌∷◌, ◌++◌, length, Bool, true, false, Option, Some, None, sym, ap, ◌∙◌, subst, arith}
+use Rattle.std.proofs.Common.{◌≡◌, ◌≤◌, ◌<◌, ◌+◌, ◌^◌, ℕ, List, [], ◌∷◌, ◌++◌, length, Bool, true, false, Option, Some, None, sym, ap, ◌∙◌, subst, arith}
 use Rattle.std.specs.Prelude.{◌↔◌, IfSome, IsSome, IsTrue}
 use Rattle.arc_data.specs.declared.event.Event.{Event}
 use Rattle.arc_data.specs.declared.reply.Reply.{Reply}
-use Rattle.centre_rules.specs.Summary.{nothing}
+use Rattle.centre_rules.specs.Summary.{Summary}
 use Rattle.centre_rules.specs.History.{Entry, is_recorded, last, moment_after}
 use Rattle.centre_rules.specs.Answers.{answer}
 use Rattle.centre_rules.specs.State.{State, StandsFor}
@@ -35,9 +35,9 @@ found_so P None x is found = absurd (cc)
 found_so P (Some y) x is found = subst P (some_is y x is) found
 
 -- the last body is that of the newest entry
-pub last_body : (front : List (List ℕ)) (body : List ℕ) (e : Entry) (past : List Entry) → IsPast (front ++ body ∷ []) (e ∷ past) → body ≡ body_of e
-last_body front body e past p =
-    let a = past_less (front ++ body ∷ []) e past p in
+pub last_body : (base : Summary) (front : List (List ℕ)) (body : List ℕ) (e : Entry) (past : List Entry) → IsPast base (front ++ body ∷ []) (e ∷ past) → body ≡ body_of e
+last_body base front body e past p =
+    let a = past_less base (front ++ body ∷ []) e past p in
     (same_ends front a.front body (body_of e) a.split).bodies
 
 -- where an entry goes on, its event at its moment is answered at just this moment, and recorded
@@ -45,13 +45,13 @@ pub record GoesOn (at made : ℕ) (reply : Reply) : Type 0 where
   pub moment : made ≡ at
   pub recorded : is_recorded reply ≡ true
 
-pub goes_on : (front : List (List ℕ)) (body : List ℕ) (past : List Entry) (e : Entry) (event : Event) (at made : ℕ) (reply : Reply)
-    → IsPast (front ++ body ∷ []) (e ∷ past) → (event ≡ e.event) × (at ≡ e.at) → made ≡ moment_after nothing past at → reply ≡ answer nothing past event made → GoesOn at made reply
-goes_on front body past e event at made reply p same is_made is_reply =
-    let late : last nothing past ≤ e.at = p.legal.0.late in
+pub goes_on : (base : Summary) (front : List (List ℕ)) (body : List ℕ) (past : List Entry) (e : Entry) (event : Event) (at made : ℕ) (reply : Reply)
+    → IsPast base (front ++ body ∷ []) (e ∷ past) → (event ≡ e.event) × (at ≡ e.at) → made ≡ moment_after base past at → reply ≡ answer base past event made → GoesOn at made reply
+goes_on base front body past e event at made reply p same is_made is_reply =
+    let late : last base past ≤ e.at = p.legal.0.late in
     let moment : made ≡ at = is_made ∙ (omega (arith, late, same.1)) in
     let there : made ≡ e.at = moment ∙ same.1 in
-    let replied : reply ≡ e.reply = is_reply ∙ (λ i. answer nothing past (same.0 i) (there i)) ∙ sym p.legal.0.reply in
+    let replied : reply ≡ e.reply = is_reply ∙ (λ i. answer base past (same.0 i) (there i)) ∙ sym p.legal.0.reply in
     record { moment = moment; recorded = ap is_recorded replied ∙ p.kept.0.recorded }
 
 -- what a test of two facts tells
@@ -62,16 +62,16 @@ pub is_refused : (b : Bool) (P Q : Type 0) → (IsTrue b ↔ (P × Q)) → b ≡
 is_refused b P Q tells is both = let yes : b ≡ true = tells.1 both in absurd (cc (sym is ∙ yes))
 
 -- the entry that was worked out goes on from the past
-pub next_more : (front : List (List ℕ)) (body : List ℕ) (e : Entry) (s : State) (past : List Entry) (clock : ℕ) → IsPast front past → StandsFor nothing s past → s.entries < 2 ^ 48
-    → e.caller ≡ 0 → is_recorded e.reply ≡ true → HasSpelling e.event e.at × (body ≡ body_of e) → e.at ≡ moment_after nothing past clock
-    → e.reply ≡ answer nothing past e.event e.at → IsPast (front ++ body ∷ []) (e ∷ past)
-next_more front body e s past clock p stands few caller recorded spelled moment replied =
-    let count : s.entries ≡ length past = stands.entries ∙ omega arith in
-    let late : last nothing past ≤ e.at = omega (arith, moment) in
-    let short : length past < 2 ^ 48 = omega arith in
-    past_more front past e body p (record { event = spelled.0.well_formed; reply = replied; late = late }) (record { caller = caller; recorded = recorded; spelled = spelled.0 }) short spelled.1
+pub next_more : (base : Summary) (front : List (List ℕ)) (body : List ℕ) (e : Entry) (s : State) (past : List Entry) (clock : ℕ) → IsPast base front past → StandsFor base s past → s.entries < 2 ^ 48
+    → e.caller ≡ 0 → is_recorded e.reply ≡ true → HasSpelling e.event e.at × (body ≡ body_of e) → e.at ≡ moment_after base past clock
+    → e.reply ≡ answer base past e.event e.at → IsPast base (front ++ body ∷ []) (e ∷ past)
+next_more base front body e s past clock p stands few caller recorded spelled moment replied =
+    let count : s.entries ≡ base.recorded + length past = stands.entries in
+    let late : last base past ≤ e.at = omega (arith, moment) in
+    let short : base.recorded + length past < 2 ^ 48 = omega arith in
+    past_more base front past e body p (record { event = spelled.0.well_formed; reply = replied; late = late }) (record { caller = caller; recorded = recorded; spelled = spelled.0 }) short spelled.1
 
 -- and with it the centre is that of one body more
-pub replayed_more : (front : List (List ℕ)) (body : List ℕ) (e : Entry) (old new : State) (r : IsReplayed front old) → IsPast (front ++ body ∷ []) (e ∷ r.past)
-    → StandsFor nothing new (e ∷ r.past) → IsReplayed (front ++ body ∷ []) new
-replayed_more front body e old new r past stands = record { past = e ∷ r.past; is_past = past; stands = stands }
+pub replayed_more : (base : Summary) (front : List (List ℕ)) (body : List ℕ) (e : Entry) (old new : State) (r : IsReplayed base front old) → IsPast base (front ++ body ∷ []) (e ∷ r.past)
+    → StandsFor base new (e ∷ r.past) → IsReplayed base (front ++ body ∷ []) new
+replayed_more base front body e old new r past stands = record { past = e ∷ r.past; is_past = past; stands = stands }

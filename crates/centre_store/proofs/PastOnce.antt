@@ -3,7 +3,7 @@ use Rattle.std.proofs.Common.{◌≡◌, ◌≤◌, ◌<◌, ◌+◌, ℕ, List,
 use Rattle.std.proofs.lemmas.List.{take_at, drop_at, take-append-le, take_all, length_push}
 use Rattle.std.proofs.lemmas.Bool.{cases_order}
 use Rattle.arc_data.specs.declared.event.Event.{Event}
-use Rattle.centre_rules.specs.Summary.{nothing}
+use Rattle.centre_rules.specs.Summary.{Summary}
 use Rattle.centre_rules.specs.History.{Entry}
 use Rattle.centre_rules.specs.Answers.{IsNext, answer}
 use Rattle.disk_journal.specs.Records.{front as bytes_before}
@@ -41,88 +41,88 @@ spelled_once e f a b one two is =
     let pair : (e, a) ≡ (f, b) = some_is (e, a) (f, b) (sym (is_decoded (spelling e a) e a one refl) ∙ is_decoded (spelling e a) f b two is) in
     (ap (λ (p : Event × ℕ). p.0) pair, ap (λ (p : Event × ℕ). p.1) pair)
 
-same_entry : (h : List Entry) (e f : Entry) → IsKept e → IsKept f → IsNext nothing h e → IsNext nothing h f → body_of e ≡ body_of f → e ≡ f
-same_entry h e f one two first second is =
+same_entry : (base : Summary) (h : List Entry) (e f : Entry) → IsKept e → IsKept f → IsNext base h e → IsNext base h f → body_of e ≡ body_of f → e ≡ f
+same_entry base h e f one two first second is =
     let same = spelled_once e.event f.event e.at f.at one.spelled two.spelled is in
     let callers : e.caller ≡ f.caller = one.caller ∙ sym two.caller in
-    let replies : e.reply ≡ f.reply = first.reply ∙ (λ i. answer nothing h (same.0 i) (same.1 i)) ∙ sym second.reply in
+    let replies : e.reply ≡ f.reply = first.reply ∙ (λ i. answer base h (same.0 i) (same.1 i)) ∙ sym second.reply in
     λ i. record { caller = callers i; event = same.0 i; at = same.1 i; reply = replies i }
 
-pub one_past : (bodies other : List (List ℕ)) (h k : List Entry) → bodies ≡ other → IsPast bodies h → IsPast other k → h ≡ k
-one_past bodies other [] [] same p q = refl
-one_past bodies other [] (f ∷ k) same p q =
-    let b = past_less other f k q in
-    absurd (never_empty b.front (body_of f) (sym b.split ∙ sym same ∙ no_entries bodies p))
-one_past bodies other (e ∷ h) [] same p q =
-    let a = past_less bodies e h p in
-    absurd (never_empty a.front (body_of e) (sym a.split ∙ same ∙ no_entries other q))
-one_past bodies other (e ∷ h) (f ∷ k) same p q =
-    let a = past_less bodies e h p in
-    let b = past_less other f k q in
+pub one_past : (base : Summary) (bodies other : List (List ℕ)) (h k : List Entry) → bodies ≡ other → IsPast base bodies h → IsPast base other k → h ≡ k
+one_past base bodies other [] [] same p q = refl
+one_past base bodies other [] (f ∷ k) same p q =
+    let b = past_less base other f k q in
+    absurd (never_empty b.front (body_of f) (sym b.split ∙ sym same ∙ no_entries base bodies p))
+one_past base bodies other (e ∷ h) [] same p q =
+    let a = past_less base bodies e h p in
+    absurd (never_empty a.front (body_of e) (sym a.split ∙ same ∙ no_entries base other q))
+one_past base bodies other (e ∷ h) (f ∷ k) same p q =
+    let a = past_less base bodies e h p in
+    let b = past_less base other f k q in
     let ends = same_ends a.front b.front (body_of e) (body_of f) (sym a.split ∙ same ∙ b.split) in
-    let rest : h ≡ k = one_past a.front b.front h k ends.fronts a.past b.past in
-    let newest : e ≡ f = same_entry h e f p.kept.0 q.kept.0 p.legal.0 (subst (λ (l : List Entry). IsNext nothing l f) (sym rest) q.legal.0) ends.bodies in
+    let rest : h ≡ k = one_past base a.front b.front h k ends.fronts a.past b.past in
+    let newest : e ≡ f = same_entry base h e f p.kept.0 q.kept.0 p.legal.0 (subst (λ (l : List Entry). IsNext base l f) (sym rest) q.legal.0) ends.bodies in
     λ i. newest i ∷ rest i
 
 -- the first bodies of a list that has a past have one, too
-past_take_step : (n : ℕ) (bodies : List (List ℕ)) (e : Entry) (h : List Entry) → n ≤ length bodies → IsPast bodies (e ∷ h)
-    → ((front : List (List ℕ)) → n ≤ length front → IsPast front h → (g : List Entry) × IsPast (take n front) g) → (g : List Entry) × IsPast (take n bodies) g
-past_take_step n bodies e h le p before =
-    let a = past_less bodies e h p in
+past_take_step : (base : Summary) (n : ℕ) (bodies : List (List ℕ)) (e : Entry) (h : List Entry) → n ≤ length bodies → IsPast base bodies (e ∷ h)
+    → ((front : List (List ℕ)) → n ≤ length front → IsPast base front h → (g : List Entry) × IsPast base (take n front) g) → (g : List Entry) × IsPast base (take n bodies) g
+past_take_step base n bodies e h le p before =
+    let a = past_less base bodies e h p in
     let long : length bodies ≡ length a.front + 1 = ap length a.split ∙ length_push a.front (body_of e) in
-    let shorter : n ≤ length a.front → (g : List Entry) × IsPast (take n bodies) g = λ less.
+    let shorter : n ≤ length a.front → (g : List Entry) × IsPast base (take n bodies) g = λ less.
     let g = before a.front less a.past in
     let same : take n a.front ≡ take n bodies = sym (ap (take n) a.split ∙ take-append-le n a.front (body_of e ∷ []) less) in
-    (g.0, subst (λ (l : List (List ℕ)). IsPast l g.0) same g.1) in
-    elim (cases_order n (length bodies)) as (λ _. (g : List Entry) × IsPast (take n bodies) g) [
-      | inl all ↦ (e ∷ h, subst (λ (l : List (List ℕ)). IsPast l (e ∷ h)) (sym (take_all n bodies (omega arith))) p)
-      | inr other ↦ elim other as (λ _. (g : List Entry) × IsPast (take n bodies) g) [ inl less ↦ shorter (omega arith) | inr more ↦ absurd (omega arith) ]
+    (g.0, subst (λ (l : List (List ℕ)). IsPast base l g.0) same g.1) in
+    elim (cases_order n (length bodies)) as (λ _. (g : List Entry) × IsPast base (take n bodies) g) [
+      | inl all ↦ (e ∷ h, subst (λ (l : List (List ℕ)). IsPast base l (e ∷ h)) (sym (take_all n bodies (omega arith))) p)
+      | inr other ↦ elim other as (λ _. (g : List Entry) × IsPast base (take n bodies) g) [ inl less ↦ shorter (omega arith) | inr more ↦ absurd (omega arith) ]
     ]
 
-pub past_take : (n : ℕ) (bodies : List (List ℕ)) (h : List Entry) → n ≤ length bodies → IsPast bodies h → (g : List Entry) × IsPast (take n bodies) g
-past_take n bodies [] le p =
-    let none : take n bodies ≡ bodies = take_all n bodies (omega (arith, ap length (no_entries bodies p))) in
-    ([], subst (λ (l : List (List ℕ)). IsPast l []) (sym none) p)
-past_take n bodies (e ∷ h) le p = past_take_step n bodies e h le p (λ front less q. past_take n front h less q)
+pub past_take : (base : Summary) (n : ℕ) (bodies : List (List ℕ)) (h : List Entry) → n ≤ length bodies → IsPast base bodies h → (g : List Entry) × IsPast base (take n bodies) g
+past_take base n bodies [] le p =
+    let none : take n bodies ≡ bodies = take_all n bodies (omega (arith, ap length (no_entries base bodies p))) in
+    ([], subst (λ (l : List (List ℕ)). IsPast base l []) (sym none) p)
+past_take base n bodies (e ∷ h) le p = past_take_step base n bodies e h le p (λ front less q. past_take base n front h less q)
 
 -- a body with which no entry goes on from a past ends no list that has one
-no_next : (front : List (List ℕ)) (body : List ℕ) (past g : List Entry) → IsPast front past → HasNoNext front past body → IsPast (front ++ body ∷ []) g → ⊥
-no_next front body past [] before broken p = never_empty front body (no_entries (front ++ body ∷ []) p)
-no_next front body past (e ∷ g) before broken p =
-    let a = past_less (front ++ body ∷ []) e g p in
+no_next : (base : Summary) (front : List (List ℕ)) (body : List ℕ) (past g : List Entry) → IsPast base front past → HasNoNext base front past body → IsPast base (front ++ body ∷ []) g → ⊥
+no_next base front body past [] before broken p = never_empty front body (no_entries base (front ++ body ∷ []) p)
+no_next base front body past (e ∷ g) before broken p =
+    let a = past_less base (front ++ body ∷ []) e g p in
     let ends = same_ends front a.front body (body_of e) a.split in
-    let same : g ≡ past = one_past a.front front g past (sym ends.fronts) a.past before in
-    broken e (subst (λ (l : List Entry). IsPast (front ++ body ∷ []) (e ∷ l)) same p)
+    let same : g ≡ past = one_past base a.front front g past (sym ends.fronts) a.past before in
+    broken e (subst (λ (l : List Entry). IsPast base (front ++ body ∷ []) (e ∷ l)) same p)
 
 -- the first bodies, one more than stand before it
-through : (bodies : List (List ℕ)) (place : ℕ) (bad : IsBadAt bodies place) → take (length bad.front + 1) bodies ≡ bad.front ++ bad.body ∷ []
-through bodies place bad =
+through : (base : Summary) (bodies : List (List ℕ)) (place : ℕ) (bad : IsBadAt base bodies place) → take (length bad.front + 1) bodies ≡ bad.front ++ bad.body ∷ []
+through base bodies place bad =
     ap (take (length bad.front + 1)) (bad.split ∙ sym (append_assoc bad.front (bad.body ∷ []) bad.behind))
     ∙ take_at (bad.front ++ bad.body ∷ []) bad.behind (length bad.front + 1) (length_push bad.front bad.body)
 
-up_to : (bodies : List (List ℕ)) (place : ℕ) (bad : IsBadAt bodies place) → take (length bad.front) bodies ≡ bad.front
-up_to bodies place bad = ap (take (length bad.front)) bad.split ∙ take_at bad.front (bad.body ∷ bad.behind) (length bad.front) refl
+up_to : (base : Summary) (bodies : List (List ℕ)) (place : ℕ) (bad : IsBadAt base bodies place) → take (length bad.front) bodies ≡ bad.front
+up_to base bodies place bad = ap (take (length bad.front)) bad.split ∙ take_at bad.front (bad.body ∷ bad.behind) (length bad.front) refl
 
-within : (bodies : List (List ℕ)) (place : ℕ) (bad : IsBadAt bodies place) → length bad.front + 1 ≤ length bodies
-within bodies place bad = omega (arith, ap length bad.split, length-append bad.front (bad.body ∷ bad.behind))
+within : (base : Summary) (bodies : List (List ℕ)) (place : ℕ) (bad : IsBadAt base bodies place) → length bad.front + 1 ≤ length bodies
+within base bodies place bad = omega (arith, ap length bad.split, length-append bad.front (bad.body ∷ bad.behind))
 
-pub never_bad : (bodies : List (List ℕ)) (h : List Entry) (place : ℕ) → IsPast bodies h → IsBadAt bodies place → ⊥
-never_bad bodies h place p bad =
-    let g = past_take (length bad.front + 1) bodies h (within bodies place bad) p in
-    no_next bad.front bad.body bad.past g.0 bad.before bad.broken (subst (λ (l : List (List ℕ)). IsPast l g.0) (through bodies place bad) g.1)
+pub never_bad : (base : Summary) (bodies : List (List ℕ)) (h : List Entry) (place : ℕ) → IsPast base bodies h → IsBadAt base bodies place → ⊥
+never_bad base bodies h place p bad =
+    let g = past_take base (length bad.front + 1) bodies h (within base bodies place bad) p in
+    no_next base bad.front bad.body bad.past g.0 bad.before bad.broken (subst (λ (l : List (List ℕ)). IsPast base l g.0) (through base bodies place bad) g.1)
 
 -- no body before the bad one is bad
-never_earlier : (bodies : List (List ℕ)) (p q : ℕ) (one : IsBadAt bodies p) (two : IsBadAt bodies q) → length one.front < length two.front → ⊥
-never_earlier bodies p q one two less =
+never_earlier : (base : Summary) (bodies : List (List ℕ)) (p q : ℕ) (one : IsBadAt base bodies p) (two : IsBadAt base bodies q) → length one.front < length two.front → ⊥
+never_earlier base bodies p q one two less =
     let n = length one.front + 1 in
-    let g = past_take n two.front two.past (omega arith) two.before in
+    let g = past_take base n two.front two.past (omega arith) two.before in
     let same : take n two.front ≡ one.front ++ one.body ∷ [] =
-    sym (ap (take n) two.split ∙ take-append-le n two.front (two.body ∷ two.behind) (omega arith)) ∙ through bodies p one in
-    no_next one.front one.body one.past g.0 one.before one.broken (subst (λ (l : List (List ℕ)). IsPast l g.0) same g.1)
+    sym (ap (take n) two.split ∙ take-append-le n two.front (two.body ∷ two.behind) (omega arith)) ∙ through base bodies p one in
+    no_next base one.front one.body one.past g.0 one.before one.broken (subst (λ (l : List (List ℕ)). IsPast base l g.0) same g.1)
 
-pub one_place : (bodies : List (List ℕ)) (p q : ℕ) → IsBadAt bodies p → IsBadAt bodies q → p ≡ q
-one_place bodies p q one two = elim (cases_order (length one.front) (length two.front)) [
-  | inl same ↦ let fronts : one.front ≡ two.front = sym (up_to bodies p one) ∙ ap (λ (n : ℕ). take n bodies) same ∙ up_to bodies q two in
+pub one_place : (base : Summary) (bodies : List (List ℕ)) (p q : ℕ) → IsBadAt base bodies p → IsBadAt base bodies q → p ≡ q
+one_place base bodies p q one two = elim (cases_order (length one.front) (length two.front)) [
+  | inl same ↦ let fronts : one.front ≡ two.front = sym (up_to base bodies p one) ∙ ap (λ (n : ℕ). take n bodies) same ∙ up_to base bodies q two in
       one.at ∙ ap (λ (l : List (List ℕ)). length (bytes_before l)) fronts ∙ sym two.at
-  | inr other ↦ elim other [ inl less ↦ absurd (never_earlier bodies p q one two less) | inr more ↦ absurd (never_earlier bodies q p two one more) ]
+  | inr other ↦ elim other [ inl less ↦ absurd (never_earlier base bodies p q one two less) | inr more ↦ absurd (never_earlier base bodies q p two one more) ]
 ]

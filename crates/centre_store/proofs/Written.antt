@@ -6,31 +6,33 @@ use Rattle.arc_io.specs.Areas.{Areas}
 use Rattle.arc_io.specs.Disks.{DiskSeen}
 use Rattle.arc_io.specs.Crashes.{Becomes, LeavesOnly}
 use Rattle.arc_io.proofs.Moments.{joined}
-use Rattle.disk_journal.specs.Journal.{Keeps, Holds, StandsForEither}
-use Rattle.disk_journal.specs.OtherArea.{SparesB}
+use Rattle.disk_journal.specs.Journal.{Keeps, Holds}
+use Rattle.disk_journal.specs.OtherArea.{SparesOther}
 use Rattle.disk_journal.specs.Behind.{SparesBehind}
+use Rattle.disk_journal.specs.Standing.{StandsForEither, IsOtherSame}
 use Rattle.disk_journal.specs.declared.journal.Journal.{Journal}
 use Rattle.disk_journal.proofs.Behind.{spares_still}
 use Rattle.event_codec.specs.Spelling.{spelling}
 use Rattle.centre_store.specs.Bodies.{need_of}
-use Rattle.centre_store.specs.Stores.{Stored, Leaves, IsSameJournal}
+use Rattle.centre_store.specs.Given.{Leaves}
+use Rattle.centre_store.specs.Stores.{Stored, IsSameJournal}
 
 -- What is told.
 
-either_after : (told now : Option Areas) (bodies : List (List ℕ)) (body : List ℕ) → Becomes told now (λ s t. StandsForEither bodies body t.a)
-    → IfSome now (λ t. StandsForEither bodies body t.a)
+either_after : (told now : Option Areas) (bodies : List (List ℕ)) (body : List ℕ) → Becomes told now (λ s t. StandsForEither bodies body t)
+    → IfSome now (StandsForEither bodies body)
 either_after None None bodies body is = tt
 either_after None (Some t) bodies body is = absurd is
 either_after (Some s) None bodies body is = absurd is
 either_after (Some s) (Some t) bodies body is = is
 
-same_b_then : (s t u : Option Areas) → Becomes s t (λ x y. y.b ≡ x.b) → Becomes t u (λ x y. y.b ≡ x.b) → Becomes s u (λ x y. y.b ≡ x.b)
-same_b_then None None None one two = tt
-same_b_then None None (Some u) one two = absurd two
-same_b_then None (Some t) u one two = absurd one
-same_b_then (Some s) None u one two = absurd one
-same_b_then (Some s) (Some t) None one two = absurd two
-same_b_then (Some s) (Some t) (Some u) one two = two ∙ one
+other_then : (s t u : Option Areas) → Becomes s t IsOtherSame → Becomes t u IsOtherSame → Becomes s u IsOtherSame
+other_then None None None one two = tt
+other_then None None (Some u) one two = absurd two
+other_then None (Some t) u one two = absurd one
+other_then (Some s) None u one two = absurd one
+other_then (Some s) (Some t) None one two = absurd two
+other_then (Some s) (Some t) (Some u) one two = two ∙ one
 
 module _ {D : Type 0} (seen : D → DiskSeen) where
   -- a journal that is the same but for its room holds the same
@@ -45,8 +47,8 @@ module _ {D : Type 0} (seen : D → DiskSeen) where
 module _ {D : Type 0} (seen : D → DiskSeen) where
   -- after a call of which this is so at any moment
   pub leaves_after : (old new : D) (bodies : List (List ℕ)) (body : List ℕ) → ((d : D) (t : ℕ) (c : Areas) → t ≤ (seen d).moment → (seen d).may_leave c → (seen d).left_since t c)
-      → Becomes (seen old).told (seen new).told (λ s t. StandsForEither bodies body t.a)
-      → LeavesOnly (seen old) (seen new) (λ c. StandsForEither bodies body c.a)
+      → Becomes (seen old).told (seen new).told (λ s t. StandsForEither bodies body t)
+      → LeavesOnly (seen old) (seen new) (StandsForEither bodies body)
       → Leaves (seen new) bodies body
   leaves_after old new bodies body counts_now file any_moment = record {
     file = either_after (seen old).told (seen new).told bodies body file;
@@ -54,10 +56,10 @@ module _ {D : Type 0} (seen : D → DiskSeen) where
   }
 
   -- one run after another
-  pub spares_then : (old mid new : D) → SparesB (seen old) (seen mid) → SparesB (seen mid) (seen new)
-      → SparesB (seen old) (seen new)
+  pub spares_then : (old mid new : D) → SparesOther (seen old) (seen mid) → SparesOther (seen mid) (seen new)
+      → SparesOther (seen old) (seen new)
   spares_then old mid new one two = record {
-    same = same_b_then (seen old).told (seen mid).told (seen new).told one.same two.same;
+    same = other_then (seen old).told (seen mid).told (seen new).told one.same two.same;
     crash = λ c now.
         let m = two.crash c now in
         let o = one.crash m.0 m.1 in
@@ -72,8 +74,8 @@ module _ {D : Type 0} (seen : D → DiskSeen) where
   pub written_leaves : (j k : Journal D) (new : D) (bodies : List (List ℕ)) (body want : List ℕ) → IsSameJournal j k → body ≡ want
       → ((d : D) (t : ℕ) (c : Areas) → t ≤ (seen d).moment → (seen d).may_leave c → (seen d).left_since t c)
       → Holds seen j bodies
-      → (Holds seen k bodies → LeavesOnly (seen k.disk) (seen new) (λ c. StandsForEither bodies body c.a))
-      → (Holds seen k bodies → Becomes (seen k.disk).told (seen new).told (λ s t. StandsForEither bodies body t.a))
+      → (Holds seen k bodies → LeavesOnly (seen k.disk) (seen new) (StandsForEither bodies body))
+      → (Holds seen k bodies → Becomes (seen k.disk).told (seen new).told (λ s t. StandsForEither bodies body t))
       → Leaves (seen new) bodies want
   written_leaves j k new bodies body want same is counts_now h run file =
       let held = holds_same seen j k bodies same h in

@@ -4,15 +4,16 @@ use Rattle.std.specs.Str.{bytes_eq}
 use Rattle.arc_data.specs.declared.event.Event.{Event}
 use Rattle.arc_data.specs.declared.event.Event.TheVariants.{Adopt, Start}
 use Rattle.arc_data.specs.declared.reply.Reply.TheVariants.{Adopted, Started}
+use Rattle.arc_io.specs.Areas.{Areas}
 use Rattle.arc_io.specs.Disks.{DiskSeen}
 use Rattle.arc_io.specs.Crashes.{LeavesOnly}
 use Rattle.centre_core.specs.declared.hall.Stop.{Stop}
 use Rattle.centre_rules.specs.Summary.{Summary}
 use Rattle.centre_rules.specs.Marks.{text}
 use Rattle.centre_rules.specs.History.{Entry, Extends, marks, moment_after}
-use Rattle.disk_journal.specs.Records.{Stands}
 use Rattle.disk_journal.specs.Behind.{SparesBehind}
-use Rattle.centre_store.specs.Bodies.{bodies_of, need_of}
+use Rattle.centre_store.specs.Bodies.{need_of}
+use Rattle.centre_store.specs.Given.{StandFor}
 use Rattle.centre_store.specs.Stores.{Stored, HasFailed, StoreStands, StandsOn, Shows, IsAsBefore}
 use Rattle.centre_store.specs.Orders.{StopsInOrder}
 
@@ -36,18 +37,18 @@ begun_after b h setup clock =
 abbrev pub IsOfBegin : List ℕ → Event → Type 0
 IsOfBegin setup event = (event ≡ Adopt setup) ⊎ (event ≡ Start)
 
--- the bytes stand for the bodies of h, or of h with the Adopt, or of h with both
-pub record StandsWithin (b : Summary) (h : List Entry) (setup : List ℕ) (clock : ℕ) (bytes : List ℕ) : Type 0 where
+-- the areas stand for h, or for h with the Adopt, or for h with both
+pub record StandsWithin (b : Summary) (h : List Entry) (setup : List ℕ) (clock : ℕ) (areas : Areas) : Type 0 where
   pub so_far : List Entry
   pub from_h : Extends h so_far
   pub to_begun : Extends so_far (begun_after b h setup clock)
-  pub stands : Stands bytes (bodies_of so_far)
+  pub stands : StandFor b so_far areas
 
--- a crash at any moment from old to new leaves bytes that stand so
+-- a crash at any moment from old to new leaves areas that stand so
 abbrev pub LeavesWithin : {D : Type 0} → (D → DiskSeen) → Stored D → Stored D → List ℕ → ℕ → Type 0
 LeavesWithin seen old new setup clock =
     (b : Summary) (h : List Entry) → StoreStands seen b old h → (HasFailed seen old → ⊥)
-    → LeavesOnly (seen old.journal.disk) (seen new.journal.disk) (λ c. StandsWithin b h setup clock c.a)
+    → LeavesOnly (seen old.journal.disk) (seen new.journal.disk) (StandsWithin b h setup clock)
 
 -- what the store shows after a stop, which one of the two events met
 abbrev pub ShowsOfBegin : {D : Type 0} → (D → DiskSeen) → Stored D → List ℕ → ℕ → Stop → Type 0

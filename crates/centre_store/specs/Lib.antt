@@ -8,6 +8,7 @@ pub use Rattle.disk_journal.specs.Journal
 pub use Rattle.event_codec.specs.Spelling
 pub mod Bodies
 pub mod Pasts
+pub mod Given
 pub mod Stores
 pub mod Orders
 pub mod Writes

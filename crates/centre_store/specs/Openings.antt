@@ -1,47 +1,63 @@
 -- What an opening shows.
 use Rattle.std.specs.Prelude.{◌≡◌, ◌⊎◌, ℕ, List, IfSome, Result, Ok, Err}
+use Rattle.arc_io.specs.Areas.{Areas}
 use Rattle.arc_io.specs.Disks.{DiskSeen}
-use Rattle.centre_rules.specs.Summary.{nothing}
+use Rattle.centre_rules.specs.Summary.{Summary}
 use Rattle.centre_rules.specs.History.{Entry}
 use Rattle.disk_journal.specs.Faults.{IsShown, IsOfContent}
 use Rattle.disk_journal.specs.Journal.{Holds}
-use Rattle.disk_journal.specs.Records.{Stands, IsDamaged}
+use Rattle.disk_journal.specs.Records.{IsDamaged}
+use Rattle.disk_journal.specs.Standing.{chosen_part, AreasStand}
 use Rattle.disk_journal.specs.declared.fault.OpenFault.{OpenFault}
 use Rattle.disk_journal.specs.declared.fault.OpenFault.TheVariants.{Damaged, Memory}
 use Rattle.disk_journal.specs.declared.journal.OpenRefused.{OpenRefused}
+use Rattle.centre_store.specs.Given.{IsGiven, AreasGive}
 use Rattle.centre_store.specs.Pasts.{IsPast, IsBadAt}
 use Rattle.centre_store.specs.Stores.{Stored, StoreStands}
 
--- the store stands for the past of the bodies for which the area stood, and its journal holds them
+-- the store stands for the past of the bodies that the areas gave over a summary, and its journal holds them
 pub record IsOpened {D : Type 0} (seen : D → DiskSeen) (disk : D) (s : Stored D) : Type 0 where
+  pub base : Summary
   pub bodies : List (List ℕ)
   pub past : List Entry
-  pub is_past : IsPast bodies past
-  pub stands : StoreStands seen nothing s past
+  pub given : IsGiven base
+  pub is_past : IsPast base bodies past
+  pub stands : StoreStands seen base s past
   pub held : Holds seen s.journal bodies
-  pub area : IfSome (seen disk).told (λ a. Stands a.a bodies)
+  pub area : IfSome (seen disk).told (λ a. AreasStand a bodies)
 
 -- what a refusal says of the bodies that were read
-abbrev pub IsOfBodies : OpenFault → List (List ℕ) → Type 0
-IsOfBodies (Damaged place) bodies = IsBadAt bodies place
-IsOfBodies Memory bodies = Unit {0}
-IsOfBodies fault bodies = ⊥
+abbrev pub IsOfBodies : OpenFault → Summary → List (List ℕ) → Type 0
+IsOfBodies (Damaged place) base bodies = IsBadAt base bodies place
+IsOfBodies Memory base bodies = Unit {0}
+IsOfBodies fault base bodies = ⊥
 
--- what a refusal says of the area's bytes: that they stand for no bodies, or for bodies that have no past
-abbrev pub IsRefused : OpenFault → List ℕ → Type 0
-IsRefused (Damaged place) bytes = IsDamaged bytes place ⊎ ((bodies : List (List ℕ)) × Stands bytes bodies × IsBadAt bodies place)
-IsRefused fault bytes = IsShown fault bytes
+-- what a refusal says of the areas: that they stand for no bodies, or give some that have no past over their summary
+abbrev pub IsRefused : OpenFault → Areas → Type 0
+IsRefused (Damaged place) areas =
+    IsDamaged (chosen_part areas) place ⊎ ((base : Summary) × (bodies : List (List ℕ)) × AreasGive areas base bodies × IsBadAt base bodies place)
+IsRefused fault areas = IsShown fault (chosen_part areas)
 
 -- the disk after an opening, which the store has or the refusal gives back
 abbrev pub disk_of : {D : Type 0} → Result (Stored D) (OpenRefused D) → D
 disk_of (Ok s) = s.journal.disk
 disk_of (Err r) = r.disk
 
--- What the bytes of an area answer: one past or one refusal of content, and no other. So each of these comes exactly where its case
--- holds, as long as the disk and the memory do not fail.
-pub record HasOneOpening (bytes : List ℕ) : Type 0 where
-  pub pasts : (bodies other : List (List ℕ)) (h k : List Entry) → Stands bytes bodies → Stands bytes other
-      → IsPast bodies h → IsPast other k → h ≡ k
-  pub faults : (one other : OpenFault) → IsOfContent one → IsOfContent other → IsRefused one bytes → IsRefused other bytes → one ≡ other
-  pub apart : (bodies : List (List ℕ)) (h : List Entry) (fault : OpenFault) → IsOfContent fault → Stands bytes bodies → IsPast bodies h
-      → IsRefused fault bytes → ⊥
+-- What areas answer: one summary, one list of bodies and one past, or one refusal of content, and no other. So each of these comes exactly
+-- where its case holds, as long as the disk and the memory do not fail.
+pub record HasOneOpening (areas : Areas) : Type 0 where
+  pub bases : (base other : Summary) (bodies behind : List (List ℕ)) → AreasGive areas base bodies → AreasGive areas other behind
+      → (base ≡ other) × (bodies ≡ behind)
+  pub pasts : (base other : Summary) (bodies behind : List (List ℕ)) (h k : List Entry) → AreasGive areas base bodies
+      → AreasGive areas other behind → IsPast base bodies h → IsPast other behind k → h ≡ k
+  pub faults : (one other : OpenFault) → IsOfContent one → IsOfContent other → IsRefused one areas → IsRefused other areas → one ≡ other
+  pub apart : (base : Summary) (bodies : List (List ℕ)) (h : List Entry) (fault : OpenFault) → IsOfContent fault
+      → AreasGive areas base bodies → IsPast base bodies h → IsRefused fault areas → ⊥
+
+-- Areas that can be opened: they give a summary, and bodies that have a past over it. So an opening answers no refusal of content.
+pub record CanOpen (areas : Areas) : Type 0 where
+  pub base : Summary
+  pub bodies : List (List ℕ)
+  pub past : List Entry
+  pub gives : AreasGive areas base bodies
+  pub is_past : IsPast base bodies past

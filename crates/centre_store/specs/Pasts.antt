@@ -1,6 +1,6 @@
--- The history for which a list of bodies stands, and where a list stands for none.
-use Rattle.std.specs.Prelude.{◌≡◌, ◌≤◌, ◌^◌, ℕ, List, [], ◌∷◌, ◌++◌, true, length}
-use Rattle.centre_rules.specs.Summary.{nothing}
+-- The history over a summary for which a list of bodies stands, and where a list stands for none.
+use Rattle.std.specs.Prelude.{◌≡◌, ◌≤◌, ◌+◌, ◌^◌, ℕ, List, [], ◌∷◌, ◌++◌, true, length}
+use Rattle.centre_rules.specs.Summary.{Summary}
 use Rattle.centre_rules.specs.History.{Entry, is_recorded}
 use Rattle.centre_rules.specs.Answers.{IsLegal}
 use Rattle.centre_rules.specs.State.{State, StandsFor}
@@ -18,31 +18,31 @@ abbrev pub AreKept : List Entry → Type 0
 AreKept [] = Unit {0}
 AreKept (e ∷ h) = IsKept e × AreKept h
 
--- The bodies are those of this history: a legal one from the beginning on, of at most 2^48 entries, that has no quiet one. So each
--- body is a spelling, each reply is the answer after the entries before it, and no moment is less than the one before.
-pub record IsPast (bodies : List (List ℕ)) (h : List Entry) : Type 0 where
-  pub legal : IsLegal nothing h
+-- The bodies are those of this history over a summary: a legal one, of at most 2^48 entries with those of the summary, that has no quiet
+-- one. So each body is a spelling, each reply is the answer after the entries before it, and no moment is less than the one before.
+pub record IsPast (base : Summary) (bodies : List (List ℕ)) (h : List Entry) : Type 0 where
+  pub legal : IsLegal base h
   pub kept : AreKept h
-  pub few : length h ≤ 2 ^ 48
+  pub few : base.recorded + length h ≤ 2 ^ 48
   pub is : bodies ≡ bodies_of h
 
 -- no entry goes on from this past with this body
-abbrev pub HasNoNext : List (List ℕ) → List Entry → List ℕ → Type 0
-HasNoNext front past body = (e : Entry) → IsPast (front ++ body ∷ []) (e ∷ past) → ⊥
+abbrev pub HasNoNext : Summary → List (List ℕ) → List Entry → List ℕ → Type 0
+HasNoNext base front past body = (e : Entry) → IsPast base (front ++ body ∷ []) (e ∷ past) → ⊥
 
 -- The first bodies have a past, and no entry goes on from it with the next body. Its gate stands at this place.
-pub record IsBadAt (bodies : List (List ℕ)) (place : ℕ) : Type 0 where
+pub record IsBadAt (base : Summary) (bodies : List (List ℕ)) (place : ℕ) : Type 0 where
   pub front : List (List ℕ)
   pub body : List ℕ
   pub behind : List (List ℕ)
   pub past : List Entry
   pub split : bodies ≡ front ++ body ∷ behind
-  pub before : IsPast front past
+  pub before : IsPast base front past
   pub at : place ≡ length (bytes_before front)
-  pub broken : HasNoNext front past body
+  pub broken : HasNoNext base front past body
 
--- the centre is that of these bodies
-pub record IsReplayed (bodies : List (List ℕ)) (s : State) : Type 0 where
+-- the centre is that of these bodies over the summary
+pub record IsReplayed (base : Summary) (bodies : List (List ℕ)) (s : State) : Type 0 where
   pub past : List Entry
-  pub is_past : IsPast bodies past
-  pub stands : StandsFor nothing s past
+  pub is_past : IsPast base bodies past
+  pub stands : StandsFor base s past

@@ -1,20 +1,20 @@
 -- What a store stands for, what a call of it does, and what it shows after a stop.
-use Rattle.std.specs.Prelude.{◌≡◌, ◌≤◌, ◌⊎◌, ◌^◌, ℕ, List, ◌∷◌, true, IfSome, Result, OnErr, IfErr}
+use Rattle.std.specs.Prelude.{◌≡◌, ◌≤◌, ◌⊎◌, ◌^◌, ℕ, List, ◌∷◌, true, Result, OnErr, IfErr}
 use Rattle.arc_data.specs.declared.event.Event.{Event}
-use Rattle.arc_io.specs.Areas.{Areas}
 use Rattle.arc_io.specs.Disks.{DiskSeen}
 use Rattle.arc_io.specs.Causes.{Rose}
 use Rattle.centre_rules.specs.Summary.{Summary}
 use Rattle.centre_rules.specs.History.{Entry, moment_after, is_recorded}
-use Rattle.centre_rules.specs.Answers.{answer}
+use Rattle.centre_rules.specs.Answers.{IsNext, answer}
 use Rattle.centre_rules.specs.State.{State, StandsFor}
 use Rattle.centre_core.specs.declared.hall.Stop.{Stop}
 use Rattle.centre_core.specs.declared.hall.Stop.TheVariants.{Memory, Down, Full, Worn}
 use Rattle.disk_journal.specs.Faults.{IsOver}
-use Rattle.disk_journal.specs.Journal.{Holds, StandsForEither}
+use Rattle.disk_journal.specs.Journal.{Holds}
 use Rattle.disk_journal.specs.declared.journal.Journal.{Journal}
 use Rattle.event_codec.specs.Spelling.{HasSpelling, spelling}
 use Rattle.centre_store.specs.Bodies.{bodies_of, need_of}
+use Rattle.centre_store.specs.Given.{HasEither}
 
 -- the centre's state, the journal over its disk, and the count of the disk's faults when the store was opened
 pub record Stored (D : Type 0) : Type 0 where
@@ -26,23 +26,24 @@ pub record Stored (D : Type 0) : Type 0 where
 abbrev pub HasFailed : {D : Type 0} → (D → DiskSeen) → Stored D → Type 0
 HasFailed seen s = Rose s.at_open (seen s.journal.disk).faults
 
--- what a read gives and all that a crash may leave in area A stands for these bodies, or for them with this one more
-pub record Leaves (disk : DiskSeen) (bodies : List (List ℕ)) (body : List ℕ) : Type 0 where
-  pub file : IfSome disk.told (λ s. StandsForEither bodies body s.a)
-  pub images : (c : Areas) → disk.may_leave c → StandsForEither bodies body c.a
+-- the entry goes on from the history, is recorded, and has a spelling
+pub record IsNextKept (b : Summary) (h : List Entry) (e : Entry) : Type 0 where
+  pub next : IsNext b h e
+  pub recorded : is_recorded e.reply ≡ true
+  pub spelled : HasSpelling e.event e.at
 
--- the disk failed when the record of some event was written: area A has it or not
-pub record IsTorn (disk : DiskSeen) (h : List Entry) : Type 0 where
-  pub event : Event
-  pub at : ℕ
-  pub spelled : HasSpelling event at
-  pub leaves : Leaves disk (bodies_of h) (spelling event at)
+-- The disk failed when the record of such an entry was written: the areas have it or not. So they can be opened again, and have a past in
+-- either case.
+pub record IsTorn (disk : DiskSeen) (b : Summary) (h : List Entry) : Type 0 where
+  pub entry : Entry
+  pub goes_on : IsNextKept b h entry
+  pub leaves : HasEither disk b h (spelling entry.event entry.at)
 
 -- The store stands for the history: its centre does, and its journal holds the bodies of the recorded entries. After a fault of the disk
--- area A may have the record of one event more, the one that met the fault.
+-- the areas may have the record of one entry more, of the event that met the fault.
 pub record StoreStands {D : Type 0} (seen : D → DiskSeen) (b : Summary) (s : Stored D) (h : List Entry) : Type 0 where
   pub centre : StandsFor b s.state h
-  pub journal : Holds seen s.journal (bodies_of h) ⊎ (HasFailed seen s × IsTorn (seen s.journal.disk) h)
+  pub journal : Holds seen s.journal (bodies_of h) ⊎ (HasFailed seen s × IsTorn (seen s.journal.disk) b h)
 
 -- whatever the store stood for, it stands for
 abbrev pub StandsOn : {D : Type 0} → (D → DiskSeen) → Stored D → Stored D → Type 0

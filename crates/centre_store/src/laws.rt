@@ -1,8 +1,24 @@
-// Laws of what bytes stand for.
-ghost use Rattle.std.specs.Prelude.{ℕ, List};
-ghost use Rattle.centre_store.specs.Openings.{HasOneOpening};
+// Laws of what areas stand for.
+ghost use Rattle.std.specs.Prelude.{◌<◌, ◌+◌, ◌^◌, List, length};
+ghost use Rattle.arc_io.specs.Areas.{Areas};
+ghost use Rattle.centre_rules.specs.Summary.{Summary};
+ghost use Rattle.centre_rules.specs.History.{Entry, recorded};
+ghost use Rattle.centre_rules.specs.Answers.{IsLegal};
+ghost use Rattle.event_codec.specs.Spelling.{spelling};
+ghost use Rattle.centre_store.specs.Given.{IsGiven, StandForEither};
+ghost use Rattle.centre_store.specs.Openings.{CanOpen, HasOneOpening};
+ghost use Rattle.centre_store.specs.Pasts.{AreKept};
+ghost use Rattle.centre_store.specs.Stores.{IsNextKept};
 
-/// The bytes of an area have one past or one refusal of content, and no other.
+/// Areas have one summary and one past over it, or one refusal of content, and no other.
 pub fn law_one_opening()
-    ensures { (bytes : List ℕ) → HasOneOpening bytes }
+    ensures { (areas : Areas) → HasOneOpening areas }
+{}
+
+/// What a disk leaves that failed as the record of a next entry was written can be opened again: of a history whose recorded entries are such
+/// as a journal has, with room for one more.
+pub fn law_torn_opens()
+    ensures { (base : Summary) (h : List Entry) (e : Entry) (areas : Areas) → IsGiven base → IsLegal base h → AreKept (recorded h)
+        → base.recorded + length (recorded h) < 2 ^ 48 → IsNextKept base h e → StandForEither base h (spelling e.event e.at) areas
+        → CanOpen areas }
 {}

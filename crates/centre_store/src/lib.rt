@@ -7,6 +7,6 @@ mod open;
 mod store;
 mod submit;
 
-pub use laws::law_one_opening;
+pub use laws::{law_one_opening, law_torn_opens};
 pub use open::entry_in;
 pub use store::Store;

@@ -2,13 +2,13 @@
 ghost use Rattle.std.specs.Prelude.{◌≡◌, ◌≤◌, ◌<◌, ◌↔◌, ◌^◌, ◌++◌, [], ◌∷◌, ℕ, List, true, false, IfOk, IfErr, IfSome, IfNone, IsTrue};
 ghost use Rattle.arc_io.specs.Areas.{Areas};
 ghost use Rattle.arc_io.specs.Crashes.{Becomes, IsQuiet, LeavesOnly};
-ghost use Rattle.centre_rules.specs.Summary.{nothing};
+ghost use Rattle.centre_rules.specs.Summary.{Summary, nothing};
 ghost use Rattle.centre_rules.specs.History.{Entry, is_recorded};
 ghost use Rattle.centre_rules.specs.State.{StandsFor, entry_of};
 ghost use Rattle.disk_journal.specs.Faults.{IsOfContent, HasCounts};
-ghost use Rattle.disk_journal.specs.OtherArea.{SparesB};
-ghost use Rattle.disk_journal.specs.Reading.{GoesOn};
+ghost use Rattle.disk_journal.specs.OtherArea.{SparesOther};
 ghost use Rattle.disk_journal.specs.Records.{size};
+ghost use Rattle.disk_journal.specs.Standing.{GoesOn};
 ghost use Rattle.event_codec.specs.Spelling.{HasSpelling, spelling};
 ghost use Rattle.centre_store.specs.Pasts.{IsPast, HasNoNext, IsReplayed};
 ghost use Rattle.centre_store.specs.Openings.{IsOpened, IsRefused, IsOfBodies, disk_of};
@@ -22,7 +22,7 @@ use event_codec::decode;
 use std::alloc::Global;
 
 impl<D: Disk> Store<D> {
-    /// Opens the journal of area A (at most `limits.bytes` bytes, below 2^32, and `limits.records` records), and takes its events in again.
+    /// Opens the journal of both areas (at most `limits.bytes` bytes, below 2^32, and `limits.records` records), and takes its events in again.
     /// An area of at most 17 bytes is a new one. Damaged comes, besides the journal's own cases, where a body is no spelling of an event,
     /// or its event would be quiet after those before it, or its moment is less than the one before; its place is that of the first such
     /// body's gate. The other faults are the journal's.
@@ -33,16 +33,16 @@ impl<D: Disk> Store<D> {
         ensures at_open { IfOk result (λ s. s.at_open ≡ (D.seen s.journal.disk).faults) }
         ensures limits { IfOk result (λ s. s.journal.limits ≡ limits) }
 
-        ensures shown { IfErr result (λ r. IfSome (D.seen disk).told (λ a. IsRefused r.fault a.a)) }
+        ensures shown { IfErr result (λ r. IfSome (D.seen disk).told (IsRefused r.fault)) }
         ensures counts { IfErr result (λ r. HasCounts r.fault (D.seen disk).faults (D.seen r.disk).faults) }
 
         // A crash at any moment of the call leaves what stands for each list that an image at its start stood for, and so do reads.
         ensures any_moment { LeavesOnly (D.seen disk) (D.seen (disk_of result))
-            (λ c. (d : Areas) × (D.seen disk).may_leave d × GoesOn d.a c.a) }
-        ensures told { Becomes (D.seen disk).told (D.seen (disk_of result)).told (λ s t. GoesOn s.a t.a) }
-        ensures spared { SparesB (D.seen disk) (D.seen (disk_of result)) }
+            (λ c. (d : Areas) × (D.seen disk).may_leave d × GoesOn d c) }
+        ensures told { Becomes (D.seen disk).told (D.seen (disk_of result)).told GoesOn }
+        ensures spared { SparesOther (D.seen disk) (D.seen (disk_of result)) }
 
-        // Where the area's bytes are refused, nothing was written.
+        // Where the areas' bytes are refused, nothing was written.
         ensures unwritten { IfErr result (λ r. IsOfContent r.fault → IsQuiet (D.seen disk) (D.seen r.disk)) }
         ensures later { (D.seen disk).faults ≤ (D.seen (disk_of result)).faults }
 
@@ -71,8 +71,8 @@ impl<D: Disk> Store<D> {
 // The centre of the events of these bodies.
 fn replay(alloc: Global, bodies: &Bodies) -> Result<Centre, OpenFault>
     requires fits { size bodies.now < 2 ^ 64 }
-    ensures replayed { IfOk result (λ s. IsReplayed bodies.now s) }
-    ensures broken { IfErr result (λ f. IsOfBodies f bodies.now) }
+    ensures replayed { IfOk result (IsReplayed nothing bodies.now) }
+    ensures broken { IfErr result (λ f. IsOfBodies f nothing bodies.now) }
 {
     let mut centre = Centre::empty(alloc);
     let mut at = 16;
@@ -90,10 +90,10 @@ fn replay(alloc: Global, bodies: &Bodies) -> Result<Centre, OpenFault>
 
 // Takes the event of a body in. False where no entry goes on with it.
 fn take_in(centre: &mut Centre, alloc: Global, body: &[u8]) -> Result<bool, Memory>
-    ensures taken { IfOk result (λ taken. taken ≡ true → (front : List (List ℕ)) → IsReplayed front centre.old
-        → IsReplayed (front ++ body.now ∷ []) centre.new) }
-    ensures broken { IfOk result (λ taken. taken ≡ false → (front : List (List ℕ)) (past : List Entry) → IsPast front past
-        → StandsFor nothing centre.old past → HasNoNext front past body.now) }
+    ensures taken { IfOk result (λ taken. taken ≡ true → (base : Summary) (front : List (List ℕ)) → IsReplayed base front centre.old
+        → IsReplayed base (front ++ body.now ∷ []) centre.new) }
+    ensures broken { IfOk result (λ taken. taken ≡ false → (base : Summary) (front : List (List ℕ)) (past : List Entry) → IsPast base front past
+        → StandsFor base centre.old past → HasNoNext base front past body.now) }
 {
     let Some(ready) = entry_in(centre, alloc, body)? else {
         return Ok(false);
@@ -106,15 +106,15 @@ fn take_in(centre: &mut Centre, alloc: Global, body: &[u8]) -> Result<bool, Memo
 /// keeps stays. None where no entry goes on with it: the body is no spelling, or its moment is less than the last, or its event is quiet,
 /// or there are 2^48 entries. The error is want of memory.
 pub fn entry_in(centre: &mut Centre, alloc: Global, body: &[u8]) -> Result<Option<Ready>, Memory>
-    ensures stays { (h : List Entry) → StandsFor nothing centre.old h → StandsFor nothing centre.new h }
+    ensures stays { (base : Summary) (h : List Entry) → StandsFor base centre.old h → StandsFor base centre.new h }
     ensures made { IfOk result (λ found. IfSome found (λ r. r.of ≡ centre.new)) }
     ensures few { IfOk result (λ found. IfSome found (λ _. centre.new.entries < 2 ^ 48)) }
     ensures recorded { IfOk result (λ found. IfSome found (λ r. is_recorded r.reply ≡ true)) }
     ensures spelled { IfOk result (λ found. IfSome found (λ r. HasSpelling r.event r.at × (body.now ≡ spelling r.event r.at))) }
-    ensures next { IfOk result (λ found. IfSome found (λ r. (front : List (List ℕ)) (past : List Entry) → IsPast front past
-        → StandsFor nothing centre.new past → IsPast (front ++ body.now ∷ []) (entry_of 0 r ∷ past))) }
-    ensures broken { IfOk result (λ found. IfNone found ((front : List (List ℕ)) (past : List Entry) → IsPast front past
-        → StandsFor nothing centre.old past → HasNoNext front past body.now)) }
+    ensures next { IfOk result (λ found. IfSome found (λ r. (base : Summary) (front : List (List ℕ)) (past : List Entry) → IsPast base front past
+        → StandsFor base centre.new past → IsPast base (front ++ body.now ∷ []) (entry_of 0 r ∷ past))) }
+    ensures broken { IfOk result (λ found. IfNone found ((base : Summary) (front : List (List ℕ)) (past : List Entry) → IsPast base front past
+        → StandsFor base centre.old past → HasNoNext base front past body.now)) }
 {
     if centre.entries() >= 1 << 48 {
         return Ok(None);

@@ -10,12 +10,14 @@ ghost use Rattle.centre_rules.specs.Answers.{answer_over};
 ghost use Rattle.centre_rules.specs.State.{Grows};
 ghost use Rattle.centre_core.specs.Runs.{IsSubmitted};
 ghost use Rattle.centre_core.specs.Setting.{IsSetting};
-ghost use Rattle.disk_journal.specs.Journal.{Holds, StandsForEither};
-ghost use Rattle.disk_journal.specs.OtherArea.{SparesB};
+ghost use Rattle.disk_journal.specs.Journal.{Holds};
+ghost use Rattle.disk_journal.specs.OtherArea.{SparesOther};
 ghost use Rattle.disk_journal.specs.Behind.{SparesBehind};
+ghost use Rattle.disk_journal.specs.Standing.{StandsForEither};
 ghost use Rattle.event_codec.specs.Spelling.{IsKept, HasSpelling, spelling};
-ghost use Rattle.centre_store.specs.Bodies.{bodies_of, need_of};
-ghost use Rattle.centre_store.specs.Stores.{HasFailed, Leaves, StoreStands, StandsOn, Takes, Shows};
+ghost use Rattle.centre_store.specs.Bodies.{need_of};
+ghost use Rattle.centre_store.specs.Given.{StandForEither, Leaves, HasEither};
+ghost use Rattle.centre_store.specs.Stores.{HasFailed, StoreStands, StandsOn, Takes, Shows};
 ghost use Rattle.centre_store.specs.Stores.{IsSameJournal, LeavesJournal, IsAsBefore};
 ghost use Rattle.centre_store.specs.Orders.{IsDownWhereFailed, IsWornFirst, IsFullThen, StopsInOrder};
 ghost use Rattle.centre_store.specs.Writes.{IsOverAt, IsUnwritten};
@@ -57,7 +59,7 @@ impl<D: Disk> Store<D> {
 
         // A crash at any moment of the call leaves the records from before it, with those of its entries up to some one.
         ensures any_moment { LeavesWithin D.seen self.old self.new setup clock }
-        ensures spared { SparesB (D.seen self.old.journal.disk) (D.seen self.new.journal.disk) }
+        ensures spared { SparesOther (D.seen self.old.journal.disk) (D.seen self.new.journal.disk) }
         ensures at_open { self.new.at_open ≡ self.old.at_open }
         ensures limits { self.new.journal.limits ≡ self.old.journal.limits }
         ensures later { (D.seen self.old.journal.disk).faults ≤ (D.seen self.new.journal.disk).faults }
@@ -106,11 +108,11 @@ impl<D: Disk> Store<D> {
         // A crash at any moment of the call leaves the records from before it, with this event's or without; and so it is after a fault.
         ensures any_moment { (b : Summary) (h : List Entry) → StoreStands D.seen b self.old h
             → (HasFailed D.seen self.old → ⊥) → LeavesOnly (D.seen self.old.journal.disk) (D.seen self.new.journal.disk)
-            (λ c. StandsForEither (bodies_of h) (spelling event (moment_after b h clock)) c.a) }
+            (StandForEither b h (spelling event (moment_after b h clock))) }
         ensures met { (b : Summary) (h : List Entry) → StoreStands D.seen b self.old h
             → (HasFailed D.seen self.old → ⊥)
-            → Leaves (D.seen self.new.journal.disk) (bodies_of h) (spelling event (moment_after b h clock)) }
-        ensures spared { SparesB (D.seen self.old.journal.disk) (D.seen self.new.journal.disk) }
+            → HasEither (D.seen self.new.journal.disk) b h (spelling event (moment_after b h clock)) }
+        ensures spared { SparesOther (D.seen self.old.journal.disk) (D.seen self.new.journal.disk) }
         ensures behind { OnOk result (SparesBehind (self.old.journal.used + need_of event) (D.seen self.old.journal.disk) (D.seen self.new.journal.disk)) }
         ensures at_open { self.new.at_open ≡ self.old.at_open }
         ensures limits { self.new.journal.limits ≡ self.old.journal.limits }
@@ -139,7 +141,7 @@ impl<D: Disk> Store<D> {
         ensures in_force { is_in_force self.old.state.sum.text setup.now ≡ true → self.new ≡ self.old }
         ensures adopts { IsErr result → (HasFailed D.seen self.old → ⊥) → is_in_force self.old.state.sum.text setup.now ≡ false }
         ensures any_moment { LeavesWithin D.seen self.old self.new setup.now clock }
-        ensures spared { SparesB (D.seen self.old.journal.disk) (D.seen self.new.journal.disk) }
+        ensures spared { SparesOther (D.seen self.old.journal.disk) (D.seen self.new.journal.disk) }
         ensures behind { OnOk result (SparesBehind (self.old.journal.used + need_of (Event.Adopt setup.now)) (D.seen self.old.journal.disk) (D.seen self.new.journal.disk)) }
         ensures at_open { self.new.at_open ≡ self.old.at_open }
         ensures limits { self.new.journal.limits ≡ self.old.journal.limits }
@@ -195,11 +197,11 @@ impl<D: Disk> Store<D> {
 
         ensures any_moment { (b : Summary) (h : List Entry) → StoreStands D.seen b self.old h
             → (HasFailed D.seen self.old → ⊥) → LeavesOnly (D.seen self.old.journal.disk) (D.seen self.new.journal.disk)
-            (λ c. StandsForEither (bodies_of h) (spelling event (moment_after b h clock)) c.a) }
+            (StandForEither b h (spelling event (moment_after b h clock))) }
         ensures met { (b : Summary) (h : List Entry) → StoreStands D.seen b self.old h
             → (HasFailed D.seen self.old → ⊥)
-            → Leaves (D.seen self.new.journal.disk) (bodies_of h) (spelling event (moment_after b h clock)) }
-        ensures spared { SparesB (D.seen self.old.journal.disk) (D.seen self.new.journal.disk) }
+            → HasEither (D.seen self.new.journal.disk) b h (spelling event (moment_after b h clock)) }
+        ensures spared { SparesOther (D.seen self.old.journal.disk) (D.seen self.new.journal.disk) }
         ensures behind { OnOk result (SparesBehind (self.old.journal.used + need_of event) (D.seen self.old.journal.disk) (D.seen self.new.journal.disk)) }
         ensures at_open { self.new.at_open ≡ self.old.at_open }
         ensures limits { self.new.journal.limits ≡ self.old.journal.limits }
@@ -268,10 +270,10 @@ fn write<D: Disk>(
 
     ensures any_moment { (bodies : List (List ℕ)) → Holds D.seen journal.old bodies
         → LeavesOnly (D.seen journal.old.disk) (D.seen journal.new.disk)
-        (λ c. StandsForEither bodies (spelling ready.now.event ready.now.at) c.a) }
+        (StandsForEither bodies (spelling ready.now.event ready.now.at)) }
     ensures met { (bodies : List (List ℕ)) → Holds D.seen journal.old bodies
         → Leaves (D.seen journal.new.disk) bodies (spelling ready.now.event ready.now.at) }
-    ensures spared { SparesB (D.seen journal.old.disk) (D.seen journal.new.disk) }
+    ensures spared { SparesOther (D.seen journal.old.disk) (D.seen journal.new.disk) }
     ensures behind { OnOk result (SparesBehind (journal.old.used + need_of ready.now.event) (D.seen journal.old.disk) (D.seen journal.new.disk)) }
     ensures spelled { HasSpelling ready.now.event ready.now.at }
     ensures limits { journal.new.limits ≡ journal.old.limits }

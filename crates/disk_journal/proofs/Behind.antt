@@ -6,6 +6,7 @@ use Rattle.arc_io.specs.Disks.{DiskSeen}
 use Rattle.arc_io.specs.Crashes.{TornIn, Becomes, Follows}
 use Rattle.arc_io.specs.declared.disk.Area.TheVariants.{A}
 use Rattle.disk_journal.specs.Records.{bytes_of}
+use Rattle.disk_journal.specs.Standing.{IsSameBehind}
 use Rattle.disk_journal.specs.Behind.{SparesBehind}
 
 -- the bytes of a record with its next gate
@@ -17,14 +18,14 @@ further at m d c le same =
     let is : at + (m - at) ≡ m = omega (arith, le) in
     ap (λ k. drop k c) (sym is) ∙ sym (drop-drop (m - at) at c) ∙ ap (drop (m - at)) same ∙ drop-drop (m - at) at d ∙ ap (λ k. drop k d) is
 
-told_behind : (o n : Option Areas) (at k m : ℕ) → at + k ≤ m → Becomes o n (TornIn A at k) → Becomes o n (λ s t. drop m t.a ≡ drop m s.a)
+told_behind : (o n : Option Areas) (at k m : ℕ) → at + k ≤ m → Becomes o n (TornIn A at k) → Becomes o n (IsSameBehind m)
 told_behind None None at k m le torn = tt
 told_behind None (Some t) at k m le torn = absurd torn
 told_behind (Some s) None at k m le torn = absurd torn
 told_behind (Some s) (Some t) at k m le torn = further (at + k) m s.a t.a le torn.0.after
 
-told_then : (o m n : Option Areas) (k : ℕ) → Becomes o m (λ s t. drop k t.a ≡ drop k s.a) → Becomes m n (λ s t. drop k t.a ≡ drop k s.a)
-    → Becomes o n (λ s t. drop k t.a ≡ drop k s.a)
+told_then : (o m n : Option Areas) (k : ℕ) → Becomes o m (IsSameBehind k) → Becomes m n (IsSameBehind k)
+    → Becomes o n (IsSameBehind k)
 told_then None None None k one two = tt
 told_then None None (Some u) k one two = absurd two
 told_then None (Some t) n k one two = absurd one
@@ -32,7 +33,7 @@ told_then (Some s) None n k one two = absurd one
 told_then (Some s) (Some t) None k one two = absurd two
 told_then (Some s) (Some t) (Some u) k one two = two ∙ one
 
-told_still : (o : Option Areas) (k : ℕ) → Becomes o o (λ s t. drop k t.a ≡ drop k s.a)
+told_still : (o : Option Areas) (k : ℕ) → Becomes o o (IsSameBehind k)
 told_still None k = tt
 told_still (Some s) k = refl
 

@@ -9,7 +9,7 @@ use Rattle.arc_io.specs.Areas.{Areas}
 use Rattle.arc_io.specs.Crashes.{Torn, TornIn, Becomes, IsWritten}
 use Rattle.arc_io.specs.declared.disk.Area.TheVariants.{A}
 use Rattle.disk_journal.specs.Records.{head, front, bytes_of, records_of, AtRest, size, MayHave, HaveSizes}
-use Rattle.disk_journal.specs.Journal.{StandsForEither}
+use Rattle.disk_journal.specs.Standing.{StandsForEither}
 
 length-records : (bodies : List (List ℕ)) → length (records_of bodies) + 17 ≡ size bodies
 length-records [] = refl
@@ -165,7 +165,7 @@ module _ (bodies : List (List ℕ)) (body laid : List ℕ) (used : ℕ) (is : us
   opened_file (Some s) (Some t) written st = opened bodies body (used - 1) s.a t.a sizes fits (omega (arith, size-least bodies)) st written.0
 
   -- what a read gives after a first write that failed
-  pub first_torn : (o m : Option Areas) → Becomes o m (TornIn A used (length laid)) → IfSome o (λ s. AtRest s.a bodies) → Becomes o m (λ _ t. StandsForEither bodies body t.a)
+  pub first_torn : (o m : Option Areas) → Becomes o m (TornIn A used (length laid)) → IfSome o (λ s. AtRest s.a bodies) → Becomes o m (λ _ t. StandsForEither bodies body t)
   first_torn None None torn at_rest = tt
   first_torn None (Some t) torn at_rest = absurd torn
   first_torn (Some s) None torn at_rest = absurd torn
@@ -173,7 +173,7 @@ module _ (bodies : List (List ℕ)) (body laid : List ℕ) (used : ℕ) (is : us
 
   -- and after both writes, whether the second failed or not
   pub second_torn : (o m n : Option Areas) → Becomes o m (IsWritten A used laid) → Becomes m n (TornIn A (used - 1) 1) → IfSome o (λ s. AtRest s.a bodies)
-      → Becomes o n (λ _ t. StandsForEither bodies body t.a)
+      → Becomes o n (λ _ t. StandsForEither bodies body t)
   second_torn None None None one two at_rest = tt
   second_torn None None (Some u) one two at_rest = absurd two
   second_torn None (Some t) n one two at_rest = absurd one

@@ -9,8 +9,9 @@ use Rattle.arc_io.specs.Areas.{Areas}
 use Rattle.arc_io.specs.Crashes.{Torn, TornIn, Becomes}
 use Rattle.arc_io.specs.declared.disk.Area.TheVariants.{A}
 use Rattle.disk_journal.specs.Records.{name, version, front, AtRest, size, MayHave, HaveSizes, IsWhole, IsNoJournal, IsOfVersion, length_in}
-use Rattle.disk_journal.specs.Reading.{IsFilled, IsGate, IsRecord, IsBrokenAt, GoesOn}
+use Rattle.disk_journal.specs.Reading.{IsFilled, IsGate, IsRecord, IsBrokenAt}
 use Rattle.disk_journal.specs.Faults.{IsShown}
+use Rattle.disk_journal.specs.Standing.{GoesOn}
 use Rattle.disk_journal.specs.declared.fault.OpenFault.{OpenFault}
 use Rattle.disk_journal.specs.declared.fault.OpenFault.TheVariants as Open
 use Rattle.disk_journal.proofs.Gates.{front-more, length-front, size-more, size-least}
@@ -191,20 +192,20 @@ other_version bytes buf part rest long front_of sixteen is named behind other =
     }
 
 -- an area without records stands for none, whatever a first write leaves
-pub short_goes_on : (d c : List ℕ) → length d ≤ 17 → Torn 0 17 d c → GoesOn d c
+pub short_goes_on : (d c : Areas) → length d.a ≤ 17 → Torn 0 17 d.a c.a → GoesOn d c
 short_goes_on d c short torn [] stands = inl (omega (arith, torn.no_longer), refl)
 short_goes_on d c short torn (b ∷ bodies) (inl stands) = cc
 short_goes_on d c short torn (b ∷ bodies) (inr at_rest) =
     absurd (omega (arith, ap length at_rest.is, length-append (front (b ∷ bodies)) (at_rest.gate ∷ at_rest.behind), length-front (b ∷ bodies), size-least bodies))
 
-pub begun : (o m n : Option Areas) → m ≡ o → IfSome o (λ s. length s.a ≤ 17) → Becomes m n (TornIn A 0 17) → Becomes o n (λ s t. GoesOn s.a t.a)
+pub begun : (o m n : Option Areas) → m ≡ o → IfSome o (λ s. length s.a ≤ 17) → Becomes m n (TornIn A 0 17) → Becomes o n GoesOn
 begun o m n same short torn = from o n short (subst (λ (p : Option Areas). Becomes p n (TornIn A 0 17)) same torn)
   where
-    from : (o n : Option Areas) → IfSome o (λ s. length s.a ≤ 17) → Becomes o n (TornIn A 0 17) → Becomes o n (λ s t. GoesOn s.a t.a)
+    from : (o n : Option Areas) → IfSome o (λ s. length s.a ≤ 17) → Becomes o n (TornIn A 0 17) → Becomes o n GoesOn
     from None None short torn = tt
     from None (Some t) short torn = absurd torn
     from (Some s) None short torn = absurd torn
-    from (Some s) (Some t) short torn = short_goes_on s.a t.a short torn.0
+    from (Some s) (Some t) short torn = short_goes_on s t short torn.0
 
 pub short_told : (o : Option Areas) (len : ℕ) → IfSome o (λ s. len ≡ length s.a) → len ≤ 17 → IfSome o (λ s. length s.a ≤ 17)
 short_told None len is short = tt

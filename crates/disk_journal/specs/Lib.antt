@@ -1,4 +1,5 @@
 pub mod Records
+pub mod Standing
 pub mod Reading
 pub mod Faults
 pub mod Journal

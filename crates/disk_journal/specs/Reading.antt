@@ -4,7 +4,7 @@ use Rattle.std.specs.Prelude.{length, take, drop, Option, Some, None, IfSome, Ve
 use Rattle.std.specs.declared.alloc.Global.{Global}
 use Rattle.arc_io.specs.Areas.{Areas}
 use Rattle.disk_journal.specs.declared.window.Window.{Window}
-use Rattle.disk_journal.specs.Records.{bytes_of, IsWhole, Stands}
+use Rattle.disk_journal.specs.Records.{bytes_of, IsWhole}
 use Rattle.disk_journal.specs.declared.fault.OpenFault.{OpenFault}
 use Rattle.disk_journal.specs.declared.fault.OpenFault.TheVariants as Open
 
@@ -41,7 +41,3 @@ IsBrokenAt (Open.DiskFault was is) bytes at = Unit {0}
 IsBrokenAt (Open.NotJournal byte) bytes at = ⊥
 IsBrokenAt (Open.WrongVersion found) bytes at = ⊥
 IsBrokenAt Open.Memory bytes at = Unit {0}
-
--- whatever the first bytes stand for, the second stand for, too
-abbrev pub GoesOn : List ℕ → List ℕ → Type 0
-GoesOn before after = (bodies : List (List ℕ)) → Stands before bodies → Stands after bodies

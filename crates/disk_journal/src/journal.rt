@@ -1,10 +1,10 @@
-// The journal: it opens area A of a disk, appends records to it, and gives the disk back.
+// The journal: it opens the areas of a disk, appends records to one of them, and gives the disk back.
 ghost use Rattle.std.specs.Prelude.{◌≡◌, ◌⊎◌, ◌≤◌, ◌<◌, ◌+◌, ◌^◌, ◌++◌, [], ◌∷◌, ℕ, List, length, OnOk, OnErr, IfOk, IfErr, IfSome, MatchResult, vec_len};
 ghost use Rattle.arc_io.specs.Areas.{Areas};
 ghost use Rattle.arc_io.specs.Crashes.{Becomes, IsQuiet, LeavesOnly};
-ghost use Rattle.disk_journal.specs.Records.{MayHave, Stands};
-ghost use Rattle.disk_journal.specs.Reading.{GoesOn};
-ghost use Rattle.disk_journal.specs.OtherArea.{SparesB};
+ghost use Rattle.disk_journal.specs.Records.{MayHave};
+ghost use Rattle.disk_journal.specs.Standing.{chosen_part, AreasStand, GoesOn, StandsForEither};
+ghost use Rattle.disk_journal.specs.OtherArea.{SparesOther};
 ghost use Rattle.disk_journal.specs.Behind.{SparesBehind};
 ghost use Rattle.disk_journal.specs.Faults.{IsShown, IsOfContent, HasCounts, IsOver, IsFull, HasCountsOf};
 
@@ -63,9 +63,9 @@ pub struct OpenRefused<D: Disk> {
 }
 
 impl<D: Disk> Journal<D> {
-    ghost use Rattle.disk_journal.specs.Journal.{Holds, StandsForEither, room_of, disk_after};
+    ghost use Rattle.disk_journal.specs.Journal.{Holds, room_of, disk_after};
 
-    /// Opens the journal of area A, and gives the bodies that stand there. An area of at most 17 bytes is a new one.
+    /// Opens the journal of area A, and gives the bodies for which both areas stand. An area of at most 17 bytes is a new one.
     pub fn open(
         alloc: Global,
         disk: D,
@@ -77,17 +77,17 @@ impl<D: Disk> Journal<D> {
         ensures limits { IfOk result (λ r. r.0.limits ≡ limits) }
         ensures room { IfOk result (λ r. room_of r.0 ≡ 0) }
 
-        // The list is that for which the area stood, and a refusal shows why it stood for none.
-        ensures stands { IfOk result (λ r. IfSome (D.seen disk).told (λ s. Stands s.a r.1)) }
-        ensures shown { IfErr result (λ r. IfSome (D.seen disk).told (λ s. IsShown r.fault s.a)) }
+        // The list is that for which the areas stood, and a refusal shows why they stood for none.
+        ensures stands { IfOk result (λ r. IfSome (D.seen disk).told (λ s. AreasStand s r.1)) }
+        ensures shown { IfErr result (λ r. IfSome (D.seen disk).told (λ s. IsShown r.fault (chosen_part s))) }
         ensures counts { IfErr result (λ r. HasCounts r.fault (D.seen disk).faults (D.seen r.disk).faults) }
 
         // A crash at any moment of the call leaves what stands for each list that an image at its start stood for.
         ensures any_moment { LeavesOnly (D.seen disk) (D.seen (disk_after result))
-            (λ c. (d : Areas) × (D.seen disk).may_leave d × GoesOn d.a c.a) }
-        ensures told { Becomes (D.seen disk).told (D.seen (disk_after result)).told (λ s t. GoesOn s.a t.a) }
+            (λ c. (d : Areas) × (D.seen disk).may_leave d × GoesOn d c) }
+        ensures told { Becomes (D.seen disk).told (D.seen (disk_after result)).told GoesOn }
 
-        ensures spared { SparesB (D.seen disk) (D.seen (disk_after result)) }
+        ensures spared { SparesOther (D.seen disk) (D.seen (disk_after result)) }
 
         // Where the area's bytes are refused, or some body stands there, nothing was written.
         ensures unwritten { IfErr result (λ r. IsOfContent r.fault → IsQuiet (D.seen disk) (D.seen r.disk)) }
@@ -145,14 +145,14 @@ impl<D: Disk> Journal<D> {
 
         // A crash at any moment of the call leaves the records from before it, with the new one or without.
         ensures any_moment { (bodies : List (List ℕ)) → Holds D.seen self.old bodies
-            → LeavesOnly (D.seen self.old.disk) (D.seen self.new.disk) (λ c. StandsForEither bodies body.now c.a) }
+            → LeavesOnly (D.seen self.old.disk) (D.seen self.new.disk) (λ c. StandsForEither bodies body.now c) }
 
         // What a read gives afterwards, too.
         ensures told { (bodies : List (List ℕ)) → Holds D.seen self.old bodies
-            → Becomes (D.seen self.old.disk).told (D.seen self.new.disk).told (λ _ t. StandsForEither bodies body.now t.a) }
+            → Becomes (D.seen self.old.disk).told (D.seen self.new.disk).told (λ _ t. StandsForEither bodies body.now t) }
 
         // Nothing but the record and its gates is written: all that stands behind is as it was.
-        ensures spared { SparesB (D.seen self.old.disk) (D.seen self.new.disk) }
+        ensures spared { SparesOther (D.seen self.old.disk) (D.seen self.new.disk) }
         ensures behind { SparesBehind (self.old.used + 5 + length body.now) (D.seen self.old.disk) (D.seen self.new.disk) }
 
         // Full comes exactly over a limit, before any device call.

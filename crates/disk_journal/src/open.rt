@@ -5,11 +5,12 @@ ghost use Rattle.arc_io.specs.Areas.{Areas};
 ghost use Rattle.arc_io.specs.Crashes.{Becomes, IsQuiet, OnlyIn, LeavesOnly, LeavesTorn, TornIn};
 ghost use Rattle.arc_io.specs.Causes.{IsCounted};
 ghost use Rattle.arc_io.specs.declared.disk.Area.TheVariants.{A};
-ghost use Rattle.disk_journal.specs.Records.{MayHave, HaveSizes, AtRest, Stands, head, size};
+ghost use Rattle.disk_journal.specs.Records.{MayHave, HaveSizes, AtRest, head, size};
 ghost use Rattle.disk_journal.specs.Faults.{IsShown, IsOfContent, IsOfFront, HasCounts};
-ghost use Rattle.disk_journal.specs.Reading.{Shows, IsGate, IsRecord, IsBrokenAt, GoesOn};
+ghost use Rattle.disk_journal.specs.Reading.{Shows, IsGate, IsRecord, IsBrokenAt};
 ghost use Rattle.disk_journal.specs.Journal.{Keeps};
-ghost use Rattle.disk_journal.specs.OtherArea.{SparesB};
+ghost use Rattle.disk_journal.specs.OtherArea.{SparesOther};
+ghost use Rattle.disk_journal.specs.Standing.{chosen_part, AreasStand, GoesOn};
 
 use crate::bodies::Bodies;
 use crate::fault::OpenFault;
@@ -265,7 +266,7 @@ fn begin<D: Disk>(alloc: Global, disk: &mut D, before: u64) -> Result<Loaded, Op
     ensures durable { OnOk result (IfSome (D.seen disk.new).told (λ s. OnlyIn A s (D.seen disk.new).may_leave)) }
     ensures torn { Becomes (D.seen disk.old).told (D.seen disk.new).told (TornIn A 0 17) }
     ensures any_moment { LeavesTorn (D.seen disk.old) (D.seen disk.new) A 0 17 }
-    ensures spared { SparesB (D.seen disk.old) (D.seen disk.new) }
+    ensures spared { SparesOther (D.seen disk.old) (D.seen disk.new) }
     ensures later { (D.seen disk.old).faults ≤ (D.seen disk.new).faults }
     ensures met_none { OnOk result ((D.seen disk.new).faults ≡ (D.seen disk.old).faults) }
     ensures counts { IfErr result (λ f. HasCounts f before (D.seen disk.new).faults) }
@@ -312,14 +313,14 @@ fn read_area<D: Disk>(
 pub fn load<D: Disk>(alloc: Global, disk: &mut D) -> Result<Loaded, OpenFault>
     ensures used { IfOk result (λ l. l.used ≡ size l.bodies) }
     ensures kept { IfOk result (λ l. Keeps (D.seen disk.new) l.bodies) }
-    ensures stands { IfOk result (λ l. IfSome (D.seen disk.old).told (λ s. Stands s.a l.bodies)) }
-    ensures shown { IfErr result (λ f. IfSome (D.seen disk.old).told (λ s. IsShown f s.a)) }
+    ensures stands { IfOk result (λ l. IfSome (D.seen disk.old).told (λ s. AreasStand s l.bodies)) }
+    ensures shown { IfErr result (λ f. IfSome (D.seen disk.old).told (λ s. IsShown f (chosen_part s))) }
     ensures unwritten { IfErr result (λ f. IsOfContent f → IsQuiet (D.seen disk.old) (D.seen disk.new)) }
     ensures untouched { IfOk result (λ l. (l.bodies ≡ [] → ⊥) → IsQuiet (D.seen disk.old) (D.seen disk.new)) }
-    ensures told { Becomes (D.seen disk.old).told (D.seen disk.new).told (λ s t. GoesOn s.a t.a) }
+    ensures told { Becomes (D.seen disk.old).told (D.seen disk.new).told GoesOn }
     ensures any_moment { LeavesOnly (D.seen disk.old) (D.seen disk.new)
-        (λ c. (d : Areas) × (D.seen disk.old).may_leave d × GoesOn d.a c.a) }
-    ensures spared { SparesB (D.seen disk.old) (D.seen disk.new) }
+        (λ c. (d : Areas) × (D.seen disk.old).may_leave d × GoesOn d c) }
+    ensures spared { SparesOther (D.seen disk.old) (D.seen disk.new) }
     ensures later { (D.seen disk.old).faults ≤ (D.seen disk.new).faults }
     ensures met_none { OnOk result ((D.seen disk.new).faults ≡ (D.seen disk.old).faults) }
     ensures counts { IfErr result (λ f. HasCounts f (D.seen disk.old).faults (D.seen disk.new).faults) }

@@ -3,9 +3,10 @@ ghost use Rattle.std.specs.Prelude.{◌≡◌, ◌≤◌, ◌<◌, ◌+◌, ◌^
 ghost use Rattle.arc_io.specs.Crashes.{Becomes, LeavesOnly};
 ghost use Rattle.arc_io.specs.Causes.{IsCounted};
 ghost use Rattle.disk_journal.specs.Records.{MayHave, bytes_of, size};
-ghost use Rattle.disk_journal.specs.Journal.{Keeps, StandsForEither};
-ghost use Rattle.disk_journal.specs.OtherArea.{SparesB};
+ghost use Rattle.disk_journal.specs.Journal.{Keeps};
+ghost use Rattle.disk_journal.specs.OtherArea.{SparesOther};
 ghost use Rattle.disk_journal.specs.Behind.{SparesBehind};
+ghost use Rattle.disk_journal.specs.Standing.{StandsForEither};
 
 use arc_io::{Area, Disk, Failed, write_synced};
 
@@ -35,10 +36,10 @@ pub fn write_record<D: Disk>(
     ensures added { OnOk result ((bodies : List (List ℕ)) → used ≡ size bodies → Keeps (D.seen disk.old) bodies
         → Keeps (D.seen disk.new) (bodies ++ body.now ∷ [])) }
     ensures any_moment { (bodies : List (List ℕ)) → used ≡ size bodies → Keeps (D.seen disk.old) bodies
-        → LeavesOnly (D.seen disk.old) (D.seen disk.new) (λ c. StandsForEither bodies body.now c.a) }
+        → LeavesOnly (D.seen disk.old) (D.seen disk.new) (λ c. StandsForEither bodies body.now c) }
     ensures told { (bodies : List (List ℕ)) → used ≡ size bodies → Keeps (D.seen disk.old) bodies
-        → Becomes (D.seen disk.old).told (D.seen disk.new).told (λ _ t. StandsForEither bodies body.now t.a) }
-    ensures spared { SparesB (D.seen disk.old) (D.seen disk.new) }
+        → Becomes (D.seen disk.old).told (D.seen disk.new).told (λ _ t. StandsForEither bodies body.now t) }
+    ensures spared { SparesOther (D.seen disk.old) (D.seen disk.new) }
     ensures behind { SparesBehind (used + 5 + length body.now) (D.seen disk.old) (D.seen disk.new) }
     ensures cause { IsCounted (D.seen disk.old).faults (D.seen disk.new).faults result }
 {

@@ -4,6 +4,7 @@ ghost use Rattle.std.specs.Prelude.{◌≡◌, ◌≤◌, ◌<◌, ◌^◌, ◌+
 ghost use Rattle.arc_data.specs.WellFormed.{IsWellFormed};
 ghost use Rattle.centre_rules.specs.History.{Entry, IsMoment};
 ghost use Rattle.centre_core.specs.Runs.{IsSubmitted};
+ghost use Rattle.centre_store.specs.Stores.{StandsOn};
 ghost use Rattle.line_gate.specs.Entries.{Extends};
 ghost use Rattle.line_gate.specs.Terms.{IsOfGate};
 ghost use Rattle.line_gate.specs.UnderLock.{IsBookSeat, IsEntered};
@@ -50,6 +51,7 @@ impl<D: Disk, N: GateName> LockedStore<D, N> {
         ensures since { pass.new.since ≡ self.new.book.seen }
         ensures count { pass.new.count ≡ self.new.book.count }
         ensures told { pass.new.told ≡ self.new.book.told }
+        ensures store { self.new.store ≡ self.old.store }
     {
         let shown = pass.note(words);
         show(words, &mut self.book, shown);
@@ -101,6 +103,10 @@ impl<D: Disk, N: GateName> LockedStore<D, N> {
             (record { caller = d.caller; event = event; at = d.at; reply = d.reply })) }
         ensures by { IfOk result (λ d. d.caller ≡ pass.old.number) }
         ensures made { OnErr result (pass.new.made ≡ pass.old.made) }
+
+        // A call that stops added nothing, of anybody's: the store stands for what it stood for, with as many entries.
+        ensures stop { OnErr result (StandsOn D.seen self.old.store self.new.store) }
+        ensures entries { OnErr result (self.new.store.state.entries ≡ self.old.store.state.entries) }
         ensures cause { IfErr result (λ s. PassShows N.terms pass.new s event clock) }
     {
         self.meet(words, pass);
@@ -140,6 +146,7 @@ impl<D: Disk, N: GateName> LockedStore<D, N> {
         ensures since { pass.new.since ≡ pass.old.since }
         ensures made { pass.new.made ≡ pass.old.made }
         ensures told { (faults ≤ result) × (result ≡ pass.new.told) }
+        ensures store { self.new.store ≡ self.old.store }
     {
         mark(words, &mut self.book, faults);
         let back = note(words, &mut self.book);

@@ -10,10 +10,10 @@ returns-clause-taken c same bodies past p stands =
     let ready = c.in-Some.ready in
     let found = c.in_ok-ready.field-0 in
     let is = c.in-Some.is in
-    let stays = c.entry_in.ensures.stays past stands in
+    let stays = c.entry_in.ensures.stays nothing past stands in
     record {
       entry = entry_of 0 ready;
-      is_past = found_so _ found ready is c.in_ok-ready.ensures.next bodies past p stays;
+      is_past = found_so _ found ready is c.in_ok-ready.ensures.next nothing bodies past p stays;
       stands = c.apply.ensures.entry nothing past 0 stays;
       line = c.put_line.ensures ∙ ap (λ (l : List ℕ). c.args.page.now ++ l)
           (line_told c.entry_in.new.centre past ready (c.entries-number.result + 1) c.at.result c.table.result.now.incidents c.carried.result.now c.event-event.result.now c.reply-reply.result.now

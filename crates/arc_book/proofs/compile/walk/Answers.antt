@@ -1,6 +1,7 @@
 use Rattle.std.proofs.Common.{◌++◌, ◌∷◌, [], ℕ, List, length, Err, refl, sym, ap, subst, arith}
 use Rattle.arc_io.proofs.Frames.{reads_more, writes_more}
 use Rattle.book_lines.specs.Books.{book_of}
+use Rattle.centre_rules.specs.Summary.{nothing}
 use Rattle.centre_store.specs.Pasts.{HasNoNext}
 use Rattle.centre_store.proofs.PastSteps.{no_past}
 use Rattle.arc_book.specs.Compiled.{IsCompiled, IsWrittenBut}
@@ -81,7 +82,7 @@ returns-in-Ok-false-clause-compiled g c all r =
     let k0 = g.K.Ends.seen c.args.sink.now in
     let k = g.K.Ends.seen c.records.sink in
     let read = c.in-Ok-Body.ensures.body c.in-Ok-Body.field-0-is all w.bodies w.read in
-    let bad = subst (HasNoNext w.bodies w.past) c.deref.ensures.value (c.in-Ok-false.ensures.bad c.in-Ok-false.field-0-test w.bodies w.past w.is_past w.stands) in
+    let bad = subst (HasNoNext nothing w.bodies w.past) c.deref.ensures.value (c.in-Ok-false.ensures.bad c.in-Ok-false.field-0-test w.bodies w.past w.is_past w.stands) in
     subst (IsCompiled c.scan.result all s s' k0 k) (sym (c.in-Ok-false.ensures.kept c.in-Ok-false.field-0-test))
     (bad_walk all t.gate t.at (ahead t.intake (g.S.Ends.seen c.records.source).left) s s' k0 k c.records.centre c.records.page w inv.write_faults
     (reads_more (reads_more inv.reads c.next.ensures.others) c.scan.ensures.others) inv.writes c.scan.result u.body.items u.gate u.at (ahead u.intake (g.S.Ends.seen c.next.new.source).left) read bad

@@ -16,8 +16,8 @@ use Rattle.arc_script.proofs.command.command.Goals as goal
 
 pub returns-in-Err-clause-stop : goal.returns-in-Err-clause-stop
 returns-in-Err-clause-stop g c =
-    λ before clock count h next empty stands readable.
-    halted_first g.D.Disk.seen c.args.store c.args.script.now.setup clock c.args.desk before c.args.text.now h
+    λ base before clock count h next empty stands readable.
+    halted_first g.D.Disk.seen c.args.store base c.args.script.now.setup clock c.args.desk before c.args.text.now h
     c.args.script.now.tally c.in-Err.stop c.put_asked.result c.in-Err.is (c.in-Err.is ∙ c.in-Err.ensures.stop) stands readable
 
 pub take_desk-end-requires : goal.take_desk-end-requires
@@ -58,7 +58,7 @@ returns-in-Ok-clause-answered g c =
     script.lines.items desks was c.take_desk-end.new.desk script.tally counted (page_seen c.args.page.now) c.put_asked.new.page
     c.take_desk-end.new.port c.ended-line.result.now
     c.take_desk-end.result.0 given (Ok tt) c.in-Ok.is in
-    goes_on g.D.Disk.seen c.args.store c.take_desk-end.result.1 script.setup c.args.desk c.args.text.now
+    λ base. goes_on g.D.Disk.seen c.args.store c.take_desk-end.result.1 base script.setup c.args.desk c.args.text.now
     script.lines.items desks was c.take_desk-end.new.desk script.tally counted (page_seen c.args.page.now) c.put_asked.new.page
     c.take_desk-end.new.port c.ended-line.result.now at sums
 
@@ -142,7 +142,7 @@ returns-in-Err-Quit-clause-answered g c =
     script.lines.items desks was c.take_desk-end.new.desk script.tally counted (page_seen c.args.page.now) c.put_asked.new.page
     c.take_desk-end.new.port c.ended-line.result.now
     c.take_desk-end.result.0 given (Err Quit) (c.in-Err-Quit.is ∙ ap Err (rw c.in-Err-Quit.is at c.in-Err-Quit.field-0-is)) in
-    quits_on g.D.Disk.seen c.args.store c.take_desk-end.result.1 script.setup c.args.desk c.args.text.now
+    λ base. quits_on g.D.Disk.seen c.args.store c.take_desk-end.result.1 base script.setup c.args.desk c.args.text.now
     script.lines.items desks was c.take_desk-end.new.desk script.tally counted (page_seen c.args.page.now) c.put_asked.new.page
     c.take_desk-end.new.port c.ended-line.result.now at sums
 

@@ -17,8 +17,8 @@ take_line-end-requires g c = record { ready = subst IsSetting (sym c.requires.se
 
 pub returns-in_default-clause-stop : goal.returns-in_default-clause-stop
 returns-in_default-clause-stop g c =
-    λ stream h took short stands readable.
-    none_fed g.D.Disk.seen c.args.store c.args.script.now.setup c.args.moment stream c.args.bytes.now h
+    λ base stream h took short stands readable.
+    none_fed g.D.Disk.seen c.args.store base c.args.script.now.setup c.args.moment stream c.args.bytes.now h
     c.args.script.now.tally stands readable
 
 pub returns-in-Ok-end-clause-fed : goal.returns-in-Ok-end-clause-fed

@@ -42,8 +42,8 @@ returns-in-Ok-eq0 g c = record {
       let r = c.pieces.invariant.done b same number so in
       let room : c.pieces.count < input_limit = omega (arith, c.if-most-eq0.false, c.min-most.ensures, c.room_behind.ensures) in
       let few : length r.stream ≤ input_limit = omega (arith, room, r.count_is) in
-      let nothing = subst (λ n. (g.P.Ends.seen c.pieces.port).left ≡ prepend_known (take n c.read_piece.new.buffer) (g.P.Ends.seen c.read_piece.new.port).left) none told.bytes.0 in
-      finishes _ b _ _ _ _ _ r _ _ _ _ _ room nothing told.others (told.end.0 none (omega arith)) (told.bytes.1 none (omega arith))
+      let base = subst (λ n. (g.P.Ends.seen c.pieces.port).left ≡ prepend_known (take n c.read_piece.new.buffer) (g.P.Ends.seen c.read_piece.new.port).left) none told.bytes.0 in
+      finishes _ b _ _ _ _ _ r _ _ _ _ _ room base told.others (told.end.0 none (omega arith)) (told.bytes.1 none (omega arith))
       c.finish.ensures.only
       (c.finish.ensures.finished b r.stream r.fed few (so_read _ b _ _ _ _ _ told.others r.so) r.number);
 }

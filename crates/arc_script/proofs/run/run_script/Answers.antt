@@ -11,16 +11,18 @@ returns-in-Ok g c =
       disk = c.args.disk;
       setup = c.args.setup;
       limits = c.args.limits;
+      base = o.base;
       past = o.past;
       port = g.P.Ends.seen c.args.port.now;
     } in
     let seen = g.D.Disk.seen in
     record {
       script = inr (
+        o.base,
         o.past,
         begins_with seen c.args.disk c.in-Ok.store o,
         c.run_over.ensures.ran b refl refl refl
-            (store_opened seen b c.in-Ok.store o (spared_tells c.in-Ok.ensures.spared) c.in-Ok.ensures.limits (subst (λ n. (g.D.Disk.seen c.args.disk).faults ≤ n) (sym c.in-Ok.ensures.at_open) c.in-Ok.ensures.later))
+            (store_opened seen b c.in-Ok.store o refl (spared_tells c.in-Ok.ensures.spared) c.in-Ok.ensures.limits (subst (λ n. (g.D.Disk.seen c.args.disk).faults ≤ n) (sym c.in-Ok.ensures.at_open) c.in-Ok.ensures.later))
             (held_opened seen c.args.disk c.in-Ok.store o),
       );
     }

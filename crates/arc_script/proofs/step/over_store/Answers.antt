@@ -152,8 +152,8 @@ returns-in-Command-clause-carried g c =
     (page_seen c.command.new.page))) (sym is)
     (line_carries seen script after c.args.store c.command.result.0 a c.args.moment stays c.requires.moment (page_seen c.args.page.now)
     (page_seen c.command.new.page) c.command.result.1 set
-    (λ Told. on_ok_weaker c.command.result.1 (λ all before count number h next stands readable.
-    all before c.args.moment count number h next c.requires.blank stands readable) c.command.ensures.answered)
+    (λ Told. on_ok_weaker c.command.result.1 (λ all base before count number h next stands readable.
+    all base before c.args.moment count number h next c.requires.blank stands readable) c.command.ensures.answered)
     (on_ok_weaker c.command.result.1 (λ all before count next. all before c.args.moment count next) c.command.ensures.took) c.command.ensures.set)
 
 pub returns-in-Command-clause-stop : goal.returns-in-Command-clause-stop
@@ -173,6 +173,6 @@ returns-in-Command-clause-stop g c =
     let is : asked c.args.wanted ≡ a = ap asked c.in-Command.is in
     subst (λ (k : Asked). IfErr c.command.result.1 (λ stop. Stops seen c.args.moment k script after c.args.store c.command.result.0 stop)) (sym is)
     (line_stops seen script after c.args.store c.command.result.0 a c.args.moment stays c.requires.moment c.command.result.1
-    (λ Told. IfErr-weaker c.command.result.1 _ _ (λ stop all before count h next stands readable.
-    command_came seen Told script.setup c.args.moment before c.in-Command.desk c.in-Command.text.now h c.command.result.0 stop script.tally after.tally
-    (all before c.args.moment count h next c.requires.blank stands readable)) c.command.ensures.stop))
+    (λ Told. IfErr-weaker c.command.result.1 _ _ (λ stop all base before count h next stands readable.
+    command_came seen Told base script.setup c.args.moment before c.in-Command.desk c.in-Command.text.now h c.command.result.0 stop script.tally after.tally
+    (all base before c.args.moment count h next c.requires.blank stands readable)) c.command.ensures.stop))

@@ -1,4 +1,3 @@
-use Rattle.centre_rules.specs.Summary.{nothing}
 use Rattle.arc_script.specs.PageWords.{page_seen}
 use Rattle.arc_script.specs.Steps.{before_tick}
 use Rattle.arc_script.proofs.Ticks.{ticks, stops_before, stops_unsaid}
@@ -10,15 +9,15 @@ returns-in_err-done-clause-stop g c =
     let moment = c.args.moment in
     stops_before g.D.Disk.seen c.args.store.now c.submit.new.self
     c.from_residual-in_err-done.result script.clock script.setup moment
-    (λ h over. c.in_err-done.ensures.stop nothing (before_tick script.clock script.setup moment h) (c.in_ok-begin_first.ensures.begun h over))
+    (λ base h over. c.in_err-done.ensures.stop base (before_tick script.clock base script.setup moment h) (c.in_ok-begin_first.ensures.begun base h over))
 
 pub returns-clause-ticked : goal.returns-clause-ticked
 returns-clause-ticked g c =
     let script = c.args.script.now in
     let moment = c.args.moment in
     ticks g.D.Disk.seen c.args.store.now c.submit.new.self (page_seen c.args.page.now) (page_seen c.say_tick.new.page)
-    c.say_tick.result (before_tick script.clock script.setup moment) moment c.in_ok-done.done.at c.in_ok-done.done.reply
-    (λ h over. c.in_ok-done.ensures.done nothing (before_tick script.clock script.setup moment h) (c.in_ok-begin_first.ensures.begun h over))
+    c.say_tick.result (λ base. before_tick script.clock base script.setup moment) moment c.in_ok-done.done.at c.in_ok-done.done.reply
+    (λ base h over. c.in_ok-done.ensures.done base (before_tick script.clock base script.setup moment h) (c.in_ok-begin_first.ensures.begun base h over))
     c.say_tick.ensures.text
 
 pub returns-clause-stop : goal.returns-clause-stop
@@ -27,4 +26,4 @@ returns-clause-stop g c =
     let moment = c.args.moment in
     stops_unsaid g.D.Disk.seen c.args.store.now c.submit.new.self
     c.say_tick.result script.clock script.setup moment c.in_ok-done.done.at c.in_ok-done.done.reply c.say_tick.ensures.stop
-    (λ h over. c.in_ok-done.ensures.done nothing (before_tick script.clock script.setup moment h) (c.in_ok-begin_first.ensures.begun h over))
+    (λ base h over. c.in_ok-done.ensures.done base (before_tick script.clock base script.setup moment h) (c.in_ok-begin_first.ensures.begun base h over))

@@ -13,7 +13,7 @@ pub returns-clause-usage : goal.returns-clause-usage
 returns-clause-usage g c = c.first_occurred-status.ensures.usage
 
 pub returns-clause-served : goal.returns-clause-served
-returns-clause-served g c past text clock begins under =
+returns-clause-served g c base past text clock begins under =
     let e = c.serve_store-store.ensures in
     let last = c.serve_store-store.result.store in
     let came = c.serve_store-store.result.came in
@@ -23,7 +23,7 @@ returns-clause-served g c past text clock begins under =
     let p' : PortSeen = g.P.Ends.seen c.put_summary-written.new.out in
     let writes = c.write_faults-writes.result in
     let late = c.write_faults.result in
-    serves_all came (is_err written) c.args.store last c.args.crew status past text clock p p' c.args.station c.serve_store-store.result.station
+    serves_all came (is_err written) c.args.store last c.args.crew status base past text clock p p' c.args.station c.serve_store-store.result.station
     c.args.before c.close-disk.result begins under e.served e.refused e.untouched (e.kept.1 ∙ c.requires.limits) c.close-disk.ensures
     c.requires.before
     (ends_first status c.args.before c.args.store.at_open c.faults.result (met_by came (where_so (is_err written) (WriteFault writes late))) last

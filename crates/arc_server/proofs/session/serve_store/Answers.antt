@@ -1,5 +1,4 @@
 use Rattle.std.proofs.Common.{true, false, sym, subst, ◌∙◌}
-use Rattle.centre_rules.specs.Summary.{nothing}
 use Rattle.centre_store.specs.Begins.{begun_after}
 use Rattle.centre_store.specs.Stores.{HasFailed}
 use Rattle.arc_server.specs.SessionRuns.{IsServed}
@@ -9,12 +8,12 @@ use Rattle.arc_server.proofs.Served.{served_down, served_up, up_to_end}
 use Rattle.arc_server.proofs.session.serve_store.Goals as goal
 
 pub returns-then-has_risen-clause-served : goal.returns-then-has_risen-clause-served
-returns-then-has_risen-clause-served g c past text clock stands under =
+returns-then-has_risen-clause-served g c base past text clock stands under =
     served_down c.args.side c.serve_over-end.result.0 c.args.before c.faults-now.result
     (record {
       begins = stands;
       under = under;
-      did = c.serve_over-end.ensures.did (begun_after nothing past text clock) stands;
+      did = c.serve_over-end.ensures.did base (begun_after base past text clock) stands;
       shown = c.serve_over-end.ensures.stop;
       limits = c.serve_over-end.ensures.limits ∙ c.requires.limits;
       handed = c.close-disk.ensures;
@@ -28,7 +27,7 @@ returns-clause-usage g c usage =
     (g.P.Ends.seen c.serve_over-end.new.port) (sym made ∙ usage)
 
 pub returns-clause-served : goal.returns-clause-served
-returns-clause-served g c past text clock stands under =
+returns-clause-served g c base past text clock stands under =
     let p = g.P.Ends.seen c.args.port.now in
     let p' = g.P.Ends.seen c.serve_over-end.new.port in
     let last = c.serve_over-end.result.1 in
@@ -36,12 +35,12 @@ returns-clause-served g c past text clock stands under =
     let up : HasFailed g.D.Disk.seen last → ⊥ =
     up_to_end g.D.Disk.seen c.args.before c.args.store.at_open c.faults-now.result last c.close-disk.result c.has_risen.result
     c.serve_over-end.ensures.at_open c.requires.before c.close-disk.ensures c.faults-now.ensures c.has_risen.ensures.1 c.if-has_risen.false in
-    subst (λ (status : Status). IsServed g.D.Disk.seen c.args.side status past text clock p p' c.args.before c.close-disk.result) (sym made)
+    subst (λ (status : Status). IsServed g.D.Disk.seen c.args.side status base past text clock p p' c.args.before c.close-disk.result) (sym made)
     (served_up c.args.side c.serve_over-end.result.0 c.args.before c.faults-now.result
     (record {
       begins = stands;
       under = under;
-      did = c.serve_over-end.ensures.did (begun_after nothing past text clock) stands;
+      did = c.serve_over-end.ensures.did base (begun_after base past text clock) stands;
       shown = c.serve_over-end.ensures.stop;
       limits = c.serve_over-end.ensures.limits ∙ c.requires.limits;
       handed = c.close-disk.ensures;

@@ -2,7 +2,7 @@ use Rattle.std.proofs.Common.{◌≡◌, ◌+◌, ◌-◌, [], ◌∷◌, ◌++�
 use Rattle.arc_io.specs.Areas.{Areas}
 use Rattle.arc_io.proofs.Moments.{weaker, joined}
 use Rattle.disk_journal.specs.Records.{AtRest, size}
-use Rattle.disk_journal.specs.Journal.{StandsForEither}
+use Rattle.disk_journal.specs.Standing.{StandsForEither}
 use Rattle.disk_journal.proofs.Gates.{place, size-least, sizes-more, torn_behind, torn_gate, Staged, staged_file, images_of, gate_place, opened_file, on_ok_both, first_torn, second_torn, either_image}
 use Rattle.disk_journal.proofs.Behind.{laid_length, torn_spares, spares_more}
 use Rattle.disk_journal.proofs.record.write_record.Goals as goal
@@ -31,7 +31,7 @@ returns-clause-told g c bodies is h =
 
 pub returns-in_err-write_synced-clause-any_moment : goal.returns-in_err-write_synced-clause-any_moment
 returns-in_err-write_synced-clause-any_moment g c bodies is h =
-    weaker _ _ (λ (x : Areas). StandsForEither bodies c.args.body.now x.a) _ c.write_synced.ensures.any_moment
+    weaker _ _ (λ (x : Areas). StandsForEither bodies c.args.body.now x) _ c.write_synced.ensures.any_moment
     (λ x t. inl (inr (torn_behind bodies c.args.used (length c.args.laid.now) t.0.a x.a is (h.images t.0 t.1) t.2.0)))
 
 pub returns-clause-any_moment : goal.returns-clause-any_moment
@@ -39,7 +39,7 @@ returns-clause-any_moment g c bodies is h =
     let used = c.args.used in
     let body = c.args.body.now in
     let laid = c.args.laid.now in
-    let P : Areas → Type 0 = λ x. StandsForEither bodies body x.a in
+    let P : Areas → Type 0 = λ x. StandsForEither bodies body x in
     let seen = g.D.Disk.seen in
     let file = staged_file bodies body laid used is c.requires.laid h.sizes c.requires.size _ _ c.in_ok-write_synced.ensures.written h.file in
     let images = images_of (Staged bodies body) _ _ file c.in_ok-write_synced.ensures.durable (λ x none. g.met.D.Disk.silent c.write_synced.new.disk x none) in

@@ -1,7 +1,6 @@
 use Rattle.std.proofs.Common.{◌≡◌, inr, refl, rules}
 use Rattle.std.specs.Prelude.{Err}
 use Rattle.arc_data.specs.declared.event.Event.TheVariants.{Adopt, Start}
-use Rattle.arc_io.specs.Areas.{Areas}
 use Rattle.arc_io.proofs.Moments.{joined}
 use Rattle.centre_store.specs.Begins.{adopted_after, StandsWithin}
 use Rattle.centre_store.proofs.Begun.{within_start, started_stands}
@@ -12,22 +11,22 @@ use Rattle.centre_store.proofs.store.Store.begin.Goals as goal
 pub returns-in_err-enter-clause-any_moment : goal.returns-in_err-enter-clause-any_moment
 returns-in_err-enter-clause-any_moment g c b h w up =
     joined (g.D.Disk.seen c.args.self.now.journal.disk) (g.D.Disk.seen c.adopt.new.self.journal.disk) (g.D.Disk.seen c.enter.new.self.journal.disk)
-    (λ (x : Areas). StandsWithin b h c.args.setup c.args.clock x.a) _ (c.adopt.ensures.any_moment b h w up)
+    (StandsWithin b h c.args.setup c.args.clock) _ (c.adopt.ensures.any_moment b h w up)
     (c.enter.ensures.any_moment b (adopted_after b h c.args.setup c.args.clock) (c.in_ok-adopt.ensures.adopted b h w)
     (λ f.
     let e = c.in_ok-adopt.ensures.down.0 f in
     cc))
-    (λ x e. within_start b h c.args.setup c.args.clock x.a e)
+    (λ x e. within_start b h c.args.setup c.args.clock x e)
 
 pub returns-clause-any_moment : goal.returns-clause-any_moment
 returns-clause-any_moment g c b h w up =
     joined (g.D.Disk.seen c.args.self.now.journal.disk) (g.D.Disk.seen c.adopt.new.self.journal.disk) (g.D.Disk.seen c.enter.new.self.journal.disk)
-    (λ (x : Areas). StandsWithin b h c.args.setup c.args.clock x.a) _ (c.adopt.ensures.any_moment b h w up)
+    (StandsWithin b h c.args.setup c.args.clock) _ (c.adopt.ensures.any_moment b h w up)
     (c.enter.ensures.any_moment b (adopted_after b h c.args.setup c.args.clock) (c.in_ok-adopt.ensures.adopted b h w)
     (λ f.
     let e = c.in_ok-adopt.ensures.down.0 f in
     cc))
-    (λ x e. within_start b h c.args.setup c.args.clock x.a e)
+    (λ x e. within_start b h c.args.setup c.args.clock x e)
 
 pub returns-in_err-enter-clause-spared : goal.returns-in_err-enter-clause-spared
 returns-in_err-enter-clause-spared g c =

@@ -6,7 +6,7 @@ use Rattle.centre_core.proofs.Applied.{is_quiet, not_quiet}
 use Rattle.event_codec.specs.Spelling.{IsKept}
 use Rattle.centre_store.specs.Stores.{Stored, HasFailed}
 use Rattle.centre_store.proofs.Bodies.{kept_event}
-use Rattle.centre_store.proofs.Entered.{takes_quiet, takes_written, written_moment}
+use Rattle.centre_store.proofs.Entered.{takes_quiet, takes_written, written_moment, stands_stopped}
 use Rattle.centre_store.proofs.Written.{behind_still, behind_event}
 use Rattle.centre_store.proofs.store.Store.enter.Goals as goal
 
@@ -90,3 +90,28 @@ returns-in-Ok-write-clause-behind g c =
     behind_event g.D.Disk.seen c.args.self.now
     (record { state = c.self.inside.centre; journal = c.self.inside.journal; at_open = c.self.inside.at_open }) c.write.new.journal.disk c.args.event c.in-Ok.ready.event
     c.self.view_is c.in-Ok.ensures.event c.in-Ok-write.ensures.behind
+
+pub returns-in-Err-clause-stop : goal.returns-in-Err-clause-stop
+returns-in-Err-clause-stop g c b h w =
+    stands_stopped g.D.Disk.seen b c.args.self.now c.self.inside.centre c.prepare.new.self c.self.inside.journal c.self.inside.at_open h
+    c.self.view_is c.in_ok-check_disk.ensures.up w (c.in-Ok.ensures.stays b h) c.write.new.journal c.args.clock _ c.args.event c.in-Ok.ready
+    c.in-Ok.ensures.event c.requires.formed (c.in-Ok.ensures.at b h) (c.in-Ok.ensures.reply b h)
+    (not_quiet _ _ c.quiet.ensures c.if-quiet.false) c.write.ensures.spelled (c.write.ensures.met _) c.in-Err.stop c.in-Err.ensures.stop
+
+pub invariant_of-self-in-Err : goal.invariant_of-self-in-Err
+invariant_of-self-in-Err g c =
+    let b = c.self.invariant.base in
+    let h = c.self.invariant.history in
+    let up = λ (f : HasFailed g.D.Disk.seen (record { state = c.self.inside.centre; journal = c.self.inside.journal; at_open = c.self.inside.at_open })).
+    c.in_ok-check_disk.ensures.up (subst (λ (x : Stored g.row.D.Denot). HasFailed g.D.Disk.seen x) c.self.view_is f) in
+    record {
+      base = b;
+      history = h;
+      stands = stands_stopped g.D.Disk.seen b
+          (record { state = c.self.inside.centre; journal = c.self.inside.journal; at_open = c.self.inside.at_open })
+          c.self.inside.centre c.prepare.new.self c.self.inside.journal c.self.inside.at_open h refl up c.self.invariant.stands
+          (c.in-Ok.ensures.stays b h) c.write.new.journal c.args.clock _ c.args.event c.in-Ok.ready
+          c.in-Ok.ensures.event c.requires.formed (c.in-Ok.ensures.at b h) (c.in-Ok.ensures.reply b h)
+          (not_quiet _ _ c.quiet.ensures c.if-quiet.false) c.write.ensures.spelled (c.write.ensures.met _) c.in-Err.stop c.in-Err.ensures.stop;
+      later = omega (arith, c.self.invariant.later, c.write.ensures.later);
+    }
