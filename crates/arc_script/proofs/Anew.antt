@@ -26,22 +26,23 @@ use Rattle.script_lines.specs.Lines.{Asked, Reopen, spelling}
 use Rattle.arc_script.specs.Between.{Begun, Between, CarriedOut, ShutAt, StoppedAt}
 use Rattle.arc_script.specs.Carrying.{CountsMore, HasRead, HaveTaken}
 use Rattle.arc_script.specs.Causes.{HasShown}
-use Rattle.arc_script.specs.Ends.{BegunUntil, Tells}
+use Rattle.arc_script.specs.Ends.{BegunAgain, Tells}
 use Rattle.arc_script.specs.Fed.{clock_of}
 use Rattle.arc_script.specs.Halting.{closing}
 use Rattle.arc_script.specs.Pages.{counted_line}
 use Rattle.arc_script.specs.Playing.{IsNewDesk}
-use Rattle.arc_script.specs.Standing.{IsReadable, is_told}
+use Rattle.centre_store.specs.StoreHalls.{is_told}
+use Rattle.arc_script.specs.Standing.{IsReadable}
 use Rattle.arc_script.specs.Steps.{Keeps, Step}
 use Rattle.arc_script.specs.Tallies.{count_of, is_closed, is_repeat}
 use Rattle.arc_script.specs.declared.script.Script.{Script}
 use Rattle.arc_script.specs.declared.script_end.Tally.{Tally}
-use Rattle.arc_script.proofs.Begun.{Adds, adds_begun, adds_until, readable_begun}
+use Rattle.arc_script.proofs.Begun.{Adds, adds_begun, adds_again, readable_begun}
 use Rattle.arc_script.proofs.Counts.{grows_none}
 use Rattle.arc_script.proofs.Ended.{recorded_in}
 use Rattle.arc_script.proofs.Opening.{taken_none}
 use Rattle.arc_script.proofs.Reopening.{keeps_recorded, kept_recorded}
-use Rattle.arc_script.proofs.Telling.{spared_tells}
+use Rattle.centre_store.proofs.Readable.{spared_tells}
 
 -- Lines and desks that were made anew, behind more of the script.
 
@@ -141,7 +142,9 @@ module _ {D : Type 0} (seen : D → DiskSeen) (script script' : Script) (s mid s
       })
 
   readable_past : IsReadable b.base past
-  readable_past = (between.store.readable.0, subst AreKept (sym (kept_recorded past anew.opened.is_past.kept)) anew.opened.is_past.kept)
+  readable_past =
+      let before = between.store.readable in
+      (before.0, (before.1.0, subst AreKept (sym (kept_recorded past anew.opened.is_past.kept)) anew.opened.is_past.kept))
 
   pub opened_stands : StoreStands seen b.base mid past
   opened_stands = subst (λ (base : Summary). StoreStands seen base mid past) base_is anew.opened.stands
@@ -194,11 +197,11 @@ module _ {D : Type 0} (seen : D → DiskSeen) (script script' : Script) (s mid s
         };
       }
 
-  stopped : (stop : Stop) (x : List Entry) → StoreStands seen b.base s' x → BegunUntil None b.base b.setup moment past x
+  stopped : (stop : Stop) (x : List Entry) → StoreStands seen b.base s' x → BegunAgain stop b.base b.setup moment past x
       → HasShown seen s' stop moment (IsOfBegin b.setup)
       → StoppedAt seen b before h Reopen stop script.tally script'.tally s'
   stopped stop x stands until cause =
-      let adds = adds_until None b.base b.setup moment past x until in
+      let adds = adds_again stop b.base b.setup moment past x until in
       record {
         waiting = [];
         partial = step_of 0 adds.entries [];
@@ -239,8 +242,8 @@ module _ {D : Type 0} (seen : D → DiskSeen) (script script' : Script) (s mid s
   carried_on (Err stop) p p' fits begun text put = tt
 
   pub stopped_on : (r : Result (Unit {0}) Stop)
-      → OnErr r ((base : Summary) (k : List Entry) → StoreStands seen base mid k
-      → (x : List Entry) × StoreStands seen base s' x × BegunUntil None base script'.setup moment k x)
+      → IfErr r (λ stop. (base : Summary) (k : List Entry) → StoreStands seen base mid k
+      → (x : List Entry) × StoreStands seen base s' x × BegunAgain stop base script'.setup moment k x)
       → IfErr r (λ stop. HasShown seen s' stop moment (IsOfBegin script'.setup))
       → IfErr r (λ stop. (b : Begun D) (before : List Asked) (count : ℕ) (h : List Entry) → Between seen b before count h script s
       → Holds seen s.journal (bodies_of h) → clock_of before ≡ Some moment
@@ -250,7 +253,7 @@ module _ {D : Type 0} (seen : D → DiskSeen) (script script' : Script) (s mid s
       let same = anew.setup ∙ between.setup in
       let at = stops b.base anew.opened.past (opened_stands seen script script' s mid s' anew moment b before count h between held set) in
       stopped seen script script' s mid s' anew moment b before count h between held set stop at.0 at.1
-      (subst (λ (l : List ℕ). BegunUntil None b.base l moment anew.opened.past at.0) same at.2)
+      (subst (λ (l : List ℕ). BegunAgain stop b.base l moment anew.opened.past at.0) same at.2)
       (subst (λ (l : List ℕ). HasShown seen s' stop moment (IsOfBegin l)) same cause)
 
 -- The journal was not opened again.

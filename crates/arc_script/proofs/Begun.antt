@@ -5,16 +5,17 @@ use Rattle.std.proofs.lemmas.List.Elements.{filter-append}
 use Rattle.arc_data.specs.declared.event.Event.TheVariants.{Adopt, Start}
 use Rattle.arc_data.specs.declared.reply.Reply.{Reply}
 use Rattle.arc_data.specs.declared.reply.Reply.TheVariants.{Adopted, Started}
+use Rattle.centre_core.specs.declared.hall.Stop.{Stop}
 use Rattle.centre_rules.specs.Answers.{IsLegal}
 use Rattle.centre_rules.specs.History.{Entry, IsMoment, marks, moment_after}
 use Rattle.centre_rules.specs.Marks.{text}
 use Rattle.centre_rules.specs.Summary.{Summary}
 use Rattle.centre_store.specs.Begins.{adopted_after, begun_after, is_in_force}
-use Rattle.arc_script.specs.Ends.{BegunUntil}
+use Rattle.arc_script.specs.Ends.{BegunUntil, BegunAgain}
 use Rattle.arc_script.specs.Standing.{IsReadable}
 use Rattle.arc_script.specs.Steps.{before_tick}
 use Rattle.arc_script.specs.Tallies.{count_of, is_closed, is_repeat}
-use Rattle.arc_script.proofs.Telling.{readable_more}
+use Rattle.centre_store.proofs.Readable.{readable_more}
 
 -- Entries that were added to a history, of which none is a repeat and none closes an incident.
 
@@ -75,11 +76,16 @@ adds_until None base setup moment h x (inr (inl is)) = subst (Adds h) (sym is) (
 adds_until None base setup moment h x (inr (inr is)) = subst (Adds h) (sym is) (adds_begun base setup moment h)
 adds_until (Some last) base setup moment h x is = subst (Adds h) (sym is) (adds_none h)
 
+pub adds_again : (stop : Stop) (base : Summary) (setup : List ℕ) (moment : ℕ) (h x : List Entry) → BegunAgain stop base setup moment h x → Adds h x
+adds_again stop base setup moment h x (inl is) = subst (Adds h) (sym is) (adds_none h)
+adds_again stop base setup moment h x (inr (inl is)) = subst (Adds h) (sym is) (adds_adopted base setup moment h)
+adds_again stop base setup moment h x (inr (inr is)) = subst (Adds h) (sym is.1) (adds_begun base setup moment h)
+
 -- They can be read again: what a store stands for is legal.
 
 pub readable_next : (base : Summary) (h : List Entry) (e : Entry) (clock : ℕ) → e.caller ≡ 0 → IsMoment clock → e.at ≡ moment_after base h clock
     → IsLegal base (e ∷ h) → IsReadable base h → IsReadable base (e ∷ h)
-readable_next base h e clock caller fits at legal kept = readable_more base h e clock caller legal.0.event fits at legal.0.reply kept
+readable_next base h e clock caller fits at legal kept = (kept.0, readable_more base h e clock caller legal.0.event fits at legal.0.reply kept.1)
 
 readable_if : (base : Summary) (b : Bool) (h : List Entry) (e : Entry) (clock : ℕ) → e.caller ≡ 0 → IsMoment clock → e.at ≡ moment_after base h clock
     → IsLegal base (cond b h (e ∷ h)) → IsReadable base h → IsReadable base (cond b h (e ∷ h))

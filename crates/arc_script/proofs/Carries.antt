@@ -99,7 +99,7 @@ carried seen s' base setup moment number letter line asked before bytes h t t' p
 abbrev CameSoFar : {D : Type 0} → Summary → (D → DiskSeen) → Stored D → List ℕ → ℕ → ℕ → ℕ → List Asked → List ℕ → List Entry
     → Stop → List Entry → Step → Type 0
 CameSoFar base seen s' setup moment letter line before bytes h stop x s =
-    ((waiting : List (List ℕ)) × FedUntil base setup before line bytes waiting h x s
+    ((waiting : List (List ℕ)) × FedUntil stop base setup before line bytes waiting h x s
     × HasShown seen s' stop moment (IsOfFrame setup moment waiting))
     ⊎ ((stop ≡ Memory) × Feeds base setup before letter line bytes h x s)
 

@@ -14,7 +14,7 @@ use Rattle.arc_script.specs.Causes.{HasShown, Submits}
 use Rattle.arc_script.specs.Ends.{Tells, CameTo}
 use Rattle.arc_script.specs.Fed.{clock_of}
 use Rattle.arc_script.specs.Playing.{moment_at}
-use Rattle.arc_script.specs.Standing.{is_told}
+use Rattle.centre_store.specs.StoreHalls.{is_told}
 use Rattle.arc_script.specs.Steps.{IsStepOf}
 use Rattle.arc_script.specs.declared.script.Script.{Script}
 use Rattle.arc_script.proofs.Wanting.{clock_with}
@@ -72,7 +72,7 @@ module _ {D : Type 0} (seen : D → DiskSeen) (b : Begun D) (before : List Asked
 
   pub stopped_at : (stop : Stop) (waiting : List (List ℕ))
       → Halted seen b.base (λ x st.
-      (CameTo (Tells (seen b.disk)) b.base b.setup before waiting h x st asked × HasShown seen s' stop moment (Submits b.setup before moment waiting asked))
+      (CameTo stop (Tells (seen b.disk)) b.base b.setup before waiting h x st asked × HasShown seen s' stop moment (Submits b.setup before moment waiting asked))
       ⊎ ((stop ≡ Memory) × IsStepOf (Tells (seen b.disk)) b.base b.setup before h x st asked)) script.tally script'.tally s'
       → StoppedAt seen b before h asked stop script.tally script'.tally s'
   stopped_at stop waiting out =

@@ -16,6 +16,7 @@ use Rattle.arc_data.specs.declared.step.Step.{Step}
 use Rattle.centre_laws.proofs.Numbering.{rise}
 use Rattle.centre_laws.proofs.Replies.{answer_may, may_answer}
 use Rattle.centre_rules.proofs.Steps.{incidents_step}
+use Rattle.centre_store.specs.Given.{IsGiven}
 use Rattle.centre_rules.specs.Answers.{answer, if_known, knows_operator, IsLegal}
 use Rattle.centre_rules.specs.Cases.{has_number, incidents, opened, Ascends, Incident}
 use Rattle.centre_rules.specs.Desks.{close_of, close_when, holds, numbered}
@@ -167,17 +168,17 @@ close_found true operator number n (Some i) is = holds_found (holds operator i) 
 close_found false operator number n f is = absurd cc
 
 -- the numbers of the open incidents rise
-numbers : (base : Summary) (h : List Entry) → Ascends 0 (incidents base (marks base h)) (opened base (marks base h))
-numbers base h = rise base h (omega arith)
+numbers : (base : Summary) → IsGiven base → (h : List Entry) → Ascends 0 (incidents base (marks base h)) (opened base (marks base h))
+numbers base given h = rise base h (subst (λ (s : Summary). Ascends 0 s.incidents s.opened) (sym given) (omega arith))
 
-closes_one : (base : Summary) (b : Bool) (operator : List ℕ) (number n : ℕ) (h : List Entry)
+closes_one : (base : Summary) → IsGiven base → (b : Bool) (operator : List ℕ) (number n : ℕ) (h : List Entry)
     → if_known b (close_of operator number (numbered number (incidents base (marks base h)))) ≡ Closed n
     → Falls base (marks base h) (Closes n ∷ marks base h) 1
-closes_one base b operator number n h is =
+closes_one base given b operator number n h is =
     let ms = marks base h in
     let found = close_found b operator number n (numbered number (incidents base ms)) is in
     let there : numbered n (incidents base ms) ≡ Some found.incident = ap (λ k. numbered k (incidents base ms)) found.same ∙ found.is in
-    let less = dropped n 0 (incidents base ms) (opened base ms) found.incident (numbers base h) there in
+    let less = dropped n 0 (incidents base ms) (opened base ms) found.incident (numbers base given h) there in
     let step = ap length (incidents_step base (Closes n) ms) in
     omega (arith, less, step)
 
@@ -202,44 +203,44 @@ quiet_zero : (reply : Reply) → is_recorded reply ≡ false → fall_of reply �
 quiet_zero (Closed n) is = absurd (false≢true (sym is))
 quiet_zero reply is = refl
 
-close_falls : (base : Summary) (operator : List ℕ) (number : ℕ) (h : List Entry) (b : Bool) (reply : Reply) (f : Option Incident)
+close_falls : (base : Summary) → IsGiven base → (operator : List ℕ) (number : ℕ) (h : List Entry) (b : Bool) (reply : Reply) (f : Option Incident)
     → f ≡ numbered number (incidents base (marks base h)) → reply ≡ if_known b (close_of operator number f)
     → Falls base (marks base h) (onto (close_marks reply) (marks base h)) (fall_of reply)
-close_falls base operator number h b (Closed n) f at is =
-    closes_one base b operator number n h (ap (λ (o : Option Incident). if_known b (close_of operator number o)) (sym at) ∙ sym is)
-close_falls base operator number h b reply f at is = omega arith
+close_falls base given operator number h b (Closed n) f at is =
+    closes_one base given b operator number n h (ap (λ (o : Option Incident). if_known b (close_of operator number o)) (sym at) ∙ sym is)
+close_falls base given operator number h b reply f at is = omega arith
 
-event_falls : (base : Summary) (h : List Entry) (event : Event) (at : ℕ) (reply : Reply) → is_desked event ≡ true → may_answer event reply ≡ true
+event_falls : (base : Summary) → IsGiven base → (h : List Entry) (event : Event) (at : ℕ) (reply : Reply) → is_desked event ≡ true → may_answer event reply ≡ true
     → reply ≡ answer base h event at
     → Falls base (marks base h) (onto (marks_of base (marks base h) event at reply) (marks base h)) (fall_of reply)
-event_falls base h (E.Adopt text) at reply is may same = absurd (false≢true is)
-event_falls base h E.Start at reply is may same = absurd (false≢true is)
-event_falls base h (E.Message m) at reply is may same = absurd (false≢true is)
-event_falls base h (E.Beat account) at reply is may same = absurd (false≢true is)
-event_falls base h E.Tick at reply is may same = absurd (false≢true is)
-event_falls base h (E.Claim operator number) at reply is may same =
+event_falls base given h (E.Adopt text) at reply is may same = absurd (false≢true is)
+event_falls base given h E.Start at reply is may same = absurd (false≢true is)
+event_falls base given h (E.Message m) at reply is may same = absurd (false≢true is)
+event_falls base given h (E.Beat account) at reply is may same = absurd (false≢true is)
+event_falls base given h E.Tick at reply is may same = absurd (false≢true is)
+event_falls base given h (E.Claim operator number) at reply is may same =
     let ms = marks base h in
     stays_if base (is_closed reply) ms (onto (claim_marks operator at reply) ms) (may_close (E.Claim operator number) reply (λ n. refl) may)
     (claims_stay base operator at reply ms)
-event_falls base h (E.Next operator) at reply is may same =
+event_falls base given h (E.Next operator) at reply is may same =
     let ms = marks base h in
     stays_if base (is_closed reply) ms (onto (claim_marks operator at reply) ms) (may_close (E.Next operator) reply (λ n. refl) may)
     (claims_stay base operator at reply ms)
-event_falls base h (E.Act operator number step outcome) at reply is may same =
+event_falls base given h (E.Act operator number step outcome) at reply is may same =
     let ms = marks base h in
     let acted = acted_by operator step outcome at in
     stays_if base (is_closed reply) ms (onto (act_marks acted reply) ms) (may_close (E.Act operator number step outcome) reply (λ n. refl) may)
     (acts_stay base acted reply ms)
-event_falls base h (E.Release operator number) at reply is may same =
+event_falls base given h (E.Release operator number) at reply is may same =
     let ms = marks base h in
     stays_if base (is_closed reply) ms (onto (release_marks reply) ms) (may_close (E.Release operator number) reply (λ n. refl) may)
     (releases_stay base reply ms)
-event_falls base h (E.Close operator number code) at reply is may same =
-    close_falls base operator number h (knows_operator (force base (marks base h)) operator) reply (numbered number (incidents base (marks base h)))
+event_falls base given h (E.Close operator number code) at reply is may same =
+    close_falls base given operator number h (knows_operator (force base (marks base h)) operator) reply (numbered number (incidents base (marks base h)))
     refl same
-event_falls base h (E.Show number) at reply is may same =
+event_falls base given h (E.Show number) at reply is may same =
     let ms = marks base h in stays_if base (is_closed reply) ms ms (may_close (E.Show number) reply (λ n. refl) may) (omega arith)
-event_falls base h E.List at reply is may same =
+event_falls base given h E.List at reply is may same =
     let ms = marks base h in stays_if base (is_closed reply) ms ms (may_close E.List reply (λ n. refl) may) (omega arith)
 
 -- what is counted of an entry
@@ -251,34 +252,34 @@ count_one : (test : Reply → Bool) (e : Entry) (b : Bool) → test e.reply ≡ 
 count_one test e true is = ap (λ (v : Bool). length (cond v (e ∷ []) [])) is
 count_one test e false is = ap (λ (v : Bool). length (cond v (e ∷ []) [])) is
 
-entry_counted : (base : Summary) (h : List Entry) (e : Entry) → is_desked e.event ≡ true → e.reply ≡ answer base h e.event e.at → IsCounted base h (e ∷ h) (e ∷ [])
-entry_counted base h e is same =
+entry_counted : (base : Summary) → IsGiven base → (h : List Entry) (e : Entry) → is_desked e.event ≡ true → e.reply ≡ answer base h e.event e.at → IsCounted base h (e ∷ h) (e ∷ [])
+entry_counted base given h e is same =
     let ms = marks base h in
     let may = subst (λ (r : Reply). may_answer e.event r ≡ true) (sym same) (answer_may base ms e.event e.at) in
     let falls = falls_if base (is_recorded e.reply) ms (onto (marks_of base ms e.event e.at e.reply) ms) (fall_of e.reply)
-    (event_falls base h e.event e.at e.reply is may same) (quiet_zero e.reply) in
+    (event_falls base given h e.event e.at e.reply is may same) (quiet_zero e.reply) in
     let count = count_one is_closed e (is_closed e.reply) refl in
     record {
       repeats = count_one is_repeat e false (repeats_not e.event e.reply is may);
       closed = omega (arith, falls, count);
     }
 
-counted_by : (base : Summary) (o : Option Event) (text : List ℕ) (h x : List Entry) (t : Turn) → desked_in o ≡ true → IsAnswered base 0 h x t o text → IsLegal base x
+counted_by : (base : Summary) → IsGiven base → (o : Option Event) (text : List ℕ) (h x : List Entry) (t : Turn) → desked_in o ≡ true → IsAnswered base 0 h x t o text → IsLegal base x
     → x ≡ reverse (option_to_list t.entry) ++ h → IsCounted base h x (option_to_list t.entry)
 unfolding desked_in
-counted_by base None text h x t is w legal added =
+counted_by base given None text h x t is w legal added =
     let at : x ≡ h = added ∙ ap (λ (o : Option Entry). reverse (option_to_list o) ++ h) w.entry in
     subst (λ (o : Option Entry). IsCounted base h x (option_to_list o)) (sym w.entry)
     (subst (λ (k : List Entry). IsCounted base h k []) (sym at) (record { repeats = refl; closed = omega arith }))
-counted_by base (Some event) text h x t is w legal added =
+counted_by base given (Some event) text h x t is w legal added =
     let at : x ≡ w.made ∷ h = added ∙ ap (λ (o : Option Entry). reverse (option_to_list o) ++ h) w.entry in
     let next = (subst (IsLegal base) at legal).0 in
     subst (λ (o : Option Entry). IsCounted base h x (option_to_list o)) (sym w.entry)
     (subst (λ (k : List Entry). IsCounted base h k (w.made ∷ [])) (sym at)
-    (entry_counted base h w.made (ap is_desked w.of ∙ is) next.reply))
+    (entry_counted base given h w.made (ap is_desked w.of ∙ is) next.reply))
 
-pub counted_turn : (base : Summary) (setup : List ℕ) (operator : Option (List ℕ)) (clock : ℕ) (text : List ℕ) (h x : List Entry) (t : Turn)
+pub counted_turn : (base : Summary) → IsGiven base → (setup : List ℕ) (operator : Option (List ℕ)) (clock : ℕ) (text : List ℕ) (h x : List Entry) (t : Turn)
     → Turned base setup operator clock text h x t → IsCounted base h x (option_to_list t.entry)
-counted_turn base setup operator clock text h x t w =
-    counted_by base (event_of operator (command_in t.line)) (said_of (meaning setup) (command_in t.line)) h x t (desked_of operator (command_in t.line)) w.is
+counted_turn base given setup operator clock text h x t w =
+    counted_by base given (event_of operator (command_in t.line)) (said_of (meaning setup) (command_in t.line)) h x t (desked_of operator (command_in t.line)) w.is
     w.legal w.added

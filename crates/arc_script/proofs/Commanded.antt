@@ -31,7 +31,8 @@ use Rattle.session_rules.specs.Turns.{entries_of, pieces_of, readings_of, text_o
 use Rattle.arc_script.specs.Causes.{HasShown}
 use Rattle.arc_script.proofs.Feeds.{PageTells}
 use Rattle.arc_script.proofs.Readings.{still}
-use Rattle.arc_script.specs.Standing.{IsReadable, script_seen}
+use Rattle.centre_store.specs.StoreHalls.{store_seen}
+use Rattle.arc_script.specs.Standing.{IsReadable}
 
 -- The line that a text and the end of a line make.
 
@@ -210,12 +211,12 @@ none_before (t ∷ u ∷ ts) text piece more is = absurd cc
 
 -- all was answered: the desk goes on, or the line was a `quit`
 pub says : {D : Type 0} (seen : D → DiskSeen) (s s' : Stored D) (base : Summary) (setup : List ℕ)
-    (clock : ℕ) (stream text : List ℕ) (h : List Entry) (p p' : PortSeen) → text_in s.state ≡ setup → (page : PageTells clock p p')
+    (clock : ℕ) (stream text : List ℕ) (h : List Entry) (p p' : PortSeen) → text_in s.state ≡ setup → IsReadable base h → (page : PageTells clock p p')
     → EndsAs stream text → quits (ended_lines stream) ≡ false
-    → ServesLines (Ok tt) (ended_lines stream) (ended_lines (stream ++ (text ++ 13 ∷ 10 ∷ []))) base h (script_seen seen s)
-    (script_seen seen s') p p'
+    → ServesLines (Ok tt) (ended_lines stream) (ended_lines (stream ++ (text ++ 13 ∷ 10 ∷ []))) base h (store_seen seen s)
+    (store_seen seen s') p p'
     → Said seen s' base setup (acts_over (meaning setup) None (ended_lines stream)) clock text h p p'
-says seen s s' base setup clock stream text h p p' same page ends none serves =
+says seen s s' base setup clock stream text h p p' same readable page ends none serves =
     let session = serves.desk.session in
     let turns = session.turns in
     let told_of = session.adds.told in
@@ -225,7 +226,7 @@ says seen s s' base setup clock stream text h p p' same page ends none serves =
     let whole : text ∷ [] ≡ pieces_of desk_turns turns ++ [] =
     sym more ∙ session.taken ∙ ap (λ l. pieces_of desk_turns turns ++ l) session.ended.none_left in
     let one = one_added seen s s' base (text_in s.state) operator clock text h session.history p p' turns session.added.readings page whole
-    session.each.0 session.legal session.own (ap (λ (q : PortSeen). q.readings) told_of) (ap (λ a. a.readings) added) session.holds.0.stands (session.holds.1 refl) in
+    session.each.0 session.legal session.own (ap (λ (q : PortSeen). q.readings) told_of) (ap (λ a. a.readings) added) session.holds.stands (readable.0, session.reads readable.1) in
     subst (λ (t : List ℕ). Said seen s' base t (acts_over (meaning t) None (ended_lines stream)) clock text h p p') same
     (record {
       answers = one.0;
@@ -233,22 +234,22 @@ says seen s s' base setup clock stream text h p p' same page ends none serves =
     })
 
 pub says_quit : {D : Type 0} (seen : D → DiskSeen) (s s' : Stored D) (base : Summary) (setup : List ℕ)
-    (clock : ℕ) (stream text : List ℕ) (h : List Entry) (p p' : PortSeen) → text_in s.state ≡ setup → (page : PageTells clock p p')
+    (clock : ℕ) (stream text : List ℕ) (h : List Entry) (p p' : PortSeen) → text_in s.state ≡ setup → IsReadable base h → (page : PageTells clock p p')
     → EndsAs stream text → quits (ended_lines stream) ≡ false
-    → ServesLines (Err Quit) (ended_lines stream) (ended_lines (stream ++ (text ++ 13 ∷ 10 ∷ []))) base h (script_seen seen s)
-    (script_seen seen s') p p'
+    → ServesLines (Err Quit) (ended_lines stream) (ended_lines (stream ++ (text ++ 13 ∷ 10 ∷ []))) base h (store_seen seen s)
+    (store_seen seen s') p p'
     → Said seen s' base setup (acts_over (meaning setup) None (ended_lines stream)) clock text h p p'
-says_quit seen s s' base setup clock stream text h p p' same page ends none serves =
-    says seen s s' base setup clock stream text h p p' same page ends none (record { more = serves.more; came = serves.came; desk = serves.desk })
+says_quit seen s s' base setup clock stream text h p p' same readable page ends none serves =
+    says seen s s' base setup clock stream text h p p' same readable page ends none (record { more = serves.more; came = serves.came; desk = serves.desk })
 
 -- a write failed: the line has its turn all the same
 pub unsaid : {D : Type 0} (seen : D → DiskSeen) (s s' : Stored D) (base : Summary) (setup : List ℕ)
-    (clock : ℕ) (stream text : List ℕ) (h : List Entry) (p p' : PortSeen) → text_in s.state ≡ setup → (page : PageTells clock p p')
+    (clock : ℕ) (stream text : List ℕ) (h : List Entry) (p p' : PortSeen) → text_in s.state ≡ setup → IsReadable base h → (page : PageTells clock p p')
     → EndsAs stream text → quits (ended_lines stream) ≡ false
     → ServesLines (Err WriteFault) (ended_lines stream) (ended_lines (stream ++ (text ++ 13 ∷ 10 ∷ []))) base h
-    (script_seen seen s) (script_seen seen s') p p'
+    (store_seen seen s) (store_seen seen s') p p'
     → Answers seen s' base setup (acts_over (meaning setup) None (ended_lines stream)) clock text h
-unsaid seen s s' base setup clock stream text h p p' same page ends none serves =
+unsaid seen s s' base setup clock stream text h p p' same readable page ends none serves =
     let session = serves.desk.session in
     let turns = session.turns in
     let ended = session.ended in
@@ -257,7 +258,7 @@ unsaid seen s s' base setup clock stream text h p p' same page ends none serves 
     let whole : text ∷ [] ≡ pieces_of desk_turns turns ++ [] = only_left turns ended.front session.behind ended.last text session.left ended.split
     (sym more ∙ session.taken) in
     let one = one_added seen s s' base (text_in s.state) operator clock text h session.history p p' turns session.added.readings page whole
-    session.each.0 session.legal session.own (ap (λ (q : PortSeen). q.readings) session.adds.told) (ap (λ a. a.readings) ended.added) session.holds.0.stands (session.holds.1 refl) in
+    session.each.0 session.legal session.own (ap (λ (q : PortSeen). q.readings) session.adds.told) (ap (λ a. a.readings) ended.added) session.holds.stands (readable.0, session.reads readable.1) in
     subst (λ (t : List ℕ). Answers seen s' base t (acts_over (meaning t) None (ended_lines stream)) clock text h) same one.0
 
 -- the store stopped for the line
@@ -270,7 +271,7 @@ pub stops : {D : Type 0} (seen : D → DiskSeen) (s s' : Stored D) (base : Summa
     (clock : ℕ) (stream text : List ℕ) (h : List Entry) (p p' : PortSeen) (stop : Stop) → text_in s.state ≡ setup → (page : PageTells clock p p')
     → EndsAs stream text → quits (ended_lines stream) ≡ false
     → ServesLines (Err (Stopped stop)) (ended_lines stream) (ended_lines (stream ++ (text ++ 13 ∷ 10 ∷ []))) base h
-    (script_seen seen s) (script_seen seen s') p p'
+    (store_seen seen s) (store_seen seen s') p p'
     → StoppedFor seen s' base setup (acts_over (meaning setup) None (ended_lines stream)) clock text h stop
 stops seen s s' base setup clock stream text h p p' stop same page ends none serves =
     let session = serves.desk.session in
@@ -292,10 +293,10 @@ stops seen s s' base setup clock stream text h p p' stop same page ends none ser
     let cause = ended.cause in
     subst (λ (t : List ℕ). StoppedFor seen s' base t (acts_over (meaning t) None (ended_lines stream)) clock text h stop) same
     (record {
-      stands = subst (λ (x : List Entry). StoreStands seen base s' x) back session.holds.0.stands;
+      stands = subst (λ (x : List Entry). StoreStands seen base s' x) back session.holds.stands;
       cause = inr (
         cause.0,
         ap (λ (o : Option (List ℕ)). event_of o (command_in text)) last ∙ ap (λ (l : List ℕ). event_of serves.desk.last (command_in l)) (sym none_done.piece) ∙ cause.1,
-        subst (λ (r : ℕ). Shows seen s' stop cause.0 r) at cause.2,
+        subst (λ (r : ℕ). Shows seen s' stop cause.0 r) at cause.2.shown,
       );
     })

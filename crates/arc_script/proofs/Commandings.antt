@@ -15,7 +15,8 @@ use Rattle.centre_core.specs.declared.hall.Stop.{Stop}
 use Rattle.centre_core.specs.declared.hall.Stop.TheVariants.{Memory}
 use Rattle.centre_rules.specs.History.{Entry}
 use Rattle.centre_rules.specs.Summary.{Summary}
-use Rattle.centre_store.specs.StoreHalls.{IsStoreFor}
+use Rattle.centre_store.specs.StoreHalls.{IsStoreFor, store_seen}
+use Rattle.arc_script.specs.Standing.{IsReadable}
 use Rattle.centre_store.specs.Stores.{Stored, StoreStands}
 use Rattle.desk_session.specs.Desks as Desk
 use Rattle.desk_session.specs.Events.{acts_over, command_in, event_of, quits}
@@ -30,7 +31,6 @@ use Rattle.arc_script.specs.Causes.{HasShown}
 use Rattle.arc_script.specs.Fed.{desk_read}
 use Rattle.arc_script.specs.PageWords.{page_seen}
 use Rattle.arc_script.specs.Pages.{blank, head_of}
-use Rattle.arc_script.specs.Standing.{IsReadable, script_seen}
 use Rattle.arc_script.specs.Steps.{Commands}
 use Rattle.arc_script.specs.declared.page.Page.{Page}
 use Rattle.arc_script.specs.declared.script_end.Tally.{Tally}
@@ -55,8 +55,8 @@ pub record IsGiven {D : Type 0} (seen : D → DiskSeen) (s s' : Stored D) (setup
   pub silent : noise_list page'.port.noise ≡ []
   pub taken : (stream : List ℕ) → Desk.TookStream (meaning (text_of s.state)) stream was → Desk.IsTaken r (meaning (text_of s.state)) stream given now
   pub served : (base : Summary) (stream : List ℕ) (h : List Entry) → Desk.TookStream (meaning (text_of s.state)) stream was
-      → IsStoreFor seen base s h → IsReadable base h
-      → Desk.ServesBytes r stream (in_limit stream given) base h (script_seen seen s) (script_seen seen s')
+      → IsStoreFor seen base s h
+      → Desk.ServesBytes r stream (in_limit stream given) base h (store_seen seen s) (store_seen seen s')
       (page_seen page) (page_seen page')
 
 -- what the desk had read, and what it did
@@ -67,7 +67,7 @@ pub record HasServed {D : Type 0} (seen : D → DiskSeen) (s s' : Stored D) (bas
   pub ends : EndsAs has.stream text
   pub none : quits (ended_lines has.stream) ≡ false
   pub serves : Desk.ServesLines r (ended_lines has.stream) (ended_lines (has.stream ++ (text ++ 13 ∷ 10 ∷ []))) base h
-      (script_seen seen s) (script_seen seen s') p p'
+      (store_seen seen s) (store_seen seen s') p p'
   pub page : PageTells clock p p'
 
 had_read : (setup : Setup) (clock count desk : ℕ) (before : List Asked) (text : List ℕ) (lines : List Line.LineValue) (desks : List Desk.DeskValue)
@@ -101,14 +101,14 @@ has_served seen s s' base setup clock count desk before text h lines desks was n
     let same = text_is s setup g.set in
     let took = subst (λ (t : List ℕ). Desk.TookStream (meaning t) has.stream was) (sym same) has.took in
     let short = command_short (meaning setup) clock count desk before text has.stream lines desks next has.few in
-    let serves = g.served base has.stream h took (record { stands = stands; setting = g.setting }) readable in
+    let serves = g.served base has.stream h took (record { stands = stands; setting = g.setting }) in
     let whole = whole_given has.stream text given g.line short in
     record {
       has = has;
       ends = ends_as has.stream text (text_unbroken desk text next.unbroken) has.none;
       none = has.took.taken.goes_on;
       serves = subst (λ (l : List ℕ). Desk.ServesLines r (ended_lines has.stream) (ended_lines (has.stream ++ l)) base h
-          (script_seen seen s) (script_seen seen s') (page_seen page) (page_seen page')) whole serves;
+          (store_seen seen s) (store_seen seen s') (page_seen page) (page_seen page')) whole serves;
       page = page_tells clock page page'
           (ap (λ (q : PortSeen). q.readings) g.only.rest ∙ ap (λ (q : PortSeen). q.readings) empty)
           (ap (λ (q : PortSeen). q.noise) g.only.rest ∙ ap (λ (q : PortSeen). q.noise) empty) g.one g.silent;
@@ -125,7 +125,7 @@ pub goes_on : {D : Type 0} (seen : D → DiskSeen) (s s' : Stored D) (base : Sum
     → Carried seen base (λ x k. Commands base setup before desk text h x k) number (Command desk text) t t' p (page_seen page') s'
 goes_on seen s s' base setup desk text lines desks was now t t' p page page' given g closings before clock count number h next empty stands readable =
     let w = has_served seen s s' base setup clock count desk before text h lines desks was now p page page' given (Ok tt) g next empty stands readable in
-    let said = says seen s s' base setup clock w.has.stream text h (page_seen page) (page_seen page') (text_is s setup g.set) w.page w.ends w.none w.serves in
+    let said = says seen s s' base setup clock w.has.stream text h (page_seen page) (page_seen page') (text_is s setup g.set) readable w.page w.ends w.none w.serves in
     commanded seen s s' base setup clock number desk before text (ended_lines w.has.stream) h t t' p (page_seen page) (page_seen page')
     next.set w.has.ended stands said g.head closings
 
@@ -138,7 +138,7 @@ pub quits_on : {D : Type 0} (seen : D → DiskSeen) (s s' : Stored D) (base : Su
     → Carried seen base (λ x k. Commands base setup before desk text h x k) number (Command desk text) t t' p (page_seen page') s'
 quits_on seen s s' base setup desk text lines desks was now t t' p page page' given g closings before clock count number h next empty stands readable =
     let w = has_served seen s s' base setup clock count desk before text h lines desks was now p page page' given (Err Quit) g next empty stands readable in
-    let said = says_quit seen s s' base setup clock w.has.stream text h (page_seen page) (page_seen page') (text_is s setup g.set) w.page w.ends w.none w.serves in
+    let said = says_quit seen s s' base setup clock w.has.stream text h (page_seen page) (page_seen page') (text_is s setup g.set) readable w.page w.ends w.none w.serves in
     commanded seen s s' base setup clock number desk before text (ended_lines w.has.stream) h t t' p (page_seen page) (page_seen page')
     next.set w.has.ended stands said g.head closings
 
@@ -167,7 +167,7 @@ pub fails_at : {D : Type 0} (seen : D → DiskSeen) (s s' : Stored D) (base : Su
     → Halted seen base (λ x k. CameSoFar base seen s' setup clock desk before text h Memory x k) t t' s'
 fails_at seen s s' base setup desk text lines desks was now t t' p page page' given g closings before clock count h next empty stands readable =
     let w = has_served seen s s' base setup clock count desk before text h lines desks was now p page page' given (Err WriteFault) g next empty stands readable in
-    let answers = unsaid seen s s' base setup clock w.has.stream text h (page_seen page) (page_seen page') (text_is s setup g.set) w.page w.ends w.none w.serves in
+    let answers = unsaid seen s s' base setup clock w.has.stream text h (page_seen page) (page_seen page') (text_is s setup g.set) readable w.page w.ends w.none w.serves in
     unsaid_all seen s s' base setup clock desk before text (ended_lines w.has.stream) h t t' next.set w.has.ended stands answers closings
 
 -- What the desks took.

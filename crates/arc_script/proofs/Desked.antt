@@ -115,7 +115,7 @@ commanded seen s s' base setup clock number desk before text lines h t t' p q p'
     let a = w.answers in
     let entries = option_to_list a.turn.entry in
     let step = step_of number desk text a.turn.reply entries in
-    let counted = counted_turn base setup (acts_over (meaning setup) None lines) clock text h a.history a.turn a.turned in
+    let counted = counted_turn base a.readable.0 setup (acts_over (meaning setup) None lines) clock text h a.history a.turn a.turned in
     record {
       step = step;
       history = a.history;
@@ -147,7 +147,7 @@ unfolding step_of
 unsaid_all seen s s' base setup clock desk before text lines h t t' set same stands a closings =
     let entries = option_to_list a.turn.entry in
     let step = step_of 0 desk text a.turn.reply entries in
-    let counted = counted_turn base setup (acts_over (meaning setup) None lines) clock text h a.history a.turn a.turned in
+    let counted = counted_turn base a.readable.0 setup (acts_over (meaning setup) None lines) clock text h a.history a.turn a.turned in
     record {
       partial = step;
       history = a.history;

@@ -21,7 +21,7 @@ use Rattle.arc_script.specs.Standing.{IsReadable}
 use Rattle.arc_script.specs.declared.page.Page.{Page}
 use Rattle.arc_script.specs.declared.script_end.Tally.{Tally}
 use Rattle.arc_script.proofs.Carries.{set_there}
-use Rattle.arc_script.proofs.FedCounts.{Tallied}
+use Rattle.arc_script.proofs.FedCounts.{sent_for, Tallied}
 use Rattle.arc_script.proofs.FedEnds.{all_fed, fed_failed, fed_stopped, took_was, IsTaking}
 
 -- how many entries are not recorded
@@ -76,7 +76,7 @@ module _ {D : Type 0} (seen : D â†’ DiskSeen) (s s' : Stored D) (setup : List â„
     stands = w.stands;
     readable = w.readable;
     cause = inl refl;
-    sent_is = w.sent_is;
+    sent_is = sent_for Memory stop (length w.turns) w.sent refl w.sent_is;
     counts = w.counts;
   }
 

@@ -1,5 +1,5 @@
 -- What a line leaves that was fed bytes, with what is counted.
-use Rattle.std.proofs.Common.{◌≡◌, ◌-◌, ◌+◌, ◌++◌, ◌^◌, ℕ, List, [], ◌∷◌, Option, Some, length, reverse, inl, refl, ap, sym, ◌∙◌, append-nil}
+use Rattle.std.proofs.Common.{◌≡◌, ◌-◌, ◌+◌, ◌++◌, ◌^◌, ℕ, List, [], ◌∷◌, Option, Some, length, reverse, inl, inr, refl, ap, sym, ◌∙◌, append-nil}
 use Rattle.std.specs.Prelude.{min, unwrap_or}
 use Rattle.std.specs.Io.KnownBytes.{append_known}
 use Rattle.alarm_rules.specs.Setups.{meaning}
@@ -16,6 +16,7 @@ use Rattle.dc09_frame.specs.Frames.{bodies}
 use Rattle.line_session.proofs.Fed.{bodies_more}
 use Rattle.line_session.specs.Turns.{Turn, line_turns, AreTurns}
 use Rattle.session_rules.specs.Turns.{entries_of, text_of}
+use Rattle.arc_script.specs.Causes.{IsSentFor}
 use Rattle.arc_script.specs.Feeding.{CountsFed, FeedStops, HasFed}
 use Rattle.arc_script.specs.PageWords.{page_seen}
 use Rattle.arc_script.specs.Standing.{IsReadable}
@@ -114,6 +115,11 @@ none_fed seen s base setup clock stream bytes h t stands readable =
       stands = stands;
       readable = readable;
       cause = inl refl;
-      sent_is = inl refl;
+      sent_is = inr (refl, refl);
       counts = record { frames = grows_none 0 t.sent refl; repeats = grows_none 0 t.repeats refl; rest = refl };
     }
+
+-- where memory was wanted for it, the same count does
+pub sent_for : (stop other : Stop) (count sent : ℕ) → stop ≡ Memory → IsSentFor other count sent → IsSentFor stop count sent
+sent_for stop other count sent is (inl all) = inl all
+sent_for stop other count sent is (inr few) = inr (is, few.1)

@@ -10,7 +10,8 @@ use Rattle.centre_core.specs.declared.hall.Stop.{Stop}
 use Rattle.centre_core.specs.declared.hall.Stop.TheVariants.{Memory}
 use Rattle.centre_rules.specs.History.{Entry}
 use Rattle.centre_rules.specs.Summary.{Summary}
-use Rattle.centre_store.specs.StoreHalls.{IsStoreFor}
+use Rattle.centre_store.specs.StoreHalls.{IsStoreFor, store_seen}
+use Rattle.arc_script.specs.Standing.{IsReadable}
 use Rattle.centre_store.specs.Stores.{Stored, StoreStands}
 use Rattle.line_session.specs.Lines as Line
 use Rattle.line_session.specs.declared.line_end.LineEnd.{LineEnd}
@@ -19,7 +20,6 @@ use Rattle.session_rules.specs.Inputs.{in_limit, input_limit}
 use Rattle.arc_script.specs.Feeding.{FeedStops, HasFed, TookAt}
 use Rattle.arc_script.specs.PageWords.{page_seen}
 use Rattle.arc_script.specs.Pages.{blank}
-use Rattle.arc_script.specs.Standing.{IsReadable, script_seen}
 use Rattle.arc_script.specs.declared.page.Page.{Page}
 use Rattle.arc_script.specs.declared.script_end.Tally.{Tally}
 use Rattle.arc_script.proofs.FedCounts.{feed_stops, has_fed, page_tells, Tallied}
@@ -35,8 +35,8 @@ pub record IsTaking {D : Type 0} (seen : D → DiskSeen) (s s' : Stored D) (setu
   pub empty : page_seen page ≡ blank moment
   pub one : length (clock_list page'.port.clock) ≡ 1
   pub silent : noise_list page'.port.noise ≡ []
-  pub served : (base : Summary) (stream : List ℕ) (h : List Entry) → Line.TookStream stream was → IsStoreFor seen base s h → IsReadable base h
-      → Line.ServesBytes r stream (in_limit stream given) base h (script_seen seen s) (script_seen seen s')
+  pub served : (base : Summary) (stream : List ℕ) (h : List Entry) → Line.TookStream stream was → IsStoreFor seen base s h
+      → Line.ServesBytes r stream (in_limit stream given) base h (store_seen seen s) (store_seen seen s')
       (page_seen page) (page_seen page')
 
 pub took_was : (stream : List ℕ) (lines : List Line.LineValue) (place : ℕ) (was : Line.LineValue) → slice_get lines place ≡ Some was
@@ -58,10 +58,10 @@ module _ {D : Type 0} (seen : D → DiskSeen) (s s' : Stored D) (setup : List �
       → StoreStands seen base s h → IsReadable base h
       → HasFed seen base setup moment stream given h t t' (sink_bytes page'.port.sink) s'
   all_fed g base stream h took short stands readable =
-      let serves = g.served base stream h (took_was stream lines place was g.there took) (record { stands = stands; setting = g.setting }) readable in
+      let serves = g.served base stream h (took_was stream lines place was g.there took) (record { stands = stands; setting = g.setting }) in
       has_fed seen s s' base setup moment stream given h t t' page page' (clock_calls page'.port.clock) stands
       (ap (λ (q : PortSeen). q.written) g.empty)
-      (feeds seen s s' base setup moment stream given h (page_seen page) (page_seen page') (same_text (Ok tt) g) short (tells (Ok tt) g) serves)
+      (feeds seen s s' base setup moment stream given h (page_seen page) (page_seen page') (same_text (Ok tt) g) short readable (tells (Ok tt) g) serves)
       tallied
 
   pub fed_stopped : (stop : Stop) → IsTaking seen s s' setup moment place lines was page page' given (Err (Stopped stop))
@@ -69,9 +69,9 @@ module _ {D : Type 0} (seen : D → DiskSeen) (s s' : Stored D) (setup : List �
       → StoreStands seen base s h → IsReadable base h
       → FeedStops seen base setup moment stream given h t t' stop s'
   fed_stopped stop g base stream h took short stands readable =
-      let serves = g.served base stream h (took_was stream lines place was g.there took) (record { stands = stands; setting = g.setting }) readable in
+      let serves = g.served base stream h (took_was stream lines place was g.there took) (record { stands = stands; setting = g.setting }) in
       feed_stops seen s s' base setup moment stream given h t t' stop (clock_calls page'.port.clock) stands
-      (stopped_at seen s s' base setup moment stream given h (page_seen page) (page_seen page') stop (same_text (Err (Stopped stop)) g) short
+      (stopped_at seen s s' base setup moment stream given h (page_seen page) (page_seen page') stop (same_text (Err (Stopped stop)) g) short readable
       (tells (Err (Stopped stop)) g) serves) tallied
 
   pub fed_failed : IsTaking seen s s' setup moment place lines was page page' given (Err WriteFault)
@@ -79,7 +79,7 @@ module _ {D : Type 0} (seen : D → DiskSeen) (s s' : Stored D) (setup : List �
       → StoreStands seen base s h → IsReadable base h
       → FeedStops seen base setup moment stream given h t t' Memory s'
   fed_failed g base stream h took short stands readable =
-      let serves = g.served base stream h (took_was stream lines place was g.there took) (record { stands = stands; setting = g.setting }) readable in
+      let serves = g.served base stream h (took_was stream lines place was g.there took) (record { stands = stands; setting = g.setting }) in
       feed_stops seen s s' base setup moment stream given h t t' Memory (clock_calls page'.port.clock) stands
-      (cut_short seen s s' base setup moment stream given h (page_seen page) (page_seen page') (same_text (Err WriteFault) g) short
+      (cut_short seen s s' base setup moment stream given h (page_seen page) (page_seen page') (same_text (Err WriteFault) g) short readable
       (tells (Err WriteFault) g) serves) tallied

@@ -27,6 +27,7 @@ use Rattle.arc_script.specs.Standing.{IsReadable}
 use Rattle.arc_script.specs.Steps.{Feeds}
 use Rattle.arc_script.specs.declared.page.Page.{Page}
 use Rattle.arc_script.specs.declared.script_end.Tally.{Tally}
+use Rattle.arc_script.proofs.FedCounts.{sent_for}
 use Rattle.arc_script.proofs.Carries.{carried, finished, halted_at, took_before}
 
 -- what is known of a line that is next and feeds these bytes
@@ -74,7 +75,7 @@ wanting base stop other (inl is) w = record {
   stands = w.stands;
   readable = w.readable;
   cause = inl is;
-  sent_is = w.sent_is;
+  sent_is = sent_for stop other (length w.turns) w.sent is w.sent_is;
   counts = w.counts;
 }
 wanting {D} {seen} {s'} {setup} {moment} {stream} {bytes} {h} {t} {t'} base stop other (inr same) w =
@@ -101,7 +102,7 @@ pub fed_stops : {D : Type 0} (seen : D → DiskSeen) (s s' : Stored D) (setup : 
     → IfErr r (λ stop. (base : Summary) (before : List Asked) (count : ℕ) (h : List Entry) → IsNext (meaning setup) moment count before asked lines desks
     → StoreStands seen base s h → IsReadable base h
     → Halted seen base (λ x k.
-    ((waiting : List (List ℕ)) × FedUntil base setup before line bytes waiting h x k
+    ((waiting : List (List ℕ)) × FedUntil stop base setup before line bytes waiting h x k
     × HasShown seen s' stop moment (IsOfFrame setup moment waiting))
     ⊎ ((stop ≡ Memory) × Feeds base setup before letter line bytes h x k)) t t' s')
 fed_stops seen s s' setup moment letter line asked given bytes lines desks t t' (Ok done) frames same is stops fed stopped = tt

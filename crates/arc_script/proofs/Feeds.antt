@@ -17,7 +17,8 @@ use Rattle.line_session.specs.Turns.{Turn, line_turns, AreTurns}
 use Rattle.session_rules.specs.Inputs.{in_limit, input_limit}
 use Rattle.session_rules.specs.Turns.{readings_of, noise_of, text_of}
 use Rattle.arc_script.proofs.Readings.{still, silent}
-use Rattle.arc_script.specs.Standing.{IsReadable, script_seen}
+use Rattle.centre_store.specs.StoreHalls.{store_seen}
+use Rattle.arc_script.specs.Standing.{IsReadable}
 use Rattle.arc_script.specs.Steps.{FeedsBehind}
 
 -- what a page tells of its clock and its noise before a line is fed, and after
@@ -48,10 +49,10 @@ readings_count (t ∷ ts) = ap suc (readings_count ts)
 
 pub feeds : {D : Type 0} (seen : D → DiskSeen) (s s' : Stored D)
     (base : Summary) (setup : List ℕ) (clock : ℕ) (stream bytes : List ℕ) (h : List Entry) (p p' : PortSeen) → text_in s.state ≡ setup
-    → length (stream ++ bytes) < input_limit → (page : PageTells clock p p')
-    → ServesBytes (Ok tt) stream (in_limit stream bytes) base h (script_seen seen s) (script_seen seen s') p p'
+    → length (stream ++ bytes) < input_limit → IsReadable base h → (page : PageTells clock p p')
+    → ServesBytes (Ok tt) stream (in_limit stream bytes) base h (store_seen seen s) (store_seen seen s') p p'
     → FedBy seen s' base setup clock stream bytes h p p' page.calls
-feeds seen s s' base setup clock stream bytes h p p' same short page serves =
+feeds seen s s' base setup clock stream bytes h p p' same short readable page serves =
     let session = serves.session in
     let turns = session.turns in
     let fits : length bytes ≤ input_limit - length stream = (let long = length-append stream bytes in omega (arith, long, short)) in
@@ -78,8 +79,8 @@ feeds seen s s' base setup clock stream bytes h p p' same short page serves =
         noise = silent page.tens (noise_of line_turns turns) noise;
         own = session.own;
       };
-      stands = session.holds.0.stands;
-      readable = session.holds.1 refl;
+      stands = session.holds.stands;
+      readable = (readable.0, session.reads readable.1);
       written = ap (λ (q : PortSeen). q.written) told_of ∙ ap (λ a. append_known p.written a.text) added;
       count = stands.count ∙ ap (λ n. n + 1) (readings_count turns);
     }

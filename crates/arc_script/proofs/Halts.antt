@@ -24,8 +24,9 @@ use Rattle.session_rules.specs.Inputs.{in_limit, input_limit}
 use Rattle.session_rules.specs.Turns.{readings_of, noise_of}
 use Rattle.arc_script.proofs.Feeds.{PageTells, readings_count}
 use Rattle.arc_script.proofs.Readings.{still, silent}
-use Rattle.arc_script.specs.Causes.{HasShown, IsOfFrame}
-use Rattle.arc_script.specs.Standing.{IsReadable, script_seen}
+use Rattle.arc_script.specs.Causes.{HasShown, IsOfFrame, IsSentFor}
+use Rattle.centre_store.specs.StoreHalls.{store_seen}
+use Rattle.arc_script.specs.Standing.{IsReadable}
 use Rattle.arc_script.specs.Steps.{FeedsBehind}
 
 -- the frames before the one that was stopped have their turns; that one may have taken its reading
@@ -39,7 +40,7 @@ pub record FedUpTo {D : Type 0} (seen : D → DiskSeen) (s' : Stored D)
   pub stands : StoreStands seen base s' history
   pub readable : IsReadable base history
   pub cause : HasShown seen s' stop clock (IsOfFrame setup clock more)
-  pub sent_is : (sent ≡ length turns) ⊎ (sent ≡ suc (length turns))
+  pub sent_is : IsSentFor stop (length turns) sent
   pub count : calls ≡ sent + 1
 
 parted : (stream bytes : List ℕ) (whole more : List (List ℕ)) (turns : List Turn) → length (stream ++ bytes) < input_limit
@@ -57,10 +58,10 @@ without_behind turns front behind split none = sym (split ∙ ap (λ l. front ++
 -- a write failed within a reply
 pub cut_short : {D : Type 0} (seen : D → DiskSeen) (s s' : Stored D)
     (base : Summary) (setup : List ℕ) (clock : ℕ) (stream bytes : List ℕ) (h : List Entry) (p p' : PortSeen) → text_in s.state ≡ setup
-    → length (stream ++ bytes) < input_limit → (page : PageTells clock p p')
-    → ServesBytes (Err WriteFault) stream (in_limit stream bytes) base h (script_seen seen s) (script_seen seen s') p p'
+    → length (stream ++ bytes) < input_limit → IsReadable base h → (page : PageTells clock p p')
+    → ServesBytes (Err WriteFault) stream (in_limit stream bytes) base h (store_seen seen s) (store_seen seen s') p p'
     → FedUpTo seen s' base setup clock stream bytes h Memory page.calls
-cut_short seen s s' base setup clock stream bytes h p p' same short page serves =
+cut_short seen s s' base setup clock stream bytes h p p' same short readable page serves =
     let session = serves.session in
     let turns = session.turns in
     let ended = session.ended in
@@ -86,10 +87,10 @@ cut_short seen s s' base setup clock stream bytes h p p' same short page serves 
         noise = silent page.tens (noise_of line_turns turns) noise;
         own = session.own;
       };
-      stands = session.holds.0.stands;
-      readable = session.holds.1 refl;
+      stands = session.holds.stands;
+      readable = (readable.0, session.reads readable.1);
       cause = inl refl;
-      sent_is = inl refl;
+      sent_is = inr (refl, refl);
       count = stands.count ∙ ap (λ n. n + 1) (readings_count turns);
     }
 
@@ -107,25 +108,25 @@ all_at (r ∷ rs) reading clock (suc n) is =
     record { last = more.last; rest = ap (λ x. x ∷ rs) (ap (λ (l : List ℕ). slice_index l 0) is) ∙ ap (λ l. clock ∷ l) more.rest }
 
 caused : {D : Type 0} (seen : D → DiskSeen) (s s' : Stored D)
-    (base : Summary) (setup : List ℕ) (clock reading : ℕ) (stop : Stop) (body : List ℕ) (more : List (List ℕ)) → text_in s.state ≡ setup → reading ≡ clock
-    → HasStopped (script_seen seen s) (script_seen seen s') stop body reading
+    (base : Summary) (setup : List ℕ) (clock reading : ℕ) (x : List Entry) (stop : Stop) (body : List ℕ) (more : List (List ℕ)) → text_in s.state ≡ setup → reading ≡ clock
+    → HasStopped base (store_seen seen s) (store_seen seen s') x stop body reading
     → HasShown seen s' stop clock (IsOfFrame setup clock (body ∷ more))
-caused seen s s' base setup clock reading stop body more same at (inl wanted) = inl wanted.0
-caused seen s s' base setup clock reading stop body more same at (inr w) = inr (
+caused seen s s' base setup clock reading x stop body more same at (inl wanted) = inl wanted.0
+caused seen s s' base setup clock reading x stop body more same at (inr w) = inr (
   w.0,
   sym (ap (λ (r : ℕ). event_of (verdict_of (meaning (text_in s.state)) r body)) at ∙ ap (λ (text : List ℕ). event_of (verdict_of (meaning text) clock body)) same)
       ∙ w.1,
-  subst (λ (r : ℕ). Shows seen s' stop w.0 r) at w.2,
+  subst (λ (r : ℕ). Shows seen s' stop w.0 r) at w.2.shown,
 )
 
 -- the store stopped for a frame
 pub stopped_at : {D : Type 0} (seen : D → DiskSeen) (s s' : Stored D)
     (base : Summary) (setup : List ℕ) (clock : ℕ) (stream bytes : List ℕ) (h : List Entry) (p p' : PortSeen) (stop : Stop) → text_in s.state ≡ setup
-    → length (stream ++ bytes) < input_limit → (page : PageTells clock p p')
-    → ServesBytes (Err (Stopped stop)) stream (in_limit stream bytes) base h (script_seen seen s)
-    (script_seen seen s') p p'
+    → length (stream ++ bytes) < input_limit → IsReadable base h → (page : PageTells clock p p')
+    → ServesBytes (Err (Stopped stop)) stream (in_limit stream bytes) base h (store_seen seen s)
+    (store_seen seen s') p p'
     → FedUpTo seen s' base setup clock stream bytes h stop page.calls
-stopped_at seen s s' base setup clock stream bytes h p p' stop same short page serves =
+stopped_at seen s s' base setup clock stream bytes h p p' stop same short readable page serves =
     let session = serves.session in
     let turns = session.turns in
     let ended = session.ended in
@@ -156,9 +157,9 @@ stopped_at seen s s' base setup clock stream bytes h p p' stop same short page s
         noise = silent page.tens (noise_of line_turns turns) noise;
         own = session.own;
       };
-      stands = session.holds.0.stands;
-      readable = session.holds.1 refl;
-      cause = caused seen s s' base setup clock ended.reading stop ended.piece ended.more same at.last ended.cause;
-      sent_is = inr refl;
+      stands = session.holds.stands;
+      readable = (readable.0, session.reads readable.1);
+      cause = caused seen s s' base setup clock ended.reading session.history stop ended.piece ended.more same at.last ended.cause;
+      sent_is = inl refl;
       count = omega (arith, stands.count, size, count);
     }

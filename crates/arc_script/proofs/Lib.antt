@@ -28,8 +28,6 @@ pub mod Passed
 pub mod Wanting
 pub mod Asking
 pub mod Transcripts
-pub mod Telling
-pub mod Halled
 pub mod Carry
 pub mod Opening
 pub mod Reopening

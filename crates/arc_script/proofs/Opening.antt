@@ -17,7 +17,7 @@ use Rattle.line_session.specs.Lines as Line
 use Rattle.arc_script.specs.Between.{Begun, IsStoreSoFar, SoFar}
 use Rattle.arc_script.specs.Carrying.{HasRead, HaveTaken}
 use Rattle.arc_script.specs.Playing.{IsNewDesk}
-use Rattle.arc_script.specs.Standing.{is_told}
+use Rattle.centre_store.specs.StoreHalls.{is_told}
 use Rattle.arc_script.specs.declared.script.Script.{Script}
 use Rattle.arc_script.proofs.Reopening.{kept_recorded}
 
@@ -51,7 +51,9 @@ pub store_opened : {D : Type 0} (seen : D → DiskSeen) (b : Begun D) (s : Store
 store_opened seen b s o same tells limits later = record {
   given = subst IsGiven same o.given;
   stands = subst (λ (base : Summary). StoreStands seen base s o.past) same o.stands;
-  readable = (given_moment b.base (subst IsGiven same o.given), subst AreKept (sym (kept_recorded o.past o.is_past.kept)) o.is_past.kept);
+  readable =
+      let given = subst IsGiven same o.given in
+      (given, (given_moment b.base given, subst AreKept (sym (kept_recorded o.past o.is_past.kept)) o.is_past.kept));
   tells = tells;
   limits_are = limits;
   later = later;

@@ -18,7 +18,8 @@ use Rattle.disk_journal.specs.Records.{AtRest}
 use Rattle.disk_journal.specs.Standing.{AreasStand}
 use Rattle.arc_script.specs.Between.{Begun}
 use Rattle.arc_script.specs.Ends.{Tells}
-use Rattle.arc_script.specs.Standing.{IsReadable, is_told}
+use Rattle.centre_store.specs.StoreHalls.{is_told}
+use Rattle.arc_script.specs.Standing.{IsReadable}
 use Rattle.arc_script.specs.Steps.{Keeps}
 
 -- what was kept is recorded
@@ -36,7 +37,7 @@ same_past base h past legal readable is =
     let count : length (recorded h) ≡ length past =
     sym (bodies_count h) ∙ ap length is.is ∙ bodies_count past ∙ ap length (kept_recorded past is.kept) in
     let few : base.recorded + length (recorded h) ≤ 2 ^ 48 = subst (λ (n : ℕ). base.recorded + n ≤ 2 ^ 48) (sym count) is.few in
-    one_past base (bodies_of h) (bodies_of h) past (recorded h) refl is (past_recorded base h legal readable.1 few)
+    one_past base (bodies_of h) (bodies_of h) past (recorded h) refl is (past_recorded base h legal readable.1.1 few)
 
 told_same : (told : Option Areas) (bodies other : List (List ℕ)) → is_told told ≡ true → IfSome told (λ a. AreasStand a bodies)
     → IfSome told (λ a. AtRest a.a other) → bodies ≡ other

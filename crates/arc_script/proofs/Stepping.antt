@@ -77,7 +77,7 @@ module _ {D : Type 0} (seen : D → DiskSeen) (script script' : Script) (s s' : 
 abbrev pub CameSoFar : {D : Type 0} → Summary → (D → DiskSeen) → Type 0 → List ℕ → ℕ → List Asked → Asked → List Entry → Stored D → Stop → List Entry → Step
     → Type 0
 CameSoFar base seen Told setup moment before asked h s' stop x st =
-    ((waiting : List (List ℕ)) × CameTo Told base setup before waiting h x st asked
+    ((waiting : List (List ℕ)) × CameTo stop Told base setup before waiting h x st asked
     × HasShown seen s' stop moment (Submits setup before moment waiting asked))
     ⊎ ((stop ≡ Memory) × IsStepOf Told base setup before h x st asked)
 

@@ -15,7 +15,7 @@ use Rattle.centre_rules.specs.Summary.{Summary}
 use Rattle.centre_store.specs.Begins.{adopted_after, begun_after}
 use Rattle.centre_store.specs.Stores.{Stored, StoreStands, Takes}
 use Rattle.desk_wire.specs.Replies.{line_of}
-use Rattle.arc_script.specs.Ends.{BegunUntil}
+use Rattle.arc_script.specs.Ends.{BegunUntil, BegunAgain}
 use Rattle.arc_script.specs.Playing.{TickStops, Ticked}
 use Rattle.arc_script.specs.Steps.{before_tick, entry_after}
 use Rattle.arc_script.proofs.Stops.{of_each, of_memory}
@@ -118,20 +118,27 @@ stops_before seen s s' r clock setup moment stands =
     (λ stop base h over. until_stops clock base setup moment h stop (stands base h over))
 
 -- a run was to begin anew, and did not
+again_until : {D : Type 0} {seen : D → DiskSeen} {s' : Stored D}
+    (stop : Stop) (base : Summary) (setup : List ℕ) (moment : ℕ) (h : List Entry)
+    → StoreStands seen base s' h ⊎ StoreStands seen base s' (adopted_after base h setup moment)
+    → (x : List Entry) × StoreStands seen base s' x × BegunAgain stop base setup moment h x
+again_until stop base setup moment h (inl w) = (h, w, inl refl)
+again_until stop base setup moment h (inr w) = (adopted_after base h setup moment, w, inr (inl refl))
+
 pub again_stops : {D : Type 0} (seen : D → DiskSeen) (s s' : Stored D)
     {A : Type 0} (r : Result A Stop) (setup : List ℕ) (moment : ℕ)
     → ((base : Summary) (h : List Entry) → StoreStands seen base s h
     → StoreStands seen base s' h ⊎ StoreStands seen base s' (adopted_after base h setup moment))
-    → OnErr r ((base : Summary) (h : List Entry) → StoreStands seen base s h
-    → (x : List Entry) × StoreStands seen base s' x × BegunUntil None base setup moment h x)
+    → IfErr r (λ stop. (base : Summary) (h : List Entry) → StoreStands seen base s h
+    → (x : List Entry) × StoreStands seen base s' x × BegunAgain stop base setup moment h x)
 again_stops seen s s' (Ok done) setup moment stops = tt
-again_stops seen s s' (Err stop) setup moment stops = λ base h over. first_until None base setup moment h refl (stops base h over)
+again_stops seen s s' (Err stop) setup moment stops = λ base h over. again_until stop base setup moment h (stops base h over)
 
 -- it did, and memory was wanted behind it
 pub again_unsaid : {D : Type 0} (seen : D → DiskSeen) (s s' : Stored D)
     {A : Type 0} (r : Result A Stop) (setup : List ℕ) (moment : ℕ)
-    → ((base : Summary) (h : List Entry) → StoreStands seen base s h → StoreStands seen base s' (begun_after base h setup moment))
-    → OnErr r ((base : Summary) (h : List Entry) → StoreStands seen base s h
-    → (x : List Entry) × StoreStands seen base s' x × BegunUntil None base setup moment h x)
-again_unsaid seen s s' (Ok done) setup moment begun = tt
-again_unsaid seen s s' (Err stop) setup moment begun = λ base h over. (begun_after base h setup moment, begun base h over, inr (inr refl))
+    → OnErr r (r ≡ Err Memory) → ((base : Summary) (h : List Entry) → StoreStands seen base s h → StoreStands seen base s' (begun_after base h setup moment))
+    → IfErr r (λ stop. (base : Summary) (h : List Entry) → StoreStands seen base s h
+    → (x : List Entry) × StoreStands seen base s' x × BegunAgain stop base setup moment h x)
+again_unsaid seen s s' (Ok done) setup moment is begun = tt
+again_unsaid seen s s' (Err stop) setup moment is begun = λ base h over. (begun_after base h setup moment, begun base h over, inr (inr (cc, refl)))

@@ -22,7 +22,8 @@ use Rattle.arc_script.specs.Carrying.{CountsMore, HaveTaken, IsNext}
 use Rattle.arc_script.specs.Causes.{HasShown, Submits}
 use Rattle.arc_script.specs.Ends.{Tells, IsUnopened, CameFor}
 use Rattle.arc_script.specs.Fed.{clock_of}
-use Rattle.arc_script.specs.Standing.{IsReadable, is_told}
+use Rattle.centre_store.specs.StoreHalls.{is_told}
+use Rattle.arc_script.specs.Standing.{IsReadable}
 use Rattle.arc_script.specs.Steps.{Step, IsStepOf, AreSteps, asked_after, output_of}
 use Rattle.arc_script.specs.Tallies.{count_of, entries_of, is_closed, is_repeat, sent_by, told}
 use Rattle.arc_script.specs.Texts.{AreOf, counted}

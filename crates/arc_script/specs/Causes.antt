@@ -1,5 +1,5 @@
 -- For which event a line of a script was stopped.
-use Rattle.std.specs.Prelude.{◌≡◌, ◌⊎◌, ℕ, List, [], ◌∷◌, Option, Some, None}
+use Rattle.std.specs.Prelude.{◌≡◌, ◌⊎◌, ℕ, suc, List, [], ◌∷◌, Option, Some, None}
 use Rattle.alarm_rules.specs.Setups.{meaning}
 use Rattle.arc_data.specs.declared.event.Event.{Event}
 use Rattle.arc_data.specs.declared.event.Event.TheVariants.{Tick}
@@ -19,6 +19,11 @@ use Rattle.arc_script.specs.Fed.{clock_of, desk_read}
 -- what a store shows of a stop at a moment, for an event that is one of these; unless memory was wanted
 abbrev pub HasShown : {D : Type 0} → (D → DiskSeen) → Stored D → Stop → ℕ → (Event → Type 0) → Type 0
 HasShown seen s stop moment IsOne = (stop ≡ Memory) ⊎ ((event : Event) × IsOne event × Shows seen s stop event moment)
+
+-- How many frames a line was fed until it was stopped for this, where so many have their turns: the one that was stopped, too, or none more
+-- where memory was wanted before a frame or for a reply.
+abbrev pub IsSentFor : Stop → ℕ → ℕ → Type 0
+IsSentFor stop count sent = (sent ≡ suc count) ⊎ ((stop ≡ Memory) × (sent ≡ count))
 
 -- a `T`, by the moment that was set before: the first begins a run, and each ticks
 abbrev pub IsOfTime : Option ℕ → List ℕ → Event → Type 0

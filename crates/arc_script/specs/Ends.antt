@@ -27,7 +27,7 @@ use Rattle.line_session.specs.Turns.{Turn, line_turns}
 use Rattle.script_lines.specs.Lines.{Asked, Time, Feed, Message, Command, Reopen}
 use Rattle.session_rules.specs.Inputs.{input_limit}
 use Rattle.session_rules.specs.Turns.{entries_of}
-use Rattle.arc_script.specs.Causes.{HasShown, Submits}
+use Rattle.arc_script.specs.Causes.{HasShown, Submits, IsSentFor}
 use Rattle.arc_script.specs.Fed.{clock_of}
 use Rattle.arc_script.specs.Steps.{Step, Keeps, FeedsLine, IsStepOf, AreSteps, asked_after, output_of}
 use Rattle.arc_script.specs.Tallies.{IsTally, no_tally}
@@ -92,14 +92,14 @@ pub record IsCutOff {D : Type 0} (seen : D → DiskSeen) (Told : Type 0) (base :
   pub counts : IsTally base past played.steps played.history tally
 
 -- How far a line came that was stopped: the history that it left, from h on. A `T` may have begun the run, or adopted its setup, before; so
--- may an `X`, but over what the journal keeps, for it has closed the store; of a line those frames have their turns that came before the
--- one that was stopped. That one is the first that waits.
-pub record FedUntil (base : Summary) (setup : List ℕ) (before : List Asked) (line : ℕ) (bytes : List ℕ)
+-- may an `X`, but over what the journal keeps, for it has closed the store, and it has begun the run only where memory was wanted; of a
+-- line those frames have their turns that came before the one that was stopped. That one is the first that waits.
+pub record FedUntil (stop : Stop) (base : Summary) (setup : List ℕ) (before : List Asked) (line : ℕ) (bytes : List ℕ)
     (waiting : List (List ℕ)) (h x : List Entry) (s : Step) : Type 0 where
   pub turns : List Turn
   pub fed : FeedsLine base setup before line bytes h x turns waiting
   pub entries : s.entries ≡ entries_of line_turns turns
-  pub sent : (s.sent ≡ length turns) ⊎ (s.sent ≡ suc (length turns))
+  pub sent : IsSentFor stop (length turns) s.sent
 
 pub record AddedBy (h x : List Entry) (s : Step) : Type 0 where
   pub added : x ≡ reverse s.entries ++ h
@@ -110,26 +110,31 @@ abbrev pub BegunUntil : Option ℕ → Summary → List ℕ → ℕ → List Ent
 BegunUntil None base setup moment h x = (x ≡ h) ⊎ (x ≡ adopted_after base h setup moment) ⊎ (x ≡ begun_after base h setup moment)
 BegunUntil (Some last) base setup moment h x = x ≡ h
 
-pub record ReopenedUntil (Told : Type 0) (base : Summary) (setup : List ℕ) (before : List Asked) (h x : List Entry) (s : Step) : Type 0 where
+-- how far the beginning of a run over a journal that was opened again came; where it ended, memory was wanted for the line's output
+abbrev pub BegunAgain : Stop → Summary → List ℕ → ℕ → List Entry → List Entry → Type 0
+BegunAgain stop base setup moment h x =
+    (x ≡ h) ⊎ (x ≡ adopted_after base h setup moment) ⊎ ((stop ≡ Memory) × (x ≡ begun_after base h setup moment))
+
+pub record ReopenedUntil (stop : Stop) (Told : Type 0) (base : Summary) (setup : List ℕ) (before : List Asked) (h x : List Entry) (s : Step) : Type 0 where
   pub kept : List Entry
   pub keeps : Keeps Told base h kept
   pub clock : ℕ
   pub set : clock_of before ≡ Some clock
-  pub until : BegunUntil None base setup clock kept x
+  pub until : BegunAgain stop base setup clock kept x
   pub by : AddedBy kept x s
 
-abbrev pub CameTo : Type 0 → Summary → List ℕ → List Asked → List (List ℕ) → List Entry → List Entry → Step → Asked → Type 0
-CameTo Told base setup before waiting h x s (Time moment) = BegunUntil (clock_of before) base setup moment h x × AddedBy h x s
-CameTo Told base setup before waiting h x s (Feed line digits) = FedUntil base setup before line (bytes_spelled digits) waiting h x s
-CameTo Told base setup before waiting h x s (Message line body) = FedUntil base setup before line (frame_of body) waiting h x s
-CameTo Told base setup before waiting h x s (Command desk text) = (x ≡ h) × AddedBy h x s
-CameTo Told base setup before waiting h x s Reopen = ReopenedUntil Told base setup before h x s
+abbrev pub CameTo : Stop → Type 0 → Summary → List ℕ → List Asked → List (List ℕ) → List Entry → List Entry → Step → Asked → Type 0
+CameTo stop Told base setup before waiting h x s (Time moment) = BegunUntil (clock_of before) base setup moment h x × AddedBy h x s
+CameTo stop Told base setup before waiting h x s (Feed line digits) = FedUntil stop base setup before line (bytes_spelled digits) waiting h x s
+CameTo stop Told base setup before waiting h x s (Message line body) = FedUntil stop base setup before line (frame_of body) waiting h x s
+CameTo stop Told base setup before waiting h x s (Command desk text) = (x ≡ h) × AddedBy h x s
+CameTo stop Told base setup before waiting h x s Reopen = ReopenedUntil stop Told base setup before h x s
 
 -- How far it came that was stopped for this. Where memory was wanted it may have done nothing yet, as an `X` that has not closed the store,
 -- or all but its output.
 abbrev pub CameFor : Stop → Type 0 → Summary → List ℕ → List Asked → List (List ℕ) → List Entry → List Entry → Step → Asked → Type 0
 CameFor stop Told base setup before waiting h x s asked =
-    CameTo Told base setup before waiting h x s asked
+    CameTo stop Told base setup before waiting h x s asked
     ⊎ ((stop ≡ Memory) × (((x ≡ h) × AddedBy h x s) ⊎ IsStepOf Told base setup before h x s asked))
 
 -- The next line was stopped. It has no output, and what it recorded before stands: the store that showed the stop, for an event of this

@@ -9,7 +9,7 @@ use Rattle.centre_store.specs.Stores.{Stored, StoreStands}
 use Rattle.line_session.specs.Lines.{LineValue, TookStream}
 use Rattle.line_session.specs.Turns.{Turn, line_turns}
 use Rattle.session_rules.specs.Turns.{entries_of, text_of}
-use Rattle.arc_script.specs.Causes.{HasShown, IsOfFrame}
+use Rattle.arc_script.specs.Causes.{HasShown, IsOfFrame, IsSentFor}
 use Rattle.arc_script.specs.Standing.{IsReadable}
 use Rattle.arc_script.specs.Steps.{FeedsBehind}
 use Rattle.arc_script.specs.Tallies.{is_repeat, count_of, GrowsBy}
@@ -36,7 +36,7 @@ pub record HasFed {D : Type 0} (seen : D → DiskSeen) (base : Summary) (setup :
   pub written_is : written ≡ text_of line_turns turns
   pub counts : CountsFed (length turns) turns t t'
 
--- A frame was stopped: those before it have their turns, and it may be counted. The store showed the stop for its event.
+-- A frame was stopped: those before it have their turns. The store showed the stop for its event.
 pub record FeedStops {D : Type 0} (seen : D → DiskSeen) (base : Summary) (setup : List ℕ) (clock : ℕ)
     (stream bytes : List ℕ) (h : List Entry) (t t' : Tally) (stop : Stop) (s : Stored D) : Type 0 where
   pub turns : List Turn
@@ -47,5 +47,5 @@ pub record FeedStops {D : Type 0} (seen : D → DiskSeen) (base : Summary) (setu
   pub stands : StoreStands seen base s history
   pub readable : IsReadable base history
   pub cause : HasShown seen s stop clock (IsOfFrame setup clock more)
-  pub sent_is : (sent ≡ length turns) ⊎ (sent ≡ suc (length turns))
+  pub sent_is : IsSentFor stop (length turns) sent
   pub counts : CountsFed sent turns t t'

@@ -5,6 +5,7 @@ pub use Rattle.centre_store.specs.Stores
 pub mod Pages
 pub mod PageWords
 pub mod Fed
+pub mod Standing
 pub mod Causes
 pub mod Steps
 pub mod Texts
@@ -13,6 +14,5 @@ pub mod Ends
 pub mod Playing
 pub mod Feeding
 pub mod Carrying
-pub mod Standing
 pub mod Between
 pub mod Halting

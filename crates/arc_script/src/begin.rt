@@ -5,7 +5,7 @@ ghost use Rattle.centre_rules.specs.Summary.{Summary};
 ghost use Rattle.centre_store.specs.Begins.{adopted_after, begun_after, IsOfBegin};
 ghost use Rattle.centre_store.specs.Stores.{StoreStands};
 ghost use Rattle.arc_script.specs.Causes.{HasShown};
-ghost use Rattle.arc_script.specs.Standing.{is_told};
+ghost use Rattle.centre_store.specs.StoreHalls.{is_told};
 
 use crate::script::Script;
 use arc_data::Memory;

@@ -12,10 +12,10 @@ ghost use Rattle.arc_script.specs.Causes.{HasShown, IsOfCommand, stop_in};
 ghost use Rattle.arc_script.specs.Ends.{AddedBy};
 ghost use Rattle.arc_script.specs.PageWords.{page_seen};
 ghost use Rattle.arc_script.specs.Pages.{head_of, blank};
-ghost use Rattle.arc_script.specs.Standing.{IsReadable, is_told};
+ghost use Rattle.centre_store.specs.StoreHalls.{is_told};
+ghost use Rattle.arc_script.specs.Standing.{IsReadable};
 ghost use Rattle.arc_script.specs.Steps.{Commands};
 
-use crate::desk_take::take_desk;
 use crate::page::Page;
 use crate::replies::{put_head, said};
 use crate::script::Script;
@@ -70,8 +70,9 @@ pub(crate) fn command<D: Disk>(
     }
     let mut line = [0; MOST_LINE];
     let line = ended(text, &mut line);
+    let mut store = store;
     let open = store.centre().table().count() as u64;
-    let (end, store) = take_desk(alloc, store, &mut script.desks[desk - 1], page, line);
+    let end = script.desks[desk - 1].take(alloc, &mut store, page, line);
     let closed = open.saturating_sub(store.centre().table().count() as u64);
     script.tally.closed = script.tally.closed.saturating_add(closed);
     match end {

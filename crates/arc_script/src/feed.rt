@@ -16,10 +16,10 @@ ghost use Rattle.arc_script.specs.Ends.{FedUntil};
 ghost use Rattle.arc_script.specs.Feeding.{TookAt, HasFed, FeedStops};
 ghost use Rattle.arc_script.specs.PageWords.{page_seen};
 ghost use Rattle.arc_script.specs.Pages.{head_of, replied};
-ghost use Rattle.arc_script.specs.Standing.{IsReadable, is_told};
+ghost use Rattle.centre_store.specs.StoreHalls.{is_told};
+ghost use Rattle.arc_script.specs.Standing.{IsReadable};
 ghost use Rattle.arc_script.specs.Steps.{Feeds};
 
-use crate::line_take::take_line;
 use crate::page::Page;
 use crate::replies::{put_replies, said};
 use crate::script::Script;
@@ -58,7 +58,7 @@ pub(crate) fn feed<D: Disk>(
         → IsNext (meaning script.old.setup) moment count before (Feed line digits.now) script.old.lines.items script.old.desks.items
         → StoreStands D.seen base store h → IsReadable base h
         → Halted D.seen base (λ x s.
-        ((waiting : List (List ℕ)) × FedUntil base script.old.setup before line (bytes_spelled digits.now) waiting h x s
+        ((waiting : List (List ℕ)) × FedUntil stop base script.old.setup before line (bytes_spelled digits.now) waiting h x s
         × HasShown D.seen result.0 stop moment (IsOfFrame script.old.setup moment waiting))
         ⊎ ((stop ≡ Stop.Memory) × Feeds base script.old.setup before 76 line (bytes_spelled digits.now) h x s))
         script.old.tally script.new.tally result.0) }
@@ -104,7 +104,7 @@ pub(crate) fn message<D: Disk>(
         → IsNext (meaning script.old.setup) moment count before (Message line body.now) script.old.lines.items script.old.desks.items
         → StoreStands D.seen base store h → IsReadable base h
         → Halted D.seen base (λ x s.
-        ((waiting : List (List ℕ)) × FedUntil base script.old.setup before line (frame_of body.now) waiting h x s
+        ((waiting : List (List ℕ)) × FedUntil stop base script.old.setup before line (frame_of body.now) waiting h x s
         × HasShown D.seen result.0 stop moment (IsOfFrame script.old.setup moment waiting))
         ⊎ ((stop ≡ Stop.Memory) × Feeds base script.old.setup before 77 line (frame_of body.now) h x s))
         script.old.tally script.new.tally result.0) }
@@ -171,14 +171,9 @@ fn fed<D: Disk>(
     let Ok(mut frames) = Page::new(alloc, moment) else {
         return (store, Err(Stop::Memory));
     };
+    let mut store = store;
     let quiet = quiet_of(store.centre());
-    let (end, store) = take_line(
-        alloc,
-        store,
-        &mut script.lines[line - 1],
-        &mut frames,
-        bytes,
-    );
+    let end = script.lines[line - 1].take(alloc, &mut store, &mut frames, bytes);
     let repeats = quiet_of(store.centre()).saturating_sub(quiet);
     script.tally.sent = script.tally.sent.saturating_add(frames.taken());
     script.tally.repeats = script.tally.repeats.saturating_add(repeats);

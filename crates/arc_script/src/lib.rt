@@ -4,10 +4,7 @@
 
 mod begin;
 mod command;
-mod desk_take;
 mod feed;
-mod line_take;
-mod opened;
 mod page;
 mod play;
 mod reopen;

@@ -10,12 +10,12 @@ ghost use Rattle.disk_journal.specs.Journal.{Holds};
 ghost use Rattle.script_lines.specs.Lines.{Asked, Reopen};
 ghost use Rattle.arc_script.specs.Between.{Begun, Between, CarriedOut, ShutAt, StoppedAt};
 ghost use Rattle.arc_script.specs.Causes.{HasShown};
-ghost use Rattle.arc_script.specs.Ends.{BegunUntil};
+ghost use Rattle.arc_script.specs.Ends.{BegunAgain};
 ghost use Rattle.arc_script.specs.Fed.{clock_of};
 ghost use Rattle.arc_script.specs.Halting.{closing};
 ghost use Rattle.arc_script.specs.PageWords.{page_seen};
 ghost use Rattle.arc_script.specs.Pages.{counted_line};
-ghost use Rattle.arc_script.specs.Standing.{is_told};
+ghost use Rattle.centre_store.specs.StoreHalls.{is_told};
 
 use crate::begin::begin;
 use crate::page::Page;
@@ -75,9 +75,9 @@ fn begin_again<D: Disk>(
     ensures set { OnOk result (store.new.state.sum.text ≡ Some script.now.setup) }
     ensures text { OnOk result ((page_seen page.new).written
         ≡ append_known (page_seen page.old).written (counted_line store.new.state.sum.recorded)) }
-    ensures stop { OnErr result ((base : Summary) (h : List Entry) → StoreStands D.seen base store.old h
+    ensures stop { IfErr result (λ stop. (base : Summary) (h : List Entry) → StoreStands D.seen base store.old h
         → (x : List Entry) × StoreStands D.seen base store.new x
-        × BegunUntil None base script.now.setup moment h x) }
+        × BegunAgain stop base script.now.setup moment h x) }
     ensures cause { IfErr result (λ s. HasShown D.seen store.new s moment (IsOfBegin script.now.setup)) }
     ensures tells { is_told (D.seen store.new.journal.disk).told ≡ is_told (D.seen store.old.journal.disk).told }
     ensures at_open { store.new.at_open ≡ store.old.at_open }

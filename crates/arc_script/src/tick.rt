@@ -10,7 +10,7 @@ ghost use Rattle.arc_script.specs.Causes.{HasShown, IsOfTime};
 ghost use Rattle.arc_script.specs.Ends.{BegunUntil};
 ghost use Rattle.arc_script.specs.PageWords.{page_seen};
 ghost use Rattle.arc_script.specs.Playing.{Ticked, TickStops};
-ghost use Rattle.arc_script.specs.Standing.{is_told};
+ghost use Rattle.centre_store.specs.StoreHalls.{is_told};
 ghost use Rattle.arc_script.specs.Steps.{before_tick};
 
 use crate::begin::begin;

@@ -14,11 +14,11 @@ use Rattle.centre_store.specs.Begins.{begun_after}
 use Rattle.centre_store.specs.Given.{HasRecorded}
 use Rattle.centre_store.specs.StoreHalls.{IsStoreFor, store_seen}
 use Rattle.centre_store.specs.Stores.{Stored, StoreStands, HasFailed, Shows}
-use Rattle.session_rules.specs.Sessions.{IsShownFor}
+use Rattle.session_rules.specs.Sessions.{IsShownFor, Way}
 use Rattle.arc_server.specs.Areas.{EndsWith, shipped}
 use Rattle.arc_server.specs.Made.{made_of_end}
 use Rattle.arc_server.specs.Counts.{HasRisen}
-use Rattle.arc_server.specs.SessionRuns.{Did, history_by, ServesRun, IsServed}
+use Rattle.arc_server.specs.SessionRuns.{Did, ServesRun, IsServed}
 use Rattle.arc_sessions.specs.Served.{ShowsEnd}
 use Rattle.arc_sessions.proofs.After.{is_after}
 use Rattle.arc_sessions.specs.declared.side.Side.{Side}
@@ -31,9 +31,9 @@ use Rattle.arc_server.specs.declared.status.Which.TheVariants.{Input}
 use Rattle.arc_server.proofs.Kept.{kept, kept_up}
 
 -- the hall stands for the history that the session ended with
-pub holds_of : (side : Side) (end : SessionEnd) (base : Summary) (h : List Entry) (hall hall' : HallSeen) (p p' : PortSeen)
-    (did : Did side end base h hall hall' p p') → hall'.stands base (history_by side end base h hall hall' p p' did)
-holds_of side end base h hall hall' p p' did = (is_after side end did.0 base h hall hall' p p' did.2).holds
+pub holds_of : (side : Side) (end : SessionEnd) (base : Summary) (w : Way) (hall hall' : HallSeen) (p p' : PortSeen)
+    → Did side end base w hall hall' p p' → hall'.stands base w.to
+holds_of side end base w hall hall' p p' did = (is_after side end did.0 base w hall hall' p p' did.2).holds
 
 pub risen : (first second entry end : ℕ) → first ≡ entry → second ≡ end → Rose entry end → HasRisen first second entry end
 risen first second entry end before now rose = record { before = before; now = now; rose = subst (λ n. Rose n second) (sym before) (subst (λ n. Rose entry n) (sym now) rose) }
@@ -43,7 +43,10 @@ pub record Session {D : Type 0} (seen : D → DiskSeen)
     (side : Side) (end : SessionEnd) (base : Summary) (past : List Entry) (text : List ℕ) (clock : ℕ) (p p' : PortSeen) (disk' : D) (first last : Stored D) : Type 0 where
   pub begins : IsStoreFor seen base first (begun_after base past text clock)
   pub under : text_of first.state ≡ text
-  pub did : Did side end base (begun_after base past text clock) (store_seen seen first) (store_seen seen last) p p'
+  pub up : HasFailed seen first → ⊥
+  pub history : List Entry
+  pub made : List Entry
+  pub did : Did side end base (record { from = begun_after base past text clock; to = history; made = made }) (store_seen seen first) (store_seen seen last) p p'
   pub shown : ShowsEnd end (store_seen seen last)
   pub limits : last.journal.limits ≡ shipped
   pub handed : disk' ≡ last.journal.disk
@@ -53,14 +56,14 @@ abbrev pub ends_with : {D : Type 0} {seen : D → DiskSeen}
     (side : Side) (end : SessionEnd) {base : Summary} {past : List Entry} {text : List ℕ} {clock : ℕ} {p p' : PortSeen} {disk' : D} {first last : Stored D}
     → Session seen side end base past text clock p p' disk' first last → List Entry
 ends_with {D} {seen} side end {base} {past} {text} {clock} {p} {p'} {disk'} {first} {last} s =
-    history_by side end base (begun_after base past text clock) (store_seen seen first) (store_seen seen last) p p' s.did
+    s.history
 
 stands_for : {D : Type 0} {seen : D → DiskSeen}
     (side : Side) (end : SessionEnd) {base : Summary} {past : List Entry} {text : List ℕ} {clock : ℕ} {p p' : PortSeen} {disk' : D} {first last : Stored D}
     → (s : Session seen side end base past text clock p p' disk' first last)
     → StoreStands seen base last (ends_with side end s)
 stands_for {D} {seen} side end {base} {past} {text} {clock} {p} {p'} {disk'} {first} {last} s =
-    (holds_of side end base (begun_after base past text clock) (store_seen seen first) (store_seen seen last) p p' s.did).stands
+    (holds_of side end base (record { from = begun_after base past text clock; to = s.history; made = s.made }) (store_seen seen first) (store_seen seen last) p p' s.did).stands
 
 served : {D : Type 0} {seen : D → DiskSeen}
     (side : Side) (end : SessionEnd) (status : Status) {base : Summary} {past : List Entry} {text : List ℕ} {clock : ℕ} {p p' : PortSeen} {disk' : D} {first last : Stored D}
@@ -71,6 +74,9 @@ served {D} {seen} side end status {base = base} {first = first} s ends = record 
   first = first;
   begins = s.begins;
   under = s.under;
+  up = s.up;
+  history = s.history;
+  made = s.made;
   did = s.did;
   limits = s.limits;
   handed = s.handed;

@@ -13,8 +13,9 @@ use Rattle.centre_rules.specs.History.{Entry}
 use Rattle.centre_store.specs.Begins.{begun_after, adopted_after, IsOfBegin}
 use Rattle.centre_store.specs.Given.{BeginsWith}
 use Rattle.centre_store.specs.StoreHalls.{IsStoreFor, store_seen}
-use Rattle.centre_store.specs.Stores.{Stored, StoreStands, Shows}
-use Rattle.arc_sessions.specs.Served.{Reads, Serves, history_of}
+use Rattle.centre_store.specs.Stores.{Stored, HasFailed, StoreStands, Shows}
+use Rattle.arc_sessions.specs.Served.{Reads, Serves}
+use Rattle.session_rules.specs.Sessions.{Way}
 use Rattle.arc_sessions.specs.declared.session.SessionEnd.{SessionEnd}
 use Rattle.arc_sessions.specs.declared.session.SessionEnd.TheVariants.{Quit, InputEnded, ReadFault as NotRead, WriteFault as NotWritten}
 use Rattle.arc_sessions.specs.declared.session.SessionEnd.TheVariants.{Spent as InputSpent, Stopped}
@@ -28,14 +29,9 @@ use Rattle.arc_server.specs.declared.status.Status.TheVariants.{Done, Usage, Set
 use Rattle.arc_server.specs.declared.status.Status.TheVariants.{BadScript, DoorFault, Memory, Spent, Worn}
 use Rattle.arc_server.specs.declared.status.Which.TheVariants.{Setup, Input}
 
--- From the history h over a summary on, over a hall and a port as they were and as they are: a session of this kind read some bytes and answered them.
-abbrev pub Did : Side → SessionEnd → Summary → List Entry → HallSeen → HallSeen → PortSeen → PortSeen → Type 0
-Did side end base h hall hall' p p' = (read : List ℕ) × Reads side end read p p' × Serves side end read base h hall hall' p p'
-
--- the history that it ended with
-abbrev pub history_by : (side : Side) (end : SessionEnd) (base : Summary) (h : List Entry) (hall hall' : HallSeen) (p p' : PortSeen)
-    → Did side end base h hall hall' p p' → List Entry
-history_by side end base h hall hall' p p' did = history_of side end did.0 base h hall hall' p p' did.2
+-- On this way, over a hall and a port as they were and as they are: a session of this kind read some bytes and answered them.
+abbrev pub Did : Side → SessionEnd → Summary → Way → HallSeen → HallSeen → PortSeen → PortSeen → Type 0
+Did side end base w hall hall' p p' = (read : List ℕ) × Reads side end read p p' × Serves side end read base w hall hall' p p'
 
 -- The beginning of a run over a past stopped: the store stands for the past, or for it with the Adopt of the setup's text. Its disk
 -- is handed back.
@@ -72,20 +68,22 @@ IsUnbegun seen (BadScript line) base past text clock entry disk' = ⊥
 IsUnbegun seen (DoorFault door before now) base past text clock entry disk' = ⊥
 IsUnbegun seen Spent base past text clock entry disk' = ⊥
 
--- From the beginning of a run on, over a past, a session of this kind came to this end. The disk that is handed back is that of the
--- store that stands for the history that the session ended with, and has its recorded entries.
+-- From the beginning of a run on, over a past, a session of this kind came to this end. The disk, which had not failed when the session
+-- began, is handed back: it is that of the store that stands for the history that the session ended with, and has its recorded entries.
 pub record ServesRun {D : Type 0} (seen : D → DiskSeen)
     (side : Side) (end : SessionEnd) (status : Status) (base : Summary) (past : List Entry) (text : List ℕ) (clock : ℕ) (p p' : PortSeen)
     (disk' : D) (last : Stored D) : Type 0 where
   pub first : Stored D
   pub begins : IsStoreFor seen base first (begun_after base past text clock)
   pub under : text_of first.state ≡ text
-  pub did : Did side end base (begun_after base past text clock) (store_seen seen first)
+  pub up : HasFailed seen first → ⊥
+  pub history : List Entry
+  pub made : List Entry
+  pub did : Did side end base (record { from = begun_after base past text clock; to = history; made = made }) (store_seen seen first)
       (store_seen seen last) p p'
   pub limits : last.journal.limits ≡ shipped
   pub handed : disk' ≡ last.journal.disk
-  pub ends : EndsWith status (seen disk') base (history_by side end base (begun_after base past text clock)
-      (store_seen seen first) (store_seen seen last) p p' did)
+  pub ends : EndsWith status (seen disk') base history
 
 -- the session went on to its own end
 abbrev pub IsWhole : SessionEnd → Type 0

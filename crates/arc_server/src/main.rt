@@ -27,7 +27,6 @@ mod came;
 mod drill;
 mod form;
 mod made;
-mod opened;
 mod panel;
 mod report;
 mod run;

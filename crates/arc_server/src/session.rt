@@ -6,16 +6,15 @@ ghost use Rattle.centre_rules.specs.History.{Entry};
 ghost use Rattle.centre_rules.specs.Summary.{Summary};
 ghost use Rattle.centre_store.specs.Begins.{begun_after};
 ghost use Rattle.centre_store.specs.StoreHalls.{IsStoreFor};
-ghost use Rattle.centre_store.specs.Stores.{StoreStands};
+ghost use Rattle.centre_store.specs.Stores.{HasFailed, StoreStands};
 ghost use Rattle.arc_server.specs.Areas.{shipped};
 ghost use Rattle.arc_server.specs.SessionRuns.{IsSessionRun, IsOver, GoesOnFrom, IsServed};
 
 use crate::made::{has_risen, status_of, stopped, unopened};
-use crate::opened::serve_over;
 use crate::setup::read_setup;
 use crate::status::Status;
 use arc_io::{Disk, Port, Source};
-use arc_sessions::Side;
+use arc_sessions::{Side, serve};
 use centre_core::Setup;
 use centre_store::Store;
 use disk_journal::{OpenRefused, SHIPPED};
@@ -105,11 +104,13 @@ fn serve_store<P: Port, D: Disk>(
     ensures usage { result.0 ≢ Status.Usage }
     ensures served { (base : Summary) (past : List Entry) (text : List ℕ) (clock : ℕ)
         → IsStoreFor D.seen base store (begun_after base past text clock) → text_of store.state ≡ text
+        → (HasFailed D.seen store → ⊥)
         → IsServed D.seen side result.0 base past text clock (P.seen port.old) (P.seen port.new) before result.1 }
 {
     let reads = port.read_faults();
     let writes = port.write_faults();
-    let (end, store) = serve_over(side, alloc, store, port);
+    let mut store = store;
+    let end = serve(side, alloc, &mut store, port);
     let disk = store.close();
     let now = disk.faults();
     if has_risen(before, now) {

@@ -52,7 +52,7 @@ stands_for_all : {D : Type 0} (seen : D → DiskSeen) (t : Terms) (last : PassSe
     → StandsForAll seen b base passes s
 stands_for_all seen t last s passes closed taken b base from =
     let h = closed.stands b base from in record {
-      from = record { history = h.0; stands = h.2; begins = extends_further base (last.since ++ base) h.0 (last.since, refl) h.1 };
+      from = record { history = h.0; stands = h.2; begins = extends_further base (last.since ++ base) h.0 (last.since, refl) h.1; past = h.3 };
       all_seen = All-weaker (λ (p : PassSeen). HasTaken last p) (λ (p : PassSeen). Extends (p.since ++ base) h.0)
           (λ p w. extends_further (p.since ++ base) (last.since ++ base) h.0 (extends_base p.since last.since base w.since) h.1) passes taken;
     }

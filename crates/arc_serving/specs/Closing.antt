@@ -9,14 +9,14 @@ use Rattle.centre_rules.specs.Summary.{Summary}
 use Rattle.centre_store.specs.Stores.{Stored, StoreStands}
 use Rattle.line_gate.specs.Entries.{Entry, Extends}
 use Rattle.line_gate.specs.Passes.{PassSeen, IsPass, IsLater}
-use Rattle.line_gate.specs.Terms.{Terms}
+use Rattle.line_gate.specs.Terms.{Terms, IsPastBase}
 use Rattle.arc_serving.specs.Jobs.{JobSeen, IsJobDone, HasTaken, AreUnseated, worked_in}
 use Rattle.arc_serving.specs.Seen.{StationSeen, CameSeen}
 
 -- the gate was closed with this pass
 pub record IsClosed {D : Type 0} (seen : D → DiskSeen) (t : Terms) (last : PassSeen) (s : Stored D) : Type 0 where
   pub stands : (b : Summary) (base : List Entry) → t.stood b base
-      → (h : List Entry) × Extends (last.since ++ base) h × StoreStands seen b s h
+      → (h : List Entry) × Extends (last.since ++ base) h × StoreStands seen b s h × IsPastBase base h
   pub told_is : last.told ≤ (seen s.journal.disk).faults
   pub at_open : s.at_open ≡ t.at_open
   pub limits : s.journal.limits ≡ t.limits

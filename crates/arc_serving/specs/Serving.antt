@@ -10,7 +10,7 @@ use Rattle.centre_store.specs.Stores.{Stored, StoreStands}
 use Rattle.line_gate.specs.Blanks.{BlankSeen, terms_of}
 use Rattle.line_gate.specs.Entries.{Entry, Extends}
 use Rattle.line_gate.specs.Passes.{PassSeen}
-use Rattle.line_gate.specs.Terms.{Terms}
+use Rattle.line_gate.specs.Terms.{Terms, IsPastBase}
 use Rattle.arc_serving.specs.Ran.{WorkerRan, TickerRan, IsTickerRan, IsSideServed, began_in, ended_in}
 use Rattle.arc_serving.specs.Rising.{AreRising}
 use Rattle.arc_serving.specs.Seen.{StationSeen, CameSeen}
@@ -29,11 +29,12 @@ all_began r = began_in r.lines ++ (began_in r.desks ++ r.ticker.began ∷ [])
 abbrev pub all_ended : Ran → List PassSeen
 all_ended r = ended_in r.lines ++ (ended_in r.desks ++ r.ticker.ended ∷ [])
 
--- the store stands for a history that begins with this one
+-- the store stands for a history that begins with this one, past which stand entries of events that callers submit alone
 pub record GoesOnFrom {D : Type 0} (seen : D → DiskSeen) (b : Summary) (base : List Entry) (s : Stored D) : Type 0 where
   pub history : List Entry
   pub stands : StoreStands seen b s history
   pub begins : Extends base history
+  pub past : IsPastBase base history
 
 -- and with all that each of these passes has seen
 pub record StandsForAll {D : Type 0} (seen : D → DiskSeen)

@@ -3,18 +3,14 @@ use Rattle.std.specs.Prelude.{◌≡◌, ◌++◌, ℕ, List, reverse, Option, S
 use Rattle.arc_io.specs.Seen.{PortSeen}
 use Rattle.centre_core.specs.Halls.{HallSeen}
 use Rattle.centre_rules.specs.Summary.{Summary}
-use Rattle.centre_rules.specs.History.{Entry}
 use Rattle.centre_rules.specs.Answers.{IsLegal}
 use Rattle.desk_session.specs.Desks.{ReadsDesk, ServesDesk}
-use Rattle.desk_session.specs.Turns.{desk_turns}
 use Rattle.desk_session.specs.declared.desk_end.DeskEnd.{DeskEnd}
 use Rattle.desk_session.specs.declared.desk_end.DeskEnd.TheVariants as Desk
 use Rattle.line_session.specs.Lines.{ReadsLine, ServesLine}
-use Rattle.line_session.specs.Turns.{line_turns}
 use Rattle.line_session.specs.declared.line_end.LineEnd.{LineEnd}
 use Rattle.line_session.specs.declared.line_end.LineEnd.TheVariants as Line
-use Rattle.session_rules.specs.Sessions.{IsShownFor}
-use Rattle.session_rules.specs.Turns.{entries_of}
+use Rattle.session_rules.specs.Sessions.{IsShownFor, Way}
 use Rattle.arc_sessions.specs.declared.session.SessionEnd.{SessionEnd}
 use Rattle.arc_sessions.specs.declared.session.SessionEnd.TheVariants.{Quit, InputEnded, ReadFault, WriteFault, Spent, Stopped}
 use Rattle.arc_sessions.specs.declared.side.Side.{Side}
@@ -43,36 +39,14 @@ abbrev pub Reads : Side → SessionEnd → List ℕ → PortSeen → PortSeen �
 Reads Lines end read p p' = MatchOption (line_end end) ⊥ (λ e. ReadsLine e read p p')
 Reads Desks end read p p' = ReadsDesk (desk_end end) read p p'
 
-abbrev pub ServesOneLine : Option LineEnd → List ℕ → Summary → List Entry → HallSeen → HallSeen → PortSeen → PortSeen → Type 0
-ServesOneLine None read b h hall hall' p p' = ⊥
-ServesOneLine (Some end) read b h hall hall' p p' = ServesLine end read b h hall hall' p p'
+abbrev pub ServesOneLine : Option LineEnd → List ℕ → Summary → Way → HallSeen → HallSeen → PortSeen → PortSeen → Type 0
+ServesOneLine None read b w hall hall' p p' = ⊥
+ServesOneLine (Some end) read b w hall hall' p p' = ServesLine end read b w hall hall' p p'
 
--- From the history h over b on, it answered what was read, over a hall and a port as they were and as they are.
-abbrev pub Serves : Side → SessionEnd → List ℕ → Summary → List Entry → HallSeen → HallSeen → PortSeen → PortSeen → Type 0
-Serves Lines end read b h hall hall' p p' = ServesOneLine (line_end end) read b h hall hall' p p'
-Serves Desks end read b h hall hall' p p' = ServesDesk (desk_end end) read b h hall hall' p p'
-
-abbrev pub line_history : (end : Option LineEnd) (read : List ℕ) (b : Summary) (h : List Entry) (hall hall' : HallSeen) (p p' : PortSeen)
-    → ServesOneLine end read b h hall hall' p p' → List Entry
-line_history None read b h hall hall' p p' serves = absurd serves
-line_history (Some end) read b h hall hall' p p' serves = serves.session.history
-
-abbrev pub line_entries : (end : Option LineEnd) (read : List ℕ) (b : Summary) (h : List Entry) (hall hall' : HallSeen) (p p' : PortSeen)
-    → ServesOneLine end read b h hall hall' p p' → List Entry
-line_entries None read b h hall hall' p p' serves = absurd serves
-line_entries (Some end) read b h hall hall' p p' serves = entries_of line_turns serves.session.turns
-
--- the history that the session ended with
-abbrev pub history_of : (side : Side) (end : SessionEnd) (read : List ℕ) (b : Summary) (h : List Entry) (hall hall' : HallSeen)
-    (p p' : PortSeen) → Serves side end read b h hall hall' p p' → List Entry
-history_of Lines end read b h hall hall' p p' serves = line_history (line_end end) read b h hall hall' p p' serves
-history_of Desks end read b h hall hall' p p' serves = serves.desk.session.history
-
--- the entries that it made, the earliest first
-abbrev pub entries_by : (side : Side) (end : SessionEnd) (read : List ℕ) (b : Summary) (h : List Entry) (hall hall' : HallSeen)
-    (p p' : PortSeen) → Serves side end read b h hall hall' p p' → List Entry
-entries_by Lines end read b h hall hall' p p' serves = line_entries (line_end end) read b h hall hall' p p' serves
-entries_by Desks end read b h hall hall' p p' serves = entries_of desk_turns serves.desk.session.turns
+-- On its way over b it answered what was read, over a hall and a port as they were and as they are.
+abbrev pub Serves : Side → SessionEnd → List ℕ → Summary → Way → HallSeen → HallSeen → PortSeen → PortSeen → Type 0
+Serves Lines end read b w hall hall' p p' = ServesOneLine (line_end end) read b w hall hall' p p'
+Serves Desks end read b w hall hall' p p' = ServesDesk (desk_end end) read b w hall hall' p p'
 
 -- a session that a stop ended: the hall showed it for some event, or memory was wanted, whatever is known of the hall's history
 abbrev pub ShowsEnd : SessionEnd → HallSeen → Type 0
@@ -83,8 +57,8 @@ ShowsEnd WriteFault hall = Unit {0}
 ShowsEnd Spent hall = Unit {0}
 ShowsEnd (Stopped stop) hall = IsShownFor hall stop
 
--- what is so of a session of either kind, from its history and its entries
-pub record IsHistoryAfter (b : Summary) (h : List Entry) (hall hall' : HallSeen) (history entries : List Entry) : Type 0 where
-  pub holds : hall'.stands b history
-  pub legal : IsLegal b history
-  pub own : hall'.own history ≡ reverse entries ++ hall.own h
+-- what is so of a session of either kind, on its way
+pub record IsHistoryAfter (b : Summary) (w : Way) (hall hall' : HallSeen) : Type 0 where
+  pub holds : hall'.stands b w.to
+  pub legal : IsLegal b w.to
+  pub own : hall'.own w.to ≡ reverse w.made ++ hall.own w.from

@@ -1,5 +1,5 @@
 -- One more link.
-use Rattle.std.proofs.Common.{◌≡◌, List, [], ◌∷◌, ◌++◌, Option, Some, None, refl, sym, ap, ◌∙◌, subst, arith, length-append, append_assoc, append-nil}
+use Rattle.std.proofs.Common.{◌≡◌, ◌≤◌, List, [], ◌∷◌, ◌++◌, Option, Some, None, refl, sym, ap, ◌∙◌, subst, arith, length-append, append_assoc, append-nil}
 use Rattle.std.proofs.lemmas.List.{map-append}
 use Rattle.std.specs.Prelude.{MatchOption}
 use Rattle.arc_doors.specs.Doors.{Links, IsBackWithin, HasOneOut, HasNoneLeft, TakesLink, after_back}
@@ -40,6 +40,13 @@ served_more side t p m q (x ∷ ss) s w one = (w.0, w.1, served_more side t w.0 
 pub same_number : (side : Side) (t : Terms) (p q : PassSeen) (ss : List Served) → AreServed side t p q ss → q.number ≡ p.number
 same_number side t p q [] w = ap (λ (k : PassSeen). k.number) w
 same_number side t p q (s ∷ ss) w = same_number side t w.0 q ss w.2 ∙ w.1.number
+
+-- and no count of it falls
+pub no_count_falls : (side : Side) (t : Terms) (p q : PassSeen) (ss : List Served) → AreServed side t p q ss → (p.count ≤ q.count) × (p.told ≤ q.told)
+no_count_falls side t p q [] w = subst (λ (k : PassSeen). (p.count ≤ k.count) × (p.told ≤ k.told)) (sym w) (omega arith, omega arith)
+no_count_falls side t p q (s ∷ ss) w =
+    let more = no_count_falls side t w.0 q ss w.2 in
+    (omega (arith, w.1.count, more.0), omega (arith, w.1.told, more.1))
 
 -- the answers of a door
 pub took : {L : Type 0} (seen : L → PortSeen) (before after : Option Links) (o : Option L) (link : L) → o ≡ Some link

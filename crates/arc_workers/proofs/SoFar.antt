@@ -17,7 +17,7 @@ use Rattle.line_gate.specs.AtGates.{gate_seen}
 use Rattle.line_gate.specs.Passes.{PassSeen, IsPass, PassShows}
 use Rattle.line_gate.specs.Terms.{Terms}
 use Rattle.session_rules.specs.Sessions.{IsShownFor}
-use Rattle.arc_workers.proofs.Links.{none_served, one_more, served_more, same_number}
+use Rattle.arc_workers.proofs.Links.{no_count_falls, none_served, one_more, served_more, same_number}
 use Rattle.arc_workers.proofs.Sessions.{makes_in_order}
 use Rattle.arc_workers.specs.Next.{ServesOne, IsAsBefore, ServesNext}
 use Rattle.arc_workers.specs.Served.{Served, AreServed, HasServed}
@@ -111,6 +111,8 @@ works side t p q door door' count refused sessions end served w ended = record {
   served = served;
   each = w.each;
   number = same_number side t p q served w.each;
+  count = (no_count_falls side t p q served w.each).0;
+  told = (no_count_falls side t p q served w.each).1;
   links = w.links;
   made = makes_in_order side t p q served w.first w.each;
   most = omega (arith, w.most, w.count_is);

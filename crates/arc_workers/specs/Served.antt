@@ -1,11 +1,11 @@
 -- What a worker did with its links, and what its pass made of them.
-use Rattle.std.specs.Prelude.{◌≡◌, ◌-◌, ◌++◌, ℕ, List, [], ◌∷◌, Option, Some, None, All, length, take, map, reverse, flat_map}
+use Rattle.std.specs.Prelude.{◌≡◌, ◌≤◌, ◌-◌, ◌++◌, ℕ, List, [], ◌∷◌, Option, Some, None, All, length, take, map, reverse, flat_map}
 use Rattle.arc_data.specs.declared.event.Event.{Event}
 use Rattle.arc_data.specs.declared.event.Event.TheVariants.{Adopt, Start, Message, Beat, Tick}
 use Rattle.arc_data.specs.declared.event.Event.TheVariants.{Next, Claim, Act, Release, Close, Show, List as Rows}
 use Rattle.arc_io.specs.Seen.{PortSeen}
 use Rattle.arc_doors.specs.Doors.{Links}
-use Rattle.arc_sessions.specs.Served.{Reads, Serves, history_of, entries_by}
+use Rattle.arc_sessions.specs.Served.{Reads, Serves}
 use Rattle.arc_sessions.specs.declared.session.SessionEnd.{SessionEnd}
 use Rattle.arc_sessions.specs.declared.side.Side.{Side}
 use Rattle.arc_sessions.specs.declared.side.Side.TheVariants.{Lines, Desks}
@@ -14,6 +14,7 @@ use Rattle.line_gate.specs.AtGates.{gate_seen}
 use Rattle.line_gate.specs.Entries.{Entry, Extends}
 use Rattle.line_gate.specs.Passes.{PassSeen, IsPass}
 use Rattle.line_gate.specs.Terms.{Terms}
+use Rattle.session_rules.specs.Sessions.{Way}
 
 -- one link that was served: what it told when the door gave it and when the door got it back, how its session ended, and the
 -- entries that the pass made in the session, the earliest first
@@ -23,21 +24,25 @@ pub record Served : Type 0 where
   pub end : SessionEnd
   pub entries : List Entry
 
+-- the way of a session of the pass over this base, which was p before it and q after it
+abbrev pub way_at : List Entry → PassSeen → PassSeen → List Entry → Way
+way_at base p q entries = record { from = p.since ++ base; to = q.since ++ base; made = entries }
+
 -- The clause of a session of this kind over the gate, from what the pass p had seen before it, over this base, to what q had seen
 -- after it. The entries are just those of the session.
-pub record ServesAtGate (side : Side) (t : Terms) (b : Summary) (base : List Entry) (p q : PassSeen) (read : List ℕ) (s : Served)
-    : Type 0 where
-  pub session : Serves side s.end read b (p.since ++ base) (gate_seen t p) (gate_seen t q) s.given s.back
-  pub history : history_of side s.end read b (p.since ++ base) (gate_seen t p) (gate_seen t q) s.given s.back session ≡ q.since ++ base
-  pub entries : s.entries ≡ entries_by side s.end read b (p.since ++ base) (gate_seen t p) (gate_seen t q) s.given s.back session
+abbrev pub ServesAtGate : Side → Terms → Summary → List Entry → PassSeen → PassSeen → List ℕ → Served → Type 0
+ServesAtGate side t b base p q read s =
+    Serves side s.end read b (way_at base p q s.entries) (gate_seen t p) (gate_seen t q) s.given s.back
 
 -- A link was served by a session of the pass, which was p before it and q after it: it read these bytes, ended for its cause, and
--- the session's clause holds over each base of the gate.
+-- the session's clause holds over each base of the gate. The pass keeps its number, and no count of it falls.
 pub record IsServed (side : Side) (t : Terms) (p q : PassSeen) (s : Served) : Type 0 where
   pub read : List ℕ
   pub reads : Reads side s.end read s.given s.back
   pub serves : (b : Summary) (base : List Entry) → t.stood b base → ServesAtGate side t b base p q read s
   pub number : q.number ≡ p.number
+  pub count : p.count ≤ q.count
+  pub told : p.told ≤ q.told
   pub pass : IsPass t q
 
 -- the links were served one after another, from the pass p to the pass q

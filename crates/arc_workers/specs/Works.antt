@@ -80,11 +80,13 @@ EndsWork (DoorFault before now) t q door door' sessions served =
 EndsWork (WorkerStopped stop) t q door door' sessions served = IsStoppedBy stop served × IsShown t q stop
 
 -- What a worker for sessions of this kind did, from the pass p and the door as they were handed in, to the pass q and the door as
--- they then are.
+-- they then are. The pass keeps its number, and no count of it falls.
 pub record Works (side : Side) (t : Terms) (p q : PassSeen) (door door' : DoorSeen) (sessions : ℕ) (worked : Worked) : Type 0 where
   pub served : List Served
   pub each : AreServed side t p q served
   pub number : q.number ≡ p.number
+  pub count : p.count ≤ q.count
+  pub told : p.told ≤ q.told
   pub links : HasServed served door.links door'.links
   pub made : (b : Summary) (base : List Entry) → t.stood b base → MakesEntries side p q (entries_in served)
   pub most : length served ≤ sessions

@@ -4,7 +4,7 @@ use Rattle.alarm_rules.specs.Setups.{setup_of}
 use Rattle.centre_rules.specs.Summary.{Summary}
 use Rattle.centre_rules.specs.History.{Entry}
 use Rattle.centre_rules.specs.State.{State, StandsFor}
-use Rattle.centre_core.specs.Halls.{HallSeen}
+use Rattle.centre_core.specs.Halls.{HallSeen, no_disk}
 use Rattle.centre_core.specs.declared.hall.Stop.{Stop}
 use Rattle.centre_core.specs.declared.hall.Stop.TheVariants.{Memory, Down, Full, Worn}
 
@@ -30,13 +30,19 @@ IsShown s (Down at_open now) = ⊥
 IsShown s (Full used need records) = ⊥
 IsShown s (Worn count) = (count ≡ s.entries) × (2 ^ 48 ≤ count)
 
--- what it tells: its caller has the number 0, and made all of each history
+-- what it tells: its caller has the number 0, and made all of each history; it has no journal, of which anything could be read
 abbrev pub ram_seen : State → HallSeen
 ram_seen s = record {
   ready = Unit {0};
   text = text_of s;
   caller = 0;
+  fixed = no_disk;
+  count = 1;
+  told = 0;
   stands = λ b h. IsSetFor b s h;
+  readable = λ b h. Unit {0};
   own = λ h. h;
   shows = λ stop event clock. IsShown s stop;
+  up = Unit {0};
+  torn = λ b h event clock. Unit {0};
 }

@@ -30,7 +30,7 @@ pub enum Stop {
 
 /// Where a session submits its events: a centre of its own, or one that it shares with others.
 pub trait Hall {
-    ghost use Rattle.centre_core.specs.Halls.{HallSeen, IsKept, GoesOn, Waits};
+    ghost use Rattle.centre_core.specs.Halls.{HallSeen, IsKept, GoesOn, LeftEvent};
 
     /// What it tells at a moment.
     ghost seen: { Self → HallSeen };
@@ -45,7 +45,8 @@ pub trait Hall {
         ensures done { IfOk result (λ d. (b : Summary) (h : List Entry) → (seen self.old).stands b h →
             GoesOn b (seen self.old) (seen self.new) h clock (record { caller = d.caller; event = event; at = d.at; reply = d.reply })) }
         ensures by { IfOk result (λ d. d.caller ≡ (seen self.old).caller) }
-        ensures stop { OnErr result ((b : Summary) (h : List Entry) → (seen self.old).stands b h → Waits b (seen self.old) (seen self.new) h) }
+        ensures stop { IfErr result (λ s. (b : Summary) (h : List Entry) → (seen self.old).stands b h →
+            LeftEvent s b (seen self.old) (seen self.new) h event clock) }
         ensures cause { IfErr result (λ s. (seen self.new).shows s event clock) };
 
     /// The setup in force.
@@ -106,7 +107,7 @@ impl RamHall {
 }
 
 impl Hall for RamHall {
-    ghost use Rattle.centre_core.specs.Halls.{IsKept, GoesOn, Waits};
+    ghost use Rattle.centre_core.specs.Halls.{IsKept, GoesOn, LeftEvent};
     ghost use Rattle.centre_core.specs.Setting.{IsSetFor, IsShown, ram_seen};
     ghost use Rattle.centre_core.specs.InForce.{in_force};
 
@@ -126,7 +127,8 @@ impl Hall for RamHall {
         ensures done { IfOk result (λ d. (b : Summary) (h : List Entry) → IsSetFor b self.old h →
             GoesOn b (ram_seen self.old) (ram_seen self.new) h clock (record { caller = d.caller; event = event; at = d.at; reply = d.reply })) }
         ensures by { IfOk result (λ d. d.caller ≡ 0) }
-        ensures stop { OnErr result ((b : Summary) (h : List Entry) → IsSetFor b self.old h → Waits b (ram_seen self.old) (ram_seen self.new) h) }
+        ensures stop { IfErr result (λ s. (b : Summary) (h : List Entry) → IsSetFor b self.old h →
+            LeftEvent s b (ram_seen self.old) (ram_seen self.new) h event clock) }
         ensures cause { IfErr result (IsShown self.new) }
         ensures text { self.new.sum.text ≡ self.old.sum.text }
         ensures worn { (2 ^ 48 ≤ self.old.entries) ↔ (result ≡ Err (Stop.Worn self.old.entries)) }

@@ -3,6 +3,7 @@ pub mod Written
 pub mod Entered
 pub mod Ordered
 pub mod Begun
+pub mod Readable
 pub mod Halled
 pub mod PastSteps
 pub mod PastOnce

@@ -31,17 +31,17 @@ answers front text more is before t later parts = record {
 answers_just : (front : List Turn) (text : List ℕ) → text ≡ text_of desk_turns front → AnswersTurns front text
 answers_just front text is = answers front text [] (is ∙ sym (append-nil (text_of desk_turns front)))
 
-complete_by : (end : Ending) (rules : Rules Turn) (lines rest : List (List ℕ)) (turns behind : List Turn) (a : Added) → lines ≡ pieces_of desk_turns turns ++ rest → IsEnd desk_turns rules end turns behind a rest
+complete_by : (end : Ending) (rules : Rules Turn) (x : List Entry) (lines rest : List (List ℕ)) (turns behind : List Turn) (a : Added) → lines ≡ pieces_of desk_turns turns ++ rest → IsEnd desk_turns rules end x turns behind a rest
     → IsComplete end turns behind a.text lines
-complete_by answered rules lines rest turns behind a taken e = (
+complete_by answered rules x lines rest turns behind a taken e = (
   taken ∙ ap (λ (l : List (List ℕ)). pieces_of desk_turns turns ++ l) e.none_left ∙ append-nil (pieces_of desk_turns turns),
   answers_just turns a.text (ap (λ (o : Added). o.text) e.added),
 )
-complete_by cut_off rules lines rest turns behind a taken e = (e.front, e.last, e.split, answers e.front a.text _ (ap (λ (o : Added). o.text) e.added))
-complete_by (stopped stop) rules lines rest turns behind a taken e = (e.front, e.split, answers_just e.front a.text (ap (λ (o : Added). o.text) e.added))
+complete_by cut_off rules x lines rest turns behind a taken e = (e.front, e.last, e.split, answers e.front a.text _ (ap (λ (o : Added). o.text) e.added))
+complete_by (stopped stop) rules x lines rest turns behind a taken e = (e.front, e.split, answers_just e.front a.text (ap (λ (o : Added). o.text) e.added))
 
 -- a session is complete
 pub completes : {end : Ending} {b : Summary} {first : Option (List ℕ)} {lines : List (List ℕ)} {h : List Entry} {hall hall' : HallSeen} {p p' : PortSeen} (d : IsDesk end b first lines h hall hall' p p')
     → IsComplete end d.session.turns d.session.behind d.session.added.text lines
 completes {end} {b} {first} {lines} {h} {hall} {hall'} {p} {p'} d =
-    complete_by end (desk_rules b hall hall' first d.last) lines d.session.left d.session.turns d.session.behind d.session.added d.session.taken d.session.ended
+    complete_by end (desk_rules b hall hall' first d.last) d.session.history lines d.session.left d.session.turns d.session.behind d.session.added d.session.taken d.session.ended

@@ -4,6 +4,7 @@ use Rattle.arc_data.specs.declared.event.Event.{Event}
 use Rattle.alarm_rules.specs.Setups.{Setup, meaning}
 use Rattle.arc_io.specs.Seen.{PortSeen}
 use Rattle.centre_core.specs.Halls.{HallSeen, IsKept}
+use Rattle.centre_core.specs.declared.hall.Stop.{Stop}
 use Rattle.centre_rules.specs.Summary.{Summary}
 use Rattle.centre_rules.specs.History.{Entry, Extends}
 use Rattle.session_rules.specs.Sessions.{Ending, answered}
@@ -12,11 +13,8 @@ use Rattle.session_rules.proofs.Appended.{pieces-append}
 use Rattle.session_rules.proofs.Joined.{Follows, session_then, all_pieces}
 use Rattle.desk_session.specs.Events.{command_in, acts_after, acts_over, event_of, text_of}
 use Rattle.desk_session.specs.Turns.{Turn, desk_turns, IsAnswered, AreTurns}
-use Rattle.desk_session.specs.Sessions.{IsDesk, desk_rules}
+use Rattle.desk_session.specs.Sessions.{IsDesk, HasStopped, desk_rules}
 use Rattle.desk_session.proofs.Acting.{acts_over-append}
-
-pub kept_more : {hall mid last : HallSeen} → IsKept hall mid → IsKept mid last → IsKept hall last
-kept_more {hall} {mid} {last} first next = record { ready = next.ready; text = next.text ∙ first.text; caller = next.caller ∙ first.caller }
 
 pub extends_trans : (h x y : List Entry) → Extends h x → Extends x y → Extends h y
 extends_trans h x y a b = (b.0 ++ a.0, b.1 ∙ ap (λ (l : List Entry). b.0 ++ l) a.1 ∙ sym (append_assoc b.0 a.0 h))
@@ -57,10 +55,14 @@ module _ (b : Summary) {hall mid : HallSeen} (kept : IsKept hall mid) where
   turns_under operator x y us all =
       subst (λ (t : List ℕ). AreTurns b (meaning t) hall.caller operator x y us) kept.text (subst (λ (c : ℕ). AreTurns b (meaning mid.text) c operator x y us) kept.caller all)
 
+  stopped_under : (hall.up → mid.up) → (operator : Option (List ℕ)) (last : HallSeen) (x : List Entry) (stop : Stop) (line : List ℕ) (reading : ℕ) → HasStopped operator b mid last x stop line reading
+      → HasStopped operator b hall last x stop line reading
+  stopped_under up operator last x stop line reading s = (s.0, s.1, record { shown = s.2.shown; torn = λ (u : hall.up). s.2.torn (up u) })
+
   -- The first act for one at first and for another at last, and the next go on with that one.
-  pub desk_follows : (last : HallSeen) (h : List Entry) (first late early end : Option (List ℕ)) → late ≡ early
+  pub desk_follows : (hall.up → mid.up) → (last : HallSeen) (h : List Entry) (first late early end : Option (List ℕ)) → late ≡ early
       → Follows (desk_rules b hall mid first late) (desk_rules b mid last early end) (desk_rules b hall last first end) h
-  desk_follows last h first late early end same = record {
+  desk_follows up last h first late early end same = record {
     turns = λ x y ts us f n.
         let setup = meaning hall.text in
         let goes_on : early ≡ acts_over setup first (pieces_of desk_turns ts) = sym (f.1 ∙ same) in
@@ -71,7 +73,7 @@ module _ (b : Summary) {hall mid : HallSeen} (kept : IsKept hall mid) where
               ∙ ap (λ (o : Option (List ℕ)). acts_over setup o (pieces_of desk_turns us)) (sym goes_on)
               ∙ ended,
         );
-    cause = λ stop piece reading cause. cause;
+    cause = stopped_under up end last;
     behind = λ us none. none;
   }
 
@@ -86,5 +88,5 @@ unfoldable pub desk_then : {end : Ending} {b : Summary} {first next : Option (Li
     → IsDesk end b first (xs ++ ys) h hall last p r
 desk_then {end} {b} {first} {next} {xs} {ys} {h} {hall} {mid} {last} {p} {q} {r} kept acts d n = record {
   last = n.last;
-  session = session_then desk_turns (desk_follows b kept last h first d.last next n.last (acts_at_last d ∙ sym acts)) d.session n.session;
+  session = session_then desk_turns (desk_follows b kept (d.session.up tt) last h first d.last next n.last (acts_at_last d ∙ sym acts)) d.session n.session;
 }

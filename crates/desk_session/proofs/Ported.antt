@@ -13,9 +13,10 @@ use Rattle.centre_core.specs.Halls.{HallSeen, IsKept}
 use Rattle.centre_rules.specs.Summary.{Summary}
 use Rattle.centre_rules.specs.History.{Entry}
 use Rattle.session_rules.specs.Inputs.{input_limit, in_limit}
-use Rattle.session_rules.specs.Sessions.{answered, ReadsNoFurther}
+use Rattle.session_rules.specs.Sessions.{answered, ReadsNoFurther, Goes}
 use Rattle.session_rules.proofs.Ahead.{reads_no_further}
 use Rattle.session_rules.proofs.Joined.{all_pieces, session_read, session_then}
+use Rattle.session_rules.specs.Turns.{entries_of}
 use Rattle.desk_session.specs.Desks.{typed_lines, ServesBytes, ServesLines, ServesDesk, IsTaken, IsFinished, HasEnded, DeskValue, lines_read}
 use Rattle.desk_session.specs.Events.{acts_over, quits, up_to_quit}
 use Rattle.desk_session.specs.Sessions.{IsDesk, ending_of, desk_rules}
@@ -36,11 +37,11 @@ read_all_lines ended read out = ap (λ (t : Bool). lines_read t read) out
 module _ (b : Summary) (h : List Entry) where
   -- A session ends with what it read, by a failed read.
   pub desk_rests : (read : List ℕ) {hall hall' : HallSeen} {p q r : PortSeen} → quits (ended_lines read) ≡ false → r.ended ≡ false → OnlyReads q r → IsDesk answered b None (ended_lines read) h hall hall' p q
-      → ServesDesk ReadFault read b h hall hall' p r
+      → Goes h (λ w. ServesDesk ReadFault read b w hall hall' p r)
   desk_rests read {hall} {hall'} {p} {q} {r} goes_on not_ended only d =
       let same : up_to_quit (lines_read r.ended read) ≡ ended_lines read = ap up_to_quit (read_lines r.ended read not_ended) ∙ up_all (ended_lines read) goes_on in
       let all = desk_read same only d in
-      record { desk = all; ahead = tt; complete = completes all }
+      (all.session.history, entries_of desk_turns all.session.turns, record { desk = all; to = refl; made = refl; ahead = tt; complete = completes all })
 
   module _ (stream : List ℕ) (goes_on : quits (ended_lines stream) ≡ false) {hall mid : HallSeen} {p q q' : PortSeen} (kept : IsKept hall mid) (only : OnlyReads q q')
       (first : IsDesk answered b None (ended_lines stream) h hall mid p q) where
@@ -61,20 +62,25 @@ module _ (b : Summary) (h : List Entry) where
 
     -- A session ends within its last piece, or at the input's end.
     pub desk_ends : {hall' : HallSeen} {r : PortSeen} (read piece : List ℕ) (end : DeskEnd) (after : List (List ℕ)) → read ≡ stream ++ piece → length piece ≤ 4096 → lines_read r.ended read ≡ after
-        → ((x : List Entry) → mid.stands b x → ServesLines (Err end) (ended_lines stream) after b x mid hall' q' r) → ServesDesk end read b h hall hall' p r
+        → ((x : List Entry) → mid.stands b x → ServesLines (Err end) (ended_lines stream) after b x mid hall' q' r) → Goes h (λ w. ServesDesk end read b w hall hall' p r)
     unfolding desk_read desk_then session_read session_then
     desk_ends {hall'} {r} read piece end after parts short is next =
         let n = next first.session.history first.session.holds in
         let d : IsDesk answered b None (ended_lines stream) h hall mid p q' = desk_read refl only first in
         let all : IsDesk (ending_of (Err end)) b None (up_to_quit (lines_read r.ended read)) h hall hall' p r =
-        desk_read (ap up_to_quit is ∙ came (Err end) after first.session.history n) (record { rest = refl }) (desk_then kept acts d n.desk) in
-        record {
-          desk = all;
-          ahead = subst (λ (l : List ℕ). ReadsNoFurther desk_turns typed_lines (ending_of (Err end)) l (first.session.turns ++ n.desk.session.turns) n.desk.session.behind) (sym parts)
-              (reads_no_further desk_turns typed_lines stream piece first.session.turns short (up_all (ended_lines stream) goes_on ∙ all_pieces desk_turns first.session)
-              (desk_rules b mid hall' (acts_over (meaning mid.text) None (ended_lines stream)) n.desk.last) (ending_of (Err end)) n.desk.session.turns n.desk.session.behind n.desk.session.added n.desk.session.left n.desk.session.ended);
-          complete = completes all;
-        }
+        desk_read (ap up_to_quit is ∙ came (Err end) after first.session.history n) (record { rest = refl }) (desk_then kept acts d n.desk) in (
+          all.session.history,
+          entries_of desk_turns all.session.turns,
+          record {
+            desk = all;
+            to = refl;
+            made = refl;
+            ahead = subst (λ (l : List ℕ). ReadsNoFurther desk_turns typed_lines (ending_of (Err end)) l (first.session.turns ++ n.desk.session.turns) n.desk.session.behind) (sym parts)
+                (reads_no_further desk_turns typed_lines stream piece first.session.turns short (up_all (ended_lines stream) goes_on ∙ all_pieces desk_turns first.session)
+                (desk_rules b mid hall' (acts_over (meaning mid.text) None (ended_lines stream)) n.desk.last) (ending_of (Err end)) n.desk.session.history n.desk.session.turns n.desk.session.behind n.desk.session.added n.desk.session.left n.desk.session.ended);
+            complete = completes all;
+          },
+        )
 
 -- a count that rose from a later value on
 pub rose_earlier : (first before now : ℕ) → first ≤ before → Rose before now → Rose first now

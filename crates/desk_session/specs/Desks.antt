@@ -11,7 +11,8 @@ use Rattle.centre_core.specs.Halls.{HallSeen}
 use Rattle.centre_rules.specs.Summary.{Summary}
 use Rattle.centre_rules.specs.History.{Entry}
 use Rattle.session_rules.specs.Inputs.{input_limit, in_limit}
-use Rattle.session_rules.specs.Sessions.{ReadsNoFurther}
+use Rattle.session_rules.specs.Sessions.{ReadsNoFurther, Way}
+use Rattle.session_rules.specs.Turns.{entries_of}
 use Rattle.desk_session.specs.Completeness.{IsComplete}
 use Rattle.desk_session.specs.Events.{acts_over, quits, up_to_quit}
 use Rattle.desk_session.specs.Sessions.{IsDesk, ending_of}
@@ -114,10 +115,12 @@ pub record ReadsDesk (end : DeskEnd) (read : List ℕ) (p p' : PortSeen) : Type 
   pub out : p'.ended ≡ true → IsAtEnd p'.left
   pub cause : HasEnded end read p p'
 
--- A desk session over a port that read these bytes: a session over all their lines up to a `quit`, which acts for nobody at first.
-pub record ServesDesk (end : DeskEnd) (read : List ℕ) (b : Summary) (h : List Entry) (hall hall' : HallSeen) (p p' : PortSeen)
-    : Type 0 where
-  pub desk : IsDesk (ending_of (Err end)) b None (up_to_quit (lines_read p'.ended read)) h hall hall' p p'
+-- A desk session over a port that read these bytes, on this way: a session over all their lines up to a `quit`, which acts for nobody at
+-- first.
+pub record ServesDesk (end : DeskEnd) (read : List ℕ) (b : Summary) (w : Way) (hall hall' : HallSeen) (p p' : PortSeen) : Type 0 where
+  pub desk : IsDesk (ending_of (Err end)) b None (up_to_quit (lines_read p'.ended read)) w.from hall hall' p p'
+  pub to : w.to ≡ desk.session.history
+  pub made : w.made ≡ entries_of desk_turns desk.session.turns
   pub ahead : ReadsNoFurther desk_turns typed_lines (ending_of (Err end)) read desk.session.turns desk.session.behind
   pub complete : IsComplete (ending_of (Err end)) desk.session.turns desk.session.behind desk.session.added.text
       (up_to_quit (lines_read p'.ended read))

@@ -3,7 +3,7 @@ use Rattle.std.specs.Prelude.{◌≡◌, ℕ, List, [], Option, Some, Result, Ok
 use Rattle.arc_data.specs.declared.event.Event.{Event}
 use Rattle.arc_io.specs.Seen.{PortSeen}
 use Rattle.alarm_rules.specs.Setups.{meaning}
-use Rattle.centre_core.specs.Halls.{HallSeen}
+use Rattle.centre_core.specs.Halls.{HallSeen, IsStopOf}
 use Rattle.centre_core.specs.declared.hall.Stop.{Stop}
 use Rattle.centre_rules.specs.Summary.{Summary}
 use Rattle.centre_rules.specs.History.{Entry}
@@ -24,10 +24,10 @@ ending_of (Err Spent) = answered
 ending_of (Err WriteFault) = cut_off
 ending_of (Err (Stopped stop)) = stopped stop
 
--- the hall showed a stop for the event of the line, of a session that acts for this operator
-abbrev pub HasStopped : Option (List ℕ) → HallSeen → Stop → List ℕ → ℕ → Type 0
-HasStopped operator hall' stop line reading =
-    (event : Event) × (event_of operator (command_in line) ≡ Some event) × hall'.shows stop event reading
+-- the hall stopped the event of the line, behind a history, of a session that acts for this operator
+abbrev pub HasStopped : Option (List ℕ) → Summary → HallSeen → HallSeen → List Entry → Stop → List ℕ → ℕ → Type 0
+HasStopped operator b hall hall' x stop line reading =
+    (event : Event) × (event_of operator (command_in line) ≡ Some event) × IsStopOf b hall hall' x stop event reading
 
 -- The rules of a desk session that acts for one operator (or for nobody) at first and for another at last: its turns, why it
 -- stops, and that no turn is recorded behind the last that was answered.
@@ -35,7 +35,7 @@ abbrev pub desk_rules : Summary → HallSeen → HallSeen → Option (List ℕ) 
 desk_rules b hall hall' first last = record {
   are_turns = λ h x ts.
       AreTurns b (meaning hall.text) hall.caller first h x ts × (acts_over (meaning hall.text) first (pieces_of desk_turns ts) ≡ last);
-  is_cause = HasStopped last hall';
+  is_cause = HasStopped last b hall hall';
   may_be_behind = λ behind. behind ≡ [];
 }
 

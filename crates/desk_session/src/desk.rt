@@ -4,7 +4,7 @@ ghost use Rattle.arc_io.specs.Causes.{Rose};
 ghost use Rattle.centre_core.specs.Halls.{IsKept};
 ghost use Rattle.centre_rules.specs.Summary.{Summary};
 ghost use Rattle.centre_rules.specs.History.{Entry};
-ghost use Rattle.session_rules.specs.Sessions.{HasShown};
+ghost use Rattle.session_rules.specs.Sessions.{HasShown, Goes};
 ghost use Rattle.desk_session.specs.Desks.{ReadsDesk, ServesDesk};
 ghost use Rattle.desk_session.specs.Sessions.{ending_of};
 
@@ -23,7 +23,7 @@ pub fn serve_desk<H: Hall, P: Port>(alloc: Global, hall: &mut H, port: &mut P) -
     requires not_ended { (P.seen port.old).ended ≡ false }
     ensures desk { (read : List ℕ) × ReadsDesk result read (P.seen port.old) (P.seen port.new)
         × ((b : Summary) (h : List Entry) → (H.seen hall.old).stands b h →
-        ServesDesk result read b h (H.seen hall.old) (H.seen hall.new) (P.seen port.old) (P.seen port.new)) }
+        Goes h (λ w. ServesDesk result read b w (H.seen hall.old) (H.seen hall.new) (P.seen port.old) (P.seen port.new))) }
     ensures stop { HasShown (H.seen hall.new) (ending_of (Err result)) }
     ensures read { result ≡ DeskEnd.ReadFault → Rose (P.seen port.old).read_faults (P.seen port.new).read_faults }
     ensures write { result ≡ DeskEnd.WriteFault → Rose (P.seen port.old).write_faults (P.seen port.new).write_faults }

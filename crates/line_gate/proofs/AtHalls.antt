@@ -1,14 +1,14 @@
 -- What a call of the gate tells of the hall over it.
 use Rattle.std.proofs.Common.{◌≡◌, ℕ, ◌+◌, List, [], ◌∷◌, ◌++◌, length, take, refl, sym, ap, ◌∙◌, subst, arith, append_assoc}
-use Rattle.std.specs.Prelude.{Result, Ok, Err, IfOk, OnErr}
+use Rattle.std.specs.Prelude.{Result, Ok, Err, IfOk, IfErr, OnErr}
 use Rattle.arc_data.specs.declared.event.Event.{Event}
 use Rattle.centre_core.specs.declared.hall.Stop.{Stop}
 use Rattle.centre_core.specs.declared.ready.Done.{Done}
 use Rattle.centre_rules.specs.Summary.{Summary}
-use Rattle.centre_core.specs.Halls.{GoesOn, Waits}
+use Rattle.centre_core.specs.Halls.{GoesOn, LeftEvent, Waits}
 use Rattle.line_gate.specs.Entries.{Entry, Extends, made_by}
 use Rattle.line_gate.specs.Terms.{Terms}
-use Rattle.line_gate.specs.Passes.{PassSeen, IsPass, IsLater, Makes}
+use Rattle.line_gate.specs.Passes.{PassSeen, IsPass, IsLater, Makes, PassShows}
 use Rattle.line_gate.specs.AtGates.{AtSeen, own_of, gate_seen, at_legal}
 use Rattle.line_gate.proofs.Histories.{both_ways, nested}
 use Rattle.line_gate.proofs.Carried.{extends_base}
@@ -34,6 +34,8 @@ goes_on t p q clock e m pass b h w =
       legal = at_legal t q b (e ∷ (m.before ++ w.base)) at;
       at = m.answer.at b w.base w.from;
       own = own_at t q b (e ∷ (m.before ++ w.base)) at ∙ m.made ∙ sym (ap (λ (l : List Entry). e ∷ l) (own_at t p b h w));
+      reads = λ r. r;
+      up = tt;
     }
 
 -- a stop
@@ -45,6 +47,7 @@ waits t p q g same pass b h w =
       holds = at;
       legal = at_legal t q b (q.since ++ w.base) at;
       own = own_at t q b (q.since ++ w.base) at ∙ same ∙ sym (own_at t p b h w);
+      reads = λ r. r;
     }
 
 pub done_at : (t : Terms) (p q : PassSeen) (clock : ℕ) (event : Event) (r : Result Done Stop) → IfOk r (λ d. Makes t p q clock (record { caller = d.caller; event = event; at = d.at; reply = d.reply })) → IsPass t q
@@ -52,9 +55,10 @@ pub done_at : (t : Terms) (p q : PassSeen) (clock : ℕ) (event : Event) (r : Re
 done_at t p q clock event (Ok d) m pass = goes_on t p q clock (record { caller = d.caller; event = event; at = d.at; reply = d.reply }) m pass
 done_at t p q clock event (Err s) m pass = tt
 
-pub stop_at : (t : Terms) (p q : PassSeen) (r : Result Done Stop) → IsLater p q → OnErr r (q.made ≡ p.made) → IsPass t q → OnErr r ((b : Summary) (h : List Entry) → AtSeen t p b h → Waits b (gate_seen t p) (gate_seen t q) h)
-stop_at t p q (Ok d) g same pass = tt
-stop_at t p q (Err s) g same pass = waits t p q g same pass
+pub stop_at : (t : Terms) (p q : PassSeen) (clock : ℕ) (event : Event) (r : Result Done Stop) → IsLater p q → OnErr r (q.made ≡ p.made) → IsPass t q → IfErr r (λ s. PassShows t q s event clock)
+    → IfErr r (λ s. (b : Summary) (h : List Entry) → AtSeen t p b h → LeftEvent s b (gate_seen t p) (gate_seen t q) h event clock)
+stop_at t p q clock event (Ok d) g same pass shown = tt
+stop_at t p q clock event (Err s) g same pass shown = λ b h w. record { waits = waits t p q g same pass b h w; cause = record { shown = shown; torn = λ up. tt } }
 
 -- Over one summary all bases have one length. So two histories of the hall over it, of which one begins with the other, have
 -- one base.

@@ -1,10 +1,12 @@
 -- What passes and the desk carry from one step of a call to the next.
 use Rattle.std.proofs.Common.{◌≡◌, ℕ, List, [], ◌∷◌, ◌++◌, refl, sym, ap, ◌∙◌, subst, arith, length-append, append_assoc}
 use Rattle.std.specs.Prelude.{Some, unwrap_or}
+use Rattle.std.proofs.lemmas.List.Elements.{All-nil}
 use Rattle.atomic_table.specs.Seated.{TableId}
 use Rattle.atomic_table.specs.Table.{Me}
 use Rattle.alarm_rules.specs.Setups.{meaning}
 use Rattle.arc_io.specs.Disks.{DiskSeen}
+use Rattle.centre_core.specs.Runs.{IsSubmitted}
 use Rattle.centre_core.specs.InForce.{in_force}
 use Rattle.centre_store.specs.Stores.{Stored}
 use Rattle.line_gate.specs.Entries.{Entry, Extends, made_by, longer}
@@ -50,6 +52,7 @@ kept_of_gate seen t since most s k = record {
     legal = w.centre.legal;
     in_force = in_force s.state b (since ++ base) (record { stands = w.centre; setting = k.setting }) ∙ ap (λ (text : _). Some (meaning (unwrap_or text []))) k.text;
   };
+  submitted = k.submitted;
 }
 
 -- a new pass is seated
@@ -74,6 +77,7 @@ pub first_seated : {D : Type 0} (seen : D → DiskSeen)
 first_seated seen t table from first_from book first s text n i =
     let kept : IsKept seen t [] 0 s = record {
       stands = n.stood;
+      submitted = All-nil (λ (e : Entry). IsSubmitted e.event);
       entries = let e = n.entries in omega arith;
       most_told = omega arith;
       at_open = n.at_open;

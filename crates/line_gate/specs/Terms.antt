@@ -1,11 +1,12 @@
 -- What the name of a gate says.
-use Rattle.std.specs.Prelude.{◌≡◌, ◌+◌, ◌++◌, ℕ, List, [], Some, length}
+use Rattle.std.specs.Prelude.{◌≡◌, ◌+◌, ◌++◌, ℕ, List, [], Some, All, length}
 use Rattle.atomic_table.specs.Seated.{TableId}
 use Rattle.alarm_rules.specs.Setups.{meaning}
 use Rattle.centre_rules.specs.Summary.{Summary}
 use Rattle.centre_rules.specs.Marks.{force}
 use Rattle.centre_rules.specs.History.{marks}
 use Rattle.centre_rules.specs.Answers.{IsLegal}
+use Rattle.centre_core.specs.Runs.{IsSubmitted}
 use Rattle.disk_journal.specs.declared.journal.Limits.{Limits}
 use Rattle.line_gate.specs.Entries.{Entry}
 
@@ -40,8 +41,19 @@ pub record IsHistory (t : Terms) (b : Summary) (h : List Entry) : Type 0 where
   pub legal : IsLegal b h
   pub in_force : force b (marks b h) ≡ Some (meaning t.text)
 
--- What was seen since the gate was made is the end of a history of the gate, over each base; and all bases over one summary have one
--- length.
+-- of events that callers submit: no Adopt and no Start
+abbrev pub AreSubmitted : List Entry → Type 0
+AreSubmitted since = All (λ e. IsSubmitted e.event) since
+
+-- the history is this base and, past it, entries of events that callers submit
+pub record IsPastBase (base h : List Entry) : Type 0 where
+  pub since : List Entry
+  pub is : h ≡ since ++ base
+  pub submitted : AreSubmitted since
+
+-- What was seen since the gate was made is the end of a history of the gate, over each base, and was submitted by callers; and all bases
+-- over one summary have one length.
 pub record IsOfGate (t : Terms) (since : List Entry) : Type 0 where
   pub long : (b : Summary) (base : List Entry) → t.stood b base → t.entries ≡ b.recorded + length base
   pub over : (b : Summary) (base : List Entry) → t.stood b base → IsHistory t b (since ++ base)
+  pub submitted : AreSubmitted since

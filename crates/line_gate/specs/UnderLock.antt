@@ -8,7 +8,7 @@ use Rattle.centre_rules.specs.Summary.{Summary}
 use Rattle.centre_store.specs.Stores.{Stored, StoreStands}
 use Rattle.line_gate.specs.Entries.{Entry}
 use Rattle.line_gate.specs.declared.view.View.{View}
-use Rattle.line_gate.specs.Terms.{Terms}
+use Rattle.line_gate.specs.Terms.{Terms, AreSubmitted}
 
 -- the book's view, and the store
 pub record UnderLock (D : Type 0) : Type 0 where
@@ -22,9 +22,10 @@ pub record IsBookSeat (t : Terms) (table : TableId) (me : Me (Unit {0}) View) : 
   pub is_book : me.0.book ≡ true
   pub free : me.0.named ≡ None
 
--- over each base the store stands for what the book has seen since, and what was told is at most the disk's count
+-- Over each base the store stands for what the book has seen since, which callers submitted, and what was told is at most the disk's count.
 pub record IsKept {D : Type 0} (seen : D → DiskSeen) (t : Terms) (since : List Entry) (most : ℕ) (s : Stored D) : Type 0 where
   pub stands : (b : Summary) (base : List Entry) → t.stood b base → StoreStands seen b s (since ++ base)
+  pub submitted : AreSubmitted since
   pub entries : s.state.entries ≡ t.entries + length since
   pub most_told : most ≤ (seen s.journal.disk).faults
   pub at_open : s.at_open ≡ t.at_open

@@ -8,6 +8,7 @@ ghost use Rattle.centre_store.specs.Stores.{StoreStands};
 ghost use Rattle.line_gate.specs.Entries.{Extends};
 ghost use Rattle.line_gate.specs.Blanks.{Names};
 ghost use Rattle.line_gate.specs.Passes.{IsPass, IsLater, Makes, PassShows};
+ghost use Rattle.line_gate.specs.Terms.{IsPastBase};
 
 use crate::blank::Blank;
 use crate::locked_store::LockedStore;
@@ -148,11 +149,11 @@ impl<D: Disk, N: GateName> Gate<D, N> {
         Ok(())
     }
 
-    /// Gives the store back. It stands for a history that begins with all that the pass has seen, and its disk's count is no less than what
-    /// the pass was told.
+    /// Gives the store back. It stands for a history that begins with all that the pass has seen, in which past the base stands what callers
+    /// submitted, and its disk's count is no less than what the pass was told.
     pub fn close(self, first: Pass<N>) -> Store<D>
         ensures stands { (b : Summary) (base : List Entry) → N.terms.stood b base
-            → (h : List Entry) × Extends (first.since ++ base) h × StoreStands D.seen b result h }
+            → (h : List Entry) × Extends (first.since ++ base) h × StoreStands D.seen b result h × IsPastBase base h }
         ensures told { first.told ≤ (D.seen result.journal.disk).faults }
         ensures at_open { result.at_open ≡ N.terms.at_open }
         ensures limits { result.journal.limits ≡ N.terms.limits }

@@ -53,7 +53,7 @@ module _ (b : Summary) (setup : Setup) (caller : ℕ) where
   answers_just h x turns front others text split is all = answers h x turns front others text [] split (is ∙ sym (append-nil (text_of line_turns front))) all
 
 complete_by : (end : Ending) (b : Summary) (hall hall' : HallSeen) (h x : List Entry) (bodies rest : List (List ℕ)) (turns behind : List Turn) (a : Added) → bodies ≡ pieces_of line_turns turns ++ rest
-    → IsEnd line_turns (line_rules b hall hall') end turns behind a rest → AreTurns b (meaning hall.text) hall.caller h x turns → IsComplete end (meaning hall.text) turns behind a.text bodies
+    → IsEnd line_turns (line_rules b hall hall') end x turns behind a rest → AreTurns b (meaning hall.text) hall.caller h x turns → IsComplete end (meaning hall.text) turns behind a.text bodies
 complete_by answered b hall hall' h x bodies rest turns behind a taken e all = (
   taken ∙ ap (λ (l : List (List ℕ)). pieces_of line_turns turns ++ l) e.none_left ∙ append-nil (pieces_of line_turns turns),
   answers_just b (meaning hall.text) hall.caller h x turns turns [] a.text (sym (append-nil turns)) (ap (λ (o : Added). o.text) e.added) all,

@@ -1,5 +1,5 @@
 -- Turns of a line behind those that went before.
-use Rattle.std.proofs.Common.{◌∷◌, ◌++◌, ℕ, List, [], sym, ◌∙◌, ap, subst, append_assoc}
+use Rattle.std.proofs.Common.{◌∷◌, ◌++◌, ℕ, List, [], sym, ◌∙◌, ap, subst, append_assoc, inl, inr}
 use Rattle.arc_data.specs.declared.event.Event.{Event}
 use Rattle.alarm_rules.specs.Setups.{Setup, meaning}
 use Rattle.arc_io.specs.Seen.{PortSeen}
@@ -15,9 +15,6 @@ use Rattle.session_rules.specs.Sessions.{Ending, answered}
 use Rattle.session_rules.proofs.Joined.{Follows, session_then}
 use Rattle.line_session.specs.Turns.{Turn, line_turns, IsAnswered, AreTurns, TakesNothing, TakesEntry}
 use Rattle.line_session.specs.Sessions.{IsLine, HasStopped, line_rules}
-
-pub kept_more : {hall mid last : HallSeen} → IsKept hall mid → IsKept mid last → IsKept hall last
-kept_more {hall} {mid} {last} first next = record { ready = next.ready; text = next.text ∙ first.text; caller = next.caller ∙ first.caller }
 
 pub extends_trans : (h x y : List Entry) → Extends h x → Extends x y → Extends h y
 extends_trans h x y a b = (b.0 ++ a.0, b.1 ∙ ap (λ (l : List Entry). b.0 ++ l) a.1 ∙ sym (append_assoc b.0 a.0 h))
@@ -60,17 +57,24 @@ module _ (b : Summary) {hall mid : HallSeen} (kept : IsKept hall mid) where
   turns_under x y us all =
       subst (λ (t : List ℕ). AreTurns b (meaning t) hall.caller x y us) kept.text (subst (λ (c : ℕ). AreTurns b (meaning mid.text) c x y us) kept.caller all)
 
-  stopped_under : (last : HallSeen) (stop : Stop) (body : List ℕ) (reading : ℕ) → HasStopped mid last stop body reading → HasStopped hall last stop body reading
-  stopped_under last stop body reading s = subst (λ (t : List ℕ). HasStopped (record mid { text = t }) last stop body reading) kept.text s
+  on_up : (hall.up → mid.up) → (last : HallSeen) (x : List Entry) (stop : Stop) (body : List ℕ) (reading : ℕ) → HasStopped b (record mid { text = hall.text }) last x stop body reading
+      → HasStopped b hall last x stop body reading
+  on_up up last x stop body reading (inl wanted) = inl wanted
+  on_up up last x stop body reading (inr s) = inr (s.0, s.1, record { shown = s.2.shown; torn = λ (u : hall.up). s.2.torn (up u) })
 
-  pub line_follows : (last : HallSeen) (h : List Entry) → Follows (line_rules b hall mid) (line_rules b mid last) (line_rules b hall last) h
-  line_follows last h = record {
+  stopped_under : (hall.up → mid.up) → (last : HallSeen) (x : List Entry) (stop : Stop) (body : List ℕ) (reading : ℕ) → HasStopped b mid last x stop body reading
+      → HasStopped b hall last x stop body reading
+  stopped_under up last x stop body reading s =
+      on_up up last x stop body reading (subst (λ (t : List ℕ). HasStopped b (record mid { text = t }) last x stop body reading) kept.text s)
+
+  pub line_follows : (hall.up → mid.up) → (last : HallSeen) (h : List Entry) → Follows (line_rules b hall mid) (line_rules b mid last) (line_rules b hall last) h
+  line_follows up last h = record {
     turns = λ x y ts us first next. turns_more b (meaning hall.text) hall.caller h x y ts us first (turns_under x y us next);
-    cause = stopped_under last;
+    cause = stopped_under up last;
     behind = λ us none. none;
   }
 
   -- a session that answered all, and then one over what follows
   pub line_then : {end : Ending} {xs ys : List (List ℕ)} {h : List Entry} {last : HallSeen} {p q r : PortSeen} → IsLine answered b xs h hall mid p q
       → ((x : List Entry) → mid.stands b x → IsLine end b ys x mid last q r) → IsLine end b (xs ++ ys) h hall last p r
-  line_then {end} {xs} {ys} {h} {last} {p} {q} {r} first next = session_then line_turns (line_follows last h) first (next first.history first.holds)
+  line_then {end} {xs} {ys} {h} {last} {p} {q} {r} first next = session_then line_turns (line_follows (first.up tt) last h) first (next first.history first.holds)

@@ -10,10 +10,11 @@ use Rattle.centre_core.specs.Halls.{HallSeen, IsKept}
 use Rattle.centre_rules.specs.Summary.{Summary}
 use Rattle.centre_rules.specs.History.{Entry}
 use Rattle.dc09_frame.specs.Frames.{bodies}
-use Rattle.session_rules.specs.Sessions.{answered}
+use Rattle.session_rules.specs.Sessions.{answered, Goes}
 use Rattle.session_rules.proofs.Ahead.{reads_no_further}
 use Rattle.session_rules.proofs.Joined.{session_read, session_then, all_pieces}
 use Rattle.session_rules.specs.Inputs.{in_limit, input_limit}
+use Rattle.session_rules.specs.Turns.{entries_of}
 use Rattle.line_session.specs.Lines.{ServesBytes, ServesLine, IsTaken, HasEnded, LineValue}
 use Rattle.line_session.specs.Sessions.{IsLine, ending_of, line_rules}
 use Rattle.line_session.specs.Turns.{line_turns}
@@ -31,15 +32,15 @@ IsAtRest WriteFault = ⊥
 IsAtRest (Stopped stop) = ⊥
 
 module _ (b : Summary) (h : List Entry) where
-  answered_line : (end : LineEnd) (read : List ℕ) {hall hall' : HallSeen} {p p' : PortSeen} → IsAtRest end → IsLine answered b (bodies read) h hall hall' p p' → ServesLine end read b h hall hall' p p'
-  answered_line InputEnded read rest s = record { session = s; ahead = tt; complete = completes s }
-  answered_line ReadFault read rest s = record { session = s; ahead = tt; complete = completes s }
+  answered_line : (end : LineEnd) (read : List ℕ) {hall hall' : HallSeen} {p p' : PortSeen} → IsAtRest end → IsLine answered b (bodies read) h hall hall' p p' → Goes h (λ w. ServesLine end read b w hall hall' p p')
+  answered_line InputEnded read rest s = (s.history, entries_of line_turns s.turns, record { session = s; to = refl; made = refl; ahead = tt; complete = completes s })
+  answered_line ReadFault read rest s = (s.history, entries_of line_turns s.turns, record { session = s; to = refl; made = refl; ahead = tt; complete = completes s })
   answered_line Spent read rest s = absurd rest
   answered_line WriteFault read rest s = absurd rest
   answered_line (Stopped stop) read rest s = absurd rest
 
   -- A session ends with what it read.
-  pub line_rests : (end : LineEnd) (read : List ℕ) {hall hall' : HallSeen} {p q r : PortSeen} → IsAtRest end → OnlyReads q r → IsLine answered b (bodies read) h hall hall' p q → ServesLine end read b h hall hall' p r
+  pub line_rests : (end : LineEnd) (read : List ℕ) {hall hall' : HallSeen} {p q r : PortSeen} → IsAtRest end → OnlyReads q r → IsLine answered b (bodies read) h hall hall' p q → Goes h (λ w. ServesLine end read b w hall hall' p r)
   line_rests end read rest only s = answered_line end read rest (session_read line_turns refl only s)
 
   module _ (stream piece : List ℕ) {hall mid hall' : HallSeen} {p q q' r : PortSeen} (kept : IsKept hall mid) (only : OnlyReads q q') (first : IsLine answered b (bodies stream) h hall mid p q) where
@@ -48,19 +49,24 @@ module _ (b : Summary) (h : List Entry) where
     unfolding session_read
     line_goes next =
         let n = next first.history first.holds in
-        session_read line_turns n.ended (record { rest = refl }) (session_then line_turns (line_follows b kept hall' h) (session_read line_turns refl only first) n.session)
+        session_read line_turns n.ended (record { rest = refl }) (session_then line_turns (line_follows b kept (first.up tt) hall' h) (session_read line_turns refl only first) n.session)
 
     -- A session ends within its last piece.
-    pub line_ends : (end : LineEnd) → length piece ≤ 4096 → ((x : List Entry) → mid.stands b x → ServesBytes (Err end) stream piece b x mid hall' q' r) → ServesLine end (stream ++ piece) b h hall hall' p r
+    pub line_ends : (end : LineEnd) → length piece ≤ 4096 → ((x : List Entry) → mid.stands b x → ServesBytes (Err end) stream piece b x mid hall' q' r) → Goes h (λ w. ServesLine end (stream ++ piece) b w hall hall' p r)
     unfolding session_read session_then
     line_ends end short next =
         let n = next first.history first.holds in
-        let session = session_read line_turns n.ended (record { rest = refl }) (session_then line_turns (line_follows b kept hall' h) (session_read line_turns refl only first) n.session) in
-        record {
-          session = session;
-          ahead = reads_no_further line_turns bodies stream piece first.turns short (all_pieces line_turns first) (line_rules b mid hall') (ending_of (Err end)) n.session.turns n.session.behind n.session.added n.session.left n.session.ended;
-          complete = completes session;
-        }
+        let session = session_read line_turns n.ended (record { rest = refl }) (session_then line_turns (line_follows b kept (first.up tt) hall' h) (session_read line_turns refl only first) n.session) in (
+          session.history,
+          entries_of line_turns session.turns,
+          record {
+            session = session;
+            to = refl;
+            made = refl;
+            ahead = reads_no_further line_turns bodies stream piece first.turns short (all_pieces line_turns first) (line_rules b mid hall') (ending_of (Err end)) n.session.history n.session.turns n.session.behind n.session.added n.session.left n.session.ended;
+            complete = completes session;
+          },
+        )
 
 -- a piece that the limit leaves room for is taken whole
 pub all_in_limit : (stream piece : List ℕ) → length piece ≤ input_limit - length stream → in_limit stream piece ≡ piece

@@ -10,7 +10,8 @@ use Rattle.centre_rules.specs.History.{Entry}
 use Rattle.dc09_frame.specs.Cutting.{CutterValue, WasFed}
 use Rattle.dc09_frame.specs.Frames.{bodies}
 use Rattle.session_rules.specs.Inputs.{input_limit}
-use Rattle.session_rules.specs.Sessions.{ReadsNoFurther}
+use Rattle.session_rules.specs.Sessions.{ReadsNoFurther, Way}
+use Rattle.session_rules.specs.Turns.{entries_of}
 use Rattle.line_session.specs.Completeness.{IsComplete}
 use Rattle.line_session.specs.Sessions.{IsLine, ending_of}
 use Rattle.line_session.specs.Turns.{line_turns}
@@ -59,9 +60,10 @@ pub record ReadsLine (end : LineEnd) (read : List ℕ) (p p' : PortSeen) : Type 
   pub out : (p'.ended ≡ true) ↔ (end ≡ InputEnded)
   pub cause : HasEnded end read p p'
 
--- A line session over a port that read these bytes: a session over all their whole pieces.
-pub record ServesLine (end : LineEnd) (read : List ℕ) (b : Summary) (h : List Entry) (hall hall' : HallSeen) (p p' : PortSeen)
-    : Type 0 where
-  pub session : IsLine (ending_of (Err end)) b (bodies read) h hall hall' p p'
+-- A line session over a port that read these bytes, on this way: a session over all their whole pieces.
+pub record ServesLine (end : LineEnd) (read : List ℕ) (b : Summary) (w : Way) (hall hall' : HallSeen) (p p' : PortSeen) : Type 0 where
+  pub session : IsLine (ending_of (Err end)) b (bodies read) w.from hall hall' p p'
+  pub to : w.to ≡ session.history
+  pub made : w.made ≡ entries_of line_turns session.turns
   pub ahead : ReadsNoFurther line_turns bodies (ending_of (Err end)) read session.turns session.behind
   pub complete : IsComplete (ending_of (Err end)) (meaning hall.text) session.turns session.behind session.added.text (bodies read)

@@ -3,7 +3,7 @@ use Rattle.std.specs.Prelude.{◌≡◌, ◌⊎◌, ℕ, List, [], Some, Result,
 use Rattle.arc_data.specs.declared.event.Event.{Event}
 use Rattle.alarm_rules.specs.Setups.{meaning}
 use Rattle.arc_io.specs.Seen.{PortSeen}
-use Rattle.centre_core.specs.Halls.{HallSeen}
+use Rattle.centre_core.specs.Halls.{HallSeen, IsStopOf}
 use Rattle.centre_core.specs.declared.hall.Stop.{Stop}
 use Rattle.centre_core.specs.declared.hall.Stop.TheVariants.{Memory}
 use Rattle.centre_rules.specs.Summary.{Summary}
@@ -24,17 +24,17 @@ ending_of (Err Spent) = answered
 ending_of (Err WriteFault) = cut_off
 ending_of (Err (Stopped stop)) = stopped stop
 
--- the hall showed a stop for the event of the piece's verdict; or memory was wanted for a numbered message
-abbrev pub HasStopped : HallSeen → HallSeen → Stop → List ℕ → ℕ → Type 0
-HasStopped hall hall' stop body reading =
+-- the hall stopped the event of the piece's verdict, behind a history; or memory was wanted for a numbered message
+abbrev pub HasStopped : Summary → HallSeen → HallSeen → List Entry → Stop → List ℕ → ℕ → Type 0
+HasStopped b hall hall' x stop body reading =
     let told = verdict_of (meaning hall.text) reading body in
-    ((stop ≡ Memory) × TakesMemory told) ⊎ ((event : Event) × (event_of told ≡ Some event) × hall'.shows stop event reading)
+    ((stop ≡ Memory) × TakesMemory told) ⊎ ((event : Event) × (event_of told ≡ Some event) × IsStopOf b hall hall' x stop event reading)
 
 -- The rules of a line session: its turns, why it stops, and that no turn is recorded behind the last that was answered.
 abbrev pub line_rules : Summary → HallSeen → HallSeen → Rules Turn
 line_rules b hall hall' = record {
   are_turns = AreTurns b (meaning hall.text) hall.caller;
-  is_cause = HasStopped hall hall';
+  is_cause = HasStopped b hall hall';
   may_be_behind = λ behind. behind ≡ [];
 }
 

@@ -4,7 +4,7 @@ ghost use Rattle.arc_io.specs.Causes.{Rose};
 ghost use Rattle.centre_core.specs.Halls.{IsKept};
 ghost use Rattle.centre_rules.specs.Summary.{Summary};
 ghost use Rattle.centre_rules.specs.History.{Entry};
-ghost use Rattle.session_rules.specs.Sessions.{HasShown};
+ghost use Rattle.session_rules.specs.Sessions.{HasShown, Goes};
 ghost use Rattle.line_session.specs.Sessions.{ending_of};
 ghost use Rattle.line_session.specs.Lines.{ReadsLine, ServesLine};
 
@@ -23,7 +23,7 @@ pub fn serve_line<H: Hall, P: Port>(alloc: Global, hall: &mut H, port: &mut P) -
     requires not_ended { (P.seen port.old).ended ≡ false }
     ensures line { (read : List ℕ) × ReadsLine result read (P.seen port.old) (P.seen port.new)
         × ((b : Summary) (h : List Entry) → (H.seen hall.old).stands b h →
-        ServesLine result read b h (H.seen hall.old) (H.seen hall.new) (P.seen port.old) (P.seen port.new)) }
+        Goes h (λ w. ServesLine result read b w (H.seen hall.old) (H.seen hall.new) (P.seen port.old) (P.seen port.new))) }
     ensures stop { HasShown (H.seen hall.new) (ending_of (Err result)) }
     ensures read { result ≡ LineEnd.ReadFault → Rose (P.seen port.old).read_faults (P.seen port.new).read_faults }
     ensures write { result ≡ LineEnd.WriteFault → Rose (P.seen port.old).write_faults (P.seen port.new).write_faults }

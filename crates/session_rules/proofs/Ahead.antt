@@ -1,6 +1,7 @@
 -- Sessions that were cut short read no further than one piece ahead.
 use Rattle.std.proofs.Common.{◌≡◌, ◌≤◌, ◌∷◌, ◌++◌, ℕ, List, length, refl, sym, ◌∙◌, ap, append_assoc}
 use Rattle.arc_io.specs.Added.{Added}
+use Rattle.centre_rules.specs.History.{Entry}
 use Rattle.session_rules.specs.Turns.{Kind, Rules, pieces_of}
 use Rattle.session_rules.specs.Sessions.{Ending, answered, cut_off, stopped, IsEnd, IsNotAhead, ReadsNoFurther}
 use Rattle.session_rules.proofs.Appended.{pieces-append}
@@ -17,13 +18,13 @@ module _ {T : Type 0} (kind : Kind T) (cut : List ℕ → List (List ℕ)) (stre
   }
 
   -- all of a stream was answered, and then a session served what a short piece ends
-  pub reads_no_further : (rules : Rules T) (end : Ending) (us behind : List T) (a : Added) (rest : List (List ℕ)) → IsEnd kind rules end us behind a rest
+  pub reads_no_further : (rules : Rules T) (end : Ending) (x : List Entry) (us behind : List T) (a : Added) (rest : List (List ℕ)) → IsEnd kind rules end x us behind a rest
       → ReadsNoFurther kind cut end (stream ++ piece) (ts ++ us) behind
-  reads_no_further rules answered us behind a rest e = tt
-  reads_no_further rules cut_off us behind a rest e = (
+  reads_no_further rules answered x us behind a rest e = tt
+  reads_no_further rules cut_off x us behind a rest e = (
     ts ++ e.front,
     e.last,
     ap (λ (l : List T). ts ++ l) e.split ∙ sym (append_assoc ts e.front (e.last ∷ behind)),
     not_ahead e.front,
   )
-  reads_no_further rules (stopped stop) us behind a rest e = (ts ++ e.front, ap (λ (l : List T). ts ++ l) e.split ∙ sym (append_assoc ts e.front behind), not_ahead e.front)
+  reads_no_further rules (stopped stop) x us behind a rest e = (ts ++ e.front, ap (λ (l : List T). ts ++ l) e.split ∙ sym (append_assoc ts e.front behind), not_ahead e.front)

@@ -66,11 +66,11 @@ module _ {T : Type 0} (kind : Kind T) where
   }
 
   -- an end of later turns, as that of all
-  pub ends_more : (rules : Rules T) (end : Ending) (ts us behind : List T) (a : Added) (rest : List (List ℕ)) → IsEnd kind rules end us behind a rest
-      → IsEnd kind rules end (ts ++ us) behind (both (added_by kind ts) a) rest
-  ends_more rules answered ts us behind a rest e = all_more ts us behind a rest e
-  ends_more rules cut_off ts us behind a rest e = cut_more ts us behind a e
-  ends_more rules (stopped stop) ts us behind a rest e = stopped_more (rules.is_cause stop) ts us behind a rest e
+  pub ends_more : (rules : Rules T) (end : Ending) (x : List Entry) (ts us behind : List T) (a : Added) (rest : List (List ℕ)) → IsEnd kind rules end x us behind a rest
+      → IsEnd kind rules end x (ts ++ us) behind (both (added_by kind ts) a) rest
+  ends_more rules answered x ts us behind a rest e = all_more ts us behind a rest e
+  ends_more rules cut_off x ts us behind a rest e = cut_more ts us behind a e
+  ends_more rules (stopped stop) x ts us behind a rest e = stopped_more (rules.is_cause x stop) ts us behind a rest e
 
   pub own_more : (ts us : List T) (own : List Entry) → reverse (entries_of kind us) ++ (reverse (entries_of kind ts) ++ own) ≡ reverse (entries_of kind (ts ++ us)) ++ own
   own_more ts us own =

@@ -10,13 +10,13 @@ use Rattle.centre_core.specs.declared.hall.Stop.{Stop}
 use Rattle.centre_rules.specs.Summary.{Summary}
 use Rattle.centre_rules.specs.History.{Entry}
 use Rattle.session_rules.specs.Turns.{Kind, Rules, pieces_of, entries_of, added_by}
-use Rattle.session_rules.specs.Sessions.{Ending, answered, cut_off, stopped, IsEnd, IsSession}
+use Rattle.session_rules.specs.Sessions.{Ending, answered, cut_off, stopped, IsEnd, IsSession, IsUnstopped}
 use Rattle.session_rules.proofs.Appended.{pieces-append, ends_more, own_more}
 
 -- What holds of some turns, and then of others behind them, holds of all.
 pub record Follows {T : Type 0} (first next all : Rules T) (h : List Entry) : Type 0 where
   pub turns : (x y : List Entry) (ts us : List T) → first.are_turns h x ts → next.are_turns x y us → all.are_turns h y (ts ++ us)
-  pub cause : (stop : Stop) (piece : List ℕ) (reading : ℕ) → next.is_cause stop piece reading → all.is_cause stop piece reading
+  pub cause : (x : List Entry) (stop : Stop) (piece : List ℕ) (reading : ℕ) → next.is_cause x stop piece reading → all.is_cause x stop piece reading
   pub behind : (us : List T) → next.may_be_behind us → all.may_be_behind us
 
 -- an end that leaves pieces
@@ -26,11 +26,11 @@ IsEarly cut_off = Unit {0}
 IsEarly (stopped stop) = Unit {0}
 
 module _ {T : Type 0} (kind : Kind T) where
-  pub ends_under : (next all : Rules T) (end : Ending) (turns behind : List T) (a : Added) (rest : List (List ℕ)) → ((stop : Stop) (piece : List ℕ) (reading : ℕ) → next.is_cause stop piece reading → all.is_cause stop piece reading)
-      → IsEnd kind next end turns behind a rest → IsEnd kind all end turns behind a rest
-  ends_under next all answered turns behind a rest cause e = e
-  ends_under next all cut_off turns behind a rest cause e = e
-  ends_under next all (stopped stop) turns behind a rest cause e = record {
+  pub ends_under : (next all : Rules T) (end : Ending) (x : List Entry) (turns behind : List T) (a : Added) (rest : List (List ℕ)) → ((stop : Stop) (piece : List ℕ) (reading : ℕ) → next.is_cause x stop piece reading → all.is_cause x stop piece reading)
+      → IsEnd kind next end x turns behind a rest → IsEnd kind all end x turns behind a rest
+  ends_under next all answered x turns behind a rest cause e = e
+  ends_under next all cut_off x turns behind a rest cause e = e
+  ends_under next all (stopped stop) x turns behind a rest cause e = record {
     front = e.front;
     piece = e.piece;
     more = e.more;
@@ -63,8 +63,11 @@ module _ {T : Type 0} (kind : Kind T) where
     holds = next.holds;
     legal = next.legal;
     own = next.own ∙ ap (λ (l : List Entry). reverse (entries_of kind next.turns) ++ l) first.own ∙ own_more kind first.turns next.turns (hall.own h);
+    reads = λ r. next.reads (first.reads r);
+    up = λ unstopped up. next.up unstopped (first.up tt up);
     adds = adds_both (subst (Adds p q) first.ended.added first.adds) next.adds;
-    ended = ends_more kind rules end first.turns next.turns next.behind next.added next.left (ends_under next_rules rules end next.turns next.behind next.added next.left law.cause next.ended);
+    ended = ends_more kind rules end next.history first.turns next.turns next.behind next.added next.left
+        (ends_under next_rules rules end next.history next.turns next.behind next.added next.left (law.cause next.history) next.ended);
     unanswered = law.behind next.behind next.unanswered;
   }
 
@@ -82,15 +85,17 @@ module _ {T : Type 0} (kind : Kind T) where
     holds = s.holds;
     legal = s.legal;
     own = s.own;
+    reads = s.reads;
+    up = s.up;
     adds = adds_read s.adds only;
     ended = s.ended;
     unanswered = s.unanswered;
   }
 
-  ends_wider : (rules : Rules T) (end : Ending) (turns behind : List T) (a : Added) (rest more : List (List ℕ)) → IsEarly end → IsEnd kind rules end turns behind a rest → IsEnd kind rules end turns behind a (rest ++ more)
-  ends_wider rules answered turns behind a rest more early e = absurd early
-  ends_wider rules cut_off turns behind a rest more early e = e
-  ends_wider rules (stopped stop) turns behind a rest more early e = record {
+  ends_wider : (rules : Rules T) (end : Ending) (x : List Entry) (turns behind : List T) (a : Added) (rest more : List (List ℕ)) → IsEarly end → IsEnd kind rules end x turns behind a rest → IsEnd kind rules end x turns behind a (rest ++ more)
+  ends_wider rules answered x turns behind a rest more early e = absurd early
+  ends_wider rules cut_off x turns behind a rest more early e = e
+  ends_wider rules (stopped stop) x turns behind a rest more early e = record {
     front = e.front;
     piece = e.piece;
     more = e.more ++ more;
@@ -115,7 +120,9 @@ module _ {T : Type 0} (kind : Kind T) where
     holds = s.holds;
     legal = s.legal;
     own = s.own;
+    reads = s.reads;
+    up = s.up;
     adds = s.adds;
-    ended = ends_wider rules end s.turns s.behind s.added s.left more early s.ended;
+    ended = ends_wider rules end s.history s.turns s.behind s.added s.left more early s.ended;
     unanswered = s.unanswered;
   }

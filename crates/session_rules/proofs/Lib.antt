@@ -1,3 +1,4 @@
+pub mod Keeping
 pub mod Appended
 pub mod Made
 pub mod Joined

@@ -27,6 +27,8 @@ module _ {T : Type 0} (kind : Kind T) (rules : Rules T) (b : Summary) (h : List 
     holds = s;
     legal = legal;
     own = refl;
+    reads = λ r. r;
+    up = λ _ up. up;
     adds = adds_none only;
     ended = record { added = refl; none_behind = refl; none_left = refl };
     unanswered = quick;
@@ -38,8 +40,8 @@ module _ {T : Type 0} (kind : Kind T) (rules : Rules T) (b : Summary) (h : List 
 
   -- over one piece, whose reply was sent whole
   pub session_sent : {hall hall' : HallSeen} {p p' : PortSeen} (x : List Entry) (t : T) → rules.are_turns h x (t ∷ []) → hall'.stands b x → IsLegal b x
-      → hall'.own x ≡ reverse (entries_of kind (t ∷ [])) ++ hall.own h → Adds p p' (kind.adds t) → IsSession kind rules answered b (kind.asked t ∷ []) h hall hall' p p'
-  session_sent {hall} {hall'} {p} {p'} x t turn s legal own adds = record {
+      → hall'.own x ≡ reverse (entries_of kind (t ∷ [])) ++ hall.own h → (hall.readable b h → hall'.readable b x) → (hall.up → hall'.up) → Adds p p' (kind.adds t) → IsSession kind rules answered b (kind.asked t ∷ []) h hall hall' p p'
+  session_sent {hall} {hall'} {p} {p'} x t turn s legal own reads up adds = record {
     turns = t ∷ [];
     behind = [];
     history = x;
@@ -50,6 +52,8 @@ module _ {T : Type 0} (kind : Kind T) (rules : Rules T) (b : Summary) (h : List 
     holds = s;
     legal = legal;
     own = own;
+    reads = reads;
+    up = λ _. up;
     adds = adds;
     ended = record { added = one_added t; none_behind = refl; none_left = refl };
     unanswered = quick;
@@ -57,9 +61,9 @@ module _ {T : Type 0} (kind : Kind T) (rules : Rules T) (b : Summary) (h : List 
 
   -- over one piece, whose reply was cut off
   pub session_cut : {hall hall' : HallSeen} {p p' : PortSeen} (x : List Entry) (t : T) (count : ℕ) → rules.are_turns h x (t ∷ []) → hall'.stands b x → IsLegal b x
-      → hall'.own x ≡ reverse (entries_of kind (t ∷ [])) ++ hall.own h → count < length (kind.adds t).text → Adds p p' (record (kind.adds t) { text = take count (kind.adds t).text })
+      → hall'.own x ≡ reverse (entries_of kind (t ∷ [])) ++ hall.own h → (hall.readable b h → hall'.readable b x) → (hall.up → hall'.up) → count < length (kind.adds t).text → Adds p p' (record (kind.adds t) { text = take count (kind.adds t).text })
       → IsSession kind rules cut_off b (kind.asked t ∷ []) h hall hall' p p'
-  session_cut {hall} {hall'} {p} {p'} x t count turn s legal own short adds = record {
+  session_cut {hall} {hall'} {p} {p'} x t count turn s legal own reads up short adds = record {
     turns = t ∷ [];
     behind = [];
     history = x;
@@ -70,6 +74,8 @@ module _ {T : Type 0} (kind : Kind T) (rules : Rules T) (b : Summary) (h : List 
     holds = s;
     legal = legal;
     own = own;
+    reads = reads;
+    up = λ _. up;
     adds = adds;
     ended = record {
       front = [];
@@ -87,7 +93,7 @@ module _ {T : Type 0} (kind : Kind T) (rules : Rules T) (b : Summary) (h : List 
   }
 
   -- over one piece that was stopped after its reading
-  pub session_stopped : {hall hall' : HallSeen} (p : PortSeen) (stop : Stop) (piece : List ℕ) (reading : ℕ) (w : Waits b hall hall' h) → rules.are_turns h w.now [] → rules.is_cause stop piece reading
+  pub session_stopped : {hall hall' : HallSeen} (p : PortSeen) (stop : Stop) (piece : List ℕ) (reading : ℕ) (w : Waits b hall hall' h) → rules.are_turns h w.now [] → rules.is_cause w.now stop piece reading
       → IsSession kind rules (stopped stop) b (piece ∷ []) h hall hall' p (after_reading reading p)
   session_stopped {hall} {hall'} p stop piece reading w none cause = record {
     turns = [];
@@ -100,6 +106,8 @@ module _ {T : Type 0} (kind : Kind T) (rules : Rules T) (b : Summary) (h : List 
     holds = w.holds;
     legal = w.legal;
     own = w.own;
+    reads = w.reads;
+    up = λ unstopped. absurd unstopped;
     adds = adds_reading p reading;
     ended = record { front = []; piece = piece; more = []; reading = reading; split = refl; next = refl; added = refl; cause = cause };
     unanswered = quick;

@@ -54,15 +54,32 @@ pub record IsStopped {T : Type 0} (kind : Kind T) (IsCause : List ℕ → ℕ �
   }
   pub cause : IsCause piece reading
 
--- The end of a session, of its turns, those among them that are recorded and not answered, what it added, and the pieces that
--- have no turn.
-abbrev pub IsEnd : {T : Type 0} → Kind T → Rules T → Ending → List T → List T → Added → List (List ℕ) → Type 0
-IsEnd kind rules answered turns behind a rest = AnswersAll kind turns behind a rest
-IsEnd kind rules cut_off turns behind a rest = IsCutOff kind turns behind a
-IsEnd kind rules (stopped stop) turns behind a rest = IsStopped kind (rules.is_cause stop) turns behind a rest
+-- The end of a session, of the history behind it, its turns, those among them that are recorded and not answered, what it added, and
+-- the pieces that have no turn.
+abbrev pub IsEnd : {T : Type 0} → Kind T → Rules T → Ending → List Entry → List T → List T → Added → List (List ℕ) → Type 0
+IsEnd kind rules answered x turns behind a rest = AnswersAll kind turns behind a rest
+IsEnd kind rules cut_off x turns behind a rest = IsCutOff kind turns behind a
+IsEnd kind rules (stopped stop) x turns behind a rest = IsStopped kind (rules.is_cause x stop) turns behind a rest
+
+-- a session that was not stopped
+abbrev pub IsUnstopped : Ending → Type 0
+IsUnstopped answered = Unit {0}
+IsUnstopped cut_off = Unit {0}
+IsUnstopped (stopped stop) = ⊥
+
+-- The way of a session through a history: from which on it went, to which, and the entries that it made, the earliest first.
+pub record Way : Type 0 where
+  pub from : List Entry
+  pub to : List Entry
+  pub made : List Entry
+
+-- from this history on there is a way of which this holds
+abbrev pub Goes : List Entry → (Way → Type 0) → Type 0
+Goes h holds = (to : List Entry) × (made : List Entry) × holds (record { from = h; to = to; made = made })
 
 -- From a history on, a session over these pieces: the history for which the hall stands at its end, to which the caller's own
--- part grew by just the turns' entries, and what it added to the port.
+-- part grew by just the turns' entries, and what it added to the port. What was recorded can be read again if it could be before; and a
+-- hall that was not down is not, unless it stopped.
 pub record IsSession {T : Type 0} (kind : Kind T) (rules : Rules T) (end : Ending) (b : Summary) (pieces : List (List ℕ)) (h : List Entry)
     (hall hall' : HallSeen) (p p' : PortSeen) : Type 0 where
   pub turns : List T
@@ -75,8 +92,10 @@ pub record IsSession {T : Type 0} (kind : Kind T) (rules : Rules T) (end : Endin
   pub holds : hall'.stands b history
   pub legal : IsLegal b history
   pub own : hall'.own history ≡ reverse (entries_of kind turns) ++ hall.own h
+  pub reads : hall.readable b h → hall'.readable b history
+  pub up : IsUnstopped end → hall.up → hall'.up
   pub adds : Adds p p' added
-  pub ended : IsEnd kind rules end turns behind added left
+  pub ended : IsEnd kind rules end history turns behind added left
   pub unanswered : rules.may_be_behind behind
 
 -- a hall shows a stop for some event at some reading; or memory was wanted

@@ -33,8 +33,8 @@ abbrev pub added_by : {T : Type 0} → Kind T → List T → Added
 added_by kind turns = record { text = text_of kind turns; readings = readings_of kind turns; noise = noise_of kind turns }
 
 -- What holds of the turns of a session: that they stand behind one another from a history on, to another; why a piece is
--- stopped at a reading; and which turns may stand recorded behind the last that was answered.
+-- stopped at a reading, behind that other; and which turns may stand recorded behind the last that was answered.
 pub record Rules (T : Type 0) : Type 1 where
   pub are_turns : List Entry → List Entry → List T → Type 0
-  pub is_cause : Stop → List ℕ → ℕ → Type 0
+  pub is_cause : List Entry → Stop → List ℕ → ℕ → Type 0
   pub may_be_behind : List T → Type 0

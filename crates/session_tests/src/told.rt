@@ -25,13 +25,21 @@ impl Told {
 }
 
 impl Hall for Told {
+    ghost use Rattle.centre_core.specs.Halls.{no_disk};
+
     ghost seen = { λ s. record {
       ready = Unit {0};
       text = s.setup;
       caller = 0;
+      fixed = no_disk;
+      count = 1;
+      told = 0;
       stands = λ b h. ⊥;
+      readable = λ b h. Unit {0};
       own = λ h. h;
       shows = λ stop event clock. Unit {0};
+      up = Unit {0};
+      torn = λ b h event clock. Unit {0};
     } };
 
     ghost legal = { λ s b h w. absurd w };

@@ -97,6 +97,8 @@ module _ {M : Type 0} (seen : M → PortSeen) (l l' : Letter M) where
         holds = s.holds;
         legal = s.legal;
         own = s.own;
+        reads = s.reads;
+        up = s.up;
         adds = adds_mail s.added s.adds;
         ended = s.ended;
         unanswered = s.unanswered;

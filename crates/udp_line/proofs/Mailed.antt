@@ -18,14 +18,14 @@ use Rattle.centre_rules.specs.History.{Entry}
 use Rattle.centre_rules.specs.Answers.{IsLegal}
 use Rattle.dc09_frame.specs.Frames.{bodies}
 use Rattle.session_rules.specs.Turns.{Rules, pieces_of, entries_of, readings_of, noise_of}
-use Rattle.session_rules.specs.Sessions.{Ending, answered, AnswersAll, IsEnd}
+use Rattle.session_rules.specs.Sessions.{Ending, answered, AnswersAll, IsEnd, IsUnstopped}
 use Rattle.session_rules.proofs.Appended.{readings-append, noise-append, own_more}
 use Rattle.session_rules.proofs.Joined.{ends_under}
 use Rattle.line_session.specs.Sessions.{IsLine, line_rules}
 use Rattle.line_session.specs.Turns.{Turn, line_turns, AreTurns}
 use Rattle.line_session.proofs.Followed.{line_follows}
 use Rattle.udp_line.specs.Datagrams.{AnswersDatagram, EndsDatagram, FeedsDatagram, has_bytes, sent_for}
-use Rattle.udp_line.specs.Mails.{Datagram, HasEnded, MailAdded, ServesMail, IsMailEnd, AnswersEach, AreWhole, text_for, replies_to, turns_of}
+use Rattle.udp_line.specs.Mails.{Datagram, HasEnded, MailAdded, ServesMail, IsMailEnd, AnswersEach, AreWhole, text_for, replies_to, turns_of, IsUnhalted}
 use Rattle.udp_line.specs.declared.mail_end.MailEnd.{MailEnd}
 use Rattle.udp_line.specs.declared.mail_end.MailEnd.TheVariants.{Quota, Ended, ReadFault, WriteFault, Stopped}
 
@@ -109,6 +109,8 @@ serves_none b h hall p s legal = record {
   holds = s;
   legal = legal;
   own = refl;
+  reads = λ r. r;
+  up = λ _ u. u;
   told = told_by p p (record { replies = []; readings = []; noise = [] }) refl refl refl (sym (known_none p.readings)) (sym (known_none p.noise)) (sym (replies_none p.replies));
   ended = record { whole = refl; added = refl };
 }
@@ -122,12 +124,17 @@ whole_more ds bytes turns whole one =
     ∙ sym (map-append (λ (o : Datagram). pieces_of line_turns o.turns) ds (d ∷ []))
 
 -- a line that answered all
-all_of : (rules : Rules Turn) (e : Ending) (turns others : List Turn) (line : Added) (left : List (List ℕ)) → e ≡ answered → IsEnd line_turns rules e turns others line left → AnswersAll line_turns turns others line left
-all_of rules e turns others line left is ended = subst (λ (o : Ending). IsEnd line_turns rules o turns others line left) is ended
+all_of : (rules : Rules Turn) (e : Ending) (x : List Entry) (turns others : List Turn) (line : Added) (left : List (List ℕ)) → e ≡ answered → IsEnd line_turns rules e x turns others line left
+    → AnswersAll line_turns turns others line left
+all_of rules e x turns others line left is ended = subst (λ (o : Ending). IsEnd line_turns rules o x turns others line left) is ended
+
+-- one that answered all was not stopped
+unstopped : (e : Ending) → e ≡ answered → IsUnstopped e
+unstopped e is = subst IsUnstopped (sym is) tt
 
 module _ (b : Summary) (h : List Entry) {given : List (List ℕ)} {hall mid : HallSeen} {p q : PortSeen} where
   -- the same datagrams, and then a call of `receive`
-  pub serves_read : (end : MailEnd) {r : PortSeen} → ((ds : List Datagram) (a : MailAdded) → AnswersEach ds a → IsMailEnd end b hall mid ds a) → r ≡ record q { datagrams = r.datagrams; read_faults = r.read_faults }
+  pub serves_read : (end : MailEnd) {r : PortSeen} → ((x : List Entry) (ds : List Datagram) (a : MailAdded) → AnswersEach ds a → IsMailEnd end b hall mid x ds a) → r ≡ record q { datagrams = r.datagrams; read_faults = r.read_faults }
       → ServesMail Quota given b h hall mid p q → ServesMail end given b h hall mid p r
   serves_read end {r} ends rest s = record {
     datagrams = s.datagrams;
@@ -138,6 +145,8 @@ module _ (b : Summary) (h : List Entry) {given : List (List ℕ)} {hall mid : Ha
     holds = s.holds;
     legal = s.legal;
     own = s.own;
+    reads = s.reads;
+    up = λ _. s.up tt;
     told = told_by p r s.added
         (ap (λ (x : PortSeen). x.left) rest ∙ ap (λ (x : PortSeen). x.left) s.told)
         (ap (λ (x : PortSeen). x.ended) rest ∙ ap (λ (x : PortSeen). x.ended) s.told)
@@ -145,19 +154,20 @@ module _ (b : Summary) (h : List Entry) {given : List (List ℕ)} {hall mid : Ha
         (ap (λ (x : PortSeen). x.readings) rest ∙ ap (λ (x : PortSeen). x.readings) s.told)
         (ap (λ (x : PortSeen). x.noise) rest ∙ ap (λ (x : PortSeen). x.noise) s.told)
         (ap (λ (x : PortSeen). x.replies) rest ∙ ap (λ (x : PortSeen). x.replies) s.told);
-    ended = ends s.datagrams s.added s.ended;
+    ended = ends s.history s.datagrams s.added s.ended;
   }
 
   module _ (bytes : List ℕ) {hall' : HallSeen} {q' r : PortSeen} (kept : IsKept hall mid) (none : IsNoStream p) (none' : IsNoStream r) (rest : q' ≡ record q { datagrams = q'.datagrams; read_faults = q'.read_faults }) where
     -- one more datagram, of which this was sent, by an end of all
     behind : (end : MailEnd) (e : Ending) {fed : PortSeen} (sent : List (List ℕ)) (s : ServesMail Quota given b h hall mid p q) (one : IsLine e b (bodies bytes) s.history mid hall' q' fed)
         → r ≡ record fed { replies = r.replies; write_faults = r.write_faults } → r.replies ≡ append_replies fed.replies sent
-        → IsMailEnd end b hall hall' (s.datagrams ++ record { bytes = bytes; turns = one.turns } ∷ []) (record {
+        → (IsUnhalted end → IsUnstopped e)
+        → IsMailEnd end b hall hall' one.history (s.datagrams ++ record { bytes = bytes; turns = one.turns } ∷ []) (record {
           replies = s.added.replies ++ sent;
           readings = s.added.readings ++ one.added.readings;
           noise = s.added.noise ++ one.added.noise;
         }) → ServesMail end (given ++ bytes ∷ []) b h hall hall' p r
-    behind end e {fed} sent s one only replies ended =
+    behind end e {fed} sent s one only replies going ended =
         let d : Datagram = record { bytes = bytes; turns = one.turns } in
         let same = turns_more s.datagrams d in
         record {
@@ -166,12 +176,14 @@ module _ (b : Summary) (h : List Entry) {given : List (List ℕ)} {hall mid : Ha
           added = record { replies = s.added.replies ++ sent; readings = s.added.readings ++ one.added.readings; noise = s.added.noise ++ one.added.noise };
           bytes = ap (λ (l : List (List ℕ)). l ++ bytes ∷ []) s.bytes ∙ sym (map-append (λ (o : Datagram). o.bytes) s.datagrams (d ∷ []));
           each = subst (AreTurns b (meaning hall.text) hall.caller h one.history) (sym same)
-              ((line_follows b kept hall' h).turns s.history one.history (turns_of s.datagrams) one.turns s.each one.each);
+              ((line_follows b kept (s.up tt) hall' h).turns s.history one.history (turns_of s.datagrams) one.turns s.each one.each);
           holds = one.holds;
           legal = one.legal;
           own =
               one.own ∙ ap (λ (l : List Entry). reverse (entries_of line_turns one.turns) ++ l) s.own ∙ own_more line_turns (turns_of s.datagrams) one.turns (hall.own h)
               ∙ ap (λ (ts : List Turn). reverse (entries_of line_turns ts) ++ hall.own h) (sym same);
+          reads = λ readable. one.reads (s.reads readable);
+          up = λ unhalted u. one.up (going unhalted) (s.up tt u);
           told = told_by p r (record { replies = s.added.replies ++ sent; readings = s.added.readings ++ one.added.readings; noise = s.added.noise ++ one.added.noise })
               (none'.left ∙ sym none.left) (none'.ended ∙ sym none.ended) (none'.written ∙ sym none.written)
               (ap (λ (x : PortSeen). x.readings) only ∙ ap (λ (x : PortSeen). x.readings) one.adds.told
@@ -190,10 +202,10 @@ module _ (b : Summary) (h : List Entry) {given : List (List ℕ)} {hall mid : Ha
     pub serves_on : (s : ServesMail Quota given b h hall mid p q) → AnswersDatagram (Ok tt) bytes b s.history mid hall' q' r → ServesMail Quota (given ++ bytes ∷ []) b h hall hall' p r
     serves_on s one =
         let line = one.session in
-        let all = all_of (line_rules b mid hall') one.end line.turns line.behind line.added line.left one.sends.0 line.ended in
+        let all = all_of (line_rules b mid hall') one.end line.history line.turns line.behind line.added line.left one.sends.0 line.ended in
         let ds = s.datagrams in
         let d : Datagram = record { bytes = bytes; turns = line.turns } in
-        behind Quota one.end (sent_for (line.added.text ∷ [])) s line one.only one.sends.1 (record {
+        behind Quota one.end (sent_for (line.added.text ∷ [])) s line one.only one.sends.1 (λ _. unstopped one.end one.sends.0) (record {
           whole = whole_more ds bytes line.turns s.ended.whole (line.taken ∙ ap (λ (l : List (List ℕ)). pieces_of line_turns line.turns ++ l) all.none_left ∙ append-nil (pieces_of line_turns line.turns));
           added = λ i. record {
             replies =
@@ -214,10 +226,10 @@ module _ (b : Summary) (h : List Entry) {given : List (List ℕ)} {hall mid : Ha
     serves_unsent : (s : ServesMail Quota given b h hall mid p q) → AnswersDatagram (Err WriteFault) bytes b s.history mid hall' q' r → ServesMail WriteFault (given ++ bytes ∷ []) b h hall hall' p r
     serves_unsent s one =
         let line = one.session in
-        let all = all_of (line_rules b mid hall') one.end line.turns line.behind line.added line.left one.sends.0 line.ended in
+        let all = all_of (line_rules b mid hall') one.end line.history line.turns line.behind line.added line.left one.sends.0 line.ended in
         let ds = s.datagrams in
         let d : Datagram = record { bytes = bytes; turns = line.turns } in
-        behind WriteFault one.end [] s line one.only (one.sends.2 ∙ sym (replies_none one.fed.replies)) (record {
+        behind WriteFault one.end [] s line one.only (one.sends.2 ∙ sym (replies_none one.fed.replies)) (λ _. unstopped one.end one.sends.0) (record {
           front = ds;
           last = d;
           split = refl;
@@ -242,7 +254,7 @@ module _ (b : Summary) (h : List Entry) {given : List (List ℕ)} {hall mid : Ha
         let line = one.session in
         let ds = s.datagrams in
         let d : Datagram = record { bytes = bytes; turns = line.turns } in
-        behind (Stopped stop) one.end [] s line one.only (one.sends.1 ∙ sym (replies_none one.fed.replies)) (record {
+        behind (Stopped stop) one.end [] s line one.only (one.sends.1 ∙ sym (replies_none one.fed.replies)) (λ unhalted. absurd unhalted) (record {
           front = ds;
           last = d;
           split = refl;
@@ -252,7 +264,8 @@ module _ (b : Summary) (h : List Entry) {given : List (List ℕ)} {hall mid : Ha
           line = line.added;
           left = line.left;
           taken = line.taken;
-          ended = ends_under line_turns (line_rules b mid hall') (line_rules b hall hall') one.end line.turns line.behind line.added line.left (line_follows b kept hall' h).cause line.ended;
+          ended = ends_under line_turns (line_rules b mid hall') (line_rules b hall hall') one.end line.history line.turns line.behind line.added line.left
+              ((line_follows b kept (s.up tt) hall' h).cause line.history) line.ended;
           halt = one.sends.0;
           none_behind = line.unanswered;
           added = λ i. record {

@@ -72,7 +72,8 @@ pub record LacksLast (ds : List Datagram) (a : MailAdded) : Type 0 where
 
 -- Each datagram was answered but the last, of which no reply was sent: its line was stopped, or wanted memory. Its turns are those up to
 -- there.
-pub record HaltsAtLast (stop : Stop) (b : Summary) (hall hall' : HallSeen) (ds : List Datagram) (a : MailAdded) : Type 0 where
+pub record HaltsAtLast (stop : Stop) (b : Summary) (hall hall' : HallSeen) (x : List Entry) (ds : List Datagram) (a : MailAdded)
+    : Type 0 where
   pub front : List Datagram
   pub last : Datagram
   pub split : ds ≡ front ++ last ∷ []
@@ -82,7 +83,7 @@ pub record HaltsAtLast (stop : Stop) (b : Summary) (hall hall' : HallSeen) (ds :
   pub line : Added
   pub left : List (List ℕ)
   pub taken : bodies last.bytes ≡ pieces_of line_turns last.turns ++ left
-  pub ended : IsEnd line_turns (line_rules b hall hall') end last.turns behind line left
+  pub ended : IsEnd line_turns (line_rules b hall hall') end x last.turns behind line left
   pub halt : IsHalt stop end
   pub none_behind : behind ≡ []
   pub added : a ≡ record {
@@ -91,16 +92,25 @@ pub record HaltsAtLast (stop : Stop) (b : Summary) (hall hall' : HallSeen) (ds :
     noise = noise_of line_turns (turns_of front) ++ line.noise;
   }
 
--- what an end says of the datagrams and of what was added
-abbrev pub IsMailEnd : MailEnd → Summary → HallSeen → HallSeen → List Datagram → MailAdded → Type 0
-IsMailEnd Quota b hall hall' ds a = AnswersEach ds a
-IsMailEnd Ended b hall hall' ds a = AnswersEach ds a
-IsMailEnd ReadFault b hall hall' ds a = AnswersEach ds a
-IsMailEnd WriteFault b hall hall' ds a = LacksLast ds a
-IsMailEnd (Stopped stop) b hall hall' ds a = HaltsAtLast stop b hall hall' ds a
+-- what an end says of the history behind the session, of the datagrams and of what was added
+abbrev pub IsMailEnd : MailEnd → Summary → HallSeen → HallSeen → List Entry → List Datagram → MailAdded → Type 0
+IsMailEnd Quota b hall hall' x ds a = AnswersEach ds a
+IsMailEnd Ended b hall hall' x ds a = AnswersEach ds a
+IsMailEnd ReadFault b hall hall' x ds a = AnswersEach ds a
+IsMailEnd WriteFault b hall hall' x ds a = LacksLast ds a
+IsMailEnd (Stopped stop) b hall hall' x ds a = HaltsAtLast stop b hall hall' x ds a
+
+-- no line of it was stopped
+abbrev pub IsUnhalted : MailEnd → Type 0
+IsUnhalted Quota = Unit {0}
+IsUnhalted Ended = Unit {0}
+IsUnhalted ReadFault = Unit {0}
+IsUnhalted WriteFault = Unit {0}
+IsUnhalted (Stopped stop) = ⊥
 
 -- From a history on, a session over datagrams of which these bytes were given: the history for which the hall stands at its end, to which
--- the caller's own part grew by just the turns' entries, and what it added to what the mailbox tells.
+-- the caller's own part grew by just the turns' entries, and what it added to what the mailbox tells. What was recorded can be read again if
+-- it could be before; and a hall that was not down is not, unless a line was stopped.
 pub record ServesMail (end : MailEnd) (given : List (List ℕ)) (b : Summary) (h : List Entry) (hall hall' : HallSeen) (p p' : PortSeen)
     : Type 0 where
   pub datagrams : List Datagram
@@ -111,6 +121,8 @@ pub record ServesMail (end : MailEnd) (given : List (List ℕ)) (b : Summary) (h
   pub holds : hall'.stands b history
   pub legal : IsLegal b history
   pub own : hall'.own history ≡ reverse (entries_of line_turns (turns_of datagrams)) ++ hall.own h
+  pub reads : hall.readable b h → hall'.readable b history
+  pub up : IsUnhalted end → hall.up → hall'.up
   pub told : p' ≡ record p {
     read_faults = p'.read_faults;
     write_faults = p'.write_faults;
@@ -119,7 +131,7 @@ pub record ServesMail (end : MailEnd) (given : List (List ℕ)) (b : Summary) (h
     datagrams = p'.datagrams;
     replies = append_replies p.replies added.replies;
   }
-  pub ended : IsMailEnd end b hall hall' datagrams added
+  pub ended : IsMailEnd end b hall hall' history datagrams added
 
 -- Why a session over a mailbox ended, of how many datagrams: as many were asked for; no more came; none could be received; a reply was
 -- not sent; or a stop.

@@ -4,6 +4,7 @@ use Rattle.std.specs.List.{slice_get}
 use Rattle.std.proofs.lemmas.Option.{slice_get_read}
 use Rattle.centre_core.specs.Setting.{IsSetting}
 use Rattle.desk_session.specs.declared.desk_end.DeskEnd.TheVariants.{Quit}
+use Rattle.centre_store.proofs.Halled.{at_open_stays, limits_stay, tells_stays}
 use Rattle.arc_script.specs.PageWords.{page_seen}
 use Rattle.arc_script.specs.declared.script_end.Tally.{Tally}
 use Rattle.arc_script.proofs.Carries.{set_other}
@@ -20,8 +21,8 @@ returns-in-Err-clause-stop g c =
     halted_first g.D.Disk.seen c.args.store base c.args.script.now.setup clock c.args.desk before c.args.text.now h
     c.args.script.now.tally c.in-Err.stop c.put_asked.result c.in-Err.is (c.in-Err.is ∙ c.in-Err.ensures.stop) stands readable
 
-pub take_desk-end-requires : goal.take_desk-end-requires
-take_desk-end-requires g c = record { ready = subst IsSetting (sym c.requires.set) c.args.script.now.valid }
+pub take-end-requires : goal.take-end-requires
+take-end-requires g c = subst IsSetting (sym c.requires.set) c.args.script.now.valid
 
 pub returns-in-Ok-clause-answered : goal.returns-in-Ok-clause-answered
 returns-in-Ok-clause-answered g c =
@@ -33,14 +34,14 @@ returns-in-Ok-clause-answered g c =
     slice_get_read desks 8 place was (omega (arith, script.eight, script.desks.ok.0)) (omega (arith, c.requires.desk.low, c.requires.desk.high))
     c.index_mut.ensures.value in
     let counted : Tally = record script.tally { closed = c.saturating_add-script.result } in
-    let sums : Closings c.args.store.state c.take_desk-end.result.1.state script.tally counted =
-    closings c.args.store.state c.take_desk-end.result.1.state c.centre.result.now c.centre-2.result.now script.tally counted c.count-open.result
+    let sums : Closings c.args.store.state c.take-end.new.hall.state script.tally counted =
+    closings c.args.store.state c.take-end.new.hall.state c.centre.result.now c.centre-2.result.now script.tally counted c.count-open.result
     c.count.result c.saturating_sub-closed.result c.centre.ensures c.centre-2.ensures (c.count-open.ensures ∙ ap length c.table.ensures.incidents)
     (c.count.ensures ∙ ap length c.table-2.ensures.incidents) c.saturating_sub-closed.ensures c.saturating_add-script.ensures refl in
-    let given : IsGiven g.D.Disk.seen c.args.store c.take_desk-end.result.1 script.setup c.args.desk
+    let given : IsGiven g.D.Disk.seen c.args.store c.take-end.new.hall script.setup c.args.desk
     c.args.text.now
-    desks was c.take_desk-end.new.desk (page_seen c.args.page.now) c.put_asked.new.page c.take_desk-end.new.port c.ended-line.result.now
-    c.take_desk-end.result.0 = record {
+    desks was c.take-end.new.self (page_seen c.args.page.now) c.put_asked.new.page c.take-end.new.port c.ended-line.result.now
+    c.take-end.result = record {
       low = c.requires.desk.low;
       there = there;
       set = c.requires.set;
@@ -48,19 +49,19 @@ returns-in-Ok-clause-answered g c =
       only = c.in_default.ensures.only;
       head = c.in_default.ensures.put;
       line = c.ended-line.ensures;
-      one = c.take_desk-end.new.port.still;
-      silent = c.take_desk-end.new.port.silent;
-      taken = c.take_desk-end.ensures.taken;
-      served = c.take_desk-end.ensures.served;
+      one = c.take-end.new.port.still;
+      silent = c.take-end.new.port.silent;
+      taken = c.take-end.ensures.taken;
+      served = (λ base stream h took for. c.take-end.ensures.served stream base h took for);
     } in
-    let at = given_as g.D.Disk.seen c.args.store c.take_desk-end.result.1 script.setup c.args.desk
+    let at = given_as g.D.Disk.seen c.args.store c.take-end.new.hall script.setup c.args.desk
     c.args.text.now
-    script.lines.items desks was c.take_desk-end.new.desk script.tally counted (page_seen c.args.page.now) c.put_asked.new.page
-    c.take_desk-end.new.port c.ended-line.result.now
-    c.take_desk-end.result.0 given (Ok tt) c.in-Ok.is in
-    λ base. goes_on g.D.Disk.seen c.args.store c.take_desk-end.result.1 base script.setup c.args.desk c.args.text.now
-    script.lines.items desks was c.take_desk-end.new.desk script.tally counted (page_seen c.args.page.now) c.put_asked.new.page
-    c.take_desk-end.new.port c.ended-line.result.now at sums
+    script.lines.items desks was c.take-end.new.self script.tally counted (page_seen c.args.page.now) c.put_asked.new.page
+    c.take-end.new.port c.ended-line.result.now
+    c.take-end.result given (Ok tt) c.in-Ok.is in
+    λ base. goes_on g.D.Disk.seen c.args.store c.take-end.new.hall base script.setup c.args.desk c.args.text.now
+    script.lines.items desks was c.take-end.new.self script.tally counted (page_seen c.args.page.now) c.put_asked.new.page
+    c.take-end.new.port c.ended-line.result.now at sums
 
 pub returns-in-Ok-clause-took : goal.returns-in-Ok-clause-took
 returns-in-Ok-clause-took g c =
@@ -72,14 +73,14 @@ returns-in-Ok-clause-took g c =
     slice_get_read desks 8 place was (omega (arith, script.eight, script.desks.ok.0)) (omega (arith, c.requires.desk.low, c.requires.desk.high))
     c.index_mut.ensures.value in
     let counted : Tally = record script.tally { closed = c.saturating_add-script.result } in
-    let sums : Closings c.args.store.state c.take_desk-end.result.1.state script.tally counted =
-    closings c.args.store.state c.take_desk-end.result.1.state c.centre.result.now c.centre-2.result.now script.tally counted c.count-open.result
+    let sums : Closings c.args.store.state c.take-end.new.hall.state script.tally counted =
+    closings c.args.store.state c.take-end.new.hall.state c.centre.result.now c.centre-2.result.now script.tally counted c.count-open.result
     c.count.result c.saturating_sub-closed.result c.centre.ensures c.centre-2.ensures (c.count-open.ensures ∙ ap length c.table.ensures.incidents)
     (c.count.ensures ∙ ap length c.table-2.ensures.incidents) c.saturating_sub-closed.ensures c.saturating_add-script.ensures refl in
-    let given : IsGiven g.D.Disk.seen c.args.store c.take_desk-end.result.1 script.setup c.args.desk
+    let given : IsGiven g.D.Disk.seen c.args.store c.take-end.new.hall script.setup c.args.desk
     c.args.text.now
-    desks was c.take_desk-end.new.desk (page_seen c.args.page.now) c.put_asked.new.page c.take_desk-end.new.port c.ended-line.result.now
-    c.take_desk-end.result.0 = record {
+    desks was c.take-end.new.self (page_seen c.args.page.now) c.put_asked.new.page c.take-end.new.port c.ended-line.result.now
+    c.take-end.result = record {
       low = c.requires.desk.low;
       there = there;
       set = c.requires.set;
@@ -87,25 +88,25 @@ returns-in-Ok-clause-took g c =
       only = c.in_default.ensures.only;
       head = c.in_default.ensures.put;
       line = c.ended-line.ensures;
-      one = c.take_desk-end.new.port.still;
-      silent = c.take_desk-end.new.port.silent;
-      taken = c.take_desk-end.ensures.taken;
-      served = c.take_desk-end.ensures.served;
+      one = c.take-end.new.port.still;
+      silent = c.take-end.new.port.silent;
+      taken = c.take-end.ensures.taken;
+      served = (λ base stream h took for. c.take-end.ensures.served stream base h took for);
     } in
-    let at = given_as g.D.Disk.seen c.args.store c.take_desk-end.result.1 script.setup c.args.desk
+    let at = given_as g.D.Disk.seen c.args.store c.take-end.new.hall script.setup c.args.desk
     c.args.text.now
-    script.lines.items desks was c.take_desk-end.new.desk script.tally counted (page_seen c.args.page.now) c.put_asked.new.page
-    c.take_desk-end.new.port c.ended-line.result.now
-    c.take_desk-end.result.0 given (Ok tt) c.in-Ok.is in
-    took_on g.D.Disk.seen c.args.store c.take_desk-end.result.1 script.setup c.args.desk c.args.text.now
-    script.lines.items desks _ was c.take_desk-end.new.desk (page_seen c.args.page.now) c.put_asked.new.page c.take_desk-end.new.port
+    script.lines.items desks was c.take-end.new.self script.tally counted (page_seen c.args.page.now) c.put_asked.new.page
+    c.take-end.new.port c.ended-line.result.now
+    c.take-end.result given (Ok tt) c.in-Ok.is in
+    took_on g.D.Disk.seen c.args.store c.take-end.new.hall script.setup c.args.desk c.args.text.now
+    script.lines.items desks _ was c.take-end.new.self (page_seen c.args.page.now) c.put_asked.new.page c.take-end.new.port
     c.ended-line.result.now at
-    (set_at desks place c.take_desk-end.new.desk was there) (λ k other. set_other desks place k c.take_desk-end.new.desk other)
+    (set_at desks place c.take-end.new.self was there) (λ k other. set_other desks place k c.take-end.new.self other)
 
 pub returns-in-Ok-clause-set : goal.returns-in-Ok-clause-set
 returns-in-Ok-clause-set g c =
-    still_set c.take_desk-end.result.1.state.sum.text c.args.script.now.setup c.take_desk-end.ensures.ready
-    (c.take_desk-end.ensures.text ∙ ap (λ (o : Option (List ℕ)). unwrap_or o []) c.requires.set)
+    still_set c.take-end.new.hall.state.sum.text c.args.script.now.setup c.take-end.ensures.kept.ready
+    (c.take-end.ensures.kept.text ∙ ap (λ (o : Option (List ℕ)). unwrap_or o []) c.requires.set)
 
 pub returns-in-Err-Quit-clause-answered : goal.returns-in-Err-Quit-clause-answered
 returns-in-Err-Quit-clause-answered g c =
@@ -117,14 +118,14 @@ returns-in-Err-Quit-clause-answered g c =
     slice_get_read desks 8 place was (omega (arith, script.eight, script.desks.ok.0)) (omega (arith, c.requires.desk.low, c.requires.desk.high))
     c.index_mut.ensures.value in
     let counted : Tally = record script.tally { closed = c.saturating_add-script.result } in
-    let sums : Closings c.args.store.state c.take_desk-end.result.1.state script.tally counted =
-    closings c.args.store.state c.take_desk-end.result.1.state c.centre.result.now c.centre-2.result.now script.tally counted c.count-open.result
+    let sums : Closings c.args.store.state c.take-end.new.hall.state script.tally counted =
+    closings c.args.store.state c.take-end.new.hall.state c.centre.result.now c.centre-2.result.now script.tally counted c.count-open.result
     c.count.result c.saturating_sub-closed.result c.centre.ensures c.centre-2.ensures (c.count-open.ensures ∙ ap length c.table.ensures.incidents)
     (c.count.ensures ∙ ap length c.table-2.ensures.incidents) c.saturating_sub-closed.ensures c.saturating_add-script.ensures refl in
-    let given : IsGiven g.D.Disk.seen c.args.store c.take_desk-end.result.1 script.setup c.args.desk
+    let given : IsGiven g.D.Disk.seen c.args.store c.take-end.new.hall script.setup c.args.desk
     c.args.text.now
-    desks was c.take_desk-end.new.desk (page_seen c.args.page.now) c.put_asked.new.page c.take_desk-end.new.port c.ended-line.result.now
-    c.take_desk-end.result.0 = record {
+    desks was c.take-end.new.self (page_seen c.args.page.now) c.put_asked.new.page c.take-end.new.port c.ended-line.result.now
+    c.take-end.result = record {
       low = c.requires.desk.low;
       there = there;
       set = c.requires.set;
@@ -132,19 +133,19 @@ returns-in-Err-Quit-clause-answered g c =
       only = c.in_default.ensures.only;
       head = c.in_default.ensures.put;
       line = c.ended-line.ensures;
-      one = c.take_desk-end.new.port.still;
-      silent = c.take_desk-end.new.port.silent;
-      taken = c.take_desk-end.ensures.taken;
-      served = c.take_desk-end.ensures.served;
+      one = c.take-end.new.port.still;
+      silent = c.take-end.new.port.silent;
+      taken = c.take-end.ensures.taken;
+      served = (λ base stream h took for. c.take-end.ensures.served stream base h took for);
     } in
-    let at = given_as g.D.Disk.seen c.args.store c.take_desk-end.result.1 script.setup c.args.desk
+    let at = given_as g.D.Disk.seen c.args.store c.take-end.new.hall script.setup c.args.desk
     c.args.text.now
-    script.lines.items desks was c.take_desk-end.new.desk script.tally counted (page_seen c.args.page.now) c.put_asked.new.page
-    c.take_desk-end.new.port c.ended-line.result.now
-    c.take_desk-end.result.0 given (Err Quit) (c.in-Err-Quit.is ∙ ap Err (rw c.in-Err-Quit.is at c.in-Err-Quit.field-0-is)) in
-    λ base. quits_on g.D.Disk.seen c.args.store c.take_desk-end.result.1 base script.setup c.args.desk c.args.text.now
-    script.lines.items desks was c.take_desk-end.new.desk script.tally counted (page_seen c.args.page.now) c.put_asked.new.page
-    c.take_desk-end.new.port c.ended-line.result.now at sums
+    script.lines.items desks was c.take-end.new.self script.tally counted (page_seen c.args.page.now) c.put_asked.new.page
+    c.take-end.new.port c.ended-line.result.now
+    c.take-end.result given (Err Quit) (c.in-Err-Quit.is ∙ ap Err (rw c.in-Err-Quit.is at c.in-Err-Quit.field-0-is)) in
+    λ base. quits_on g.D.Disk.seen c.args.store c.take-end.new.hall base script.setup c.args.desk c.args.text.now
+    script.lines.items desks was c.take-end.new.self script.tally counted (page_seen c.args.page.now) c.put_asked.new.page
+    c.take-end.new.port c.ended-line.result.now at sums
 
 pub returns-in-Err-Quit-clause-took : goal.returns-in-Err-Quit-clause-took
 returns-in-Err-Quit-clause-took g c =
@@ -156,14 +157,14 @@ returns-in-Err-Quit-clause-took g c =
     slice_get_read desks 8 place was (omega (arith, script.eight, script.desks.ok.0)) (omega (arith, c.requires.desk.low, c.requires.desk.high))
     c.index_mut.ensures.value in
     let counted : Tally = record script.tally { closed = c.saturating_add-script.result } in
-    let sums : Closings c.args.store.state c.take_desk-end.result.1.state script.tally counted =
-    closings c.args.store.state c.take_desk-end.result.1.state c.centre.result.now c.centre-2.result.now script.tally counted c.count-open.result
+    let sums : Closings c.args.store.state c.take-end.new.hall.state script.tally counted =
+    closings c.args.store.state c.take-end.new.hall.state c.centre.result.now c.centre-2.result.now script.tally counted c.count-open.result
     c.count.result c.saturating_sub-closed.result c.centre.ensures c.centre-2.ensures (c.count-open.ensures ∙ ap length c.table.ensures.incidents)
     (c.count.ensures ∙ ap length c.table-2.ensures.incidents) c.saturating_sub-closed.ensures c.saturating_add-script.ensures refl in
-    let given : IsGiven g.D.Disk.seen c.args.store c.take_desk-end.result.1 script.setup c.args.desk
+    let given : IsGiven g.D.Disk.seen c.args.store c.take-end.new.hall script.setup c.args.desk
     c.args.text.now
-    desks was c.take_desk-end.new.desk (page_seen c.args.page.now) c.put_asked.new.page c.take_desk-end.new.port c.ended-line.result.now
-    c.take_desk-end.result.0 = record {
+    desks was c.take-end.new.self (page_seen c.args.page.now) c.put_asked.new.page c.take-end.new.port c.ended-line.result.now
+    c.take-end.result = record {
       low = c.requires.desk.low;
       there = there;
       set = c.requires.set;
@@ -171,27 +172,27 @@ returns-in-Err-Quit-clause-took g c =
       only = c.in_default.ensures.only;
       head = c.in_default.ensures.put;
       line = c.ended-line.ensures;
-      one = c.take_desk-end.new.port.still;
-      silent = c.take_desk-end.new.port.silent;
-      taken = c.take_desk-end.ensures.taken;
-      served = c.take_desk-end.ensures.served;
+      one = c.take-end.new.port.still;
+      silent = c.take-end.new.port.silent;
+      taken = c.take-end.ensures.taken;
+      served = (λ base stream h took for. c.take-end.ensures.served stream base h took for);
     } in
-    let at = given_as g.D.Disk.seen c.args.store c.take_desk-end.result.1 script.setup c.args.desk
+    let at = given_as g.D.Disk.seen c.args.store c.take-end.new.hall script.setup c.args.desk
     c.args.text.now
-    script.lines.items desks was c.take_desk-end.new.desk script.tally counted (page_seen c.args.page.now) c.put_asked.new.page
-    c.take_desk-end.new.port c.ended-line.result.now
-    c.take_desk-end.result.0 given (Err Quit) (c.in-Err-Quit.is ∙ ap Err (rw c.in-Err-Quit.is at c.in-Err-Quit.field-0-is)) in
-    let now = c.take_desk-end.new.desk in
-    took_quit g.D.Disk.seen c.args.store c.take_desk-end.result.1 script.setup c.args.desk c.args.text.now
-    script.lines.items desks _ was now c.new.result (page_seen c.args.page.now) c.put_asked.new.page c.take_desk-end.new.port
+    script.lines.items desks was c.take-end.new.self script.tally counted (page_seen c.args.page.now) c.put_asked.new.page
+    c.take-end.new.port c.ended-line.result.now
+    c.take-end.result given (Err Quit) (c.in-Err-Quit.is ∙ ap Err (rw c.in-Err-Quit.is at c.in-Err-Quit.field-0-is)) in
+    let now = c.take-end.new.self in
+    took_quit g.D.Disk.seen c.args.store c.take-end.new.hall script.setup c.args.desk c.args.text.now
+    script.lines.items desks _ was now c.new.result (page_seen c.args.page.now) c.put_asked.new.page c.take-end.new.port
     c.ended-line.result.now at c.new.ensures
     (set_at (set desks place now) place c.new.result now (set_at desks place now was there))
     (λ k other. set_other (set desks place now) place k c.new.result other ∙ set_other desks place k now other)
 
 pub returns-in-Err-Quit-clause-set : goal.returns-in-Err-Quit-clause-set
 returns-in-Err-Quit-clause-set g c =
-    still_set c.take_desk-end.result.1.state.sum.text c.args.script.now.setup c.take_desk-end.ensures.ready
-    (c.take_desk-end.ensures.text ∙ ap (λ (o : Option (List ℕ)). unwrap_or o []) c.requires.set)
+    still_set c.take-end.new.hall.state.sum.text c.args.script.now.setup c.take-end.ensures.kept.ready
+    (c.take-end.ensures.kept.text ∙ ap (λ (o : Option (List ℕ)). unwrap_or o []) c.requires.set)
 
 pub returns-in-Err-end : goal.returns-in-Err-end
 returns-in-Err-end g c =
@@ -203,14 +204,14 @@ returns-in-Err-end g c =
     slice_get_read desks 8 place was (omega (arith, script.eight, script.desks.ok.0)) (omega (arith, c.requires.desk.low, c.requires.desk.high))
     c.index_mut.ensures.value in
     let counted : Tally = record script.tally { closed = c.saturating_add-script.result } in
-    let sums : Closings c.args.store.state c.take_desk-end.result.1.state script.tally counted =
-    closings c.args.store.state c.take_desk-end.result.1.state c.centre.result.now c.centre-2.result.now script.tally counted c.count-open.result
+    let sums : Closings c.args.store.state c.take-end.new.hall.state script.tally counted =
+    closings c.args.store.state c.take-end.new.hall.state c.centre.result.now c.centre-2.result.now script.tally counted c.count-open.result
     c.count.result c.saturating_sub-closed.result c.centre.ensures c.centre-2.ensures (c.count-open.ensures ∙ ap length c.table.ensures.incidents)
     (c.count.ensures ∙ ap length c.table-2.ensures.incidents) c.saturating_sub-closed.ensures c.saturating_add-script.ensures refl in
-    let given : IsGiven g.D.Disk.seen c.args.store c.take_desk-end.result.1 script.setup c.args.desk
+    let given : IsGiven g.D.Disk.seen c.args.store c.take-end.new.hall script.setup c.args.desk
     c.args.text.now
-    desks was c.take_desk-end.new.desk (page_seen c.args.page.now) c.put_asked.new.page c.take_desk-end.new.port c.ended-line.result.now
-    c.take_desk-end.result.0 = record {
+    desks was c.take-end.new.self (page_seen c.args.page.now) c.put_asked.new.page c.take-end.new.port c.ended-line.result.now
+    c.take-end.result = record {
       low = c.requires.desk.low;
       there = there;
       set = c.requires.set;
@@ -218,25 +219,25 @@ returns-in-Err-end g c =
       only = c.in_default.ensures.only;
       head = c.in_default.ensures.put;
       line = c.ended-line.ensures;
-      one = c.take_desk-end.new.port.still;
-      silent = c.take_desk-end.new.port.silent;
-      taken = c.take_desk-end.ensures.taken;
-      served = c.take_desk-end.ensures.served;
+      one = c.take-end.new.port.still;
+      silent = c.take-end.new.port.silent;
+      taken = c.take-end.ensures.taken;
+      served = (λ base stream h took for. c.take-end.ensures.served stream base h took for);
     } in
     record {
       answered = tt;
       took = tt;
-      stop = ended_as g.D.Disk.seen c.args.store c.take_desk-end.result.1 script.setup c.args.desk
-          c.args.text.now script.lines.items desks was c.take_desk-end.new.desk script.tally counted (page_seen c.args.page.now) c.put_asked.new.page
-          c.take_desk-end.new.port c.ended-line.result.now c.take_desk-end.result.0 given c.in-Err-end.end c.stop_of.result c.in-Err-end.is
+      stop = ended_as g.D.Disk.seen c.args.store c.take-end.new.hall script.setup c.args.desk
+          c.args.text.now script.lines.items desks was c.take-end.new.self script.tally counted (page_seen c.args.page.now) c.put_asked.new.page
+          c.take-end.new.port c.ended-line.result.now c.take-end.result given c.in-Err-end.end c.stop_of.result c.in-Err-end.is
           c.stop_of.ensures
-          c.take_desk-end.ensures.ends sums;
-      set = still_set c.take_desk-end.result.1.state.sum.text script.setup c.take_desk-end.ensures.ready
-          (c.take_desk-end.ensures.text ∙ ap (λ (o : Option (List ℕ)). unwrap_or o []) c.requires.set);
+          c.take-end.ensures.ends sums;
+      set = still_set c.take-end.new.hall.state.sum.text script.setup c.take-end.ensures.kept.ready
+          (c.take-end.ensures.kept.text ∙ ap (λ (o : Option (List ℕ)). unwrap_or o []) c.requires.set);
       rest = desks_kept c.args.script.now _ refl refl refl refl refl refl;
-      tells = c.take_desk-end.ensures.tells;
-      at_open = c.take_desk-end.ensures.at_open;
-      limits = c.take_desk-end.ensures.limits;
+      tells = tells_stays c.take-end.ensures.kept.fixed;
+      at_open = at_open_stays c.take-end.ensures.kept.fixed;
+      limits = limits_stay c.take-end.ensures.kept.fixed;
     }
 
 pub returns-in-Ok-clause-rest : goal.returns-in-Ok-clause-rest
@@ -244,3 +245,21 @@ returns-in-Ok-clause-rest g c = desks_kept c.args.script.now _ refl refl refl re
 
 pub returns-in-Err-Quit-clause-rest : goal.returns-in-Err-Quit-clause-rest
 returns-in-Err-Quit-clause-rest g c = desks_kept c.args.script.now _ refl refl refl refl refl refl
+
+pub returns-in-Ok-clause-tells : goal.returns-in-Ok-clause-tells
+returns-in-Ok-clause-tells g c = tells_stays c.take-end.ensures.kept.fixed
+
+pub returns-in-Ok-clause-at_open : goal.returns-in-Ok-clause-at_open
+returns-in-Ok-clause-at_open g c = at_open_stays c.take-end.ensures.kept.fixed
+
+pub returns-in-Ok-clause-limits : goal.returns-in-Ok-clause-limits
+returns-in-Ok-clause-limits g c = limits_stay c.take-end.ensures.kept.fixed
+
+pub returns-in-Err-Quit-clause-tells : goal.returns-in-Err-Quit-clause-tells
+returns-in-Err-Quit-clause-tells g c = tells_stays c.take-end.ensures.kept.fixed
+
+pub returns-in-Err-Quit-clause-at_open : goal.returns-in-Err-Quit-clause-at_open
+returns-in-Err-Quit-clause-at_open g c = at_open_stays c.take-end.ensures.kept.fixed
+
+pub returns-in-Err-Quit-clause-limits : goal.returns-in-Err-Quit-clause-limits
+returns-in-Err-Quit-clause-limits g c = limits_stay c.take-end.ensures.kept.fixed

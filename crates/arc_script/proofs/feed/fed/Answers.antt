@@ -4,6 +4,7 @@ use Rattle.std.specs.List.{slice_get}
 use Rattle.std.proofs.lemmas.Option.{slice_get_read}
 use Rattle.arc_io.specs.Memory.{clock_calls}
 use Rattle.centre_core.specs.Setting.{IsSetting}
+use Rattle.centre_store.proofs.Halled.{at_open_stays, limits_stay, tells_stays}
 use Rattle.arc_script.specs.declared.script_end.Tally.{Tally}
 use Rattle.arc_script.proofs.Carries.{set_other}
 use Rattle.arc_script.proofs.FedAnswers.{ended_fed, ended_otherwise, ended_stopped, still_set, tallied, took_all}
@@ -12,8 +13,8 @@ use Rattle.arc_script.proofs.FedEnds.{IsTaking}
 use Rattle.arc_script.proofs.Kept.{lines_kept}
 use Rattle.arc_script.proofs.feed.fed.Goals as goal
 
-pub take_line-end-requires : goal.take_line-end-requires
-take_line-end-requires g c = record { ready = subst IsSetting (sym c.requires.set) c.args.script.now.valid }
+pub take-end-requires : goal.take-end-requires
+take-end-requires g c = subst IsSetting (sym c.requires.set) c.args.script.now.valid
 
 pub returns-in_default-clause-stop : goal.returns-in_default-clause-stop
 returns-in_default-clause-stop g c =
@@ -30,22 +31,22 @@ returns-in-Ok-end-clause-fed g c =
     let there : slice_get lines place ≡ Some was =
     slice_get_read lines 16 place was (omega (arith, script.sixteen, script.lines.ok.0)) (omega (arith, c.requires.line.low, c.requires.line.high)) c.index_mut.ensures.value in
     let counted : Tally = record script.tally { sent = c.saturating_add-script.result; repeats = c.saturating_add-script-2.result } in
-    let sums : Tallied (clock_calls c.take_line-end.new.port.port.clock) c.args.store.state c.take_line-end.result.1.state script.tally counted =
-    tallied _ c.args.store.state c.take_line-end.result.1.state c.centre.result.now c.centre-2.result.now script.tally counted c.taken.result
+    let sums : Tallied (clock_calls c.take-end.new.port.port.clock) c.args.store.state c.take-end.new.hall.state script.tally counted =
+    tallied _ c.args.store.state c.take-end.new.hall.state c.centre.result.now c.centre-2.result.now script.tally counted c.taken.result
     c.quiet_of-quiet.result c.quiet_of.result c.saturating_sub-repeats.result c.centre.ensures c.centre-2.ensures c.taken.ensures
     c.quiet_of-quiet.ensures c.quiet_of.ensures c.saturating_sub-repeats.ensures c.saturating_add-script.ensures c.saturating_add-script-2.ensures refl in
-    let taking : IsTaking g.D.Disk.seen c.args.store c.take_line-end.result.1 script.setup c.args.moment place lines
-    was c.in-Ok.frames c.take_line-end.new.port c.args.bytes.now c.take_line-end.result.0 = record {
+    let taking : IsTaking g.D.Disk.seen c.args.store c.take-end.new.hall script.setup c.args.moment place lines
+    was c.in-Ok.frames c.take-end.new.port c.args.bytes.now c.take-end.result = record {
       there = there;
       set = c.requires.set;
       setting = subst IsSetting (sym c.requires.set) script.valid;
       empty = c.in-Ok.ensures.blank;
-      one = c.take_line-end.new.port.still;
-      silent = c.take_line-end.new.port.silent;
-      served = c.take_line-end.ensures.served;
+      one = c.take-end.new.port.still;
+      silent = c.take-end.new.port.silent;
+      served = (λ base stream h took for. c.take-end.ensures.served stream base h took for);
     } in
-    ended_fed g.D.Disk.seen c.args.store c.take_line-end.result.1 script.setup c.args.moment place lines was
-    c.in-Ok.frames c.take_line-end.new.port c.args.bytes.now script.tally counted sums c.take_line-end.result.0 taking c.in-Ok-end.is
+    ended_fed g.D.Disk.seen c.args.store c.take-end.new.hall script.setup c.args.moment place lines was
+    c.in-Ok.frames c.take-end.new.port c.args.bytes.now script.tally counted sums c.take-end.result taking c.in-Ok-end.is
 
 pub returns-in-Ok-end-clause-took : goal.returns-in-Ok-end-clause-took
 returns-in-Ok-end-clause-took g c =
@@ -55,16 +56,16 @@ returns-in-Ok-end-clause-took g c =
     let was = c.index_mut.result.now in
     let there : slice_get lines place ≡ Some was =
     slice_get_read lines 16 place was (omega (arith, script.sixteen, script.lines.ok.0)) (omega (arith, c.requires.line.low, c.requires.line.high)) c.index_mut.ensures.value in
-    took_all place lines was c.take_line-end.new.line c.args.bytes.now c.take_line-end.result.0 there c.in-Ok-end.is c.take_line-end.ensures.taken
+    took_all place lines was c.take-end.new.self c.args.bytes.now c.take-end.result there c.in-Ok-end.is c.take-end.ensures.taken
 
 pub returns-in-Ok-end-clause-set : goal.returns-in-Ok-end-clause-set
 returns-in-Ok-end-clause-set g c =
-    still_set c.take_line-end.result.1.state.sum.text c.args.script.now.setup c.take_line-end.ensures.ready
-    (c.take_line-end.ensures.text ∙ ap (λ (o : Option (List ℕ)). unwrap_or o []) c.requires.set)
+    still_set c.take-end.new.hall.state.sum.text c.args.script.now.setup c.take-end.ensures.kept.ready
+    (c.take-end.ensures.kept.text ∙ ap (λ (o : Option (List ℕ)). unwrap_or o []) c.requires.set)
 
 pub returns-in-Ok-end-clause-others : goal.returns-in-Ok-end-clause-others
 returns-in-Ok-end-clause-others g c =
-    λ i other. set_other c.args.script.now.lines.items (c.args.line - 1) i c.take_line-end.new.line other
+    λ i other. set_other c.args.script.now.lines.items (c.args.line - 1) i c.take-end.new.self other
 
 pub returns-in-Err-Stopped-clause-stop : goal.returns-in-Err-Stopped-clause-stop
 returns-in-Err-Stopped-clause-stop g c =
@@ -75,32 +76,32 @@ returns-in-Err-Stopped-clause-stop g c =
     let there : slice_get lines place ≡ Some was =
     slice_get_read lines 16 place was (omega (arith, script.sixteen, script.lines.ok.0)) (omega (arith, c.requires.line.low, c.requires.line.high)) c.index_mut.ensures.value in
     let counted : Tally = record script.tally { sent = c.saturating_add-script.result; repeats = c.saturating_add-script-2.result } in
-    let sums : Tallied (clock_calls c.take_line-end.new.port.port.clock) c.args.store.state c.take_line-end.result.1.state script.tally counted =
-    tallied _ c.args.store.state c.take_line-end.result.1.state c.centre.result.now c.centre-2.result.now script.tally counted c.taken.result
+    let sums : Tallied (clock_calls c.take-end.new.port.port.clock) c.args.store.state c.take-end.new.hall.state script.tally counted =
+    tallied _ c.args.store.state c.take-end.new.hall.state c.centre.result.now c.centre-2.result.now script.tally counted c.taken.result
     c.quiet_of-quiet.result c.quiet_of.result c.saturating_sub-repeats.result c.centre.ensures c.centre-2.ensures c.taken.ensures
     c.quiet_of-quiet.ensures c.quiet_of.ensures c.saturating_sub-repeats.ensures c.saturating_add-script.ensures c.saturating_add-script-2.ensures refl in
-    let taking : IsTaking g.D.Disk.seen c.args.store c.take_line-end.result.1 script.setup c.args.moment place lines
-    was c.in-Ok.frames c.take_line-end.new.port c.args.bytes.now c.take_line-end.result.0 = record {
+    let taking : IsTaking g.D.Disk.seen c.args.store c.take-end.new.hall script.setup c.args.moment place lines
+    was c.in-Ok.frames c.take-end.new.port c.args.bytes.now c.take-end.result = record {
       there = there;
       set = c.requires.set;
       setting = subst IsSetting (sym c.requires.set) script.valid;
       empty = c.in-Ok.ensures.blank;
-      one = c.take_line-end.new.port.still;
-      silent = c.take_line-end.new.port.silent;
-      served = c.take_line-end.ensures.served;
+      one = c.take-end.new.port.still;
+      silent = c.take-end.new.port.silent;
+      served = (λ base stream h took for. c.take-end.ensures.served stream base h took for);
     } in
-    ended_stopped g.D.Disk.seen c.args.store c.take_line-end.result.1 script.setup c.args.moment place lines was
-    c.in-Ok.frames c.take_line-end.new.port c.args.bytes.now script.tally counted sums c.take_line-end.result.0 taking
+    ended_stopped g.D.Disk.seen c.args.store c.take-end.new.hall script.setup c.args.moment place lines was
+    c.in-Ok.frames c.take-end.new.port c.args.bytes.now script.tally counted sums c.take-end.result taking
     c.in-Err-Stopped.stop (c.in-Err-Stopped.is ∙ ap Err (rw c.in-Err-Stopped.is at c.in-Err-Stopped.field-0-is))
 
 pub returns-in-Err-Stopped-clause-set : goal.returns-in-Err-Stopped-clause-set
 returns-in-Err-Stopped-clause-set g c =
-    still_set c.take_line-end.result.1.state.sum.text c.args.script.now.setup c.take_line-end.ensures.ready
-    (c.take_line-end.ensures.text ∙ ap (λ (o : Option (List ℕ)). unwrap_or o []) c.requires.set)
+    still_set c.take-end.new.hall.state.sum.text c.args.script.now.setup c.take-end.ensures.kept.ready
+    (c.take-end.ensures.kept.text ∙ ap (λ (o : Option (List ℕ)). unwrap_or o []) c.requires.set)
 
 pub returns-in-Err-Stopped-clause-others : goal.returns-in-Err-Stopped-clause-others
 returns-in-Err-Stopped-clause-others g c =
-    λ i other. set_other c.args.script.now.lines.items (c.args.line - 1) i c.take_line-end.new.line other
+    λ i other. set_other c.args.script.now.lines.items (c.args.line - 1) i c.take-end.new.self other
 
 pub returns-clause-stop : goal.returns-clause-stop
 returns-clause-stop g c =
@@ -111,32 +112,32 @@ returns-clause-stop g c =
     let there : slice_get lines place ≡ Some was =
     slice_get_read lines 16 place was (omega (arith, script.sixteen, script.lines.ok.0)) (omega (arith, c.requires.line.low, c.requires.line.high)) c.index_mut.ensures.value in
     let counted : Tally = record script.tally { sent = c.saturating_add-script.result; repeats = c.saturating_add-script-2.result } in
-    let sums : Tallied (clock_calls c.take_line-end.new.port.port.clock) c.args.store.state c.take_line-end.result.1.state script.tally counted =
-    tallied _ c.args.store.state c.take_line-end.result.1.state c.centre.result.now c.centre-2.result.now script.tally counted c.taken.result
+    let sums : Tallied (clock_calls c.take-end.new.port.port.clock) c.args.store.state c.take-end.new.hall.state script.tally counted =
+    tallied _ c.args.store.state c.take-end.new.hall.state c.centre.result.now c.centre-2.result.now script.tally counted c.taken.result
     c.quiet_of-quiet.result c.quiet_of.result c.saturating_sub-repeats.result c.centre.ensures c.centre-2.ensures c.taken.ensures
     c.quiet_of-quiet.ensures c.quiet_of.ensures c.saturating_sub-repeats.ensures c.saturating_add-script.ensures c.saturating_add-script-2.ensures refl in
-    let taking : IsTaking g.D.Disk.seen c.args.store c.take_line-end.result.1 script.setup c.args.moment place lines
-    was c.in-Ok.frames c.take_line-end.new.port c.args.bytes.now c.take_line-end.result.0 = record {
+    let taking : IsTaking g.D.Disk.seen c.args.store c.take-end.new.hall script.setup c.args.moment place lines
+    was c.in-Ok.frames c.take-end.new.port c.args.bytes.now c.take-end.result = record {
       there = there;
       set = c.requires.set;
       setting = subst IsSetting (sym c.requires.set) script.valid;
       empty = c.in-Ok.ensures.blank;
-      one = c.take_line-end.new.port.still;
-      silent = c.take_line-end.new.port.silent;
-      served = c.take_line-end.ensures.served;
+      one = c.take-end.new.port.still;
+      silent = c.take-end.new.port.silent;
+      served = (λ base stream h took for. c.take-end.ensures.served stream base h took for);
     } in
-    ended_otherwise g.D.Disk.seen c.args.store c.take_line-end.result.1 script.setup c.args.moment place
-    lines was c.in-Ok.frames c.take_line-end.new.port c.args.bytes.now script.tally counted sums c.take_line-end.result.0 taking c.in-Err.field-0
-    c.take_line-end.new.line c.in-Err.is c.take_line-end.ensures.ends c.take_line-end.ensures.taken
+    ended_otherwise g.D.Disk.seen c.args.store c.take-end.new.hall script.setup c.args.moment place
+    lines was c.in-Ok.frames c.take-end.new.port c.args.bytes.now script.tally counted sums c.take-end.result taking c.in-Err.field-0
+    c.take-end.new.self c.in-Err.is c.take-end.ensures.ends c.take-end.ensures.taken
 
 pub returns-clause-set : goal.returns-clause-set
 returns-clause-set g c =
-    still_set c.take_line-end.result.1.state.sum.text c.args.script.now.setup c.take_line-end.ensures.ready
-    (c.take_line-end.ensures.text ∙ ap (λ (o : Option (List ℕ)). unwrap_or o []) c.requires.set)
+    still_set c.take-end.new.hall.state.sum.text c.args.script.now.setup c.take-end.ensures.kept.ready
+    (c.take-end.ensures.kept.text ∙ ap (λ (o : Option (List ℕ)). unwrap_or o []) c.requires.set)
 
 pub returns-clause-others : goal.returns-clause-others
 returns-clause-others g c =
-    λ i other. set_other c.args.script.now.lines.items (c.args.line - 1) i c.take_line-end.new.line other
+    λ i other. set_other c.args.script.now.lines.items (c.args.line - 1) i c.take-end.new.self other
 
 pub returns-in-Ok-end-clause-rest : goal.returns-in-Ok-end-clause-rest
 returns-in-Ok-end-clause-rest g c = lines_kept c.args.script.now _ refl refl refl refl refl refl
@@ -146,3 +147,30 @@ returns-in-Err-Stopped-clause-rest g c = lines_kept c.args.script.now _ refl ref
 
 pub returns-clause-rest : goal.returns-clause-rest
 returns-clause-rest g c = lines_kept c.args.script.now _ refl refl refl refl refl refl
+
+pub returns-in-Ok-end-clause-tells : goal.returns-in-Ok-end-clause-tells
+returns-in-Ok-end-clause-tells g c = tells_stays c.take-end.ensures.kept.fixed
+
+pub returns-in-Ok-end-clause-at_open : goal.returns-in-Ok-end-clause-at_open
+returns-in-Ok-end-clause-at_open g c = at_open_stays c.take-end.ensures.kept.fixed
+
+pub returns-in-Ok-end-clause-limits : goal.returns-in-Ok-end-clause-limits
+returns-in-Ok-end-clause-limits g c = limits_stay c.take-end.ensures.kept.fixed
+
+pub returns-in-Err-Stopped-clause-tells : goal.returns-in-Err-Stopped-clause-tells
+returns-in-Err-Stopped-clause-tells g c = tells_stays c.take-end.ensures.kept.fixed
+
+pub returns-in-Err-Stopped-clause-at_open : goal.returns-in-Err-Stopped-clause-at_open
+returns-in-Err-Stopped-clause-at_open g c = at_open_stays c.take-end.ensures.kept.fixed
+
+pub returns-in-Err-Stopped-clause-limits : goal.returns-in-Err-Stopped-clause-limits
+returns-in-Err-Stopped-clause-limits g c = limits_stay c.take-end.ensures.kept.fixed
+
+pub returns-clause-tells : goal.returns-clause-tells
+returns-clause-tells g c = tells_stays c.take-end.ensures.kept.fixed
+
+pub returns-clause-at_open : goal.returns-clause-at_open
+returns-clause-at_open g c = at_open_stays c.take-end.ensures.kept.fixed
+
+pub returns-clause-limits : goal.returns-clause-limits
+returns-clause-limits g c = limits_stay c.take-end.ensures.kept.fixed

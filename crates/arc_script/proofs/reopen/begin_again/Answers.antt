@@ -9,4 +9,4 @@ returns-in_err-begin-clause-stop g c =
 pub returns-clause-stop : goal.returns-clause-stop
 returns-clause-stop g c =
     again_unsaid g.D.Disk.seen c.args.store.now c.begin.new.store
-    c.said.result c.args.script.now.setup c.args.moment c.in_ok-begin.ensures.begun
+    c.said.result c.args.script.now.setup c.args.moment c.said.ensures.stop c.in_ok-begin.ensures.begun

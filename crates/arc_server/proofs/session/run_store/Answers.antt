@@ -16,7 +16,8 @@ returns-in-Ok-clause-ran g c base past stands =
           rw (sym c.now-clock.ensures.told)
           (c.serve_store.ensures.served base past c.args.setup c.now-clock.result
           (record { stands = e.begun base past stands; setting = subst (λ t. IsSetting t) (sym e.text) c.requires.setting })
-          (ap (λ t. unwrap_or t []) e.text))
+          (ap (λ t. unwrap_or t []) e.text)
+          (λ failed. let told = e.down.0 failed in cc))
           ),
     )
 

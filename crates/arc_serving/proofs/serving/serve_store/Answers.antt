@@ -1,5 +1,7 @@
-use Rattle.std.proofs.Common.{sym, subst, List}
+use Rattle.std.proofs.Common.{[], refl, sym, subst, List}
 use Rattle.std.specs.Prelude.{OnErr}
+use Rattle.std.proofs.lemmas.List.Elements.{All-nil}
+use Rattle.centre_core.specs.Runs.{IsSubmitted}
 use Rattle.centre_rules.specs.History.{Entry}
 use Rattle.centre_rules.specs.Summary.{Summary}
 use Rattle.centre_store.specs.Stores.{Stored, StoreStands}
@@ -22,4 +24,5 @@ returns-in-Err-clause-refused g c = λ b h from. record {
   history = h;
   stands = subst (λ (x : Stored _). StoreStands g.D.Disk.seen b x h) (sym c.in-Err.ensures.refused) from;
   begins = extends_self h;
+  past = record { since = []; is = refl; submitted = All-nil (λ (e : Entry). IsSubmitted e.event) };
 }

@@ -1,4 +1,4 @@
-use Rattle.std.proofs.Common.{◌≡◌, sym, ap, ◌∙◌, subst}
+use Rattle.std.proofs.Common.{◌≡◌, ◌≤◌, sym, ap, ◌∙◌, subst}
 use Rattle.arc_sessions.specs.Served.{ShowsEnd}
 use Rattle.line_gate.specs.AtGates.{gate_seen}
 use Rattle.line_gate.specs.Passes.{PassSeen}
@@ -15,6 +15,8 @@ returns-clause-served g c =
       reads = one.1;
       serves = serves_left c.args.side t c.args.pass c.leave-pass.result c.serve-end.new.hall.pass one.0 _ _ c.serve-end.result c.number.ensures.pass left one.2;
       number = ap (λ (k : PassSeen). k.number) left ∙ c.serve-end.ensures.kept.caller;
+      count = subst (λ (k : PassSeen). c.args.pass.count ≤ k.count) (sym left) c.serve-end.ensures.kept.count;
+      told = subst (λ (k : PassSeen). c.args.pass.told ≤ k.told) (sym left) c.serve-end.ensures.kept.told;
       pass = c.number-2.ensures.pass;
     }
 

@@ -7,15 +7,15 @@ use Rattle.arc_io.specs.Seen.{PortSeen}
 use Rattle.arc_io.proofs.KnownMore.{prepend_none}
 use Rattle.arc_text.specs.Lines.{ended_lines}
 use Rattle.session_rules.specs.Inputs.{input_limit}
+use Rattle.session_rules.proofs.Keeping.{kept_more, kept_self}
 use Rattle.desk_session.specs.Desks.{TookStream}
-use Rattle.desk_session.proofs.Followed.{kept_more}
 use Rattle.desk_session.proofs.Ported.{desk_rests, desk_goes, desk_ends, rose_earlier, ended_by, finished_by, served_all, all_in_limit, read_more, read_lines, read_all_lines}
 use Rattle.desk_session.proofs.Served.{desk_none}
 use Rattle.desk_session.proofs.desk.serve_desk.Goals as goal
 
 pub pieces-init : goal.pieces-init
 pieces-init g c = record {
-  kept = record { ready = c.requires.ready; text = refl; caller = refl };
+  kept = kept_self (g.H.Hall.seen c.args.hall.now) c.requires.ready;
   done = record {
     stream = [];
     took = c.new-state.ensures (meaning (g.H.Hall.seen c.args.hall.now).text);

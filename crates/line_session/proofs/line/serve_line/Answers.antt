@@ -5,17 +5,17 @@ use Rattle.arc_io.specs.Seen.{PortSeen}
 use Rattle.arc_io.proofs.KnownMore.{prepend_none}
 use Rattle.session_rules.proofs.Made.{session_none}
 use Rattle.session_rules.specs.Inputs.{input_limit}
+use Rattle.session_rules.proofs.Keeping.{kept_more, kept_self}
 use Rattle.line_session.specs.Sessions.{line_rules}
 use Rattle.line_session.specs.Turns.{line_turns}
 use Rattle.line_session.specs.declared.line_end.LineEnd.TheVariants.{InputEnded, ReadFault}
-use Rattle.line_session.proofs.Followed.{kept_more}
 use Rattle.line_session.proofs.Ported.{line_rests, line_ends, line_goes, all_in_limit, not_out, taken_not_out, read_more, rose_earlier, ended_by}
 use Rattle.line_session.proofs.Served.{serves_all}
 use Rattle.line_session.proofs.line.serve_line.Goals as goal
 
 pub pieces-init : goal.pieces-init
 pieces-init g c = record {
-  kept = record { ready = c.requires.ready; text = refl; caller = refl };
+  kept = kept_self (g.H.Hall.seen c.args.hall.now) c.requires.ready;
   done = record {
     stream = [];
     took = c.new-state.ensures;

@@ -21,3 +21,6 @@ returns-in-Ok-clause-reported g c b h s =
       known = entry_known b h r.event r.reading took kept c.requires.report.known (g.met.H.Hall.in_force c.submit.new.self b _ took.goes.holds);
       sends = subst (λ (t : List ℕ). SendsAck c.acknowledge.result (meaning t) r.header r.reading (g.P.Ends.seen c.args.port.now) (g.P.Ends.seen c.acknowledge.new.port)) kept.text c.acknowledge.ensures.sent;
     })
+
+pub returns-in-Err-clause-reported : goal.returns-in-Err-clause-reported
+returns-in-Err-clause-reported g c b h s = (c.in-Err.ensures.stop b h s, refl)

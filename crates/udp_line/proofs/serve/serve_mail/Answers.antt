@@ -1,7 +1,7 @@
 use Rattle.std.proofs.Common.{◌≡◌, ◌+◌, ◌∷◌, ◌++◌, [], ℕ, List, take, length, Option, Err, refl, sym, ◌∙◌, ap, subst, arith, length-append}
 use Rattle.arc_doors.specs.Mails.{TakesMail}
 use Rattle.arc_io.specs.Seen.{PortSeen}
-use Rattle.line_session.proofs.Followed.{kept_more}
+use Rattle.session_rules.proofs.Keeping.{kept_more, kept_self}
 use Rattle.line_session.proofs.Ported.{rose_earlier}
 use Rattle.udp_line.specs.Datagrams.{EndsDatagram}
 use Rattle.udp_line.specs.declared.mail_end.MailEnd.{MailEnd}
@@ -10,7 +10,7 @@ use Rattle.udp_line.proofs.serve.serve_mail.Goals as goal
 
 pub datagrams-init : goal.datagrams-init
 datagrams-init g c = record {
-  kept = record { ready = c.requires; text = refl; caller = refl };
+  kept = kept_self (g.H.Hall.seen c.args.hall.now) c.requires;
   done = record {
     given = [];
     taken = takes_none (g.M.Ends.seen c.args.mail.now).datagrams;

@@ -1,4 +1,4 @@
-use Rattle.std.proofs.Common.{◌≡◌, ◌∷◌, [], List, ℕ, Option, refl, sym, ◌∙◌, ap, subst}
+use Rattle.std.proofs.Common.{◌≡◌, ◌∷◌, [], List, ℕ, Option, refl, rules, sym, ◌∙◌, ap, subst, arith}
 use Rattle.std.specs.Prelude.{unwrap_or}
 use Rattle.centre_rules.specs.History.{Entry}
 use Rattle.centre_rules.specs.Summary.{Summary}
@@ -22,7 +22,7 @@ returns-in-Ok-clause-text c =
     ∙ ap (λ (x : Summary). x.text) c.in-Ok.ensures.sum ∙ ap (λ (x : State). x.sum.text) c.self.view_is
 
 pub returns-in-Ok-clause-kept : goal.returns-in-Ok-clause-kept
-returns-in-Ok-clause-kept c = record { ready = tt; text = ap (λ (t : Option (List ℕ)). unwrap_or t []) (returns-in-Ok-clause-text c); caller = refl }
+returns-in-Ok-clause-kept c = record { ready = tt; text = ap (λ (t : Option (List ℕ)). unwrap_or t []) (returns-in-Ok-clause-text c); caller = refl; fixed = refl; count = omega arith; told = omega arith }
 
 pub returns-in-Ok-clause-done : goal.returns-in-Ok-clause-done
 returns-in-Ok-clause-done c b h s =
@@ -43,4 +43,29 @@ returns-in-Ok-clause-done c b h s =
       legal = subst (λ (e : Entry). IsLegal b (e ∷ h)) same after.legal;
       at = c.apply.ensures.at ∙ c.in-Ok.ensures.at b h kept;
       own = refl;
+      reads = λ r. r;
+      up = tt;
+    }
+
+-- what the hall stands for it stands for still
+pub returns-then-count-clause-stop : goal.returns-then-count-clause-stop
+returns-then-count-clause-stop c b h s = record {
+  waits = record { now = h; extends = ([], refl); holds = s; legal = s.stands.legal; own = refl; reads = λ r. r };
+  cause = record { shown = search rules; torn = λ up. tt };
+}
+
+pub returns-in-Err-clause-stop : goal.returns-in-Err-clause-stop
+returns-in-Err-clause-stop c b h s =
+    let kept = c.in-Err.ensures.stays b h (subst (λ (x : State). StandsFor b x h) (sym c.self.view_is) s.stands) in
+    let text = ap (λ (x : Summary). x.text) c.in-Err.ensures.sum ∙ ap (λ (x : State). x.sum.text) c.self.view_is in
+    record {
+      waits = record {
+        now = h;
+        extends = ([], refl);
+        holds = record { stands = kept; setting = subst IsSetting (sym text) s.setting };
+        legal = kept.legal;
+        own = refl;
+        reads = λ r. r;
+      };
+      cause = record { shown = tt; torn = λ up. tt };
     }

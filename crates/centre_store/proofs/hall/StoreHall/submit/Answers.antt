@@ -1,21 +1,27 @@
-use Rattle.std.proofs.Common.{[], Option, List, ℕ, ap, refl, subst, sym}
+use Rattle.std.proofs.Common.{[], Option, List, ℕ, ap, refl, subst, sym, arith}
 use Rattle.std.specs.Prelude.{unwrap_or}
 use Rattle.centre_core.specs.Setting.{IsSetting}
-use Rattle.centre_store.proofs.Halled.{goes_on, waits}
+use Rattle.centre_store.proofs.Halled.{fixed_stays, goes_on, waits}
 use Rattle.centre_store.proofs.hall.StoreHall.submit.Goals as goal
 
 pub returns-clause-kept : goal.returns-clause-kept
-returns-clause-kept g c = record {
-  ready = subst IsSetting (sym c.submit.ensures.text) c.requires.ready;
-  text = ap (λ (t : Option (List ℕ)). unwrap_or t []) c.submit.ensures.text;
-  caller = refl;
-}
+returns-clause-kept g c =
+    let met = c.submit.ensures in
+    record {
+      ready = subst IsSetting (sym met.text) c.requires.ready;
+      text = ap (λ (t : Option (List ℕ)). unwrap_or t []) met.text;
+      caller = refl;
+      fixed = fixed_stays g.D.Disk.seen c.args.self.now c.submit.new.self met.at_open met.limits met.spared;
+      count = omega arith;
+      told = met.later;
+    }
 
 pub returns-clause-done : goal.returns-clause-done
 returns-clause-done g c =
     goes_on g.D.Disk.seen c.args.self.now c.submit.new.self c.submit.ensures.text c.args.clock c.args.event c.submit.result
-    c.submit.ensures.done c.submit.ensures.by
+    c.requires.formed c.requires.clock c.submit.ensures.done c.submit.ensures.by c.submit.ensures.down
 
 pub returns-clause-stop : goal.returns-clause-stop
 returns-clause-stop g c =
-    waits g.D.Disk.seen c.args.self.now c.submit.new.self c.submit.ensures.text c.submit.result c.submit.ensures.stop
+    waits g.D.Disk.seen c.args.self.now c.submit.new.self c.submit.ensures.text c.args.clock c.args.event c.submit.result
+    c.submit.ensures.stop c.submit.ensures.cause c.submit.ensures.met

@@ -5,10 +5,10 @@ use Rattle.alarm_rules.specs.Setups.{meaning}
 use Rattle.arc_io.proofs.Frames.{answers_none, answers_more, unfailed}
 use Rattle.arc_text.specs.LineCutting.{Feeds, cut_of}
 use Rattle.arc_text.specs.Lines.{ended_lines}
+use Rattle.session_rules.proofs.Keeping.{kept_more, kept_self}
 use Rattle.desk_session.specs.Desks.{HasTaken}
 use Rattle.desk_session.specs.Events.{acts_after, is_known, up_to_quit}
 use Rattle.desk_session.proofs.Fed.{came_none, came_line, taken_none, taken_line, taken_known, quits_by, lines_behind, fed_err}
-use Rattle.desk_session.proofs.Followed.{kept_more}
 use Rattle.desk_session.proofs.Served.{serves_none, serves_same, serves_more, serves_wider}
 use Rattle.desk_session.proofs.lines.Lines.answer_ended.Goals as goal
 
@@ -19,7 +19,7 @@ loop-at-init g c =
       within = omega arith;
       limit = c.requires.limit;
       named = c.requires.named;
-      kept = record { ready = c.requires.ready; text = refl; caller = refl };
+      kept = kept_self (g.H.Hall.seen c.args.hall.now) c.requires.ready;
       fed = λ stream fed. subst (λ (s : List ℕ). HasTaken setup s c.args.self.now.cutter c.args.self.now.operator) (sym (append-nil stream)) fed;
       served = λ stream b h fed s. serves_same (ended_lines stream) b h (Ok tt) (Ok tt) (ended_lines stream) (ended_lines (stream ++ [])) refl (ap (λ (l : List ℕ). up_to_quit (ended_lines l)) (append-nil stream))
           (serves_none (ended_lines stream) b h (g.H.Hall.seen c.args.hall.now) (g.P.Ends.seen c.args.port.now) s (g.met.H.Hall.legal c.args.hall.now b h s));

@@ -3,6 +3,7 @@ use Rattle.std.specs.Str.Lines.{lines}
 use Rattle.alarm_rules.specs.Setups.{meaning}
 use Rattle.arc_text.specs.LineCutting.{cut_of}
 use Rattle.arc_text.specs.Lines.{ended_lines}
+use Rattle.session_rules.proofs.Keeping.{kept_self}
 use Rattle.desk_session.specs.Events.{ends, up_to_quit}
 use Rattle.desk_session.specs.declared.desk_end.DeskEnd.TheVariants.{InputEnded}
 use Rattle.desk_session.proofs.Fed.{taken_known, finished_err}
@@ -24,7 +25,7 @@ returns-in-Ok-clause-served g c stream b h fed s =
     let tells = f.lines.2 in
     let typed = c.command_in-command.ensures.value line (tells.cut ∙ ap (λ l. cut_of l line) (c.in-Some.ensures.limit ∙ c.requires.limit)) (c.line.ensures ∙ tells.kept) in
     serves_same (ended_lines stream) b h (Ok tt) (Err InputEnded) (ended_lines stream ++ line ∷ []) (lines stream) refl (ap up_to_quit f.lines.1)
-    (serves_more (ended_lines stream) b h (ended_lines stream) fed.goes_on fed.goes_on (Ok tt) line operator (record { ready = c.requires.ready; text = refl; caller = refl }) fed.acts
+    (serves_more (ended_lines stream) b h (ended_lines stream) fed.goes_on fed.goes_on (Ok tt) line operator (kept_self hall c.requires.ready) fed.acts
     (serves_none (ended_lines stream) b h hall (g.P.Ends.seen c.args.port.now) s (g.met.H.Hall.legal c.args.hall.now b h s))
     (λ x sx. c.in-Ok.ensures.session line b x typed (taken_known (meaning hall.text) stream c.args.self.now.cutter operator fed) sx))
 
@@ -45,6 +46,6 @@ returns-in-Err-clause-served g c stream b h fed s =
     let tells = f.lines.2 in
     let typed = c.command_in-command.ensures.value line (tells.cut ∙ ap (λ l. cut_of l line) (c.in-Some.ensures.limit ∙ c.requires.limit)) (c.line.ensures ∙ tells.kept) in
     serves_same (ended_lines stream) b h (Err c.in-Err.end) (Err c.in-Err.end) (ended_lines stream ++ line ∷ []) (lines stream) refl (ap up_to_quit f.lines.1)
-    (serves_more (ended_lines stream) b h (ended_lines stream) fed.goes_on fed.goes_on (Err c.in-Err.end) line operator (record { ready = c.requires.ready; text = refl; caller = refl }) fed.acts
+    (serves_more (ended_lines stream) b h (ended_lines stream) fed.goes_on fed.goes_on (Err c.in-Err.end) line operator (kept_self hall c.requires.ready) fed.acts
     (serves_none (ended_lines stream) b h hall (g.P.Ends.seen c.args.port.now) s (g.met.H.Hall.legal c.args.hall.now b h s))
     (λ x sx. c.in-Err.ensures.session line b x typed (taken_known (meaning hall.text) stream c.args.self.now.cutter operator fed) sx))

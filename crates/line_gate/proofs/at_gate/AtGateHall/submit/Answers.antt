@@ -8,5 +8,5 @@ returns-clause-done g c =
 
 pub returns-clause-stop : goal.returns-clause-stop
 returns-clause-stop g c =
-    stop_at g.N.GateName.terms c.args.self.now.pass c.submit.new.pass c.submit.result c.submit.ensures.later c.submit.ensures.made
-    c.submit.ensures.pass
+    stop_at g.N.GateName.terms c.args.self.now.pass c.submit.new.pass c.args.clock c.args.event c.submit.result c.submit.ensures.later
+    c.submit.ensures.made c.submit.ensures.pass c.submit.ensures.cause

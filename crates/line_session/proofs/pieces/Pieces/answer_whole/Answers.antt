@@ -5,8 +5,8 @@ use Rattle.std.proofs.lemmas.Result.{err_from_is_err_and}
 use Rattle.arc_io.proofs.Frames.{answers_none, answers_more, unfailed}
 use Rattle.dc09_frame.specs.Cutting.{WasFed, Feeds, body_told}
 use Rattle.dc09_frame.specs.Frames.{bodies}
+use Rattle.session_rules.proofs.Keeping.{kept_more, kept_self}
 use Rattle.line_session.proofs.Fed.{fed_more, told_none, told_one, bodies_behind}
-use Rattle.line_session.proofs.Followed.{kept_more}
 use Rattle.line_session.proofs.Served.{serves_none, serves_same, serves_more, serves_wider, early_err}
 use Rattle.line_session.proofs.pieces.Pieces.answer_whole.Goals as goal
 
@@ -17,7 +17,7 @@ clash false h is = absurd (cc)
 pub loop-at-init : goal.loop-at-init
 loop-at-init g c = record {
   within = omega arith;
-  kept = record { ready = c.requires; text = refl; caller = refl };
+  kept = kept_self (g.H.Hall.seen c.args.hall.now) c.requires;
   fed = λ stream fed. subst (λ (s : List ℕ). WasFed s c.args.self.now.cutter) (sym (append-nil stream)) fed;
   served = λ stream b h fed s. serves_none stream b h (g.H.Hall.seen c.args.hall.now) (g.P.Ends.seen c.args.port.now) s (g.met.H.Hall.legal c.args.hall.now b h s);
   port = answers_none ⊥ (g.P.Ends.seen c.args.port.now) (λ f. f);

@@ -11,7 +11,7 @@ use Rattle.centre_store.proofs.Bodies.{kept_event}
 use Rattle.centre_store.specs.Pasts.{IsKept, AreKept}
 use Rattle.disk_journal.specs.OtherArea.{SparesOther}
 use Rattle.disk_journal.specs.Standing.{IsOtherSame}
-use Rattle.arc_script.specs.Standing.{IsReadable, is_told}
+use Rattle.centre_store.specs.StoreHalls.{IsReadable, is_told}
 
 becomes_told : (x y : Option Areas) (R : Areas → Areas → Type 0) → Becomes x y R → is_told y ≡ is_told x
 becomes_told None None R is = refl
