@@ -1,6 +1,6 @@
 // The lines of a drill's script, part by part.
-ghost use Rattle.std.specs.Prelude.{◌≡◌, ◌+◌, ◌≤◌, ◌<◌, ◌^◌, ◌++◌, [], length};
-ghost use Rattle.arc_drill.specs.Texts.{digit, four_digits, sequence_of, data_of, account_of, clock_line, message_line, message_lines, login_line, closing_lines};
+ghost use Rattle.std.specs.Prelude.{◌≡◌, ◌+◌, ◌≤◌, ◌++◌, length};
+ghost use Rattle.arc_drill.specs.Texts.{digit, four_digits, data_of, account_of, clock_line, message_line, message_lines, login_line, closing_lines};
 
 use crate::lines::Lines;
 

@@ -1,12 +1,12 @@
 -- One line more of a panel's input: it was played, or it ended the playing.
-use Rattle.std.proofs.Common.{◌≡◌, ◌<◌, ◌≤◌, ◌+◌, ℕ, List, [], ◌∷◌, ◌++◌, length, take, sym, ap, subst, ◌∙◌, arith, append_assoc}
+use Rattle.std.proofs.Common.{◌≡◌, ◌<◌, ◌≤◌, ◌+◌, ℕ, List, [], ◌∷◌, ◌++◌, length, take, sym, ap, subst, ◌∙◌, arith}
 use Rattle.std.specs.Io.KnownBytes.{append_known}
 use Rattle.arc_io.proofs.KnownMore.{known_both}
 use Rattle.arc_io.specs.Causes.{Rose}
 use Rattle.arc_io.specs.Seen.{PortSeen}
 use Rattle.panel_core.specs.Standing.{StandsFor}
 use Rattle.panel_rules.specs.Panels.{Setting, Happening}
-use Rattle.arc_panel.specs.Lines.{IsPlayable, moment, moment_at}
+use Rattle.arc_panel.specs.Lines.{IsPlayable, moment_at}
 use Rattle.arc_panel.specs.Playing.{Halts, SoFar}
 use Rattle.arc_panel.specs.Texts.{line_of, text_of}
 use Rattle.arc_panel.specs.declared.play.PanelEnd.TheVariants.{BadLine, Memory, WriteFault}

@@ -6,7 +6,7 @@ use Rattle.std.proofs.lemmas.Fmt.{decimal_injective}
 use Rattle.arc_data.specs.declared.event.Token.{Token}
 use Rattle.arc_data.specs.declared.event.Token.TheVariants.{SiaDcs, AdmCid}
 use Rattle.panel_rules.specs.Panels.{Happening, Queue, Step, Hear, token_bytes}
-use Rattle.arc_panel.specs.Lines.{Says, spelling}
+use Rattle.arc_panel.specs.Lines.{Says}
 use Rattle.arc_panel.specs.Reading.{IsReadAs}
 
 -- what begins with one byte does not begin with another

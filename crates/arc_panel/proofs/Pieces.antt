@@ -1,6 +1,6 @@
 -- The pieces of a panel's input, one behind another, and how reading it ends.
 use Rattle.std.proofs.Common.{◌≡◌, ◌≤◌, ◌<◌, ◌+◌, ◌∷◌, ◌++◌, ℕ, List, [], true, false, length, take, inl, inr, refl, sym, ap, subst, ◌∙◌, append_assoc, append-nil, length-append, arith}
-use Rattle.std.specs.Io.KnownBytes.{append_known, prepend_known, IsAtEnd}
+use Rattle.std.specs.Io.KnownBytes.{prepend_known, IsAtEnd}
 use Rattle.std.specs.Str.Lines.{lines}
 use Rattle.arc_io.proofs.KnownMore.{prepend_none, known_taken}
 use Rattle.arc_io.specs.Causes.{Rose}
@@ -17,7 +17,7 @@ use Rattle.arc_panel.specs.Playing.{Finishes, Halts, HaltsAt, HaltsIn, SoFar, Wh
 use Rattle.arc_panel.specs.declared.play.PanelEnd.{PanelEnd}
 use Rattle.arc_panel.specs.declared.play.PanelEnd.TheVariants.{Done, ReadFault, WriteFault, Spent, BadLine, Memory}
 use Rattle.arc_panel.specs.declared.play.Player.{Player}
-use Rattle.arc_panel.proofs.Fed.{CameLine, CameNone, lines_behind}
+use Rattle.arc_panel.proofs.Fed.{CameLine, lines_behind}
 use Rattle.arc_panel.proofs.Lining.{rose_since}
 
 -- all but what is about reading and writing stayed

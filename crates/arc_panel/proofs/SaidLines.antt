@@ -1,6 +1,6 @@
 -- Lines, one behind another, and what they say.
-use Rattle.std.proofs.Common.{◌≡◌, ◌<◌, ◌≤◌, ℕ, List, [], ◌∷◌, ◌++◌, length, Option, Some, None, refl, sym, ap, subst, ◌∙◌, arith}
-use Rattle.panel_rules.specs.Panels.{Happening, Queue, Step, Hear}
+use Rattle.std.proofs.Common.{◌≡◌, ◌<◌, ◌≤◌, ℕ, List, [], ◌∷◌, ◌++◌, ap, subst, ◌∙◌, arith}
+use Rattle.panel_rules.specs.Panels.{Happening, Step}
 use Rattle.arc_text.specs.LineCutting.{line_of}
 use Rattle.arc_text.specs.declared.line_cut.LineCut.{LineCut}
 use Rattle.arc_text.specs.declared.line_cut.LineCut.TheVariants.{Whole}
@@ -8,7 +8,7 @@ use Rattle.arc_panel.proofs.Meanings.{one_meaning}
 use Rattle.arc_panel.specs.Reading.{said}
 use Rattle.arc_panel.specs.declared.line.PanelLine.{PanelLine}
 use Rattle.arc_panel.specs.declared.line.PanelLine.TheVariants as Read
-use Rattle.arc_panel.specs.Lines.{AreSaid, IsPlayable, MayFollow, MayStep, Says, moment}
+use Rattle.arc_panel.specs.Lines.{AreSaid, IsPlayable, MayFollow, Says, moment}
 
 -- one line more
 pub said_last : (before : List Happening) (lines : List (List ℕ)) (line : List ℕ) (h : List Happening) (x : Happening) → AreSaid before lines h → IsPlayable h line x

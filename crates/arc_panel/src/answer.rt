@@ -7,7 +7,7 @@ ghost use Rattle.arc_panel.specs.Reading.{said};
 ghost use Rattle.arc_panel.specs.Texts.{frame_line, heard_text, line_of, queued_text};
 
 use crate::line::PanelLine;
-use arc_data::{Blob, Memory, Token};
+use arc_data::{Blob, Memory};
 use dc09_frame::FrameBuf;
 use itoa::Buffer;
 use panel_core::{Heard, Panel, Queued};

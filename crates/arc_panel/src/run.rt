@@ -1,5 +1,5 @@
 // Playing the lines of a panel's input.
-ghost use Rattle.std.specs.Prelude.{◌≡◌, ◌<◌, ◌≤◌, ◌^◌, ◌⊎◌, [], ℕ, List, false, true, length};
+ghost use Rattle.std.specs.Prelude.{◌≡◌, ◌<◌, ◌≤◌, ◌^◌, [], ℕ, List, false, true, length};
 ghost use Rattle.std.specs.Str.Lines.{lines};
 ghost use Rattle.arc_data.specs.Digits.{is_capital_hex, is_run};
 ghost use Rattle.arc_io.specs.Seen.{PortSeen};

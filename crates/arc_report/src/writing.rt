@@ -1,5 +1,5 @@
 // Writing the report.
-ghost use Rattle.std.specs.Prelude.{◌≡◌, ◌++◌, codes, decimal, List};
+ghost use Rattle.std.specs.Prelude.{◌++◌, decimal};
 ghost use Rattle.std.specs.List.{flat_map};
 ghost use Rattle.arc_io.specs.Told.{Puts};
 ghost use Rattle.arc_report.specs.Reports.{incident_line, table_of, report_of};

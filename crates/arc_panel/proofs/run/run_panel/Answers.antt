@@ -1,4 +1,4 @@
-use Rattle.std.proofs.Common.{◌≡◌, ◌≤◌, [], ℕ, List, refl, subst, sym, arith}
+use Rattle.std.proofs.Common.{[], ℕ, List, refl, subst, sym, arith}
 use Rattle.panel_core.specs.Standing.{StandsFor}
 use Rattle.arc_panel.specs.Ends.{setting_of}
 use Rattle.arc_io.proofs.KnownMore.{known_none}
