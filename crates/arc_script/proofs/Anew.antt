@@ -1,5 +1,5 @@
 -- What the line `X` leaves: all was made anew over what the journal keeps of a history, and a run began again, or was stopped.
-use Rattle.std.proofs.Common.{◌≡◌, ◌≤◌, ◌+◌, ◌∷◌, ℕ, List, [], Option, Some, None, Result, Ok, Err, OnOk, OnErr, IfErr, IfSome, length, inl, refl, sym, ap, subst, ◌∙◌, arith}
+use Rattle.std.proofs.Common.{◌≡◌, ◌≤◌, ◌+◌, ◌∷◌, ℕ, List, [], Option, Some, None, Result, Ok, Err, OnOk, IfErr, IfSome, length, inl, refl, sym, ap, subst, ◌∙◌, arith}
 use Rattle.std.specs.Prelude.{All, slice_get}
 use Rattle.std.specs.Io.KnownBytes.{append_known}
 use Rattle.alarm_rules.specs.Setups.{meaning}
@@ -23,7 +23,8 @@ use Rattle.disk_journal.specs.Standing.{GoesOn}
 use Rattle.disk_journal.specs.declared.journal.OpenRefused.{OpenRefused}
 use Rattle.line_session.specs.Lines as Line
 use Rattle.script_lines.specs.Lines.{Asked, Reopen, spelling}
-use Rattle.arc_script.specs.Between.{Begun, Between, CarriedOut, ShutAt, StoppedAt}
+use Rattle.arc_script.specs.Begun.{Begun}
+use Rattle.arc_script.specs.Between.{Between, CarriedOut, ShutAt, StoppedAt}
 use Rattle.arc_script.specs.Carrying.{CountsMore, HasRead, HaveTaken}
 use Rattle.arc_script.specs.Causes.{HasShown}
 use Rattle.arc_script.specs.Ends.{BegunAgain, Tells}

@@ -10,7 +10,8 @@ use Rattle.arc_text.specs.declared.line_cut.LineCut.{LineCut}
 use Rattle.arc_text.specs.declared.line_cut.LineCut.TheVariants.{Whole, TooLong}
 use Rattle.centre_store.specs.Stores.{Stored}
 use Rattle.script_lines.specs.Lines.{Asked, Time, Feed, Message, Command, Reopen, Asks, spelling, is_skipped}
-use Rattle.arc_script.specs.Between.{Begun, IsClock, MayComeNext, SoFar, size_of}
+use Rattle.arc_script.specs.Begun.{Begun}
+use Rattle.arc_script.specs.Between.{IsClock, MayComeNext, SoFar, size_of}
 use Rattle.arc_script.specs.Carrying.{IsNext}
 use Rattle.arc_script.specs.Playing.{moment_at}
 use Rattle.arc_script.specs.Steps.{asked_after}

@@ -1,5 +1,5 @@
 -- How a script begins over a store that was opened, and what is told where it is not read.
-use Rattle.std.proofs.Common.{◌≡◌, ◌-◌, ℕ, List, [], length, refl, ap, ◌∙◌, subst, arith}
+use Rattle.std.proofs.Common.{◌≡◌, ◌-◌, ℕ, List, [], length, refl, ap, ◌∙◌, arith}
 use Rattle.arc_io.specs.Disks.{DiskSeen}
 use Rattle.arc_io.specs.Seen.{PortSeen}
 use Rattle.centre_rules.specs.History.{Entry}
@@ -7,10 +7,7 @@ use Rattle.centre_rules.specs.Summary.{Summary}
 use Rattle.centre_store.specs.Bodies.{bodies_of}
 use Rattle.centre_store.specs.Stores.{Stored, StoreStands}
 use Rattle.disk_journal.specs.Journal.{Holds}
-use Rattle.disk_journal.specs.declared.journal.Limits.{Limits}
-use Rattle.arc_script.specs.Between.{Begun}
-use Rattle.arc_script.specs.Ends.{Tells, IsTranscript, IsUnread}
-use Rattle.arc_script.specs.declared.script_end.ScriptEnd.{ScriptEnd}
+use Rattle.arc_script.specs.Ends.{IsUnread}
 use Rattle.arc_script.specs.declared.script_end.Tally.{Tally}
 use Rattle.arc_script.proofs.Ended.{recorded_in, tally_is}
 
@@ -37,13 +34,3 @@ unread seen base past s p disk tally stands held is tally_as =
       counts = tally_is base s past past [] (untouched s.state.sum 0) tally s.state.sum.opened stands.centre.same.opened
           (record { sent = refl; repeats = refl; closed = refl }) stands.centre (tally_as ∙ ap (untouched s.state.sum) none);
     }
-
--- the transcript of a script that began so
-pub began : {D : Type 0} (seen : D → DiskSeen) (b : Begun D) (setup : List ℕ) (limits : Limits) (p q : PortSeen) (end : ScriptEnd) (disk : D)
-    (tally : Tally) → b.setup ≡ setup → b.limits ≡ limits → b.port ≡ p
-    → IsTranscript seen (Tells (seen b.disk)) b.base b.setup b.past b.limits (seen b.disk).faults end b.port q disk tally
-    → IsTranscript seen (Tells (seen b.disk)) b.base setup b.past limits (seen b.disk).faults end p q disk tally
-began seen b setup limits p q end disk tally of_setup of_limits of_port is =
-    subst (λ (x : List ℕ). IsTranscript seen (Tells (seen b.disk)) b.base x b.past limits (seen b.disk).faults end p q disk tally) of_setup
-    (subst (λ (x : Limits). IsTranscript seen (Tells (seen b.disk)) b.base b.setup b.past x (seen b.disk).faults end p q disk tally) of_limits
-    (subst (λ (x : PortSeen). IsTranscript seen (Tells (seen b.disk)) b.base b.setup b.past b.limits (seen b.disk).faults end x q disk tally) of_port is))

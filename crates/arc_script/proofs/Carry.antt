@@ -8,7 +8,8 @@ use Rattle.centre_core.specs.declared.hall.Stop.TheVariants.{Memory}
 use Rattle.centre_rules.specs.History.{Entry, IsMoment}
 use Rattle.centre_store.specs.Stores.{Stored}
 use Rattle.script_lines.specs.Lines.{Asked}
-use Rattle.arc_script.specs.Between.{Begun, Between, CarriedOut, IsClock, StoppedAt}
+use Rattle.arc_script.specs.Begun.{Begun}
+use Rattle.arc_script.specs.Between.{Between, CarriedOut, IsClock, StoppedAt}
 use Rattle.arc_script.specs.Carrying.{Carried, Halted, HaveTakenWith}
 use Rattle.arc_script.specs.Causes.{HasShown, Submits}
 use Rattle.arc_script.specs.Ends.{Tells, CameTo}

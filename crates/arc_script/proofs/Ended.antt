@@ -15,9 +15,10 @@ use Rattle.centre_store.specs.Stores.{Stored}
 use Rattle.disk_journal.specs.Journal.{Holds}
 use Rattle.disk_journal.specs.Records.{AtRest, Stands}
 use Rattle.script_lines.specs.Lines.{Asked, Time, Feed, Message, Command, Reopen, Asks}
-use Rattle.arc_script.specs.Between.{Begun, CountsSteps, IsClock, SoFar}
+use Rattle.arc_script.specs.Begun.{Begun}
+use Rattle.arc_script.specs.Between.{CountsSteps, IsClock, SoFar}
 use Rattle.arc_script.specs.Carrying.{CountsMore}
-use Rattle.arc_script.specs.Ends.{Tells, Played}
+use Rattle.arc_script.specs.Ends.{Played}
 use Rattle.arc_script.specs.Fed.{clock_of}
 use Rattle.arc_script.specs.Halting.{Halts, Whole, closing}
 use Rattle.arc_script.specs.Playing.{moment_at}
@@ -138,7 +139,7 @@ module _ {D : Type 0} (seen : D → DiskSeen) (b : Begun D) (lines : List (List 
   next_split line more is = counted_next lines line more is
 
   -- those before a line
-  abbrev before_line : (line : List ℕ) (more : List (List ℕ)) → is_passed line ≡ false → Played (Tells (seen b.disk)) b.base b.setup b.past (counted (lines ++ line ∷ more))
+  abbrev before_line : (line : List ℕ) (more : List (List ℕ)) → is_passed line ≡ false → Played seen b (counted (lines ++ line ∷ more))
   before_line line more is = record {
     front = counted lines;
     behind = (1 + length lines, line) ∷ behind more;

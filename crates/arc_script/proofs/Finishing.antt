@@ -6,7 +6,8 @@ use Rattle.arc_io.specs.Seen.{PortSeen}
 use Rattle.arc_text.specs.Lines.{ended_lines}
 use Rattle.centre_rules.specs.Summary.{Summary}
 use Rattle.centre_store.specs.Stores.{Stored}
-use Rattle.arc_script.specs.Between.{Begun, SoFar}
+use Rattle.arc_script.specs.Begun.{Begun}
+use Rattle.arc_script.specs.Between.{SoFar}
 use Rattle.arc_script.specs.Halting.{Halts, Whole, Finishes, closing}
 use Rattle.arc_script.specs.declared.script.Script.{Script}
 use Rattle.arc_script.specs.declared.script_end.ScriptEnd.{ScriptEnd}

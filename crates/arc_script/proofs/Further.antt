@@ -14,7 +14,8 @@ use Rattle.centre_store.specs.Stores.{Stored, StoreStands, HasFailed}
 use Rattle.disk_journal.specs.Journal.{Holds}
 use Rattle.disk_journal.specs.declared.fault.OpenFault.{OpenFault}
 use Rattle.script_lines.specs.Lines.{Asked, Reopen, spelling}
-use Rattle.arc_script.specs.Between.{Begun, Between, CarriedOut, StoppedAt, ShutAt, SoFar, size_of}
+use Rattle.arc_script.specs.Begun.{Begun}
+use Rattle.arc_script.specs.Between.{Between, CarriedOut, StoppedAt, ShutAt, SoFar, size_of}
 use Rattle.arc_script.specs.Ends.{Tells, Played}
 use Rattle.arc_script.specs.Halting.{Halts, closing}
 use Rattle.arc_script.specs.Steps.{Step, IsStepOf, asked_after, output_of}
@@ -49,7 +50,7 @@ module _ {D : Type 0} (seen : D → DiskSeen) (b : Begun D) (lines : List (List 
   abbrev behind : List (List ℕ) → List (ℕ × List ℕ)
   behind more = filter is_played (numbered_from (1 + length lines + 1) more)
 
-  abbrev before_line : (more : List (List ℕ)) → Played (Tells (seen b.disk)) b.base b.setup b.past (counted (lines ++ line ∷ more))
+  abbrev before_line : (more : List (List ℕ)) → Played seen b (counted (lines ++ line ∷ more))
   before_line more = record {
     front = counted lines;
     behind = (number, line) ∷ behind more;

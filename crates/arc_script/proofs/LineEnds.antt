@@ -11,7 +11,8 @@ use Rattle.centre_store.specs.Stores.{Stored, HasFailed}
 use Rattle.disk_journal.specs.declared.fault.OpenFault.{OpenFault}
 use Rattle.script_lines.specs.Lines.{Asked, Reopen, Asks, spelling}
 use Rattle.session_rules.specs.Inputs.{input_limit}
-use Rattle.arc_script.specs.Between.{Begun, CarriedOut, Carries, CountsSteps, IsClock, MayComeNext, Shuts, SoFar, Stops, size_of}
+use Rattle.arc_script.specs.Begun.{Begun}
+use Rattle.arc_script.specs.Between.{CarriedOut, Carries, CountsSteps, IsClock, MayComeNext, Shuts, SoFar, Stops, size_of}
 use Rattle.arc_script.specs.Carrying.{HaveTaken, IsNext}
 use Rattle.arc_script.specs.Fed.{clock_of}
 use Rattle.arc_script.specs.Halting.{Halts, closing}

@@ -14,7 +14,8 @@ use Rattle.centre_store.specs.Stores.{Stored, StoreStands}
 use Rattle.desk_session.specs.Desks as Desk
 use Rattle.disk_journal.specs.Journal.{Holds}
 use Rattle.line_session.specs.Lines as Line
-use Rattle.arc_script.specs.Between.{Begun, IsStoreSoFar, SoFar}
+use Rattle.arc_script.specs.Begun.{Begun}
+use Rattle.arc_script.specs.Between.{IsStoreSoFar, SoFar}
 use Rattle.arc_script.specs.Carrying.{HasRead, HaveTaken}
 use Rattle.arc_script.specs.Playing.{IsNewDesk}
 use Rattle.centre_store.specs.StoreHalls.{is_told}

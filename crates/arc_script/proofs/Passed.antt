@@ -8,7 +8,8 @@ use Rattle.centre_store.specs.Stores.{Stored}
 use Rattle.desk_session.specs.Desks as Desk
 use Rattle.line_session.specs.Lines as Line
 use Rattle.script_lines.specs.Lines.{Asked}
-use Rattle.arc_script.specs.Between.{Begun, SoFar, size_of}
+use Rattle.arc_script.specs.Begun.{Begun}
+use Rattle.arc_script.specs.Between.{SoFar, size_of}
 use Rattle.arc_script.specs.Carrying.{HasRead, HaveTaken}
 use Rattle.arc_script.specs.Fed.{desk_read}
 use Rattle.arc_script.specs.Steps.{asked_after}

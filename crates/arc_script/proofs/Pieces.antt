@@ -12,8 +12,9 @@ use Rattle.arc_text.specs.Lines.{ended_lines}
 use Rattle.centre_store.specs.Stores.{Stored}
 use Rattle.desk_session.specs.Desks.{lines_read}
 use Rattle.session_rules.specs.Inputs.{input_limit}
-use Rattle.arc_script.specs.Between.{Begun, SoFar}
-use Rattle.arc_script.specs.Ends.{Tells, IsTranscript}
+use Rattle.arc_script.specs.Begun.{Begun}
+use Rattle.arc_script.specs.Between.{SoFar}
+use Rattle.arc_script.specs.Ends.{IsTranscript}
 use Rattle.arc_script.specs.Halting.{Halts, Finishes, closing}
 use Rattle.arc_script.specs.declared.script.Script.{Script}
 use Rattle.arc_script.specs.declared.script_end.ScriptEnd.{ScriptEnd}
@@ -102,7 +103,7 @@ module _ {D : Type 0} (seen : D → DiskSeen) (b : Begun D) (count : ℕ) (cutte
   -- a read failed
   pub fails : (q : PortSeen) (disk : D) (tally : Tally) → count < input_limit → OnlyReads p q → q.left ≡ p.left → q.ended ≡ false
       → Rose p.read_faults q.read_faults → disk ≡ s.journal.disk → tally ≡ closing script.tally script.opened_before s.state.sum
-      → IsTranscript seen (Tells (seen b.disk)) b.base b.setup b.past b.limits (seen b.disk).faults ReadFault b.port q disk tally
+      → IsTranscript seen b ReadFault q disk tally
   fails q disk tally few only left ended rose disk_is tally_as =
       let short : length r.stream < input_limit = subst (λ (n : ℕ). n < input_limit) r.count_is few in
       read_fault seen b r.stream q disk tally (r.taken ∙ ap (prepend_known r.stream) (sym left)) (λ out. absurd (let clash = sym ended ∙ out in cc))
@@ -113,7 +114,7 @@ module _ {D : Type 0} (seen : D → DiskSeen) (b : Begun D) (count : ℕ) (cutte
   -- so much was read that no more is
   pub is_spent : (disk : D) (tally : Tally) → count ≡ input_limit → p.ended ≡ false → disk ≡ s.journal.disk
       → tally ≡ closing script.tally script.opened_before s.state.sum
-      → IsTranscript seen (Tells (seen b.disk)) b.base b.setup b.past b.limits (seen b.disk).faults Spent b.port p disk tally
+      → IsTranscript seen b Spent p disk tally
   is_spent disk tally full ended disk_is tally_as =
       spent seen b r.stream p disk tally r.taken (λ out. absurd (let clash = sym ended ∙ out in cc)) (most (omega (arith, full))) r.others
       (ended_lines r.stream) (sym (ap (λ t. lines_read t r.stream) ended))
@@ -123,7 +124,7 @@ module _ {D : Type 0} (seen : D → DiskSeen) (b : Begun D) (count : ℕ) (cutte
   pub halts_in : (piece : List ℕ) (q p' : PortSeen) (end : ScriptEnd) (disk : D) (tally : Tally) → length piece ≤ 4096
       → length (r.stream ++ piece) ≤ input_limit → p.left ≡ prepend_known piece q.left → OnlyReads p q → q.ended ≡ false → OnlyWrites q p'
       → Halts seen b (ended_lines r.stream) (ended_lines (r.stream ++ piece)) end p' disk tally
-      → IsTranscript seen (Tells (seen b.disk)) b.base b.setup b.past b.limits (seen b.disk).faults end b.port p' disk tally
+      → IsTranscript seen b end p' disk tally
   halts_in piece q p' end disk tally short fits given reads ended writes halts =
       let left : p'.left ≡ q.left = ap (λ (x : PortSeen). x.left) writes.rest in
       let open_still : p'.ended ≡ false = ap (λ (x : PortSeen). x.ended) writes.rest ∙ ended in
@@ -136,7 +137,7 @@ module _ {D : Type 0} (seen : D → DiskSeen) (b : Begun D) (count : ℕ) (cutte
   -- the script ended
   pub finishes : (q p' : PortSeen) (end : ScriptEnd) (disk : D) (tally : Tally) → count < input_limit → p.left ≡ prepend_known [] q.left → OnlyReads p q
       → q.ended ≡ true → IsAtEnd q.left → OnlyWrites q p' → Finishes seen b (ended_lines r.stream) (lines r.stream) end p' disk tally
-      → IsTranscript seen (Tells (seen b.disk)) b.base b.setup b.past b.limits (seen b.disk).faults end b.port p' disk tally
+      → IsTranscript seen b end p' disk tally
   finishes q p' end disk tally few given reads ended out writes ends =
       let left : p'.left ≡ q.left = ap (λ (x : PortSeen). x.left) writes.rest in
       let over : p'.ended ≡ true = ap (λ (x : PortSeen). x.ended) writes.rest ∙ ended in

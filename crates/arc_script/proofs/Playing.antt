@@ -9,7 +9,8 @@ use Rattle.arc_text.specs.declared.line_cut.LineCut.{LineCut}
 use Rattle.centre_store.specs.Stores.{Stored}
 use Rattle.desk_session.proofs.Fed.{CameNone, CameLine, lines_behind}
 use Rattle.session_rules.specs.Inputs.{input_limit}
-use Rattle.arc_script.specs.Between.{Begun, MayComeNext, SoFar}
+use Rattle.arc_script.specs.Begun.{Begun}
+use Rattle.arc_script.specs.Between.{MayComeNext, SoFar}
 use Rattle.arc_script.specs.Halting.{Halts}
 use Rattle.arc_script.specs.Texts.{counted, numbered_from}
 use Rattle.arc_script.specs.declared.script.Script.{Script}

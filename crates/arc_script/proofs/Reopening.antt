@@ -16,7 +16,7 @@ use Rattle.disk_journal.proofs.Once.{one_answer}
 use Rattle.disk_journal.specs.Journal.{Holds}
 use Rattle.disk_journal.specs.Records.{AtRest}
 use Rattle.disk_journal.specs.Standing.{AreasStand}
-use Rattle.arc_script.specs.Between.{Begun}
+use Rattle.arc_script.specs.Begun.{Begun}
 use Rattle.arc_script.specs.Ends.{Tells}
 use Rattle.centre_store.specs.StoreHalls.{is_told}
 use Rattle.arc_script.specs.Standing.{IsReadable}

@@ -13,7 +13,8 @@ use Rattle.centre_store.specs.Bodies.{bodies_of}
 use Rattle.centre_store.specs.Stores.{Stored, StoreStands}
 use Rattle.disk_journal.specs.Journal.{Holds}
 use Rattle.script_lines.specs.Lines.{Asked, Time, Command, Reopen}
-use Rattle.arc_script.specs.Between.{Begun, Between, CarriedOut, Carries, StoppedAt, Stops}
+use Rattle.arc_script.specs.Begun.{Begun}
+use Rattle.arc_script.specs.Between.{Between, CarriedOut, Carries, StoppedAt, Stops}
 use Rattle.arc_script.specs.Carrying.{Carried, Halted, HaveTakenWith, IsNext}
 use Rattle.arc_script.specs.Causes.{HasShown, IsOfCommand, IsOfTime, Submits}
 use Rattle.arc_script.specs.Ends.{Tells, AddedBy, CameTo}

@@ -12,7 +12,8 @@ use Rattle.centre_rules.specs.Summary.{Summary}
 use Rattle.centre_store.specs.Stores.{Stored, StoreStands}
 use Rattle.desk_wire.specs.Replies.{line_of}
 use Rattle.script_lines.specs.Lines.{Asked, Time, spelling}
-use Rattle.arc_script.specs.Between.{Begun, Between, StoppedAt}
+use Rattle.arc_script.specs.Begun.{Begun}
+use Rattle.arc_script.specs.Between.{Between, StoppedAt}
 use Rattle.arc_script.specs.Carrying.{Carried, CountsStep, HaveTaken, HaveTakenWith}
 use Rattle.arc_script.specs.Causes.{HasShown, IsOfTime}
 use Rattle.arc_script.specs.Ends.{Tells, BegunUntil, CameFor}

@@ -11,8 +11,9 @@ use Rattle.arc_text.specs.Lines.{ended_lines}
 use Rattle.centre_store.specs.Stores.{Stored}
 use Rattle.desk_session.specs.Desks.{lines_read}
 use Rattle.session_rules.specs.Inputs.{input_limit}
-use Rattle.arc_script.specs.Between.{Begun, SoFar}
-use Rattle.arc_script.specs.Ends.{Tells, Played, EndsAs, IsNotAhead, ReadsNoFurther, IsTranscript}
+use Rattle.arc_script.specs.Begun.{Begun}
+use Rattle.arc_script.specs.Between.{SoFar}
+use Rattle.arc_script.specs.Ends.{Played, EndsAs, IsNotAhead, ReadsNoFurther, IsTranscript}
 use Rattle.arc_script.specs.Halting.{Halts, HaltsAs, Whole, Finishes}
 use Rattle.arc_script.specs.Texts.{counted}
 use Rattle.arc_script.specs.declared.script.Script.{Script}
@@ -43,9 +44,9 @@ pub record ReadSoFar {D : Type 0} (seen : D → DiskSeen) (b : Begun D) (count :
   pub others : OnlyPorts b.port p
 
 halted_ends : {D : Type 0} (seen : D → DiskSeen) (b : Begun D) (read : List ℕ) (lines : List (ℕ × List ℕ))
-    (played : Played (Tells (seen b.disk)) b.base b.setup b.past lines) (end : ScriptEnd) (p : PortSeen) (disk : D) (tally : Tally)
-    → HaltsAs seen b lines played end p disk tally
-    → EndsAs seen (Tells (seen b.disk)) b.base b.setup b.past read lines played b.limits (seen b.disk).faults end b.port p disk tally
+    (played : Played seen b lines) (end : ScriptEnd) (p : PortSeen) (disk : D) (tally : Tally)
+    → HaltsAs seen b played end p disk tally
+    → EndsAs seen b read played end p disk tally
 halted_ends seen b read lines played Done p disk tally halts = absurd halts
 halted_ends seen b read lines played ReadFault p disk tally halts = absurd halts
 halted_ends seen b read lines played Spent p disk tally halts = absurd halts
@@ -55,8 +56,8 @@ halted_ends seen b read lines played (Stopped stop) p disk tally halts = halts
 halted_ends seen b read lines played (Refused fault) p disk tally halts = halts
 
 no_further : {D : Type 0} (seen : D → DiskSeen) (b : Begun D) (read : List ℕ) (lines carried : List (ℕ × List ℕ))
-    (played : Played (Tells (seen b.disk)) b.base b.setup b.past lines) (end : ScriptEnd) (p : PortSeen) (disk : D) (tally : Tally)
-    → HaltsAs seen b lines played end p disk tally → IsNotAhead read carried → ReadsNoFurther end read carried
+    (played : Played seen b lines) (end : ScriptEnd) (p : PortSeen) (disk : D) (tally : Tally)
+    → HaltsAs seen b played end p disk tally → IsNotAhead read carried → ReadsNoFurther end read carried
 no_further seen b read lines carried played Done p disk tally halts near = absurd halts
 no_further seen b read lines carried played ReadFault p disk tally halts near = absurd halts
 no_further seen b read lines carried played Spent p disk tally halts near = absurd halts
@@ -68,15 +69,15 @@ no_further seen b read lines carried played (Refused fault) p disk tally halts n
 -- what was played of lines, and how that ended
 record Ended {D : Type 0} (seen : D → DiskSeen) (b : Begun D) (read : List ℕ) (end : ScriptEnd) (p : PortSeen) (disk : D) (tally : Tally)
     (all : List (List ℕ)) : Type 0 where
-  played : Played (Tells (seen b.disk)) b.base b.setup b.past (counted all)
-  ends : EndsAs seen (Tells (seen b.disk)) b.base b.setup b.past read (counted all) played b.limits (seen b.disk).faults end b.port p disk tally
+  played : Played seen b (counted all)
+  ends : EndsAs seen b read played end p disk tally
   ahead : ReadsNoFurther end read played.front
 
 module _ {D : Type 0} (seen : D → DiskSeen) (b : Begun D) (read : List ℕ) (p : PortSeen) (disk : D) (tally : Tally)
     (taken : b.port.left ≡ prepend_known read p.left) (out : p.ended ≡ true → IsAtEnd p.left) (most : length read ≤ input_limit)
     (others : OnlyPorts b.port p) (all : List (List ℕ)) (these : all ≡ lines_read p.ended read) where
   transcript : (end : ScriptEnd) → Ended seen b read end p disk tally all
-      → IsTranscript seen (Tells (seen b.disk)) b.base b.setup b.past b.limits (seen b.disk).faults end b.port p disk tally
+      → IsTranscript seen b end p disk tally
   transcript end ended =
       let e = subst (Ended seen b read end p disk tally) these ended in
       record {
@@ -91,20 +92,20 @@ module _ {D : Type 0} (seen : D → DiskSeen) (b : Begun D) (read : List ℕ) (p
       }
 
   pub read_fault : Whole seen b all p disk tally → length read < input_limit → Rose b.port.read_faults p.read_faults
-      → IsTranscript seen (Tells (seen b.disk)) b.base b.setup b.past b.limits (seen b.disk).faults ReadFault b.port p disk tally
+      → IsTranscript seen b ReadFault p disk tally
   read_fault whole short rose = transcript ReadFault (record { played = whole.played; ends = (rose, short, whole.whole); ahead = tt })
 
   pub spent : Whole seen b all p disk tally → length read ≡ input_limit
-      → IsTranscript seen (Tells (seen b.disk)) b.base b.setup b.past b.limits (seen b.disk).faults Spent b.port p disk tally
+      → IsTranscript seen b Spent p disk tally
   spent whole full = transcript Spent (record { played = whole.played; ends = (full, whole.whole); ahead = tt })
 
   done : Whole seen b all p disk tally → length read < input_limit → IsReadOut p
-      → IsTranscript seen (Tells (seen b.disk)) b.base b.setup b.past b.limits (seen b.disk).faults Done b.port p disk tally
+      → IsTranscript seen b Done p disk tally
   done whole short is = transcript Done (record { played = whole.played; ends = (is, short, whole.whole); ahead = tt })
 
   pub halted : (early last : List ℕ) (end : ScriptEnd) → read ≡ early ++ last → length last ≤ 4096
       → Halts seen b (ended_lines early) all end p disk tally
-      → IsTranscript seen (Tells (seen b.disk)) b.base b.setup b.past b.limits (seen b.disk).faults end b.port p disk tally
+      → IsTranscript seen b end p disk tally
   halted early last end parts short halts = transcript end (record {
     played = halts.played;
     ends = halted_ends seen b read (counted all) halts.played end p disk tally halts.ends;
@@ -119,9 +120,9 @@ module _ {D : Type 0} (seen : D → DiskSeen) (b : Begun D) (read : List ℕ) (p
   })
 
   pub finished : (end : ScriptEnd) → Finishes seen b (ended_lines read) all end p disk tally → length read < input_limit → IsReadOut p
-      → IsTranscript seen (Tells (seen b.disk)) b.base b.setup b.past b.limits (seen b.disk).faults end b.port p disk tally
+      → IsTranscript seen b end p disk tally
   finished end (inl d) short is =
-      subst (λ (e : ScriptEnd). IsTranscript seen (Tells (seen b.disk)) b.base b.setup b.past b.limits (seen b.disk).faults e b.port p disk tally) (sym d.0) (done d.1 short is)
+      subst (λ (e : ScriptEnd). IsTranscript seen b e p disk tally) (sym d.0) (done d.1 short is)
   finished end (inr halts) short is = halted read [] end (sym (append-nil read)) (omega arith) halts
 
 -- Ports, one call behind another.

@@ -5,7 +5,8 @@ use Rattle.centre_core.specs.declared.hall.Stop.TheVariants.{Memory}
 use Rattle.centre_rules.specs.History.{Entry}
 use Rattle.centre_store.specs.Stores.{Stored}
 use Rattle.script_lines.specs.Lines.{Asked, Time, Feed, Message, Command, Reopen}
-use Rattle.arc_script.specs.Between.{Begun, Between, StoppedAt}
+use Rattle.arc_script.specs.Begun.{Begun}
+use Rattle.arc_script.specs.Between.{Between, StoppedAt}
 use Rattle.arc_script.specs.Fed.{clock_of}
 use Rattle.arc_script.specs.Playing.{moment_at}
 use Rattle.arc_script.specs.Steps.{Step}

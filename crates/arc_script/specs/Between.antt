@@ -9,15 +9,14 @@ use Rattle.arc_text.specs.Lines.{is_feed}
 use Rattle.centre_core.specs.declared.hall.Stop.{Stop}
 use Rattle.centre_rules.specs.Cases.{opened}
 use Rattle.centre_rules.specs.History.{Entry, IsMoment, marks}
-use Rattle.centre_rules.specs.Summary.{Summary}
 use Rattle.centre_store.specs.Bodies.{bodies_of}
 use Rattle.centre_store.specs.Given.{IsGiven, HasRecorded}
 use Rattle.centre_store.specs.Stores.{Stored, StoreStands}
 use Rattle.disk_journal.specs.Journal.{Holds}
 use Rattle.disk_journal.specs.declared.fault.OpenFault.{OpenFault}
-use Rattle.disk_journal.specs.declared.journal.Limits.{Limits}
 use Rattle.script_lines.specs.Lines.{Asked, spelling}
 use Rattle.session_rules.specs.Inputs.{input_limit}
+use Rattle.arc_script.specs.Begun.{Begun}
 use Rattle.arc_script.specs.Carrying.{CountsMore, HaveTaken, IsNext}
 use Rattle.arc_script.specs.Causes.{HasShown, Submits}
 use Rattle.arc_script.specs.Ends.{Tells, IsUnopened, CameFor}
@@ -29,15 +28,6 @@ use Rattle.arc_script.specs.Tallies.{count_of, entries_of, is_closed, is_repeat,
 use Rattle.arc_script.specs.Texts.{AreOf, counted}
 use Rattle.arc_script.specs.declared.script.Script.{Script}
 use Rattle.arc_script.specs.declared.script_end.Tally.{Tally}
-
--- how a script began: over which disk, with which setup and limits, over which summary and past, and what its port told
-pub record Begun (D : Type 0) : Type 0 where
-  pub disk : D
-  pub setup : List ℕ
-  pub limits : Limits
-  pub base : Summary
-  pub past : List Entry
-  pub port : PortSeen
 
 -- how many bytes lines have, without their ends
 abbrev pub size_of : List (List ℕ) → ℕ

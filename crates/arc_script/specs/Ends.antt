@@ -1,5 +1,5 @@
 -- How a script ended, and what it did.
-use Rattle.std.specs.Prelude.{◌≡◌, ◌<◌, ◌≤◌, ◌⊎◌, ◌++◌, ℕ, List, [], ◌∷◌, true, Option, Some, None, IfSome, take, length, reverse, suc}
+use Rattle.std.specs.Prelude.{◌≡◌, ◌<◌, ◌≤◌, ◌⊎◌, ◌++◌, ℕ, List, [], ◌∷◌, true, Option, Some, None, IfSome, take, length, reverse}
 use Rattle.std.specs.Io.KnownBytes.{prepend_known, append_known, IsAtEnd}
 use Rattle.arc_data.specs.Digits.{bytes_spelled}
 use Rattle.arc_io.specs.Areas.{Areas}
@@ -27,6 +27,7 @@ use Rattle.line_session.specs.Turns.{Turn, line_turns}
 use Rattle.script_lines.specs.Lines.{Asked, Time, Feed, Message, Command, Reopen}
 use Rattle.session_rules.specs.Inputs.{input_limit}
 use Rattle.session_rules.specs.Turns.{entries_of}
+use Rattle.arc_script.specs.Begun.{Begun}
 use Rattle.arc_script.specs.Causes.{HasShown, Submits, IsSentFor}
 use Rattle.arc_script.specs.Fed.{clock_of}
 use Rattle.arc_script.specs.Steps.{Step, Keeps, FeedsLine, IsStepOf, AreSteps, asked_after, output_of}
@@ -34,6 +35,7 @@ use Rattle.arc_script.specs.Tallies.{IsTally, no_tally}
 use Rattle.arc_script.specs.Texts.{AreOf, IsPlayable, counted}
 use Rattle.arc_script.specs.declared.script_end.ScriptEnd.{ScriptEnd}
 use Rattle.arc_script.specs.declared.script_end.ScriptEnd.TheVariants.{Done, ReadFault, WriteFault, Spent, BadScript, Refused, Stopped}
+use Rattle.arc_script.specs.declared.script_end.ScriptEnded.{ScriptEnded}
 use Rattle.arc_script.specs.declared.script_end.Tally.{Tally}
 
 -- the disk tells what it holds
@@ -51,45 +53,45 @@ pub record IsUnopened (fault : OpenFault) (disk disk' : DiskSeen) : Type 0 where
 
 -- What a script did, of these lines, over a past: the first of them have their steps, which go on from the past to a history. Those
 -- behind were not carried out.
-pub record Played (Told : Type 0) (base : Summary) (setup : List ℕ) (past : List Entry) (lines : List (ℕ × List ℕ)) : Type 0 where
+pub record Played {D : Type 0} (seen : D → DiskSeen) (b : Begun D) (lines : List (ℕ × List ℕ)) : Type 0 where
   pub front : List (ℕ × List ℕ)
   pub behind : List (ℕ × List ℕ)
   pub steps : List Step
   pub history : List Entry
   pub split : lines ≡ front ++ behind
   pub of : AreOf [] front steps
-  pub are : AreSteps Told base setup [] past history steps
+  pub are : AreSteps (Tells (seen b.disk)) b.base b.setup [] b.past history steps
 
 -- all lines have their steps, the output is theirs, and the area stands for the history's recorded entries
-pub record IsWhole {D : Type 0} (seen : D → DiskSeen) (Told : Type 0) (base : Summary) (setup : List ℕ) (past : List Entry) (lines : List (ℕ × List ℕ))
-    (played : Played Told base setup past lines) (p p' : PortSeen) (disk' : D) (tally : Tally) : Type 0 where
+pub record IsWhole {D : Type 0} {lines : List (ℕ × List ℕ)} (seen : D → DiskSeen) (b : Begun D) (played : Played seen b lines)
+    (p' : PortSeen) (disk' : D) (tally : Tally) : Type 0 where
   pub none_behind : played.behind ≡ []
-  pub output : p'.written ≡ append_known p.written (output_of played.steps)
-  pub area : HasRecorded (seen disk') base played.history
-  pub counts : IsTally base past played.steps played.history tally
+  pub output : p'.written ≡ append_known b.port.written (output_of played.steps)
+  pub area : HasRecorded (seen disk') b.base played.history
+  pub counts : IsTally b.base b.past played.steps played.history tally
 
 -- the next line, of this number, asks for nothing; the output is that of the lines before it
-pub record IsBad {D : Type 0} (seen : D → DiskSeen) (Told : Type 0) (base : Summary) (setup : List ℕ) (past : List Entry) (lines : List (ℕ × List ℕ))
-    (played : Played Told base setup past lines) (number : ℕ) (p p' : PortSeen) (disk' : D) (tally : Tally) : Type 0 where
+pub record IsBad {D : Type 0} {lines : List (ℕ × List ℕ)} (seen : D → DiskSeen) (b : Begun D) (played : Played seen b lines)
+    (number : ℕ) (p' : PortSeen) (disk' : D) (tally : Tally) : Type 0 where
   pub line : List ℕ
   pub more : List (ℕ × List ℕ)
   pub next : played.behind ≡ (number, line) ∷ more
   pub wrong : (asked : Asked) → IsPlayable (asked_after [] played.steps) line asked → ⊥
-  pub output : p'.written ≡ append_known p.written (output_of played.steps)
-  pub area : HasRecorded (seen disk') base played.history
-  pub counts : IsTally base past played.steps played.history tally
+  pub output : p'.written ≡ append_known b.port.written (output_of played.steps)
+  pub area : HasRecorded (seen disk') b.base played.history
+  pub counts : IsTally b.base b.past played.steps played.history tally
 
 -- the output of the last step was cut short: it lacks a byte at least. All that the step recorded stands.
-pub record IsCutOff {D : Type 0} (seen : D → DiskSeen) (Told : Type 0) (base : Summary) (setup : List ℕ) (past : List Entry) (lines : List (ℕ × List ℕ))
-    (played : Played Told base setup past lines) (p p' : PortSeen) (disk' : D) (tally : Tally) : Type 0 where
+pub record IsCutOff {D : Type 0} {lines : List (ℕ × List ℕ)} (seen : D → DiskSeen) (b : Begun D) (played : Played seen b lines)
+    (p' : PortSeen) (disk' : D) (tally : Tally) : Type 0 where
   pub front : List Step
   pub last : Step
   pub count : ℕ
   pub split : played.steps ≡ front ++ last ∷ []
   pub short : count < length last.text
-  pub output : p'.written ≡ append_known p.written (output_of front ++ take count last.text)
-  pub area : HasRecorded (seen disk') base played.history
-  pub counts : IsTally base past played.steps played.history tally
+  pub output : p'.written ≡ append_known b.port.written (output_of front ++ take count last.text)
+  pub area : HasRecorded (seen disk') b.base played.history
+  pub counts : IsTally b.base b.past played.steps played.history tally
 
 -- How far a line came that was stopped: the history that it left, from h on. A `T` may have begun the run, or adopted its setup, before; so
 -- may an `X`, but over what the journal keeps, for it has closed the store, and it has begun the run only where memory was wanted; of a
@@ -140,9 +142,8 @@ CameFor stop Told base setup before waiting h x s asked =
 -- The next line was stopped. It has no output, and what it recorded before stands: the store that showed the stop, for an event of this
 -- line at the moment that is set, stands for it, and its disk is handed back. So the area stands for it, and after a fault of the disk for
 -- it with the one event that met the fault or without.
-pub record IsHalted {D : Type 0} (seen : D → DiskSeen) (Told : Type 0) (base : Summary) (setup : List ℕ) (past : List Entry) (lines : List (ℕ × List ℕ))
-    (played : Played Told base setup past lines) (stop : Stop) (limits : Limits) (entry : ℕ) (p p' : PortSeen) (disk' : D)
-    (tally : Tally) : Type 0 where
+pub record IsHalted {D : Type 0} {lines : List (ℕ × List ℕ)} (seen : D → DiskSeen) (b : Begun D) (played : Played seen b lines)
+    (stop : Stop) (p' : PortSeen) (disk' : D) (tally : Tally) : Type 0 where
   pub number : ℕ
   pub line : List ℕ
   pub more : List (ℕ × List ℕ)
@@ -154,15 +155,15 @@ pub record IsHalted {D : Type 0} (seen : D → DiskSeen) (Told : Type 0) (base :
   pub last : Stored D
   pub next : played.behind ≡ (number, line) ∷ more
   pub asks : IsPlayable (asked_after [] played.steps) line asked
-  pub came : CameFor stop Told base setup (asked_after [] played.steps) waiting played.history history partial asked
+  pub came : CameFor stop (Tells (seen b.disk)) b.base b.setup (asked_after [] played.steps) waiting played.history history partial asked
   pub set : clock_of (asked ∷ asked_after [] played.steps) ≡ Some clock
-  pub cause : HasShown seen last stop clock (Submits setup (asked_after [] played.steps) clock waiting asked)
-  pub stands : StoreStands seen base last history
-  pub limits_are : last.journal.limits ≡ limits
-  pub later : entry ≤ last.at_open
+  pub cause : HasShown seen last stop clock (Submits b.setup (asked_after [] played.steps) clock waiting asked)
+  pub stands : StoreStands seen b.base last history
+  pub limits_are : last.journal.limits ≡ b.limits
+  pub later : (seen b.disk).faults ≤ last.at_open
   pub handed : disk' ≡ last.journal.disk
-  pub output : p'.written ≡ append_known p.written (output_of played.steps)
-  pub counts : IsTally base past (played.steps ++ partial ∷ []) history tally
+  pub output : p'.written ≡ append_known b.port.written (output_of played.steps)
+  pub counts : IsTally b.base b.past (played.steps ++ partial ∷ []) history tally
 
 -- Memory was wanted before the script was read: nothing was done.
 pub record IsUnread {D : Type 0} (seen : D → DiskSeen) (base : Summary) (past : List Entry) (p p' : PortSeen) (disk' : D) (tally : Tally) : Type 0 where
@@ -171,37 +172,31 @@ pub record IsUnread {D : Type 0} (seen : D → DiskSeen) (base : Summary) (past 
   pub counts : IsTally base past [] past tally
 
 -- The next line, an `X`, could not open the journal again.
-pub record IsShut {D : Type 0} (seen : D → DiskSeen) (Told : Type 0) (base : Summary) (setup : List ℕ) (past : List Entry) (lines : List (ℕ × List ℕ))
-    (played : Played Told base setup past lines) (fault : OpenFault) (entry : ℕ) (p p' : PortSeen) (disk' : D) (tally : Tally) : Type 0 where
+pub record IsShut {D : Type 0} {lines : List (ℕ × List ℕ)} (seen : D → DiskSeen) (b : Begun D) (played : Played seen b lines)
+    (fault : OpenFault) (p' : PortSeen) (disk' : D) (tally : Tally) : Type 0 where
   pub number : ℕ
   pub line : List ℕ
   pub more : List (ℕ × List ℕ)
   pub next : played.behind ≡ (number, line) ∷ more
   pub asks : IsPlayable (asked_after [] played.steps) line Reopen
   pub closed : D
-  pub later : entry ≤ (seen closed).faults
-  pub area : HasRecorded (seen closed) base played.history
+  pub later : (seen b.disk).faults ≤ (seen closed).faults
+  pub area : HasRecorded (seen closed) b.base played.history
   pub unopened : IsUnopened fault (seen closed) (seen disk')
-  pub output : p'.written ≡ append_known p.written (output_of played.steps)
-  pub counts : IsTally base past played.steps played.history tally
+  pub output : p'.written ≡ append_known b.port.written (output_of played.steps)
+  pub counts : IsTally b.base b.past played.steps played.history tally
 
 -- What a script's end says of what was played, of the bytes that were read.
-abbrev pub EndsAs : {D : Type 0} → (D → DiskSeen) → (Told : Type 0) (base : Summary) (setup : List ℕ) (past : List Entry) → List ℕ → (lines : List (ℕ × List ℕ))
-    → Played Told base setup past lines → Limits → ℕ → ScriptEnd → PortSeen → PortSeen → D → Tally → Type 0
-EndsAs seen Told base setup past read lines played limits entry Done p p' disk' tally =
-    IsReadOut p' × (length read < input_limit) × IsWhole seen Told base setup past lines played p p' disk' tally
-EndsAs seen Told base setup past read lines played limits entry ReadFault p p' disk' tally =
-    Rose p.read_faults p'.read_faults × (length read < input_limit) × IsWhole seen Told base setup past lines played p p' disk' tally
-EndsAs seen Told base setup past read lines played limits entry Spent p p' disk' tally =
-    (length read ≡ input_limit) × IsWhole seen Told base setup past lines played p p' disk' tally
-EndsAs seen Told base setup past read lines played limits entry WriteFault p p' disk' tally =
-    Rose p.write_faults p'.write_faults × IsCutOff seen Told base setup past lines played p p' disk' tally
-EndsAs seen Told base setup past read lines played limits entry (BadScript number) p p' disk' tally =
-    IsBad seen Told base setup past lines played number p p' disk' tally
-EndsAs seen Told base setup past read lines played limits entry (Stopped stop) p p' disk' tally =
-    IsHalted seen Told base setup past lines played stop limits entry p p' disk' tally
-EndsAs seen Told base setup past read lines played limits entry (Refused fault) p p' disk' tally =
-    IsShut seen Told base setup past lines played fault entry p p' disk' tally
+abbrev pub EndsAs : {D : Type 0} {lines : List (ℕ × List ℕ)} (seen : D → DiskSeen) (b : Begun D) → List ℕ → Played seen b lines → ScriptEnd → PortSeen
+    → D → Tally → Type 0
+EndsAs seen b read played Done p' disk' tally = IsReadOut p' × (length read < input_limit) × IsWhole seen b played p' disk' tally
+EndsAs seen b read played ReadFault p' disk' tally =
+    Rose b.port.read_faults p'.read_faults × (length read < input_limit) × IsWhole seen b played p' disk' tally
+EndsAs seen b read played Spent p' disk' tally = (length read ≡ input_limit) × IsWhole seen b played p' disk' tally
+EndsAs seen b read played WriteFault p' disk' tally = Rose b.port.write_faults p'.write_faults × IsCutOff seen b played p' disk' tally
+EndsAs seen b read played (BadScript number) p' disk' tally = IsBad seen b played number p' disk' tally
+EndsAs seen b read played (Stopped stop) p' disk' tally = IsHalted seen b played stop p' disk' tally
+EndsAs seen b read played (Refused fault) p' disk' tally = IsShut seen b played fault p' disk' tally
 
 -- Not far ahead: all lines but those that end in the last bytes read, at most 4,096 of them, were carried out.
 pub record IsNotAhead (read : List ℕ) (carried : List (ℕ × List ℕ)) : Type 0 where
@@ -217,23 +212,19 @@ abbrev pub ReadsNoFurther : ScriptEnd → List ℕ → List (ℕ × List ℕ) �
 ReadsNoFurther Done read carried = Unit {0}
 ReadsNoFurther ReadFault read carried = Unit {0}
 ReadsNoFurther Spent read carried = Unit {0}
-ReadsNoFurther WriteFault read carried = IsNotAhead read carried
-ReadsNoFurther (BadScript number) read carried = IsNotAhead read carried
-ReadsNoFurther (Stopped stop) read carried = IsNotAhead read carried
-ReadsNoFurther (Refused fault) read carried = IsNotAhead read carried
+ReadsNoFurther end read carried = IsNotAhead read carried
 
 -- The transcript of a script over a past, of the bytes that were read of the port: their lines and what was played of them. Where a read
 -- has met the input's end, that is all of it. All but what is about reading and writing stayed.
-pub record IsTranscript {D : Type 0} (seen : D → DiskSeen) (Told : Type 0) (base : Summary) (setup : List ℕ) (past : List Entry) (limits : Limits)
-    (entry : ℕ) (end : ScriptEnd) (p p' : PortSeen) (disk' : D) (tally : Tally) : Type 0 where
+pub record IsTranscript {D : Type 0} (seen : D → DiskSeen) (b : Begun D) (end : ScriptEnd) (p' : PortSeen) (disk' : D) (tally : Tally) : Type 0 where
   pub read : List ℕ
-  pub taken : p.left ≡ prepend_known read p'.left
+  pub taken : b.port.left ≡ prepend_known read p'.left
   pub out : p'.ended ≡ true → IsAtEnd p'.left
   pub most : length read ≤ input_limit
-  pub played : Played Told base setup past (counted (lines_read p'.ended read))
-  pub ends : EndsAs seen Told base setup past read (counted (lines_read p'.ended read)) played limits entry end p p' disk' tally
+  pub played : Played seen b (counted (lines_read p'.ended read))
+  pub ends : EndsAs seen b read played end p' disk' tally
   pub ahead : ReadsNoFurther end read played.front
-  pub others : p' ≡ record p {
+  pub others : p' ≡ record b.port {
     left = p'.left;
     ended = p'.ended;
     read_faults = p'.read_faults;
@@ -241,11 +232,11 @@ pub record IsTranscript {D : Type 0} (seen : D → DiskSeen) (Told : Type 0) (ba
     write_faults = p'.write_faults;
   }
 
--- What a script did over a disk: the journal was not opened, and nothing was read or written; or the area stood for a past, and the
+-- What a script did over a disk: the journal was not opened, and nothing was read or written; or the areas stood for a past, and the
 -- script is a transcript over it, or memory was wanted before it was read.
-abbrev pub IsScript : {D : Type 0} → (D → DiskSeen) → List ℕ → Limits → ScriptEnd → PortSeen → PortSeen → D → D → Tally → Type 0
-IsScript seen setup limits end p p' disk disk' tally =
-    ((fault : OpenFault) × (end ≡ Refused fault) × IsUnopened fault (seen disk) (seen disk') × (p' ≡ p) × (tally ≡ no_tally))
+abbrev pub IsScript : {D : Type 0} → (D → DiskSeen) → List ℕ → Limits → PortSeen → PortSeen → D → ScriptEnded D → Type 0
+IsScript seen setup limits p p' disk ended =
+    ((fault : OpenFault) × (ended.end ≡ Refused fault) × IsUnopened fault (seen disk) (seen ended.disk) × (p' ≡ p) × (ended.tally ≡ no_tally))
     ⊎ ((base : Summary) × (past : List Entry) × BeginsWith (seen disk) base past
-    × (IsTranscript seen (Tells (seen disk)) base setup past limits (seen disk).faults end p p' disk' tally
-    ⊎ ((end ≡ Stopped Memory) × IsUnread seen base past p p' disk' tally)))
+    × (IsTranscript seen (record { disk = disk; setup = setup; limits = limits; base = base; past = past; port = p }) ended.end p' ended.disk ended.tally
+    ⊎ ((ended.end ≡ Stopped Memory) × IsUnread seen base past p p' ended.disk ended.tally)))

@@ -1,5 +1,5 @@
 -- What feeding bytes to a line does.
-use Rattle.std.specs.Prelude.{◌≡◌, ◌⊎◌, ℕ, List, [], IfSome, length, suc}
+use Rattle.std.specs.Prelude.{◌≡◌, ℕ, List, [], IfSome, length}
 use Rattle.std.specs.List.{slice_get}
 use Rattle.arc_io.specs.Disks.{DiskSeen}
 use Rattle.centre_core.specs.declared.hall.Stop.{Stop}

@@ -4,11 +4,11 @@ use Rattle.arc_io.specs.Causes.{Rose}
 use Rattle.arc_io.specs.Disks.{DiskSeen}
 use Rattle.arc_io.specs.Seen.{PortSeen}
 use Rattle.centre_rules.specs.Summary.{Summary}
-use Rattle.arc_script.specs.Between.{Begun}
-use Rattle.arc_script.specs.Ends.{Tells, Played, IsWhole, IsBad, IsCutOff, IsHalted, IsShut}
+use Rattle.arc_script.specs.Begun.{Begun}
+use Rattle.arc_script.specs.Ends.{Played, IsWhole, IsBad, IsCutOff, IsHalted, IsShut}
 use Rattle.arc_script.specs.Texts.{counted}
 use Rattle.arc_script.specs.declared.script_end.ScriptEnd.{ScriptEnd}
-use Rattle.arc_script.specs.declared.script_end.ScriptEnd.TheVariants.{Done, ReadFault, WriteFault, Spent, BadScript, Refused, Stopped}
+use Rattle.arc_script.specs.declared.script_end.ScriptEnd.TheVariants.{Done, WriteFault, BadScript, Refused, Stopped}
 use Rattle.arc_script.specs.declared.script_end.Tally.{Tally}
 
 -- a tally at the end: what is told of the centre is taken then
@@ -20,31 +20,26 @@ closing t opened_before sum = record t {
 }
 
 -- the ends that one of the lines brings
-abbrev pub HaltsAs : {D : Type 0} (seen : D → DiskSeen) (b : Begun D) (lines : List (ℕ × List ℕ)) → Played (Tells (seen b.disk)) b.base b.setup b.past lines
+abbrev pub HaltsAs : {D : Type 0} {lines : List (ℕ × List ℕ)} (seen : D → DiskSeen) (b : Begun D) → Played seen b lines
     → ScriptEnd → PortSeen → D → Tally → Type 0
-HaltsAs seen b lines played Done p disk tally = ⊥
-HaltsAs seen b lines played ReadFault p disk tally = ⊥
-HaltsAs seen b lines played Spent p disk tally = ⊥
-HaltsAs seen b lines played WriteFault p disk tally =
-    Rose b.port.write_faults p.write_faults × IsCutOff seen (Tells (seen b.disk)) b.base b.setup b.past lines played b.port p disk tally
-HaltsAs seen b lines played (BadScript number) p disk tally = IsBad seen (Tells (seen b.disk)) b.base b.setup b.past lines played number b.port p disk tally
-HaltsAs seen b lines played (Stopped stop) p disk tally =
-    IsHalted seen (Tells (seen b.disk)) b.base b.setup b.past lines played stop b.limits (seen b.disk).faults b.port p disk tally
-HaltsAs seen b lines played (Refused fault) p disk tally =
-    IsShut seen (Tells (seen b.disk)) b.base b.setup b.past lines played fault (seen b.disk).faults b.port p disk tally
+HaltsAs seen b played WriteFault p disk tally = Rose b.port.write_faults p.write_faults × IsCutOff seen b played p disk tally
+HaltsAs seen b played (BadScript number) p disk tally = IsBad seen b played number p disk tally
+HaltsAs seen b played (Stopped stop) p disk tally = IsHalted seen b played stop p disk tally
+HaltsAs seen b played (Refused fault) p disk tally = IsShut seen b played fault p disk tally
+HaltsAs seen b played end p disk tally = ⊥
 
 -- A line behind these ended the script, of all these lines.
 pub record Halts {D : Type 0} (seen : D → DiskSeen) (b : Begun D) (before all : List (List ℕ)) (end : ScriptEnd) (p : PortSeen) (disk : D)
     (tally : Tally) : Type 0 where
-  pub played : Played (Tells (seen b.disk)) b.base b.setup b.past (counted all)
-  pub ends : HaltsAs seen b (counted all) played end p disk tally
+  pub played : Played seen b (counted all)
+  pub ends : HaltsAs seen b played end p disk tally
   pub more : List (ℕ × List ℕ)
   pub front : played.front ≡ counted before ++ more
 
 -- all these lines were carried out
 pub record Whole {D : Type 0} (seen : D → DiskSeen) (b : Begun D) (all : List (List ℕ)) (p : PortSeen) (disk : D) (tally : Tally) : Type 0 where
-  pub played : Played (Tells (seen b.disk)) b.base b.setup b.past (counted all)
-  pub whole : IsWhole seen (Tells (seen b.disk)) b.base b.setup b.past (counted all) played b.port p disk tally
+  pub played : Played seen b (counted all)
+  pub whole : IsWhole seen b played p disk tally
 
 -- the one at the end of what is read, or the other
 abbrev pub Finishes : {D : Type 0} → (D → DiskSeen) → Begun D → List (List ℕ) → List (List ℕ) → ScriptEnd → PortSeen → D → Tally → Type 0

@@ -10,6 +10,7 @@ pub mod Causes
 pub mod Steps
 pub mod Texts
 pub mod Tallies
+pub mod Begun
 pub mod Ends
 pub mod Playing
 pub mod Feeding

@@ -1,5 +1,5 @@
 // The lines `L` and `M`: bytes or a frame are fed to a line.
-ghost use Rattle.std.specs.Prelude.{◌≡◌, ◌≢◌, ◌⊎◌, ◌<◌, ◌≤◌, ◌-◌, ◌++◌, ◌∷◌, [], ℕ, List, Some, Err, IfErr, IfOk, IsOk, OnErr, OnOk, length, slice_get};
+ghost use Rattle.std.specs.Prelude.{◌≡◌, ◌≢◌, ◌⊎◌, ◌<◌, ◌≤◌, ◌-◌, ◌++◌, ◌∷◌, [], ℕ, List, Some, Err, IfErr, IfOk, IsOk, OnOk, length, slice_get};
 ghost use Rattle.std.specs.Io.KnownBytes.{append_known};
 ghost use Rattle.alarm_rules.specs.Setups.{meaning};
 ghost use Rattle.arc_data.specs.Digits.{bytes_spelled};

@@ -1,5 +1,5 @@
 // The line `X`: all is made anew over what the journal keeps.
-ghost use Rattle.std.specs.Prelude.{◌≡◌, ◌<◌, ℕ, List, None, Some, IfErr, IfOk, OnErr, OnOk};
+ghost use Rattle.std.specs.Prelude.{◌≡◌, ◌<◌, ℕ, List, Some, IfErr, IfOk, OnOk};
 ghost use Rattle.std.specs.Io.KnownBytes.{append_known};
 ghost use Rattle.centre_rules.specs.History.{Entry};
 ghost use Rattle.centre_rules.specs.Summary.{Summary};
@@ -8,7 +8,8 @@ ghost use Rattle.centre_store.specs.Bodies.{bodies_of};
 ghost use Rattle.centre_store.specs.Stores.{StoreStands};
 ghost use Rattle.disk_journal.specs.Journal.{Holds};
 ghost use Rattle.script_lines.specs.Lines.{Asked, Reopen};
-ghost use Rattle.arc_script.specs.Between.{Begun, Between, CarriedOut, ShutAt, StoppedAt};
+ghost use Rattle.arc_script.specs.Begun.{Begun};
+ghost use Rattle.arc_script.specs.Between.{Between, CarriedOut, ShutAt, StoppedAt};
 ghost use Rattle.arc_script.specs.Causes.{HasShown};
 ghost use Rattle.arc_script.specs.Ends.{BegunAgain};
 ghost use Rattle.arc_script.specs.Fed.{clock_of};

@@ -1,17 +1,15 @@
 // Running a script.
-ghost use Rattle.std.specs.Prelude.{◌≡◌, ◌<◌, ◌≤◌, ◌^◌, ◌⊎◌, [], ℕ, List, false, true, IsOk, length};
+ghost use Rattle.std.specs.Prelude.{◌≡◌, ◌<◌, ◌≤◌, ◌^◌, ◌⊎◌, [], ℕ, List, false, length};
 ghost use Rattle.std.specs.Str.Lines.{lines};
-ghost use Rattle.alarm_rules.specs.Setups.{setup_of};
 ghost use Rattle.arc_io.specs.Told.{OnlyWrites};
 ghost use Rattle.arc_text.specs.LineCutting.{WasFed};
 ghost use Rattle.arc_text.specs.Lines.{ended_lines};
-ghost use Rattle.centre_rules.specs.History.{Entry};
 ghost use Rattle.centre_store.specs.Bodies.{bodies_of};
-ghost use Rattle.centre_store.specs.Stores.{StoreStands};
 ghost use Rattle.disk_journal.specs.Journal.{Holds};
 ghost use Rattle.session_rules.specs.Inputs.{input_limit};
-ghost use Rattle.arc_script.specs.Between.{Begun, IsReady, IsStoreSoFar, SoFar};
-ghost use Rattle.arc_script.specs.Ends.{IsScript, IsTranscript, IsUnread, Tells};
+ghost use Rattle.arc_script.specs.Begun.{Begun};
+ghost use Rattle.arc_script.specs.Between.{IsReady, IsStoreSoFar, SoFar};
+ghost use Rattle.arc_script.specs.Ends.{IsScript, IsTranscript, IsUnread};
 ghost use Rattle.arc_script.specs.Halting.{Finishes};
 ghost use Rattle.arc_script.specs.Texts.{line_limit};
 
@@ -43,8 +41,7 @@ pub fn run_script<D: Disk, P: Port>(
 ) -> ScriptEnded<D>
     requires few { limits.bytes < 2 ^ 32 }
     requires not_ended { (P.seen port.old).ended ≡ false }
-    ensures script { IsScript D.seen
-        setup limits result.end (P.seen port.old) (P.seen port.new) disk result.disk result.tally }
+    ensures script { IsScript D.seen setup limits (P.seen port.old) (P.seen port.new) disk result }
 {
     match Store::open(alloc, disk, limits) {
         Ok(store) => run_over(alloc, store, setup, port, limits),
@@ -75,8 +72,7 @@ fn run_over<D: Disk, P: Port>(
     requires not_ended { (P.seen port.old).ended ≡ false }
     ensures ran { (b : Begun D) → b.setup ≡ setup → b.limits ≡ limits → b.port ≡ P.seen port.old
         → IsStoreSoFar D.seen b b.past store → Holds D.seen store.journal (bodies_of b.past)
-        → IsTranscript D.seen (Tells (D.seen b.disk)) b.base setup b.past limits (D.seen b.disk).faults
-        result.end (P.seen port.old) (P.seen port.new) result.disk result.tally
+        → IsTranscript D.seen b result.end (P.seen port.new) result.disk result.tally
         ⊎ ((result.end ≡ ScriptEnd.Stopped Stop.Memory) × IsUnread D.seen b.base b.past (P.seen port.old) (P.seen port.new) result.disk result.tally) }
 {
     match Script::new(alloc, setup, limits, store.centre()) {
@@ -107,8 +103,7 @@ fn read_script<D: Disk, P: Port>(
     requires ready { IsReady script.old.clock script.old.setup store.state.sum.text }
     ensures ran { (b : Begun D) → b.port ≡ P.seen port.old → script.old.number ≡ 0
         → SoFar D.seen b [] script.old store (P.seen port.old)
-        → IsTranscript D.seen (Tells (D.seen b.disk)) b.base b.setup b.past b.limits (D.seen b.disk).faults
-        result.0 b.port (P.seen port.new) result.1 script.new.tally }
+        → IsTranscript D.seen b result.0 (P.seen port.new) result.1 script.new.tally }
 {
     let mut store = store;
     let mut cutter = LineCutter::new(LINE_LIMIT);

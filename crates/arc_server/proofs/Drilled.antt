@@ -1,24 +1,23 @@
 -- What a drill tells: the tally of its script, which was read to its end over an empty disk.
-use Rattle.std.proofs.Common.{◌≡◌, ◌++◌, ℕ, List, [], ◌∷◌, Bool, Option, Some, None, IfSome, Ok, Err, length}
+use Rattle.std.proofs.Common.{◌≡◌, ◌++◌, ℕ, List, [], ◌∷◌, Bool, Option, Some, None, IfSome}
 use Rattle.std.proofs.Common.{inl, inr, refl, ap, sym, subst, ◌∙◌, arith}
 use Rattle.std.proofs.lemmas.List.{append-nil}
-use Rattle.std.specs.Io.KnownBytes.{prepend_known, append_known, IsAtEnd}
+use Rattle.std.specs.Io.KnownBytes.{prepend_known, IsAtEnd}
 use Rattle.std.specs.Str.Lines.{lines}
 use Rattle.arc_drill.specs.Texts.{drill_text, drill_setup}
 use Rattle.arc_io.specs.Areas.{Areas}
 use Rattle.arc_io.specs.Disks.{DiskSeen}
-use Rattle.arc_io.specs.MemoryDisk.{bytes_of, faults_of, past_of, LeftAt, LeftSince}
-use Rattle.arc_io.specs.declared.memory.disk.MemDisk.{MemDisk}
-use Rattle.arc_io.specs.Causes.{Rose}
 use Rattle.arc_io.specs.Seen.{PortSeen, untold}
-use Rattle.arc_io.specs.Told.{Puts}
+use Rattle.arc_script.specs.Begun.{Begun}
 use Rattle.arc_script.specs.Ends.{IsScript, IsTranscript, Tells}
 use Rattle.arc_script.specs.Steps.{Step, Keeps, IsStepOf, AreSteps}
 use Rattle.arc_script.specs.Tallies.{IsTally}
 use Rattle.arc_script.specs.Texts.{AreOf, counted}
 use Rattle.arc_script.specs.declared.script_end.ScriptEnd.{ScriptEnd}
-use Rattle.arc_script.specs.declared.script_end.ScriptEnd.TheVariants.{Done}
+use Rattle.arc_script.specs.declared.script_end.ScriptEnd.TheVariants.{Done, Refused, Stopped}
+use Rattle.arc_script.specs.declared.script_end.ScriptEnded.{ScriptEnded}
 use Rattle.arc_script.specs.declared.script_end.Tally.{Tally}
+use Rattle.centre_core.specs.declared.hall.Stop.TheVariants.{Memory}
 use Rattle.centre_rules.specs.History.{Entry}
 use Rattle.centre_rules.specs.Summary.{Summary, nothing}
 use Rattle.centre_store.proofs.OpeningOnce.{one_opening}
@@ -28,8 +27,7 @@ use Rattle.desk_session.specs.Desks.{lines_read}
 use Rattle.disk_journal.specs.Standing.{AreasStand}
 use Rattle.disk_journal.specs.declared.journal.Limits.{Limits}
 use Rattle.script_lines.specs.Lines.{Asked, Time, Feed, Message, Command, Reopen}
-use Rattle.arc_server.specs.DrillRuns.{IsDrilled, IsDrillRun, drill_line}
-use Rattle.arc_server.specs.declared.status.Status.TheVariants.{Done as StatusDone, WriteFault}
+use Rattle.arc_server.specs.DrillRuns.{IsDrilled}
 
 -- steps over a disk that tells what it holds
 
@@ -77,17 +75,18 @@ new_past seen disk base past is begins =
     let area : AreasStand empty begins.bodies = subst (λ (o : Option Areas). IfSome o (λ s. AreasStand s begins.bodies)) is begins.area in
     (one_opening empty).pasts base nothing begins.bodies [] past [] (begins.given, area) (refl, inl (omega arith, refl)) begins.is_past no_past
 
-drilled_by : {D : Type 0} (seen : D → DiskSeen) (n : ℕ) (base : Summary) (past : List Entry) (limits : Limits) (entry : ℕ) (p p' : PortSeen) (disk disk' : D)
-    (tally : Tally) → p.left ≡ Some (drill_text n) → (seen disk).told ≡ Some (record { a = []; b = [] }) → BeginsWith (seen disk) base past
-    → IsTranscript seen (Tells (seen disk)) base drill_setup past limits entry Done p p' disk' tally → IsDrilled n tally
-drilled_by seen n base past limits entry p p' disk disk' tally left is begins t =
+drilled_by : {D : Type 0} (seen : D → DiskSeen) (n : ℕ) (b : Begun D) (p' : PortSeen) (disk' : D) (tally : Tally) → b.setup ≡ drill_setup
+    → b.port.left ≡ Some (drill_text n) → (seen b.disk).told ≡ Some (record { a = []; b = [] }) → BeginsWith (seen b.disk) b.base b.past
+    → IsTranscript seen b Done p' disk' tally → IsDrilled n tally
+drilled_by seen n b p' disk' tally under left is begins t =
     let steps = t.played.steps in
     let history = t.played.history in
     let whole = t.ends.2 in
-    let none : past ≡ [] = new_past seen disk base past is begins in
-    let read : drill_text n ≡ t.read = all_read (drill_text n) t.read p.left p'.left left t.taken t.ends.0.left in
+    let Told : Type 0 = Tells (seen b.disk) in
+    let none : b.past ≡ [] = new_past seen b.disk b.base b.past is begins in
+    let read : drill_text n ≡ t.read = all_read (drill_text n) t.read b.port.left p'.left left t.taken t.ends.0.left in
     let lines_are : counted (lines_read p'.ended t.read) ≡ counted (lines (drill_text n)) =
-    ap (λ (b : Bool). counted (lines_read b t.read)) t.ends.0.ended ∙ ap (λ (l : List ℕ). counted (lines l)) (sym read) in
+    ap (λ (e : Bool). counted (lines_read e t.read)) t.ends.0.ended ∙ ap (λ (l : List ℕ). counted (lines l)) (sym read) in
     let front : t.played.front ≡ counted (lines (drill_text n)) =
     sym (append-nil t.played.front) ∙ ap (λ (l : List (ℕ × List ℕ)). t.played.front ++ l) (sym whole.none_behind) ∙ sym t.played.split ∙ lines_are in
     record {
@@ -95,45 +94,22 @@ drilled_by seen n base past limits entry p p' disk disk' tally left is begins t 
       history = history;
       of = subst (λ (l : List (ℕ × List ℕ)). AreOf [] l steps) front t.played.of;
       are = told_steps nothing drill_setup [] [] history steps (record { a = []; b = [] }, is)
-          (subst (λ (b : Summary). AreSteps (Tells (seen disk)) b drill_setup [] [] history steps) begins.given
-          (subst (λ (h : List Entry). AreSteps (Tells (seen disk)) base drill_setup [] h history steps) none t.played.are));
-      counts = subst (λ (b : Summary). IsTally b [] steps history tally) begins.given
-          (subst (λ (h : List Entry). IsTally base h steps history tally) none whole.counts);
+          (subst (λ (base : Summary). AreSteps Told base drill_setup [] [] history steps) begins.given
+          (subst (λ (h : List Entry). AreSteps Told b.base drill_setup [] h history steps) none
+          (subst (λ (setup : List ℕ). AreSteps Told b.base setup [] b.past history steps) under t.played.are)));
+      counts = subst (λ (base : Summary). IsTally base [] steps history tally) begins.given
+          (subst (λ (h : List Entry). IsTally b.base h steps history tally) none whole.counts);
     }
 
-drilled : {D : Type 0} (seen : D → DiskSeen) (n : ℕ) (limits : Limits) (p p' : PortSeen) (disk disk' : D) (tally : Tally)
-    → p.left ≡ Some (drill_text n) → (seen disk).told ≡ Some (record { a = []; b = [] })
-    → IsScript seen drill_setup limits Done p p' disk disk' tally → IsDrilled n tally
-drilled seen n limits p p' disk disk' tally left is (inl refused) = let no = refused.1 in cc
-drilled seen n limits p p' disk disk' tally left is (inr (base, past, begins, inl t)) =
-    drilled_by seen n base past limits (seen disk).faults p p' disk disk' tally left is begins t
-drilled seen n limits p p' disk disk' tally left is (inr (base, past, begins, inr unread)) = let no = unread.0 in cc
-
 -- a script that was done, under the drill's setup and over the drill's port
-pub drilled_to_end : {D : Type 0} (seen : D → DiskSeen) (n : ℕ) (setup : List ℕ) (limits : Limits) (end : ScriptEnd) (p p' : PortSeen)
-    (disk disk' : D) (tally : Tally) → setup ≡ drill_setup → end ≡ Done → p ≡ record untold { left = Some (drill_text n) }
-    → (seen disk).told ≡ Some (record { a = []; b = [] }) → IsScript seen setup limits end p p' disk disk' tally → IsDrilled n tally
-drilled_to_end seen n setup limits end p p' disk disk' tally under done told is script =
-    drilled seen n limits p p' disk disk' tally (ap (λ (q : PortSeen). q.left) told) is
-    (subst (λ (e : ScriptEnd). IsScript seen drill_setup limits e p p' disk disk' tally) done
-    (subst (λ (text : List ℕ). IsScript seen text limits end p p' disk disk' tally) under script))
-
--- the line was written whole
-pub told_whole : {T E : Type 0} {p p' : PortSeen} (x : T) (n : ℕ) (tally : Tally) (line : List ℕ) → IsDrilled n tally → line ≡ drill_line n tally
-    → Puts {E = E} p p' (Ok x) line → IsDrillRun n StatusDone p p'
-told_whole {T} {E} {p} {p'} x n tally line drilled is puts =
-    (tally, drilled, subst (λ (l : List ℕ). p'.written ≡ append_known p.written l) is puts.taken, puts.others)
-
--- a front of it was, since the sink failed
-pub told_front : {T E : Type 0} {p p' : PortSeen} (fault : E) (n : ℕ) (tally : Tally) (line : List ℕ) (before now : ℕ) → IsDrilled n tally
-    → line ≡ drill_line n tally → Puts {T = T} p p' (Err fault) line → before ≡ p.write_faults → now ≡ p'.write_faults
-    → IsDrillRun n (WriteFault before now) p p'
-told_front {T} {E} {p} {p'} fault n tally line before now drilled is puts was late =
-    let cut : Puts {T = T} p p' (Err fault) (drill_line n tally) = subst (λ (l : List ℕ). Puts {T = T} p p' (Err fault) l) is puts in (
-      record {
-        before = was;
-        now = late;
-        rose = subst (λ (k : ℕ). Rose k now) (sym was) (subst (λ (k : ℕ). Rose p.write_faults k) (sym late) cut.cause.failed);
-      },
-      (tally, drilled, cut.taken, cut.others),
-    )
+pub drilled_to_end : {D : Type 0} (seen : D → DiskSeen) (n : ℕ) (setup : List ℕ) (limits : Limits) (p p' : PortSeen) (disk : D) (ended : ScriptEnded D)
+    → setup ≡ drill_setup → ended.end ≡ Done → p ≡ record untold { left = Some (drill_text n) }
+    → (seen disk).told ≡ Some (record { a = []; b = [] }) → IsScript seen setup limits p p' disk ended → IsDrilled n ended.tally
+drilled_to_end seen n setup limits p p' disk ended under done told is (inl refused) =
+    let no : Done ≡ Refused refused.0 = sym done ∙ refused.1 in cc
+drilled_to_end {D} seen n setup limits p p' disk ended under done told is (inr (base, past, begins, inl t)) =
+    let b : Begun D = record { disk = disk; setup = setup; limits = limits; base = base; past = past; port = p } in
+    drilled_by seen n b p' ended.disk ended.tally under (ap (λ (q : PortSeen). q.left) told) is begins
+    (subst (λ (e : ScriptEnd). IsTranscript seen b e p' ended.disk ended.tally) done t)
+drilled_to_end seen n setup limits p p' disk ended under done told is (inr (base, past, begins, inr unread)) =
+    let no : Done ≡ Stopped Memory = sym done ∙ unread.0 in cc

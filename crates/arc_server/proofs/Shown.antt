@@ -1,7 +1,7 @@
 -- What the status of a run shows that served callers.
-use Rattle.std.proofs.Common.{◌≡◌, ◌≤◌, ◌⊎◌, ◌++◌, ℕ, List, [], ◌∷◌, length, map, Bool, true, false, Option, Some, None, Result, Ok, Err}
+use Rattle.std.proofs.Common.{◌≡◌, ◌≤◌, ◌⊎◌, ◌++◌, ℕ, List, [], ◌∷◌, map, Bool, true, false, Option, Some, None, Result, Ok, Err}
 use Rattle.std.proofs.Common.{slice_index_or, inl, inr, refl, sym, subst, ap, ◌∙◌, true≢false, arith}
-use Rattle.std.specs.Prelude.{◌==◌, ◌||◌, not, nat_le, All, Contains}
+use Rattle.std.specs.Prelude.{◌==◌, ◌||◌, if◌then◌else◌, not, nat_le, is_err, All, Contains}
 use Rattle.std.specs.List.{flat_map}
 use Rattle.std.specs.Option.{option_to_list}
 use Rattle.std.proofs.lemmas.Bool.{le-leb, leb-true, not-false, eqb-true}
@@ -13,7 +13,7 @@ use Rattle.arc_doors.specs.Pulses.{Moments}
 use Rattle.arc_io.specs.Disks.{DiskSeen}
 use Rattle.arc_io.specs.Causes.{next_count, Rose}
 use Rattle.arc_io.specs.Seen.{PortSeen}
-use Rattle.arc_serving.specs.Ran.{WorkerRan, TickerRan, IsTickerRan, IsWorkerRan, IsSideServed, began_in, ended_in}
+use Rattle.arc_serving.specs.Ran.{WorkerRan, IsWorkerRan, IsSideServed, ended_in}
 use Rattle.arc_serving.specs.Seen.{StationSeen, CameSeen}
 use Rattle.arc_serving.specs.Serving.{ServesStore}
 use Rattle.arc_serving.specs.declared.station.Crew.{Crew}
@@ -22,7 +22,7 @@ use Rattle.arc_sessions.specs.declared.session.SessionEnd.TheVariants as Session
 use Rattle.arc_sessions.specs.declared.side.Side.{Side}
 use Rattle.arc_sessions.specs.declared.side.Side.TheVariants.{Lines, Desks}
 use Rattle.arc_workers.specs.Served.{Served}
-use Rattle.arc_workers.specs.Ticks.{Ticking, EndsTicking, IsTickStopped}
+use Rattle.arc_workers.specs.Ticks.{Ticking, EndsTicking}
 use Rattle.arc_workers.specs.Works.{EndsWork, IsStoppedBy, IsShown, is_memory, stop_of, other_than_memory}
 use Rattle.arc_workers.specs.declared.working.Worked.{Worked}
 use Rattle.arc_workers.specs.declared.working.WorkerEnd.{WorkerEnd}
@@ -33,12 +33,12 @@ use Rattle.centre_store.specs.Stores.{Stored}
 use Rattle.line_gate.specs.Blanks.{terms_of}
 use Rattle.line_gate.specs.Passes.{PassSeen, PassShows}
 use Rattle.line_gate.specs.Terms.{Terms}
-use Rattle.arc_server.specs.ServeRuns.{WritesLine}
-use Rattle.arc_server.specs.Servings.{occurred, first_of, met_by, where_so, full_in, worn_in, stop_in, stops_in, door_fault_in, door_faults_in}
-use Rattle.arc_server.specs.Servings.{has_refused, was_refused, HasEnded, HaveEnded, HasCome, HasDoorFault, IsShownBy}
+use Rattle.arc_io.specs.Told.{Puts}
+use Rattle.arc_server.specs.Made.{status_over}
+use Rattle.arc_server.specs.Servings.{first_of, met_by, where_so, full_in, worn_in, stop_in, stops_in, door_fault_in, door_faults_in}
+use Rattle.arc_server.specs.Servings.{has_refused, was_refused, HasEnded, HaveEnded, HasCome, IsShownBy}
 use Rattle.arc_server.specs.declared.status.Status.{Status}
 use Rattle.arc_server.specs.declared.status.Status.TheVariants.{Done, WriteFault, DiskFault, Full, DoorFault, Memory as NoMemory, Worn}
-use Rattle.arc_server.proofs.Served.{rose_from}
 
 -- Parts of lists.
 
@@ -90,6 +90,21 @@ where_all P false status when = All-nil P
 where_never : (so : Bool) (status : Status) → All Never (where_so so status) → so ≡ false
 where_never true status never = absurd (All-head Never status [] never)
 where_never false status never = refl
+
+-- All statuses that occurred, in the order in which they decide: by the counts of the disk's faults at entry and at the end, by what the
+-- port told before the summary and after it, by whether that was cut off, and by what came of all callers.
+abbrev occurred : ℕ → ℕ → PortSeen → PortSeen → Bool → Result CameSeen Memory → List Status
+occurred entry end p p' cut came =
+    where_so (nat_le (next_count entry) end) (DiskFault entry end)
+    ++ met_by came (where_so cut (WriteFault p.write_faults p'.write_faults))
+
+first_by : (failed : Bool) (status : Status) (others : List Status) → (if failed then status else first_of others) ≡ first_of (where_so failed status ++ others)
+first_by true status others = refl
+first_by false status others = refl
+
+over_first : (entry end : ℕ) (others : List Status)
+    → status_over entry end (first_of others) ≡ first_of (where_so (nat_le (next_count entry) end) (DiskFault entry end) ++ others)
+over_first entry end others = first_by (nat_le (next_count entry) end) (DiskFault entry end) others
 
 -- What each status that occurred shows.
 
@@ -148,9 +163,9 @@ module _ (entry end : ℕ) (p p' : PortSeen) where
   all_shown cut came rose =
       All-append (Shows came) (where_so (nat_le (next_count entry) end) (DiskFault entry end)) (met_by came (where_so cut (WriteFault p.write_faults p'.write_faults)))
       (where_all (Shows came) (nat_le (next_count entry) end) (DiskFault entry end)
-      (λ so. record { before = refl; now = refl; rose = leb-true (next_count entry) end so }))
+      (λ so. (refl, refl, leb-true (next_count entry) end so)))
       (met_all came (where_so cut (WriteFault p.write_faults p'.write_faults))
-      (where_all (Shows came) cut (WriteFault p.write_faults p'.write_faults) (λ so. record { before = refl; now = refl; rose = rose so })))
+      (where_all (Shows came) cut (WriteFault p.write_faults p'.write_faults) (λ so. (refl, refl, rose so))))
 
 -- Where no status occurred.
 
@@ -274,17 +289,20 @@ none_occurred entry end p p' cut (Ok came) may never =
 
 -- all that the first status shows
 pub shown : (came : Result CameSeen Memory) (cut : Bool) (status : Status) (entry end : ℕ) (p p' : PortSeen)
-    → status ≡ first_of (occurred entry end p p' cut came) → (cut ≡ true → Rose p.write_faults p'.write_faults)
+    → status ≡ status_over entry end (first_of (met_by came (where_so cut (WriteFault p.write_faults p'.write_faults))))
+    → (cut ≡ true → Rose p.write_faults p'.write_faults)
     → ((Rose entry end → ⊥) → MayCome came) → IsShownBy status entry end p p' came
 shown came cut status entry end p p' is rose may =
-    subst (λ (s : Status). IsShownBy s entry end p p' came) (sym is)
+    subst (λ (s : Status). IsShownBy s entry end p p' came)
+    (sym (is ∙ over_first entry end (met_by came (where_so cut (WriteFault p.write_faults p'.write_faults)))))
     (first_is (λ s. IsShownBy s entry end p p' came) (occurred entry end p p' cut came) (all_shown entry end p p' cut came rose)
     (none_occurred entry end p p' cut came may))
 
 -- a line that was cut off
-pub rose_line : (cut : Bool) (line : List ℕ) (p p' : PortSeen) → cut ≡ true → WritesLine cut line p p' → Rose p.write_faults p'.write_faults
-rose_line true line p p' is written = written.1
-rose_line false line p p' is written = absurd (true≢false (sym is))
+pub rose_put : {T E : Type 0} (result : Result T E) (line : List ℕ) (p p' : PortSeen) → Puts p p' result line → is_err result ≡ true
+    → Rose p.write_faults p'.write_faults
+rose_put (Ok x) line p p' puts cut = absurd (true≢false (sym cut))
+rose_put (Err e) line p p' puts cut = puts.cause.failed
 
 -- Callers over a disk that has not failed since the run's entry.
 

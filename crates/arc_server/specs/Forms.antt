@@ -3,7 +3,6 @@ use Rattle.std.specs.Prelude.{ℕ, if◌then◌else◌, List, [], ◌∷◌, Opt
 use Rattle.std.specs.Str.{bytes_eq}
 use Rattle.alarm_rules.specs.SetupWords.{number_between}
 use Rattle.arc_data.specs.Digits.{is_capital_hex, is_run}
-use Rattle.arc_serving.specs.declared.station.Crew.{Crew}
 use Rattle.arc_sessions.specs.declared.side.Side.TheVariants.{Lines, Desks}
 use Rattle.arc_server.specs.declared.form.Form.{Form}
 use Rattle.arc_server.specs.declared.form.Form.TheVariants.{Session, Script, Report, Drill, Serve, Panel}
@@ -32,9 +31,7 @@ panel_named account = if is_run is_capital_hex 3 16 account then Some (Panel acc
 -- of three numbers, where all of them are given
 abbrev pub crew_with : Option ℕ → Option ℕ → Option ℕ → Option Form
 crew_with (Some lines) (Some desks) (Some sessions) = Some (Serve (record { lines = lines; desks = desks; sessions = sessions }))
-crew_with (Some lines) (Some desks) None = None
-crew_with (Some lines) None sessions = None
-crew_with None desks sessions = None
+crew_with lines desks sessions = None
 
 -- 1 to 64 lines, no desk to 16, and 1 to 1,000,000 sessions, decimal without leading zeros
 abbrev pub crew_named : List ℕ → List ℕ → List ℕ → Option Form

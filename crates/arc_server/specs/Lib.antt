@@ -11,10 +11,10 @@ pub use Rattle.arc_drill.specs.Texts
 pub mod Forms
 pub mod Statuses
 pub mod Areas
+pub mod Handed
 pub mod Made
-pub mod Counts
 pub mod SetupReads
-pub mod Unopened
+pub mod Beginnings
 pub mod SessionRuns
 pub mod Reports
 pub mod ScriptRuns

@@ -1,37 +1,72 @@
--- Which status is made of a refused opening, of a stop, and of a session's end.
-use Rattle.std.specs.Prelude.{ℕ}
+-- Which status is made of how a run ended.
+use Rattle.std.specs.Prelude.{ℕ, if◌then◌else◌, nat_le, Result, Ok, Err}
+use Rattle.arc_io.specs.Causes.{next_count}
 use Rattle.arc_io.specs.Seen.{PortSeen}
+use Rattle.arc_io.specs.declared.traits.Failed.{Failed}
+use Rattle.arc_panel.specs.declared.play.PanelEnd.{PanelEnd}
+use Rattle.arc_panel.specs.declared.play.PanelEnd.TheVariants as Panel
+use Rattle.arc_script.specs.declared.script_end.ScriptEnd.{ScriptEnd}
+use Rattle.arc_script.specs.declared.script_end.ScriptEnd.TheVariants as Script
+use Rattle.arc_sessions.specs.declared.session.SessionEnd.{SessionEnd}
+use Rattle.arc_sessions.specs.declared.session.SessionEnd.TheVariants as Session
 use Rattle.centre_core.specs.declared.hall.Stop.{Stop}
-use Rattle.centre_core.specs.declared.hall.Stop.TheVariants.{Memory as MemoryWanted, Down, Full as HallFull, Worn as HallWorn}
+use Rattle.centre_core.specs.declared.hall.Stop.TheVariants as Hall
 use Rattle.disk_journal.specs.declared.fault.OpenFault.{OpenFault}
 use Rattle.disk_journal.specs.declared.fault.OpenFault.TheVariants as Open
-use Rattle.arc_sessions.specs.declared.session.SessionEnd.{SessionEnd}
-use Rattle.arc_sessions.specs.declared.session.SessionEnd.TheVariants.{Quit, InputEnded, ReadFault as NotRead, WriteFault as NotWritten}
-use Rattle.arc_sessions.specs.declared.session.SessionEnd.TheVariants.{Spent as InputSpent, Stopped}
 use Rattle.arc_server.specs.declared.status.Status.{Status}
-use Rattle.arc_server.specs.declared.status.Status.TheVariants.{Done, ReadFault, WriteFault, DiskFault, Journal}
-use Rattle.arc_server.specs.declared.status.Status.TheVariants.{Full, Memory, Spent, Worn}
+use Rattle.arc_server.specs.declared.status.Status.TheVariants.{Done, ReadFault, WriteFault, DiskFault, Journal, Full, BadScript}
+use Rattle.arc_server.specs.declared.status.Status.TheVariants.{Memory, Spent, Worn}
 use Rattle.arc_server.specs.declared.status.Which.TheVariants.{Input}
 
-abbrev pub made_of_fault : OpenFault → Status
-made_of_fault (Open.DiskFault before now) = DiskFault before now
-made_of_fault (Open.NotJournal byte) = Journal (Open.NotJournal byte)
-made_of_fault (Open.WrongVersion found) = Journal (Open.WrongVersion found)
-made_of_fault (Open.Damaged place) = Journal (Open.Damaged place)
-made_of_fault Open.Memory = Memory
+-- Where the disk has failed, by the counts of its faults at the run's entry and at its end, that is the status; else it is this one.
+abbrev pub status_over : ℕ → ℕ → Status → Status
+status_over entry end status = if nat_le (next_count entry) end then DiskFault entry end else status
 
--- by the counts of the disk's faults at the run's entry and now
-abbrev pub made_of_stop : Stop → ℕ → ℕ → Status
-made_of_stop MemoryWanted before now = Memory
-made_of_stop (Down at_open is) before now = DiskFault before now
-made_of_stop (HallFull used need records) before now = Full used need records
-made_of_stop (HallWorn count) before now = Worn count
+-- of a journal that was not opened
+abbrev pub status_of_fault : OpenFault → Status
+status_of_fault (Open.DiskFault before now) = DiskFault before now
+status_of_fault Open.Memory = Memory
+status_of_fault fault = Journal fault
 
--- and by what the port told at the session's beginning and end
-abbrev pub made_of_end : SessionEnd → ℕ → ℕ → PortSeen → PortSeen → Status
-made_of_end Quit before now p p' = Done
-made_of_end InputEnded before now p p' = Done
-made_of_end NotRead before now p p' = ReadFault Input p.read_faults p'.read_faults
-made_of_end NotWritten before now p p' = WriteFault p.write_faults p'.write_faults
-made_of_end InputSpent before now p p' = Spent
-made_of_end (Stopped stop) before now p p' = made_of_stop stop before now
+abbrev pub status_of_stop : Stop → Status
+status_of_stop Hall.Memory = Memory
+status_of_stop (Hall.Down at_open now) = DiskFault at_open now
+status_of_stop (Hall.Full used need records) = Full used need records
+status_of_stop (Hall.Worn count) = Worn count
+
+-- of the port's source, and of its sink, by what the port told before and tells now
+abbrev pub read_fault : PortSeen → PortSeen → Status
+read_fault p p' = ReadFault Input p.read_faults p'.read_faults
+
+abbrev pub write_fault : PortSeen → PortSeen → Status
+write_fault p p' = WriteFault p.write_faults p'.write_faults
+
+-- of a text that was written whole, or was cut off
+abbrev pub status_of_text : Result (Unit {0}) Failed → PortSeen → PortSeen → Status
+status_of_text (Ok done) p p' = Done
+status_of_text (Err failed) p p' = write_fault p p'
+
+abbrev pub status_of_session : SessionEnd → PortSeen → PortSeen → Status
+status_of_session Session.Quit p p' = Done
+status_of_session Session.InputEnded p p' = Done
+status_of_session Session.ReadFault p p' = read_fault p p'
+status_of_session Session.WriteFault p p' = write_fault p p'
+status_of_session Session.Spent p p' = Spent
+status_of_session (Session.Stopped stop) p p' = status_of_stop stop
+
+abbrev pub status_of_script : ScriptEnd → PortSeen → PortSeen → Status
+status_of_script Script.Done p p' = Done
+status_of_script Script.ReadFault p p' = read_fault p p'
+status_of_script Script.WriteFault p p' = write_fault p p'
+status_of_script Script.Spent p p' = Spent
+status_of_script (Script.BadScript line) p p' = BadScript line
+status_of_script (Script.Refused fault) p p' = status_of_fault fault
+status_of_script (Script.Stopped stop) p p' = status_of_stop stop
+
+abbrev pub status_of_panel : PanelEnd → PortSeen → PortSeen → Status
+status_of_panel Panel.Done p p' = Done
+status_of_panel Panel.ReadFault p p' = read_fault p p'
+status_of_panel Panel.WriteFault p p' = write_fault p p'
+status_of_panel Panel.Spent p p' = Spent
+status_of_panel (Panel.BadLine line) p p' = BadScript line
+status_of_panel Panel.Memory p p' = Memory

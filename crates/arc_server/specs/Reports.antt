@@ -1,61 +1,44 @@
--- What a run of `report` did, by its status.
-use Rattle.std.specs.Prelude.{◌≡◌, ◌<◌, ◌⊎◌, ℕ, List, length, take}
-use Rattle.std.specs.Io.KnownBytes.{append_known}
+-- What a run of `report` did.
+use Rattle.std.specs.Prelude.{◌≡◌, ◌⊎◌, ℕ, List, Result}
+use Rattle.arc_io.specs.Areas.{Areas}
+use Rattle.arc_io.specs.Crashes.{Becomes, LeavesOnly}
 use Rattle.arc_io.specs.Disks.{DiskSeen}
-use Rattle.arc_io.specs.Seen.{PortSeen}
-use Rattle.arc_io.specs.Told.{OnlyWrites}
+use Rattle.arc_io.specs.Told.{Puts}
+use Rattle.arc_io.specs.declared.traits.Failed.{Failed}
 use Rattle.arc_report.specs.Reports.{report_of}
 use Rattle.centre_rules.specs.Summary.{Summary}
 use Rattle.centre_rules.specs.History.{Entry}
 use Rattle.centre_rules.specs.Sums.{summary_of}
 use Rattle.centre_store.specs.Given.{BeginsWith}
+use Rattle.disk_journal.specs.Standing.{GoesOn}
 use Rattle.arc_server.specs.Areas.{EndsWith}
-use Rattle.arc_server.specs.Counts.{HasRisen}
-use Rattle.arc_server.specs.Unopened.{StandsOn, IsUnopened}
+use Rattle.arc_server.specs.Beginnings.{StopsAtOpening}
+use Rattle.arc_server.specs.Handed.{Handed}
+use Rattle.arc_server.specs.Made.{status_over, status_of_text}
 use Rattle.arc_server.specs.declared.status.Status.{Status}
-use Rattle.arc_server.specs.declared.status.Status.TheVariants.{Done, Usage, SetupBad, ReadFault, WriteFault, DiskFault, Journal, Full}
-use Rattle.arc_server.specs.declared.status.Status.TheVariants.{BadScript, DoorFault, Memory, Spent, Worn}
 
 -- the report of a history: how much of it is recorded, and the incidents that are open after it
 abbrev pub report_after : Summary → List Entry → List ℕ
 report_after base past = report_of (summary_of base past)
 
--- the report of the past was written, and nothing else was done to the port
-abbrev pub WritesReport : Summary → List Entry → PortSeen → PortSeen → Type 0
-WritesReport base past p p' = (p'.written ≡ append_known p.written (report_after base past)) × OnlyWrites p p'
+-- Whatever the areas stood for when they were to be opened, they stand for now, as reads give them; and so does all that a crash left of
+-- them at any moment between.
+pub record StandsOn (disk disk' : DiskSeen) : Type 0 where
+  pub area : Becomes disk.told disk'.told GoesOn
+  pub images : LeavesOnly disk disk' (λ c. (d : Areas) × disk.may_leave d × GoesOn d c)
 
--- so was a front of it, which lacks a byte at least
-abbrev pub WritesFront : Summary → List Entry → PortSeen → PortSeen → Type 0
-WritesFront base past p p' =
-    ((n : ℕ) × (n < length (report_after base past)) × (p'.written ≡ append_known p.written (take n (report_after base past)))) × OnlyWrites p p'
+-- The areas stood for a past, and stay as they were. The report of the past was written, or a front of it, and nothing else was done to the
+-- port.
+pub record ReportsPast {D : Type 0} (seen : D → DiskSeen) (status : Status) (r r' : Handed D) : Type 0 where
+  pub base : Summary
+  pub past : List Entry
+  pub begins : BeginsWith (seen r.disk) base past
+  pub stays : StandsOn (seen r.disk) (seen r'.disk)
+  pub ends : EndsWith (seen r.disk).faults (seen r'.disk) base past
+  pub written : Result (Unit {0}) Failed
+  pub puts : Puts r.port r'.port written (report_after base past)
+  pub status_is : status ≡ status_over (seen r.disk).faults (seen r'.disk).faults (status_of_text written r.port r'.port)
 
--- What a status shows where the journal was opened over a past, by the counts of the disk's faults at entry and at the end.
-abbrev pub IsReported : Status → Summary → List Entry → PortSeen → PortSeen → ℕ → ℕ → Type 0
-IsReported Done base past p p' entry end = WritesReport base past p p'
-IsReported (WriteFault before now) base past p p' entry end = HasRisen before now p.write_faults p'.write_faults × WritesFront base past p p'
-IsReported (DiskFault before now) base past p p' entry end = HasRisen before now entry end × (WritesReport base past p p' ⊎ WritesFront base past p p')
-IsReported Usage base past p p' entry end = ⊥
-IsReported (SetupBad fault) base past p p' entry end = ⊥
-IsReported (ReadFault which before now) base past p p' entry end = ⊥
-IsReported (Journal fault) base past p p' entry end = ⊥
-IsReported (Full used need records) base past p p' entry end = ⊥
-IsReported (BadScript line) base past p p' entry end = ⊥
-IsReported (DoorFault door before now) base past p p' entry end = ⊥
-IsReported Memory base past p p' entry end = ⊥
-IsReported Spent base past p p' entry end = ⊥
-IsReported (Worn count) base past p p' entry end = ⊥
-
--- The area stood for a past, and its report was written. Whatever the area stood for, it stands for at the end, and so does all that a
--- crash left of it at any moment between; and it has the recorded entries of the past.
-pub record ReportsPast {D : Type 0} (seen : D → DiskSeen) (status : Status) (p p' : PortSeen) (disk disk' : D)
-    (base : Summary) (past : List Entry) : Type 0 where
-  pub begins : BeginsWith (seen disk) base past
-  pub stays : StandsOn (seen disk) (seen disk')
-  pub ends : EndsWith status (seen disk') base past
-  pub shown : IsReported status base past p p' (seen disk).faults (seen disk').faults
-
--- What such a run did: the journal was not opened, and the port not touched; or the report of a past was written.
-abbrev pub IsReportRun : {D : Type 0} → (D → DiskSeen) → Status → PortSeen → PortSeen → D → D → Type 0
-IsReportRun seen status p p' disk disk' =
-    (IsUnopened status (seen disk) (seen disk') × (p' ≡ p))
-    ⊎ ((base : Summary) × (past : List Entry) × ReportsPast seen status p p' disk disk' base past)
+-- What such a run did.
+abbrev pub IsReportRun : {D : Type 0} → (D → DiskSeen) → Status → Handed D → Handed D → Type 0
+IsReportRun seen status r r' = StopsAtOpening seen status r r' ⊎ ReportsPast seen status r r'

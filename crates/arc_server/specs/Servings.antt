@@ -1,10 +1,10 @@
 -- Which status is made of what came of all callers.
-use Rattle.std.specs.Prelude.{ℕ, ◌≡◌, ◌==◌, ◌||◌, ◌⊎◌, List, [], ◌∷◌, ◌++◌, Bool, true, false, not, if◌then◌else◌, nat_le}
+use Rattle.std.specs.Prelude.{ℕ, ◌≡◌, ◌==◌, ◌||◌, ◌⊎◌, List, [], ◌∷◌, ◌++◌, Bool, not, if◌then◌else◌}
 use Rattle.std.specs.Prelude.{Option, Some, None, Result, Ok, Err, All, Contains}
 use Rattle.std.specs.List.{flat_map, list_any}
 use Rattle.std.specs.Option.{option_to_list}
 use Rattle.arc_data.specs.declared.blob.Memory.{Memory}
-use Rattle.arc_io.specs.Causes.{next_count}
+use Rattle.arc_io.specs.Causes.{Rose}
 use Rattle.arc_io.specs.Seen.{PortSeen}
 use Rattle.arc_serving.specs.Seen.{CameSeen}
 use Rattle.arc_sessions.specs.declared.side.Side.{Side}
@@ -13,19 +13,15 @@ use Rattle.arc_workers.specs.declared.working.Worked.{Worked}
 use Rattle.arc_workers.specs.declared.working.WorkerEnd.{WorkerEnd}
 use Rattle.arc_workers.specs.declared.working.WorkerEnd.TheVariants.{DoorEnded, Quota, DoorFault as WorkerFault, Stopped}
 use Rattle.centre_core.specs.declared.hall.Stop.{Stop}
-use Rattle.centre_core.specs.declared.hall.Stop.TheVariants.{Memory as MemoryWanted, Down, Full as HallFull, Worn as HallWorn}
+use Rattle.centre_core.specs.declared.hall.Stop.TheVariants.{Full as HallFull, Worn as HallWorn}
 use Rattle.arc_server.specs.declared.status.Status.{Status}
-use Rattle.arc_server.specs.Counts.{HasRisen}
-use Rattle.arc_server.specs.declared.status.Status.TheVariants.{Done, Usage, SetupBad, ReadFault, WriteFault, DiskFault, Journal, Full}
-use Rattle.arc_server.specs.declared.status.Status.TheVariants.{BadScript, DoorFault, Memory as NoMemory, Spent, Worn}
-use Rattle.arc_server.specs.declared.status.Which.{Which}
+use Rattle.arc_server.specs.declared.status.Status.TheVariants.{Done, WriteFault, DiskFault, Full}
+use Rattle.arc_server.specs.declared.status.Status.TheVariants.{DoorFault, Memory as NoMemory, Worn}
 
 -- the stop that ended a worker
 abbrev pub stop_in : WorkerEnd → List Stop
 stop_in (Stopped stop) = stop ∷ []
-stop_in DoorEnded = []
-stop_in Quota = []
-stop_in (WorkerFault before now) = []
+stop_in end = []
 
 -- all stops: those of the workers in the order of their doors, lines before desks, and that of the ticker
 abbrev pub stops_in : CameSeen → List Stop
@@ -34,22 +30,16 @@ stops_in came = flat_map (λ w. stop_in w.end) came.lines ++ (flat_map (λ w. st
 -- the statuses that stops make: of a journal without room, and of a worn hall. A disk that failed shows in its count.
 abbrev pub full_in : Stop → List Status
 full_in (HallFull used need records) = Full used need records ∷ []
-full_in (HallWorn count) = []
-full_in (Down at_open now) = []
-full_in MemoryWanted = []
+full_in stop = []
 
 abbrev pub worn_in : Stop → List Status
 worn_in (HallWorn count) = Worn count ∷ []
-worn_in (HallFull used need records) = []
-worn_in (Down at_open now) = []
-worn_in MemoryWanted = []
+worn_in stop = []
 
 -- the status that a door's fault makes
 abbrev pub door_fault_in : Side → WorkerEnd → List Status
 door_fault_in side (WorkerFault before now) = DoorFault side before now ∷ []
-door_fault_in side DoorEnded = []
-door_fault_in side Quota = []
-door_fault_in side (Stopped stop) = []
+door_fault_in side end = []
 
 abbrev pub door_faults_in : CameSeen → List Status
 door_faults_in came = flat_map (λ w. door_fault_in Lines w.end) came.lines ++ flat_map (λ w. door_fault_in Desks w.end) came.desks
@@ -73,14 +63,7 @@ met_by (Ok came) unwritten =
     flat_map full_in (stops_in came)
     ++ (flat_map worn_in (stops_in came) ++ (door_faults_in came ++ (unwritten ++ where_so (was_refused came) NoMemory)))
 
--- All statuses that occurred, in the order in which they decide: by the counts of the disk's faults at entry and at the end, by what the
--- port told before the summary and after it, by whether that was cut off, and by what came of all callers.
-abbrev pub occurred : ℕ → ℕ → PortSeen → PortSeen → Bool → Result CameSeen Memory → List Status
-occurred entry end p p' cut came =
-    where_so (nat_le (next_count entry) end) (DiskFault entry end)
-    ++ met_by came (where_so cut (WriteFault p.write_faults p'.write_faults))
-
--- the first of them, where one occurred
+-- the first of such statuses, where one occurred
 abbrev pub front_of : List Status → Option Status
 front_of [] = None
 front_of (status ∷ more) = Some status
@@ -113,18 +96,15 @@ abbrev pub HasDoorFault : Side → ℕ → ℕ → CameSeen → Type 0
 HasDoorFault Lines before now came = (w : Worked) × Contains came.lines w × (w.end ≡ WorkerFault before now)
 HasDoorFault Desks before now came = (w : Worked) × Contains came.desks w × (w.end ≡ WorkerFault before now)
 
--- What a status shows of what occurred, by the same values. Want of memory shows nothing.
+-- What a status shows of what occurred, by the counts of the disk's faults at entry and at the end, by what the port told before the summary
+-- and after it, and by what came of all callers. Want of memory shows nothing.
 abbrev pub IsShownBy : Status → ℕ → ℕ → PortSeen → PortSeen → Result CameSeen Memory → Type 0
 IsShownBy Done entry end p p' came = HasCome HaveEnded came
-IsShownBy (DiskFault before now) entry end p p' came = HasRisen before now entry end
+IsShownBy (DiskFault before now) entry end p p' came = (before ≡ entry) × (now ≡ end) × Rose entry end
 IsShownBy (Full used need records) entry end p p' came = HasCome (λ c. Contains (stops_in c) (HallFull used need records)) came
 IsShownBy (Worn count) entry end p p' came = HasCome (λ c. Contains (stops_in c) (HallWorn count)) came
 IsShownBy (DoorFault side before now) entry end p p' came = HasCome (HasDoorFault side before now) came
-IsShownBy (WriteFault before now) entry end p p' came = HasRisen before now p.write_faults p'.write_faults
+IsShownBy (WriteFault before now) entry end p p' came =
+    (before ≡ p.write_faults) × (now ≡ p'.write_faults) × Rose p.write_faults p'.write_faults
 IsShownBy NoMemory entry end p p' came = Unit {0}
-IsShownBy Usage entry end p p' came = ⊥
-IsShownBy (SetupBad fault) entry end p p' came = ⊥
-IsShownBy (ReadFault which before now) entry end p p' came = ⊥
-IsShownBy (Journal fault) entry end p p' came = ⊥
-IsShownBy (BadScript line) entry end p p' came = ⊥
-IsShownBy Spent entry end p p' came = ⊥
+IsShownBy status entry end p p' came = ⊥

@@ -1,5 +1,5 @@
 // Which status is made of what came of all callers.
-ghost use Rattle.std.specs.Prelude.{◌≡◌, Bool, is_err};
+ghost use Rattle.std.specs.Prelude.{◌≡◌, ◌≢◌, is_err};
 ghost use Rattle.std.specs.List.{flat_map};
 ghost use Rattle.std.specs.Option.{option_to_list};
 ghost use Rattle.arc_server.specs.Servings.{met_by, first_of, front_of, where_so, full_in, worn_in, stop_in, stops_in, door_fault_in, door_faults_in, has_refused, was_refused};
@@ -16,7 +16,21 @@ use centre_core::Stop;
 /// The status where the disk has not failed: by what came of all callers, and by whether the summary was written, before which and after
 /// which the port told these counts of its write faults. The first of a full journal, a worn centre, a door's fault, a write's and want
 /// of memory decides.
+#[tactic(auto, using(crate::proofs::Meets::never_met))]
 pub(crate) fn status_of_serving(
+    came: &Result<Came, Memory>,
+    written: Result<(), Failed>,
+    before: u64,
+    now: u64,
+) -> Status
+    ensures usage { result ≢ Status.Usage }
+    ensures first { result ≡ first_of (met_by came.now (where_so (is_err written) (WriteFault before now))) }
+{
+    first_met(came, written, before, now)
+}
+
+// The same.
+fn first_met(
     came: &Result<Came, Memory>,
     written: Result<(), Failed>,
     before: u64,

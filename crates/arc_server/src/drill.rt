@@ -2,9 +2,10 @@
 ghost use Rattle.std.specs.Prelude.{◌≡◌, ◌≢◌, ◌≤◌, ℕ, IfSome, IfOk, string_bytes};
 ghost use Rattle.arc_server.specs.DrillRuns.{IsDrillRun, IsDrilled, drill_line};
 
+use crate::made::status_of_text;
 use crate::status::Status;
 use arc_drill::Drill;
-use arc_io::{Failed, MemDisk, Port, put};
+use arc_io::{MemDisk, Port, put};
 use arc_script::{ScriptEnd, Tally, run_script};
 use centre_core::Setup;
 use disk_journal::SHIPPED;
@@ -32,14 +33,9 @@ fn tell<P: Port>(port: &mut P, line: &[u8]) -> Status
     ensures told { (n : ℕ) (tally : Tally) → IsDrilled n tally → line.now ≡ drill_line n tally
         → IsDrillRun n result (P.seen port.old) (P.seen port.new) }
 {
-    let before = port.write_faults();
-    match put(port, line) {
-        Ok(()) => Status::Done,
-        Err(Failed) => Status::WriteFault {
-            before,
-            now: port.write_faults(),
-        },
-    }
+    let writes = port.write_faults();
+    let written = put(port, line);
+    status_of_text(written, writes, port)
 }
 
 // What is counted over the script. Neither its port nor its disk fails unless memory is wanted, and so nothing else can end it early.

@@ -1,5 +1,5 @@
 // The forms of the words that a run is called with.
-ghost use Rattle.std.specs.Prelude.{◌≡◌, ◌≤◌, IfSome};
+ghost use Rattle.std.specs.Prelude.{◌≡◌, IfSome};
 ghost use Rattle.arc_server.specs.Forms.{form_of, form_named, crew_named, drill_named, panel_named};
 ghost use Rattle.arc_server.specs.WholeRuns.{HasDoors, IsInRange};
 

@@ -1,18 +1,60 @@
-// Which status is made of a refused opening, of a stop, and of a session's end.
-ghost use Rattle.std.specs.Prelude.{◌≡◌, ◌↔◌, IsTrue};
+// Which status is made of how a run ended.
+ghost use Rattle.std.specs.Prelude.{◌≡◌, ◌≢◌, ◌↔◌, IsTrue};
 ghost use Rattle.arc_io.specs.Causes.{Rose};
 ghost use Rattle.arc_io.specs.Seen.{PortSeen};
-ghost use Rattle.arc_server.specs.Made.{made_of_fault, made_of_stop, made_of_end};
+ghost use Rattle.arc_server.specs.Made.{status_over, status_of_fault, status_of_stop, status_of_text, status_of_session};
+ghost use Rattle.arc_server.specs.declared.status.Status.TheVariants.{ReadFault, WriteFault};
+ghost use Rattle.arc_server.specs.declared.status.Which.TheVariants.{Input};
 
 use crate::status::{Status, Which};
-use arc_io::Port;
+use arc_io::{Disk, Failed, Port};
 use arc_sessions::SessionEnd;
 use centre_core::Stop;
-use disk_journal::OpenFault;
+use disk_journal::{OpenFault, OpenRefused};
+
+/// Where the disk has failed, by the counts of its faults at the run's entry and now, that is the status; else it is this one.
+pub(crate) fn status_over(before: u64, now: u64, status: Status) -> Status
+    requires usage { status ≢ Status.Usage }
+    ensures usage { result ≢ Status.Usage }
+    ensures over { result ≡ status_over before now status }
+{
+    if has_risen(before, now) {
+        return Status::DiskFault { before, now };
+    }
+    status
+}
+
+// The later count is above the earlier one, or stands at its last value.
+fn has_risen(before: u64, now: u64) -> bool
+    ensures { IsTrue result ↔ Rose before now }
+{
+    now > before || now == u64::MAX
+}
+
+/// A run that stopped, and its disk.
+#[derive(Drop)]
+pub(crate) struct StoppedRun<D> {
+    pub(crate) status: Status,
+    pub(crate) disk: D,
+}
+
+/// A run whose journal was not opened, over a disk that had so many faults at the run's entry.
+pub(crate) fn unopened<D: Disk>(before: u64, refused: OpenRefused<D>) -> StoppedRun<D>
+    ensures usage { result.status ≢ Status.Usage }
+    ensures disk { result.disk ≡ refused.disk }
+    ensures over { result.status ≡ status_over before (D.seen refused.disk).faults (status_of_fault refused.fault) }
+{
+    let now = refused.disk.faults();
+    StoppedRun {
+        status: status_over(before, now, status_of_fault(refused.fault)),
+        disk: refused.disk,
+    }
+}
 
 /// The status that a refused opening makes.
-pub(crate) fn unopened(fault: OpenFault) -> Status
-    ensures { result ≡ made_of_fault fault }
+pub(crate) fn status_of_fault(fault: OpenFault) -> Status
+    ensures usage { result ≢ Status.Usage }
+    ensures made { result ≡ status_of_fault fault }
 {
     match fault {
         OpenFault::DiskFault { before, now } => Status::DiskFault { before, now },
@@ -21,13 +63,17 @@ pub(crate) fn unopened(fault: OpenFault) -> Status
     }
 }
 
-/// The status that a stop makes, by the counts of the disk's faults at the run's entry and now.
-pub(crate) fn stopped(stop: Stop, before: u64, now: u64) -> Status
-    ensures { result ≡ made_of_stop stop before now }
+/// The status that a stop makes.
+pub(crate) fn status_of_stop(stop: Stop) -> Status
+    ensures usage { result ≢ Status.Usage }
+    ensures made { result ≡ status_of_stop stop }
 {
     match stop {
         Stop::Memory => Status::Memory,
-        Stop::Down { .. } => Status::DiskFault { before, now },
+        Stop::Down { at_open, now } => Status::DiskFault {
+            before: at_open,
+            now,
+        },
         Stop::Full {
             used,
             need,
@@ -41,36 +87,55 @@ pub(crate) fn stopped(stop: Stop, before: u64, now: u64) -> Status
     }
 }
 
-/// The status that a session's end makes.
-pub(crate) fn status_of<P: Port>(
+/// The status of a port whose source failed, which told this count of read faults before.
+pub(crate) fn read_fault<P: Port>(before: u64, port: &P) -> Status
+    ensures usage { result ≢ Status.Usage }
+    ensures made { result ≡ ReadFault Input before (P.seen port.now).read_faults }
+{
+    Status::ReadFault {
+        input: Which::Input,
+        before,
+        now: port.read_faults(),
+    }
+}
+
+/// The status of a port whose sink failed, which told this count of write faults before.
+pub(crate) fn write_fault<P: Port>(before: u64, port: &P) -> Status
+    ensures usage { result ≢ Status.Usage }
+    ensures made { result ≡ WriteFault before (P.seen port.now).write_faults }
+{
+    Status::WriteFault {
+        before,
+        now: port.write_faults(),
+    }
+}
+
+/// The status of a text that was written whole, or was cut off.
+pub(crate) fn status_of_text<P: Port>(written: Result<(), Failed>, before: u64, port: &P) -> Status
+    ensures usage { result ≢ Status.Usage }
+    ensures made { (p : PortSeen) → before ≡ p.write_faults → result ≡ status_of_text written p (P.seen port.now) }
+{
+    match written {
+        Ok(()) => Status::Done,
+        Err(Failed) => write_fault(before, port),
+    }
+}
+
+/// The status that a session's end makes, over a port that told these counts of faults before.
+pub(crate) fn status_of_session<P: Port>(
     end: SessionEnd,
-    before: u64,
-    now: u64,
     reads: u64,
     writes: u64,
     port: &P,
 ) -> Status
-    ensures { (p : PortSeen) → reads ≡ p.read_faults → writes ≡ p.write_faults → result ≡ made_of_end end before now p (P.seen port.now) }
+    ensures usage { result ≢ Status.Usage }
+    ensures made { (p : PortSeen) → reads ≡ p.read_faults → writes ≡ p.write_faults → result ≡ status_of_session end p (P.seen port.now) }
 {
     match end {
         SessionEnd::Quit | SessionEnd::InputEnded => Status::Done,
-        SessionEnd::ReadFault => Status::ReadFault {
-            input: Which::Input,
-            before: reads,
-            now: port.read_faults(),
-        },
-        SessionEnd::WriteFault => Status::WriteFault {
-            before: writes,
-            now: port.write_faults(),
-        },
+        SessionEnd::ReadFault => read_fault(reads, port),
+        SessionEnd::WriteFault => write_fault(writes, port),
         SessionEnd::Spent => Status::Spent,
-        SessionEnd::Stopped(stop) => stopped(stop, before, now),
+        SessionEnd::Stopped(stop) => status_of_stop(stop),
     }
-}
-
-/// The later count is above the earlier one, or stands at its last value.
-pub(crate) fn has_risen(before: u64, now: u64) -> bool
-    ensures { IsTrue result ↔ Rose before now }
-{
-    now > before || now == u64::MAX
 }

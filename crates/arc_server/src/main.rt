@@ -5,13 +5,13 @@
 //! receiver can be tried with.
 #![tactic(auto)]
 
-ghost use Rattle.std.specs.Prelude.{◌≡◌, Some};
+ghost use Rattle.std.specs.Prelude.{◌≡◌, Some, false};
 ghost use Rattle.arc_server.specs.Forms.{form_of as form_by};
 ghost use Rattle.arc_server.specs.WholeRuns.{HasDoors};
 
 use arc_data::Txt;
 use arc_doors::{Peers, SecondPulse, TcpDoor};
-use arc_io::{FileDisk, FileSource, RealClock, RealNoise, StdPort};
+use arc_io::{Disk, FileDisk, FileSource, Port, RealClock, RealNoise, Source, StdPort};
 use form::{Form, form_of};
 use run::{Outside, run};
 use status::Status;
@@ -23,6 +23,7 @@ use std::thread::Threads;
 use std::{env, fs, io};
 use threads::can_make;
 
+mod begin;
 mod came;
 mod drill;
 mod form;
@@ -102,16 +103,37 @@ fn run_over_machine<W: Threads + Wait + Sync>(
         let _ = eprintln!(rt; "the system refuses one of {wanted} threads");
         return Status::Memory;
     }
+    let Ok(disk) = FileDisk::new(rt, rt.alloc(), ".") else {
+        return Status::Memory;
+    };
     let port = StdPort::new(
         rt.reader(),
         io::writer(rt),
         RealClock::new(rt),
         RealNoise::new(rt),
     );
-    let setup = FileSource::new(rt, "setup.txt");
-    let Ok(disk) = FileDisk::new(rt, rt.alloc(), ".") else {
-        return Status::Memory;
-    };
+    run_at_doors(
+        threads,
+        rt,
+        words,
+        FileSource::new(rt, "setup.txt"),
+        port,
+        disk,
+    )
+}
+
+// Makes the doors for these words, and runs.
+fn run_at_doors<W: Threads + Wait + Sync, S: Source + Drop, P: Port + Drop, D: Disk + Send + Drop>(
+    threads: &W,
+    rt: &HostRuntime,
+    words: &[Txt],
+    setup: S,
+    port: P,
+    disk: D,
+) -> Status
+    requires setup { (S.seen setup).ended ≡ false }
+    requires port { (P.seen port).ended ≡ false }
+{
     let (lines, desks) = doors_for(words);
     let (Ok(lines), Ok(desks)) = (
         TcpDoor::shared(*rt, rt.alloc(), Peers::Panels, 9009, lines),

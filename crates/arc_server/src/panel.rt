@@ -2,9 +2,11 @@
 ghost use Rattle.std.specs.Prelude.{◌≡◌, ◌≢◌, true, false};
 ghost use Rattle.arc_data.specs.Digits.{is_capital_hex, is_run};
 ghost use Rattle.arc_io.specs.Seen.{PortSeen};
-ghost use Rattle.arc_server.specs.PanelRuns.{IsPanelRun, made_of_panel};
+ghost use Rattle.arc_server.specs.Made.{status_of_panel};
+ghost use Rattle.arc_server.specs.PanelRuns.{IsPanelRun};
 
-use crate::status::{Status, Which};
+use crate::made::{read_fault, write_fault};
+use crate::status::Status;
 use arc_data::Txt;
 use arc_io::Port;
 use arc_panel::{PanelEnd, run_panel};
@@ -23,22 +25,15 @@ pub(crate) fn run_panelled<P: Port>(alloc: Global, account: Txt, port: &mut P) -
     status_of_panel(end, reads, writes, port)
 }
 
-// The status that an end makes.
+// The status that an end makes, over a port that told these counts of faults before.
 fn status_of_panel<P: Port>(end: PanelEnd, reads: u64, writes: u64, port: &P) -> Status
     ensures usage { result ≢ Status.Usage }
-    ensures made { (p : PortSeen) → reads ≡ p.read_faults → writes ≡ p.write_faults → result ≡ made_of_panel end p (P.seen port.now) }
+    ensures made { (p : PortSeen) → reads ≡ p.read_faults → writes ≡ p.write_faults → result ≡ status_of_panel end p (P.seen port.now) }
 {
     match end {
         PanelEnd::Done => Status::Done,
-        PanelEnd::ReadFault => Status::ReadFault {
-            input: Which::Input,
-            before: reads,
-            now: port.read_faults(),
-        },
-        PanelEnd::WriteFault => Status::WriteFault {
-            before: writes,
-            now: port.write_faults(),
-        },
+        PanelEnd::ReadFault => read_fault(reads, port),
+        PanelEnd::WriteFault => write_fault(writes, port),
         PanelEnd::Spent => Status::Spent,
         PanelEnd::BadLine { line } => Status::BadScript { line },
         PanelEnd::Memory => Status::Memory,

@@ -68,7 +68,8 @@ pub fn run<
     ensures unread { (form : Form) → form_by words.now ≡ Some form → reads_setup form ≡ false → result.outside.setup ≡ outside.setup }
     ensures ran { (form : Form) → form_by words.now ≡ Some form →
         IsRun D.seen form result.status
-        (S.seen outside.setup) (S.seen result.outside.setup) (P.seen outside.port) (P.seen result.outside.port)
+        (record { setup = S.seen outside.setup; port = P.seen outside.port; disk = outside.disk })
+        (record { setup = S.seen result.outside.setup; port = P.seen result.outside.port; disk = result.outside.disk })
         (record {
           lines = map (λ d. A.seen d) outside.lines.items;
           desks = map (λ d. B.seen d) outside.desks.items;
@@ -78,8 +79,7 @@ pub fn run<
           lines = map (λ d. A.seen d) result.outside.lines.items;
           desks = map (λ d. B.seen d) result.outside.desks.items;
           pulse = T.moments result.outside.pulse;
-        })
-        outside.disk result.outside.disk }
+        }) }
 {
     let Some(form) = form_of(words) else {
         return Ended {
@@ -149,16 +149,29 @@ fn run_form<
     ensures usage { result.status ≢ Status.Usage }
     ensures unread { reads_setup form ≡ false → setup.new ≡ setup.old }
     ensures ran { IsRun D.seen form result.status
-        (S.seen setup.old) (S.seen setup.new) (P.seen port.old) (P.seen port.new) station result.station disk result.disk }
+        (record { setup = S.seen setup.old; port = P.seen port.old; disk = disk })
+        (record { setup = S.seen setup.new; port = P.seen port.new; disk = result.disk }) station result.station }
 {
-    let (status, disk) = match form {
-        Form::Serve(crew) => return run_serve(rt, alloc, crew, setup, port, disk, station),
-        Form::Session(side) => run_session(side, alloc, setup, port, disk),
-        Form::Script => run_scripted(alloc, setup, port, disk),
-        Form::Report => run_report(alloc, port, disk),
-        Form::Drill(messages) => (run_drill(alloc, messages, port), disk),
-        Form::Panel(account) => (run_panelled(alloc, account, port), disk),
-    };
+    match form {
+        Form::Serve(crew) => run_serve(rt, alloc, crew, setup, port, disk, station),
+        Form::Session(side) => unserved(run_session(side, alloc, setup, port, disk), station),
+        Form::Script => unserved(run_scripted(alloc, setup, port, disk), station),
+        Form::Report => unserved(run_report(alloc, port, disk), station),
+        Form::Drill(messages) => unserved((run_drill(alloc, messages, port), disk), station),
+        Form::Panel(account) => unserved((run_panelled(alloc, account, port), disk), station),
+    }
+}
+
+// Of a run that used nothing of what stands around the store.
+fn unserved<D: Disk + Drop, A: Door + Drop, B: Door + Drop, T: Pulse + Drop>(
+    ended: (Status, D),
+    station: Station<A, B, T>,
+) -> Served<D, A, B, T>
+    ensures status { result.status ≡ ended.0 }
+    ensures disk { result.disk ≡ ended.1 }
+    ensures station { result.station ≡ station }
+{
+    let (status, disk) = ended;
     Served {
         status,
         disk,

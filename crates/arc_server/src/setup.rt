@@ -1,7 +1,7 @@
 // Reading the setup of a run.
-ghost use Rattle.std.specs.Prelude.{◌≡◌, false, IsOk, IfOk, IfErr};
+ghost use Rattle.std.specs.Prelude.{◌≡◌, ◌≢◌, false, IsOk, IfOk, IfErr};
 ghost use Rattle.alarm_rules.specs.Setups.{setup_of};
-ghost use Rattle.arc_server.specs.SetupReads.{IsSetupEnd, ReadsText};
+ghost use Rattle.arc_server.specs.SetupReads.{IsNoSetup, ReadsText};
 
 use crate::status::{Status, Which};
 use arc_data::SetupFault;
@@ -16,7 +16,8 @@ const SETUP_READ: usize = 4_194_305;
 pub(crate) fn read_setup<S: Source>(alloc: Global, source: &mut S) -> Result<Setup, Status>
     requires { (S.seen source.old).ended ≡ false }
     ensures read { IfOk result (λ setup. ReadsText (S.seen source.old) (S.seen source.new) setup × IsOk (setup_of setup)) }
-    ensures refused { IfErr result (λ status. IsSetupEnd status (S.seen source.old) (S.seen source.new)) }
+    ensures refused { IfErr result (λ status. IsNoSetup status (S.seen source.old) (S.seen source.new)) }
+    ensures usage { IfErr result (λ status. status ≢ Status.Usage) }
 {
     let before = source.read_faults();
     match read_all(alloc, source, SETUP_READ) {

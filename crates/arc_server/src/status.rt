@@ -15,7 +15,7 @@ use itoa::Buffer;
 pub enum Which {
     /// The setup text.
     Setup,
-    /// The bytes of the line, of the desk or of the script.
+    /// The bytes of the line, of the desk or of the script, or the lines that are played over a panel.
     Input,
 }
 

@@ -1,5 +1,5 @@
 // The one line of what a store has.
-ghost use Rattle.std.specs.Prelude.{◌≡◌, ◌++◌, codes, decimal};
+ghost use Rattle.std.specs.Prelude.{◌++◌, codes, decimal};
 ghost use Rattle.arc_io.specs.Told.{Puts};
 ghost use Rattle.arc_server.specs.ServeRuns.{summary_line};
 

@@ -3,7 +3,8 @@ use Rattle.arc_io.specs.Told.{OnlyWrites}
 use Rattle.arc_text.specs.LineCutting.{WasFed}
 use Rattle.arc_text.specs.Lines.{ended_lines}
 use Rattle.session_rules.specs.Inputs.{input_limit}
-use Rattle.arc_script.specs.Between.{Begun, IsReady, SoFar}
+use Rattle.arc_script.specs.Begun.{Begun}
+use Rattle.arc_script.specs.Between.{IsReady, SoFar}
 use Rattle.arc_script.specs.Texts.{line_limit}
 use Rattle.arc_script.proofs.play.play_ended.Given as goal
 

@@ -1,7 +1,8 @@
 use Rattle.std.proofs.Common.{◌≡◌, ◌≤◌, ◌-◌, ℕ, List, [], false}
 use Rattle.arc_text.specs.LineCutting.{WasFed}
 use Rattle.session_rules.specs.Inputs.{input_limit}
-use Rattle.arc_script.specs.Between.{Begun, IsReady, SoFar}
+use Rattle.arc_script.specs.Begun.{Begun}
+use Rattle.arc_script.specs.Between.{IsReady, SoFar}
 use Rattle.arc_script.specs.Texts.{line_limit}
 use Rattle.arc_script.proofs.Transcripts.{ReadSoFar}
 use Rattle.arc_script.proofs.run.read_script.Given as goal

@@ -3,7 +3,7 @@ use Rattle.arc_io.specs.Seen.{PortSeen}
 use Rattle.centre_rules.specs.State.{State}
 use Rattle.arc_script.specs.Between.{SoFar}
 use Rattle.arc_script.specs.declared.script_end.Tally.{Tally}
-use Rattle.arc_script.proofs.Beginning.{untouched, unread, began}
+use Rattle.arc_script.proofs.Beginning.{untouched, unread}
 use Rattle.arc_script.proofs.Opening.{so_far_none}
 use Rattle.arc_script.proofs.run.run_over.Goals as goal
 
@@ -15,8 +15,8 @@ returns-in-Ok g c = record {
       let opened = made.counts ∙ ap (λ (s : State). s.sum.opened) c.centre.ensures in
       let so = so_far_none seen b c.in-Ok.script c.args.store (made.given.0 ∙ sym setup) (made.given.1 ∙ sym limits) made.lines made.desks made.begun.0 opened
       (ap (λ (t : Tally). t.sent) made.tally) (ap (λ (t : Tally). t.repeats) made.tally) (ap (λ (t : Tally). t.closed) made.tally) store held in
-      inl (began seen b _ _ _ _ _ _ _ setup limits port (c.read_script-end.ensures.ran b port made.begun.1
-      (subst (λ (p : PortSeen). SoFar seen b [] c.in-Ok.script c.args.store p) port so)));
+      inl (c.read_script-end.ensures.ran b port made.begun.1
+      (subst (λ (p : PortSeen). SoFar seen b [] c.in-Ok.script c.args.store p) port so));
 }
 
 pub returns-in-Err : goal.returns-in-Err

@@ -1,5 +1,5 @@
 use Rattle.std.proofs.Common.{◌≤◌, inr, refl, subst, sym}
-use Rattle.arc_script.specs.Between.{Begun}
+use Rattle.arc_script.specs.Begun.{Begun}
 use Rattle.arc_script.proofs.Opening.{store_opened, held_opened, begins_with}
 use Rattle.centre_store.proofs.Readable.{spared_tells}
 use Rattle.arc_script.proofs.run.run_script.Goals as goal

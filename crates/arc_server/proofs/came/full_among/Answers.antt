@@ -1,4 +1,3 @@
-use Rattle.std.proofs.Common.{◌≡◌}
 use Rattle.arc_server.specs.Servings.{full_in}
 use Rattle.arc_server.proofs.Fronts.{front_of_stops}
 use Rattle.arc_server.proofs.came.full_among.Goals as goal

@@ -1,6 +1,6 @@
 use Rattle.std.proofs.Common.{◌≡◌, drop}
 use Rattle.std.specs.List.{flat_map}
-use Rattle.arc_server.specs.Servings.{front_of, full_in, worn_in, stop_in, door_fault_in}
+use Rattle.arc_server.specs.Servings.{front_of, full_in, stop_in}
 use Rattle.arc_server.proofs.came.full_of_workers.Given as goal
 
 -- what is left decides

@@ -8,7 +8,6 @@ use Rattle.arc_server.proofs.drill.drilled.Goals as goal
 
 pub returns-in-Done : goal.returns-in-Done
 returns-in-Done c =
-    drilled_to_end disk_seen c.args.messages c.in-Ok.setup shipped c.run_script-ended.result.end (drill_seen c.new-2.result)
-    (drill_seen c.run_script-ended.new.port) c.new-disk.result c.run_script-ended.result.disk c.run_script-ended.result.tally
-    (c.in-Ok.ensures.ok ∙ c.setup_text.ensures) c.in-Done.is c.new-2.ensures (ap (λ (areas : Areas). Some areas) c.new-disk.ensures.bytes)
-    c.run_script-ended.ensures.script
+    drilled_to_end disk_seen c.args.messages c.in-Ok.setup shipped (drill_seen c.new-2.result) (drill_seen c.run_script-ended.new.port) c.new-disk.result
+    c.run_script-ended.result (c.in-Ok.ensures.ok ∙ c.setup_text.ensures) c.in-Done.is c.new-2.ensures
+    (ap (λ (areas : Areas). Some areas) c.new-disk.ensures.bytes) c.run_script-ended.ensures.script

@@ -1,8 +1,17 @@
-use Rattle.arc_server.proofs.Reported.{reports_past}
+use Rattle.std.proofs.Common.{inl, inr, refl}
+use Rattle.arc_server.proofs.Begun.{shut}
 use Rattle.arc_server.proofs.report.run_report.Goals as goal
 
 pub returns-in-Ok-clause-ran : goal.returns-in-Ok-clause-ran
-returns-in-Ok-clause-ran g c =
-    let opening = c.in-Ok.ensures in
-    reports_past c.write_report.result.0 c.args.disk c.write_report.result.1 c.in-Ok.store c.faults-before.result opening.opened
-    (record { area = opening.told; images = opening.any_moment }) c.write_report.ensures.handed c.faults-before.ensures c.write_report.ensures.shown
+returns-in-Ok-clause-ran g c q =
+    let e = c.in-Ok.ensures in
+    let o = e.opened in
+    inr (c.write_report.ensures.reported q c.args.disk o.base o.past c.faults-before.ensures o.stands
+    (record { bodies = o.bodies; given = o.given; is_past = o.is_past; area = o.area }) (record { area = e.told; images = e.any_moment }))
+
+pub returns-in-Err-clause-ran : goal.returns-in-Err-clause-ran
+returns-in-Err-clause-ran g c q =
+    let e = c.in-Err.ensures in
+    inl (shut c.faults-before.result c.in-Err.refused
+    (record { shown = e.shown; counts = e.counts; told = e.told; any_moment = e.any_moment; unwritten = e.unwritten }) refl
+    c.unopened-status.ensures.disk c.faults-before.ensures c.unopened-status.ensures.over)

@@ -1,55 +1,42 @@
-use Rattle.std.proofs.Common.{true, false, sym, subst, ◌∙◌}
-use Rattle.centre_store.specs.Begins.{begun_after}
+use Rattle.std.proofs.Common.{◌≤◌, ℕ, List, sym, subst, ◌∙◌}
+use Rattle.centre_rules.specs.History.{Entry}
 use Rattle.centre_store.proofs.Halled.{at_open_stays, limits_stay}
-use Rattle.centre_store.specs.Stores.{HasFailed}
-use Rattle.arc_server.specs.SessionRuns.{IsServed}
-use Rattle.arc_server.specs.declared.status.Status.{Status}
-use Rattle.arc_server.proofs.MadeOf.{never_usage}
-use Rattle.arc_server.proofs.Served.{served_down, served_up, up_to_end}
+use Rattle.arc_server.proofs.Kept.{kept}
+use Rattle.arc_server.proofs.Over.{over_is}
+use Rattle.arc_server.proofs.Sessions.{stands_by}
 use Rattle.arc_server.proofs.session.serve_store.Goals as goal
 
-pub returns-then-has_risen-clause-served : goal.returns-then-has_risen-clause-served
-returns-then-has_risen-clause-served g c base past text clock stands under sound =
-    served_down c.args.side c.serve-end.result c.args.before c.faults-now.result
-    (record {
-      begins = stands;
-      under = under;
-      up = sound;
-      history = (c.serve-end.ensures.serves.2 base (begun_after base past text clock) stands).0;
-      made = (c.serve-end.ensures.serves.2 base (begun_after base past text clock) stands).1;
-      did = (c.serve-end.ensures.serves.0, c.serve-end.ensures.serves.1, (c.serve-end.ensures.serves.2 base (begun_after base past text clock) stands).2);
-      shown = c.serve-end.ensures.stop;
-      limits = limits_stay c.serve-end.ensures.kept.fixed ∙ c.requires.limits;
-      handed = c.close-disk.ensures;
-    })
-    c.faults-now.ensures (c.has_risen.ensures.0 c.if-has_risen.true)
-
-pub returns-clause-usage : goal.returns-clause-usage
-returns-clause-usage g c usage =
-    let made = c.status_of.ensures (g.P.Ends.seen c.args.port.now) c.read_faults-reads.ensures c.write_faults-writes.ensures in
-    never_usage c.serve-end.result c.args.before c.faults-now.result (g.P.Ends.seen c.args.port.now)
-    (g.P.Ends.seen c.serve-end.new.port) (sym made ∙ usage)
-
 pub returns-clause-served : goal.returns-clause-served
-returns-clause-served g c base past text clock stands under sound =
+returns-clause-served g c r q' h counted begun =
+    let seen = g.D.Disk.seen in
     let p = g.P.Ends.seen c.args.port.now in
     let p' = g.P.Ends.seen c.serve-end.new.port in
+    let first = c.args.store in
     let last = c.serve-end.new.hall in
-    let made = c.status_of.ensures p c.read_faults-reads.ensures c.write_faults-writes.ensures in
-    let up : HasFailed g.D.Disk.seen last → ⊥ =
-    up_to_end g.D.Disk.seen c.args.before c.args.store.at_open c.faults-now.result last c.close-disk.result c.has_risen.result
-    (at_open_stays c.serve-end.ensures.kept.fixed) c.requires.before c.close-disk.ensures c.faults-now.ensures c.has_risen.ensures.1 c.if-has_risen.false in
-    subst (λ (status : Status). IsServed g.D.Disk.seen c.args.side status base past text clock p p' c.args.before c.close-disk.result) (sym made)
-    (served_up c.args.side c.serve-end.result c.args.before c.faults-now.result
-    (record {
-      begins = stands;
-      under = under;
-      up = sound;
-      history = (c.serve-end.ensures.serves.2 base (begun_after base past text clock) stands).0;
-      made = (c.serve-end.ensures.serves.2 base (begun_after base past text clock) stands).1;
-      did = (c.serve-end.ensures.serves.0, c.serve-end.ensures.serves.1, (c.serve-end.ensures.serves.2 base (begun_after base past text clock) stands).2);
-      shown = c.serve-end.ensures.stop;
-      limits = limits_stay c.serve-end.ensures.kept.fixed ∙ c.requires.limits;
+    let end = c.serve-end.result in
+    let e = c.serve-end.ensures in
+    let base = begun.asked.base in
+    let went = e.serves.2 base h begun.stands in
+    let history : List Entry = went.0 in
+    let made : List Entry = went.1 in
+    let later : (seen r.disk).faults ≤ last.at_open = subst (λ (n : ℕ). (seen r.disk).faults ≤ n) (sym (at_open_stays e.kept.fixed)) begun.later in record {
+      p = p;
+      first = first;
+      h = h;
+      begun = begun;
+      end = end;
+      read = e.serves.0;
+      reads = e.serves.1;
+      history = history;
+      made = made;
+      last = last;
+      serves = went.2;
+      shown = e.stop;
+      limits = limits_stay e.kept.fixed ∙ c.requires.limits;
+      later = later;
       handed = c.close-disk.ensures;
-    })
-    up c.serve-end.ensures.read c.serve-end.ensures.write)
+      ends = kept last (seen r.disk).faults c.close-disk.result
+          (stands_by seen c.args.side end e.serves.0 base (record { from = h; to = history; made = made }) first last p p' went.2) later c.close-disk.ensures;
+      status_is = over_is c.status_over.result c.status_over.ensures.over counted c.faults.ensures
+          (c.status_of_session-status.ensures.made p c.read_faults-reads.ensures c.write_faults-writes.ensures);
+    }

@@ -1,7 +1,6 @@
 -- The script is the old one but for what is told of the centre.
 use Rattle.std.proofs.Common.{◌≡◌, ◌∙◌, ◌-◌, length, refl, ap}
 use Rattle.centre_rules.specs.State.{State}
-use Rattle.arc_script.specs.declared.script_end.Tally.{Tally}
 use Rattle.arc_script.proofs.Kept.{same_script}
 use Rattle.arc_script.proofs.script.Script.close.Goals as goal
 

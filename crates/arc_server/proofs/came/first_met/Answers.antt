@@ -1,9 +1,8 @@
-use Rattle.std.proofs.Common.{◌≡◌}
 use Rattle.std.specs.Prelude.{is_err}
 use Rattle.arc_server.specs.Servings.{where_so}
 use Rattle.arc_server.specs.declared.status.Status.TheVariants.{WriteFault}
 use Rattle.arc_server.proofs.Fronts.{first_met}
-use Rattle.arc_server.proofs.came.status_of_serving.Goals as goal
+use Rattle.arc_server.proofs.came.first_met.Goals as goal
 
 pub returns-in-Ok : goal.returns-in-Ok
 returns-in-Ok c =
