@@ -8,9 +8,9 @@ ghost use Rattle.desk_wire.specs.Replies.{ended};
 use arc_data::{Incident, Reply};
 use arc_io::{Failed, Sink, put};
 use centre_core::Centre;
-use desk_answers::view;
 use desk_wire::print;
 use itoa::Buffer;
+use open_incidents::orders::view;
 
 /// Writes how many entries are recorded and how many incidents are open, a line each, and then the line of each open incident in order
 /// of number, as a desk is shown it. It takes no memory, and writes a line at a time. Failed comes only where the sink failed, and then

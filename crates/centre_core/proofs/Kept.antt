@@ -8,7 +8,7 @@ use Rattle.arc_data.specs.declared.incident.Incident.{Incident}
 use Rattle.arc_data.specs.declared.reply.Reply.{Reply}
 use Rattle.arc_data.specs.declared.reply.Reply.TheVariants.{Adopted}
 use Rattle.arc_data.specs.declared.setup_fault.SetupFault.{SetupFault}
-use Rattle.account_rows.specs.Rows.{RowsValue}
+use Rattle.known_accounts.specs.Rows.{RowsValue}
 use Rattle.alarm_rules.specs.Setups.{Setup, setup_of}
 use Rattle.centre_rules.specs.Summary.{Summary}
 use Rattle.centre_rules.specs.Marks.{Mark, Adopts, Carried}
@@ -18,9 +18,9 @@ use Rattle.centre_rules.specs.History.{is_recorded, marks_of, onto}
 use Rattle.centre_rules.specs.Answers.{answer_over, if_known}
 use Rattle.centre_rules.specs.State.{Same, State, Plan, IsSound, IsMarked}
 use Rattle.centre_rules.proofs.Marked.{marked_same}
-use Rattle.centre_marks.specs.Taken.{sum_of, marks_with, Takes, MayTake, Fits, named_by, IsNoAdopt}
-use Rattle.centre_marks.proofs.Taking.{few_more, map_same}
-use Rattle.incident_marks.specs.Marked.{IsFew, HaveActRoom}
+use Rattle.centre_core.specs.Taken.{sum_of, marks_with, Takes, MayTake, Fits, named_by, IsNoAdopt}
+use Rattle.centre_core.proofs.Taking.{few_more, map_same}
+use Rattle.open_incidents.specs.Marked.{IsFew, HaveActRoom}
 use Rattle.incidents.specs.Tables.{TableValue}
 use Rattle.centre_core.specs.Kept.{IsReady, IsAdopted, IsSetupOf, CarriesSetup, HasRoomFor, NoLess, IsWorked, MayRecord, Records, IsCentre}
 use Rattle.centre_core.proofs.Ordered.{fits_of}

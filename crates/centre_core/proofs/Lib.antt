@@ -6,3 +6,4 @@ pub mod Timely
 pub mod Ordered
 pub mod Worked
 pub mod RaisedAt
+pub mod Taking

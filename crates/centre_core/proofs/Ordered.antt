@@ -24,8 +24,8 @@ use Rattle.centre_rules.specs.State.{State}
 use Rattle.centre_rules.specs.Answers.{answer_over, if_known, knows_operator}
 use Rattle.centre_rules.proofs.Steps.{incidents_begin}
 use Rattle.centre_rules.proofs.Tables.{numbered_number}
-use Rattle.incident_marks.specs.Marked.{FitsAct}
-use Rattle.centre_marks.specs.Taken.{Fits}
+use Rattle.open_incidents.specs.Marked.{FitsAct}
+use Rattle.centre_core.specs.Taken.{Fits}
 
 -- An operator's answer, from whether the operator is known and what the open incidents give.
 pub answer_of : (s : Summary) (o : List ℕ) (k : Bool) (r : Reply) (of : List Incident → Reply) → k ≡ knows_operator (force s []) o → r ≡ of s.incidents

@@ -8,7 +8,7 @@ use Rattle.arc_data.specs.declared.signal.Class.{Class}
 use Rattle.alarm_rules.specs.Setups.{Setup, Account}
 use Rattle.centre_rules.specs.Carrying.{carried, own_signal}
 use Rattle.centre_rules.specs.Marks.{Carried}
-use Rattle.supervised_accounts.specs.Supervised.{ArePlacesOf}
+use Rattle.known_accounts.specs.Supervised.{ArePlacesOf}
 use Rattle.centre_core.specs.Raised.{raised_of}
 use Rattle.centre_core.proofs.Carried.{next_of}
 

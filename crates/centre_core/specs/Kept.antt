@@ -10,8 +10,8 @@ use Rattle.centre_rules.specs.Carrying.{carried_by}
 use Rattle.centre_rules.specs.History.{is_recorded, marks_of, onto, IsMoment}
 use Rattle.centre_rules.specs.Answers.{answer_over}
 use Rattle.centre_rules.specs.State.{State, Rooms, Same, Plan, IsSound}
-use Rattle.centre_marks.specs.Taken.{named_by}
-use Rattle.incident_marks.specs.Marked.{IsFew, HaveActRoom}
+use Rattle.centre_core.specs.Taken.{named_by}
+use Rattle.open_incidents.specs.Marked.{IsFew, HaveActRoom}
 use Rattle.incidents.specs.Tables.{TableValue}
 
 -- a setup that is kept is the one that its text means, and a recorded entry raises no count by more than 8,192

@@ -1,11 +1,11 @@
 pub use Rattle.alarm_rules.specs.Setups
 pub use Rattle.arc_data.specs.WellFormed
-pub use Rattle.centre_marks.specs.Taken
 pub use Rattle.centre_rules.specs.Summary
 pub use Rattle.centre_rules.specs.History
 pub use Rattle.centre_rules.specs.Answers
 pub use Rattle.centre_rules.specs.State
-pub use Rattle.incident_marks.specs.Marked
+pub use Rattle.open_incidents.specs.Marked
+pub mod Taken
 pub mod Kept
 pub mod Raised
 pub mod Halls

@@ -9,8 +9,8 @@ use crate::carrying::{raise, signals_sent};
 use crate::centre::Centre;
 use crate::orders::on_adopt;
 use arc_data::{Acted, Carried, Event, Memory, Message, Reply};
+use known_accounts::WatchedSetup;
 use std::alloc::Global;
-use supervised_accounts::WatchedSetup;
 
 /// The reply to an event, and where it is recorded, the signals that it carries.
 #[derive(Drop)]
@@ -121,8 +121,11 @@ impl Centre {
                 number,
                 ..
             } => Ok(self.on_close(operator, *number)),
-            Event::Show { number } => Ok(desk_answers::show(self.queued.table(), *number)),
-            Event::List => desk_answers::list(alloc, self.queued.table().items()),
+            Event::Show { number } => Ok(open_incidents::orders::show(
+                self.queued.table(),
+                *number,
+            )),
+            Event::List => open_incidents::listing::list(alloc, self.queued.table().items()),
             Event::Message(_) | Event::Tick => Ok(Reply::Unknown),
         }
     }

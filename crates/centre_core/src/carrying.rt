@@ -6,13 +6,13 @@ ghost use Rattle.alarm_rules.specs.Setups.{Account, account_of, meaning, steps_o
 ghost use Rattle.centre_rules.specs.Carrying.{carried as carried_of, carried_sent, own_signal as plain_signal, is_irregular as irregular_at};
 ghost use Rattle.centre_rules.specs.Carrying.{raised_where, is_silent, is_late};
 ghost use Rattle.centre_rules.specs.History.{IsMoment};
-ghost use Rattle.supervised_accounts.specs.Supervised.{ArePlacesOf, rows_sum};
+ghost use Rattle.known_accounts.specs.Supervised.{ArePlacesOf, rows_sum};
 ghost use Rattle.centre_core.specs.Raised.{raised_of};
 
 use accounts::Setup;
 use arc_data::{Carried, Class, Kind, Memory, Signal, Signals, StepList, Txt};
+use known_accounts::{Places, SupervisedAccounts};
 use std::alloc::Global;
-use supervised_accounts::{Places, SupervisedAccounts};
 
 /// The signals of a message of an account, in their order. An opening signal outside the account's windows is followed by an
 /// Irregular signal. The error is want of memory.

@@ -8,16 +8,17 @@ ghost use Rattle.centre_rules.specs.Answers.{answer};
 ghost use Rattle.centre_rules.specs.State.{StandsFor, Grows, entry_of};
 ghost use Rattle.centre_core.specs.Kept.{MayRecord, Records, IsAdopted, NoLess};
 
+use crate::marks::mark;
 use crate::ready::{Done, Ready};
 use accounts::Setup;
 use arc_data::{Carried, Event, Memory, Reply, SetupFault};
 use centre_rules::is_recorded;
 use incidents::Table;
-use queued_incidents::QueuedTable;
+use known_accounts::{SupervisedAccounts, WatchedSetup};
+use open_incidents::QueuedTable;
 use std::alloc::Global;
 use std::marker::Model;
 use std::snapshot::Snapshot;
-use supervised_accounts::{SupervisedAccounts, WatchedSetup};
 
 /// The centre: how many entries it was given, and what it keeps of them. Contracts see its state, and say for which
 /// histories it stands.
@@ -49,7 +50,7 @@ impl Model for Centre {
 
     ghost Value = { State };
 
-    ghost use Rattle.centre_marks.specs.Taken.{sum_of};
+    ghost use Rattle.centre_core.specs.Taken.{sum_of};
     ghost use Rattle.centre_core.specs.Kept.{IsCentre};
 
     ghost view = { λ c. record { entries = c.entries; sum = sum_of c.last c.recorded c.accounts.text c.accounts.rows c.queued; rooms = record { incidents = c.queued.room; accounts = c.accounts.rows.room } } };
@@ -188,7 +189,7 @@ impl Centre {
             self.accounts.adopt(setup);
             return;
         }
-        centre_marks::mark(
+        mark(
             &mut self.accounts,
             &mut self.queued,
             event,

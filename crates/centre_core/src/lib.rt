@@ -6,6 +6,7 @@ mod answers;
 mod carrying;
 mod centre;
 mod hall;
+mod marks;
 mod orders;
 mod ready;
 mod reserving;

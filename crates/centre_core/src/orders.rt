@@ -9,7 +9,7 @@ ghost use Rattle.centre_core.specs.Kept.{IsSetupOf};
 
 use crate::centre::Centre;
 use arc_data::{Acted, Reply, Txt};
-use supervised_accounts::WatchedSetup;
+use known_accounts::WatchedSetup;
 
 impl Centre {
     /// The answer to a heartbeat.
@@ -23,7 +23,7 @@ impl Centre {
     pub(crate) fn on_claim(&self, operator: &Txt, number: u64) -> Reply
         ensures { (at : ℕ) → result ≡ answer_over self.now.sum [] (Claim operator.now number) at }
     {
-        let reply = desk_answers::claim(&self.queued, operator, number);
+        let reply = open_incidents::orders::claim(&self.queued, operator, number);
         if_known(self.knows_operator(operator), reply)
     }
 
@@ -31,7 +31,7 @@ impl Centre {
     pub(crate) fn on_next(&self, operator: &Txt) -> Reply
         ensures { (at : ℕ) → result ≡ answer_over self.now.sum [] (Next operator.now) at }
     {
-        let reply = desk_answers::next(&self.queued, operator);
+        let reply = open_incidents::orders::next(&self.queued, operator);
         if_known(self.knows_operator(operator), reply)
     }
 
@@ -40,7 +40,7 @@ impl Centre {
         ensures { result ≡ answer_over self.now.sum [] (Do acted.operator number acted.step acted.outcome) acted.at }
     {
         let operator = acted.operator;
-        let reply = desk_answers::act(self.queued.table(), acted, number);
+        let reply = open_incidents::orders::act(self.queued.table(), acted, number);
         if_known(self.knows_operator(&operator), reply)
     }
 
@@ -48,7 +48,7 @@ impl Centre {
     pub(crate) fn on_release(&self, operator: &Txt, number: u64) -> Reply
         ensures { (at : ℕ) → result ≡ answer_over self.now.sum [] (Release operator.now number) at }
     {
-        let reply = desk_answers::release(self.queued.table(), operator, number);
+        let reply = open_incidents::orders::release(self.queued.table(), operator, number);
         if_known(self.knows_operator(operator), reply)
     }
 
@@ -56,7 +56,7 @@ impl Centre {
     pub(crate) fn on_close(&self, operator: &Txt, number: u64) -> Reply
         ensures { (code : CloseCode) (at : ℕ) → result ≡ answer_over self.now.sum [] (Close operator.now number code) at }
     {
-        let reply = desk_answers::close(self.queued.table(), operator, number);
+        let reply = open_incidents::orders::close(self.queued.table(), operator, number);
         if_known(self.knows_operator(operator), reply)
     }
 

@@ -6,9 +6,9 @@ ghost use Rattle.centre_rules.specs.History.{is_recorded, IsMoment};
 use crate::centre::Centre;
 use arc_data::{Carried, Event, Reply};
 use centre_rules::is_recorded;
+use known_accounts::WatchedSetup;
 use std::marker::Model;
 use std::snapshot::Snapshot;
-use supervised_accounts::WatchedSetup;
 
 /// The answer to an event, worked out over one state of one centre. It must be spent: applied to that centre, or discarded.
 pub struct Ready {

@@ -1,7 +1,7 @@
 // The memory that an entry needs.
 ghost use Rattle.std.specs.Prelude.{◌≡◌, ◌≤◌, ◌+◌, OnOk, length};
 ghost use Rattle.centre_core.specs.Kept.{NoLess};
-ghost use Rattle.centre_marks.specs.Taken.{named_by};
+ghost use Rattle.centre_core.specs.Taken.{named_by};
 
 use crate::centre::Centre;
 use arc_data::{Event, Memory};

@@ -3,26 +3,20 @@
 #![tactic(auto)]
 
 #[cfg(test)]
-mod account_rows_tests;
-#[cfg(test)]
-mod desk_answers_tests;
-#[cfg(test)]
-mod incident_marks_tests;
-#[cfg(test)]
 mod incidents_tests;
 #[cfg(test)]
+mod known_accounts_tests;
+#[cfg(test)]
 mod made;
+#[cfg(test)]
+mod open_incidents_tests;
 #[cfg(test)]
 mod operator_queue_tests;
 #[cfg(test)]
 mod places;
 #[cfg(test)]
-mod queued_incidents_tests;
-#[cfg(test)]
 mod repeat_window_tests;
 #[cfg(test)]
 mod same;
-#[cfg(test)]
-mod supervised_accounts_tests;
 #[cfg(test)]
 mod supervision_tests;

@@ -5,7 +5,7 @@ use Rattle.arc_data.specs.declared.signal.Class.TheVariants.{CommFail}
 use Rattle.alarm_rules.specs.Setups.{Account, meaning}
 use Rattle.centre_rules.specs.Carrying.{is_silent, is_late}
 use Rattle.centre_rules.specs.Marks.{Carried}
-use Rattle.supervised_accounts.specs.Supervised.{ArePlacesOf, accounts_in, rows_sum}
+use Rattle.known_accounts.specs.Supervised.{ArePlacesOf, accounts_in, rows_sum}
 use Rattle.centre_core.specs.Raised.{raised_of}
 use Rattle.centre_core.proofs.RaisedAt.{within_of, few_of}
 use Rattle.centre_core.proofs.carrying.raise.Goals as goal

@@ -1,7 +1,7 @@
 -- So many of the accounts found have a signal.
 use Rattle.std.proofs.Common.{◌≡◌, ◌≤◌, ◌+◌, ◌++◌, List, length, take}
 use Rattle.alarm_rules.specs.Setups.{Account, meaning}
-use Rattle.supervised_accounts.specs.Supervised.{ArePlacesOf}
+use Rattle.known_accounts.specs.Supervised.{ArePlacesOf}
 use Rattle.centre_core.specs.Raised.{raised_of}
 use Rattle.centre_core.proofs.carrying.raise_at.Given as goal
 

@@ -1,7 +1,7 @@
 use Rattle.std.proofs.Common.{◌≡◌, ◌∙◌, ◌+◌, sym, ap, subst, arith}
 use Rattle.std.specs.Prelude.{IfSome, IsOk}
 use Rattle.alarm_rules.specs.Setups.{setup_of}
-use Rattle.centre_marks.specs.Taken.{sum_of}
+use Rattle.centre_core.specs.Taken.{sum_of}
 use Rattle.arc_data.specs.declared.event.Event.{Event}
 use Rattle.centre_rules.specs.History.{IsMoment}
 use Rattle.centre_rules.specs.Marks.{Carried}

@@ -1,3 +1,0 @@
-pub mod Heard
-pub mod Known
-pub mod Written

@@ -1,3 +1,0 @@
-pub use Rattle.centre_rules.specs.Marks
-pub mod Rows
-pub mod Spared

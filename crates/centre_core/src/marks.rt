@@ -1,0 +1,134 @@
+// What recorded events leave in the rows and the table. None of these calls takes memory.
+ghost use Rattle.std.specs.Prelude.{◌≡◌, ◌≤◌, ◌^◌, ◌+◌, ◌∷◌, [], ℕ, length, map, IsSome};
+ghost use Rattle.std.specs.List.{find};
+ghost use Rattle.arc_data.specs.Incidents.{has_number};
+ghost use Rattle.arc_data.specs.declared.reply.Reply.TheVariants.{Recorded, Closed};
+ghost use Rattle.known_accounts.specs.Rows.{RowsValue};
+ghost use Rattle.centre_rules.specs.Marks.{Starts, Hears, Sends, Carries};
+ghost use Rattle.centre_rules.specs.History.{acted_by, claim_marks, act_marks, release_marks, close_marks};
+ghost use Rattle.open_incidents.specs.Marked.{IsFew, HaveActRoom, FitsAct};
+ghost use Rattle.incidents.specs.Tables.{TableValue};
+ghost use Rattle.centre_core.specs.Taken.{Takes, MayTake, AreOfMoments, IsNoAdopt, marks_with};
+
+use arc_data::{Carried, Event, Message, Outcome, Reply, Step, Txt};
+use known_accounts::SupervisedAccounts;
+use open_incidents::QueuedTable;
+
+/// Takes up the marks of a recorded event that is no Adopt, with its reply and the signals that it carries.
+pub(crate) fn mark(
+    accounts: &mut SupervisedAccounts,
+    table: &mut QueuedTable,
+    event: Event,
+    at: u64,
+    reply: &Reply,
+    carried: &[Carried],
+)
+    requires other { IsNoAdopt event }
+    requires may { MayTake event at reply.now carried.now accounts.old.rows table.old }
+    ensures text { accounts.new.text ≡ accounts.old.text }
+    ensures taken { Takes (marks_with carried.now event at reply.now) accounts.old.rows accounts.new.rows table.old table.new }
+{
+    match event {
+        Event::Start => start(accounts, table, at),
+        Event::Message(message) => send(accounts, table, message, at, carried),
+        Event::Beat { account } => accounts.hear(&account, at),
+        Event::Tick => carry_all(accounts, table, carried),
+        Event::Claim { operator, .. } | Event::Next { operator } => {
+            claim(table, operator, at, reply);
+        }
+        Event::Act {
+            operator,
+            step,
+            outcome,
+            ..
+        } => act(table, operator, step, outcome, at, reply),
+        Event::Release { .. } => release(table, reply),
+        Event::Close { .. } => close(table, reply),
+        Event::Adopt { .. } => {}
+        Event::Show { .. } | Event::List => {}
+    }
+}
+
+// A run starts.
+fn start(accounts: &mut SupervisedAccounts, table: &mut QueuedTable, at: u64)
+    ensures text { accounts.new.text ≡ accounts.old.text }
+    ensures taken { Takes (Starts at ∷ []) accounts.old.rows accounts.new.rows table.old table.new }
+{
+    accounts.start(at);
+    table.start();
+}
+
+// A message is recorded, and its signals are taken up.
+fn send(
+    accounts: &mut SupervisedAccounts,
+    table: &mut QueuedTable,
+    message: Message,
+    at: u64,
+    carried: &[Carried],
+)
+    requires bound { IsFew (2 ^ 61) table.old.opened table.old.incidents }
+    requires few { length carried.now ≤ 8000 }
+    requires moments { AreOfMoments carried.now }
+    requires accounts { 1 + length carried.now ≤ accounts.old.rows.room }
+    requires incidents { length table.old.incidents + length carried.now ≤ table.old.room }
+    ensures text { accounts.new.text ≡ accounts.old.text }
+    ensures taken { Takes (Sends message at ∷ map Carries carried.now) accounts.old.rows accounts.new.rows table.old table.new }
+{
+    accounts.send(message, at);
+    carry_all(accounts, table, carried);
+}
+
+// Takes up signals, one after another.
+fn carry_all(accounts: &mut SupervisedAccounts, table: &mut QueuedTable, carried: &[Carried])
+    requires bound { IsFew (2 ^ 61) table.old.opened table.old.incidents }
+    requires few { length carried.now ≤ 8000 }
+    requires moments { AreOfMoments carried.now }
+    requires accounts { length carried.now ≤ accounts.old.rows.room }
+    requires incidents { length table.old.incidents + length carried.now ≤ table.old.room }
+    ensures text { accounts.new.text ≡ accounts.old.text }
+    ensures taken { Takes (map Carries carried.now) accounts.old.rows accounts.new.rows table.old table.new }
+{
+    for x in carried {
+        accounts.carry(x);
+        table.carry(x);
+    }
+}
+
+// An operator holds an incident, if the reply says so.
+fn claim(table: &mut QueuedTable, operator: Txt, at: u64, reply: &Reply)
+    ensures { (v : RowsValue) → Takes (claim_marks operator at reply.now) v v table.old table.new }
+{
+    if let Reply::Claimed { number, .. } = reply {
+        table.claim(operator, *number, at);
+    }
+}
+
+// A step is recorded, if the reply says so.
+fn act(table: &mut QueuedTable, operator: Txt, step: Step, outcome: Outcome, at: u64, reply: &Reply)
+    requires fits { (n left : ℕ) → reply.now ≡ Recorded n left → FitsAct n (acted_by operator step outcome at) table.old.incidents }
+    requires acts { HaveActRoom table.old.incidents }
+    ensures { (v : RowsValue) → Takes (act_marks (acted_by operator step outcome at) reply.now) v v table.old table.new }
+{
+    if let Reply::Recorded { number, .. } = reply {
+        table.act(*number, step, outcome, at, operator);
+    }
+}
+
+// An incident is given back, if the reply says so.
+fn release(table: &mut QueuedTable, reply: &Reply)
+    ensures { (v : RowsValue) → Takes (release_marks reply.now) v v table.old table.new }
+{
+    if let Reply::Released { number } = reply {
+        table.release(*number);
+    }
+}
+
+// An incident is closed, if the reply says so.
+fn close(table: &mut QueuedTable, reply: &Reply)
+    requires { (n : ℕ) → reply.now ≡ Closed n → IsSome (find (has_number n) table.old.incidents) }
+    ensures { (v : RowsValue) → Takes (close_marks reply.now) v v table.old table.new }
+{
+    if let Reply::Closed { number } = reply {
+        table.close(*number);
+    }
+}

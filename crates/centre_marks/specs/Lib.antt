@@ -1,2 +1,0 @@
-pub use Rattle.centre_rules.specs.State
-pub mod Taken

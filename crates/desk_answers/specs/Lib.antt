@@ -1,3 +1,0 @@
-pub use Rattle.alarm_rules.specs.Plans
-pub use Rattle.centre_rules.specs.Desks
-pub mod Rows

@@ -1,4 +1,0 @@
-pub mod ActRoom
-pub mod Bounds
-pub mod Carrying
-pub mod Pointwise

@@ -1,0 +1,9 @@
+pub mod Heard
+pub mod Known
+pub mod Written
+pub mod Distinct
+pub mod Placed
+pub mod Openings
+pub mod Others
+pub mod Overdue
+pub mod Renewed

@@ -1,0 +1,18 @@
+//! The known accounts: when each was heard, whether it failed, whether it is open, and its last messages; and beside that the setup in force
+//! and the deadlines of its accounts: when each is silent, and when it closes late.
+#![tactic(auto)]
+
+mod account_rows;
+mod deadlines;
+mod due;
+mod row;
+mod supervised_accounts;
+mod uncounted;
+mod watched_setup;
+
+pub use account_rows::AccountRows;
+pub use accounts::Setup;
+pub use arc_data::{Carried, Memory, Message, Opened, Txt};
+pub use supervised_accounts::SupervisedAccounts;
+pub use supervision::Places;
+pub use watched_setup::WatchedSetup;

@@ -1,0 +1,14 @@
+pub mod ActRoom
+pub mod Bounds
+pub mod Carrying
+pub mod Pointwise
+pub mod Parts
+pub mod QueueEdits
+pub mod QueuedMarks
+pub mod First
+pub mod Numbers
+pub mod Holders
+pub mod HeldMarks
+pub mod FindHeld
+pub mod ListingLemmas
+pub mod OrderLemmas

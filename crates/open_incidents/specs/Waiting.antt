@@ -1,0 +1,32 @@
+-- The queue of the open incidents that nobody holds, next to the list of those that are held.
+use Rattle.std.specs.Prelude.{◌≤◌, ℕ, List, map, length, min}
+use Rattle.std.specs.List.{filter}
+use Rattle.std.specs.List.Sorted.{IsPermutation}
+use Rattle.arc_data.specs.Classes.{priority_of}
+use Rattle.arc_data.specs.declared.incident.Incident.{Incident}
+use Rattle.centre_rules.specs.Desks.{is_free}
+use Rattle.incidents.specs.Tables.{TableValue}
+use Rattle.operator_queue.specs.Pairs.{PairsValue}
+use Rattle.open_incidents.specs.Holding.{HeldValue, IsHeldOf}
+
+-- the priority of an incident's class, and its number
+abbrev pub pair_of : Incident → ℕ × ℕ
+pair_of i = (priority_of i.class, i.number)
+
+-- the pairs of those of the incidents that nobody holds
+abbrev pub waiting : List Incident → List (ℕ × ℕ)
+waiting is = map pair_of (filter is_free is)
+
+-- the queue has these pairs, in its own order, and memory for those of all the incidents
+pub record IsQueueOf (is : List Incident) (queue : PairsValue) : Type 0 where
+  pub same : IsPermutation (waiting is) queue.pairs
+  pub memory : length is ≤ queue.room
+
+-- the queue of those that wait, and the list of those that are held
+pub record IsParted (is : List Incident) (queue : PairsValue) (held : HeldValue) : Type 0 where
+  pub queue_of : IsQueueOf is queue
+  pub held_of : IsHeldOf is held
+
+-- what contracts see of a table with both: the table, and room where all three have it
+abbrev pub with_queue : TableValue → PairsValue → HeldValue → TableValue
+with_queue t queue held = record t { room = min (min t.room queue.room) held.room }

@@ -1,0 +1,147 @@
+// The numbers of the incidents that are held, and who holds one. It is found by a walk over them: a centre has at most one for each
+// operator.
+ghost use Rattle.std.specs.Prelude.{◌≡◌, ◌≤◌, ◌<◌, ◌+◌, ℕ, List, [], Some, nat_lt, length, OnOk};
+ghost use Rattle.std.specs.List.{position, position_or_len};
+ghost use Rattle.std.specs.Option.{option_map};
+ghost use Rattle.centre_rules.specs.Desks.{holds as holds_it, held_by};
+ghost use Rattle.incidents.specs.Tables.{at_number, held};
+ghost use Rattle.open_incidents.specs.Holding.{held_numbers, with_number, without_number};
+
+use arc_data::{Incident, Memory, Txt};
+use incidents::Table;
+use std::alloc::Global;
+use std::marker::Model;
+
+/// Numbers of incidents, in order. Contracts see the list of the numbers, and the room: for how many numbers there is memory,
+/// those that stand in it included.
+#[derive(Drop)]
+pub(crate) struct Held {
+    numbers: Vec<u64>,
+}
+
+impl Model for Held {
+    ghost use Rattle.std.specs.Vec.{vec_capacity};
+    ghost use Rattle.open_incidents.specs.Holding.{HeldValue};
+
+    ghost Value = { HeldValue };
+
+    ghost view = { λ h. record { numbers = h.numbers.items; room = vec_capacity h.numbers } };
+}
+
+impl Held {
+    /// No numbers. Takes no memory.
+    pub(crate) fn new(alloc: Global) -> Held
+        ensures { result.numbers ≡ [] }
+    {
+        Held {
+            numbers: Vec::new(alloc),
+        }
+    }
+
+    /// Takes memory for so many numbers more. The error is want of memory.
+    pub(crate) fn reserve(&mut self, more: usize) -> Result<(), Memory>
+        ensures numbers { self.new.numbers ≡ self.old.numbers }
+        ensures kept { self.old.room ≤ self.new.room }
+        ensures enough { OnOk result (length self.new.numbers + more ≤ self.new.room) }
+    {
+        match self.numbers.reserve(more) {
+            Ok(()) => Ok(()),
+            Err(_) => Err(Memory),
+        }
+    }
+
+    /// The numbers, in order.
+    pub(crate) fn numbers(&self) -> &[u64]
+        ensures { result.now ≡ self.now.numbers }
+    {
+        self.numbers.as_slice()
+    }
+
+    /// Puts a number in at its place. Takes no memory.
+    pub(crate) fn insert(&mut self, number: u64)
+        requires { length self.old.numbers < self.old.room }
+        ensures numbers { self.new.numbers ≡ with_number number self.old.numbers }
+        ensures room { self.new.room ≡ self.old.room }
+    {
+        let place = place_of(&self.numbers, number);
+        let _ = self.numbers.insert(place, number);
+    }
+
+    /// Takes a number out, where it is there.
+    pub(crate) fn remove(&mut self, number: u64)
+        ensures numbers { self.new.numbers ≡ without_number number self.old.numbers }
+        ensures room { self.new.room ≡ self.old.room }
+    {
+        self.numbers.retain(|other| *other != number);
+    }
+
+    /// Takes all numbers out.
+    pub(crate) fn clear(&mut self)
+        ensures numbers { self.new.numbers ≡ [] }
+        ensures room { self.new.room ≡ self.old.room }
+    {
+        self.numbers.clear();
+    }
+}
+
+// The place before the first number that is greater.
+fn place_of(numbers: &[u64], number: u64) -> usize
+    ensures place { result ≡ position_or_len (nat_lt number) numbers.now }
+    ensures within { result ≤ length numbers.now }
+{
+    match first_above(numbers, number) {
+        Some(place) => place,
+        None => numbers.len(),
+    }
+}
+
+fn first_above(numbers: &[u64], number: u64) -> Option<usize>
+    ensures { result ≡ position (nat_lt number) numbers.now }
+{
+    numbers.iter().position(|other| number < *other)
+}
+
+/// Puts the number of an open incident in, if nobody holds it yet.
+pub(crate) fn hold(numbers: &mut Held, table: &Table, number: u64)
+    requires same { numbers.old.numbers ≡ held_numbers table.now.incidents }
+    requires memory { length table.now.incidents ≤ numbers.old.room }
+    ensures numbers { (by : List ℕ) (at : ℕ) → numbers.new.numbers ≡ held_numbers (at_number number (held (Some by) at) table.now.incidents) }
+    ensures room { numbers.new.room ≡ numbers.old.room }
+{
+    let _items = table.items();
+    if let Some(i) = table.get(number) {
+        if i.holder.is_none() {
+            numbers.insert(number);
+        }
+    }
+}
+
+/// The incident that an operator holds, found among those that are held: these are their numbers.
+pub(crate) fn find_held<'a>(
+    table: &'a Table,
+    numbers: &[u64],
+    operator: &Txt,
+) -> Option<&'a Incident>
+    requires { numbers.now ≡ held_numbers table.now.incidents }
+    ensures { option_map (λ i. i.now) result ≡ held_by operator.now table.now.incidents }
+{
+    let _items = table.items();
+    for number in numbers {
+        if let Some(i) = table.get(*number) {
+            if holds(i, operator) {
+                return Some(i);
+            }
+        }
+    }
+    None
+}
+
+/// Whether an operator holds the incident.
+pub fn holds(i: &Incident, operator: &Txt) -> bool
+    ensures { result ≡ holds_it operator.now i.now }
+{
+    match &i.holder {
+        Some(holder) => holder == operator,
+        None => false,
+    }
+}

@@ -1,6 +1,0 @@
--- None of those that were looked at is that of the operator.
-use Rattle.queued_incidents.proofs.FindHeld.{Passed}
-use Rattle.queued_incidents.proofs.held.find_held.Given as goal
-
-abbrev pub invariant-loop-number : goal.invariant-loop-number
-invariant-loop-number l = Passed l.operator l.table.incidents l.number-index

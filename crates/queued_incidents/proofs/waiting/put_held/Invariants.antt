@@ -1,6 +1,0 @@
--- So many of the incidents were looked at.
-use Rattle.queued_incidents.proofs.Edits.{PutSome}
-use Rattle.queued_incidents.proofs.waiting.put_held.Given as goal
-
-abbrev pub invariant-loop-i : goal.invariant-loop-i
-invariant-loop-i l = PutSome l.i-index l.items l.fn.queue.room l.queue
