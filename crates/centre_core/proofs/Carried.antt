@@ -1,6 +1,6 @@
 -- The signals that are carried, one after another.
-use Rattle.std.proofs.Common.{◌≡◌, ◌<◌, ◌≤◌, ℕ, ◌+◌, ◌*◌, List, [], ◌∷◌, ◌++◌, map, take, length, Bool, true, false, cond, refl, sym, ap, ◌∙◌, subst, Option, Some, None, arith, append_assoc}
-use Rattle.std.specs.Prelude.{slice_get, IfSome, if◌then◌else◌, nat_le, ◌&&◌}
+use Rattle.std.proofs.Common.{◌≡◌, ◌<◌, ◌≤◌, ℕ, zero, suc, ◌+◌, ◌*◌, List, [], ◌∷◌, ◌++◌, map, take, length, Bool, true, false, cond, refl, sym, ap, ◌∙◌, subst, Option, Some, None, arith, append_assoc}
+use Rattle.std.specs.Prelude.{slice_get, is_some, IfSome, if◌then◌else◌, nat_le, ◌&&◌}
 use Rattle.std.specs.List.{find, filter, flat_map, position}
 use Rattle.std.specs.Option.{option_map}
 use Rattle.std.proofs.lemmas.List.{take_more, map-append, append-nil}
@@ -44,6 +44,21 @@ none_from p i (x ∷ xs) e = none_if (p x) i x (position_from p (i + 1) xs) (fin
 
 pub no_account : (setup : Setup) (number : List ℕ) → place_of setup number ≡ None → account_of setup number ≡ None
 no_account setup number e = none_from (has_number number) 0 setup.accounts (sym (position_from-zero (has_number number) setup.accounts) ∙ e)
+
+below : (xs : List Account) (i : ℕ) → i < length xs → slice_get xs i ≡ None → ⊥
+below [] i lt none = omega (arith, lt)
+below (x ∷ xs) zero lt none = absurd (cc)
+below (x ∷ xs) (suc i) lt none = below xs i (omega (arith, lt)) none
+
+some_if : (o : Option Account) → (o ≡ None → ⊥) → true ≡ is_some o
+some_if None not = absurd (not refl)
+some_if (Some x) not = refl
+
+-- an account that has a place is one
+pub found_known : (setup : Setup) (number : List ℕ) (place : Option ℕ) → place ≡ place_of setup number → IfSome place (λ p. p < length setup.accounts)
+    → IfSome place (λ p. slice_get setup.accounts p ≡ account_of setup number) → is_some place ≡ is_some (account_of setup number)
+found_known setup number None at within there = sym (ap is_some (no_account setup number (sym at)))
+found_known setup number (Some p) at within there = some_if (account_of setup number) (λ none. below setup.accounts p within (there ∙ none))
 
 pub no_steps : (setup : Setup) (number : List ℕ) (class : Class) (at : ℕ) → account_of setup number ≡ None → steps_of setup number class at ≡ []
 no_steps setup number class at lacks = rw (lacks, steps_of) refl

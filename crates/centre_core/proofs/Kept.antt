@@ -8,7 +8,7 @@ use Rattle.arc_data.specs.declared.incident.Incident.{Incident}
 use Rattle.arc_data.specs.declared.reply.Reply.{Reply}
 use Rattle.arc_data.specs.declared.reply.Reply.TheVariants.{Adopted}
 use Rattle.arc_data.specs.declared.setup_fault.SetupFault.{SetupFault}
-use Rattle.known_accounts.specs.Rows.{RowsValue}
+use Rattle.known_accounts.specs.Rows.{RowsValue, lacking}
 use Rattle.alarm_rules.specs.Setups.{Setup, setup_of}
 use Rattle.centre_rules.specs.Summary.{Summary}
 use Rattle.centre_rules.specs.Marks.{Mark, Adopts, Carried}
@@ -18,12 +18,13 @@ use Rattle.centre_rules.specs.History.{is_recorded, marks_of, onto}
 use Rattle.centre_rules.specs.Answers.{answer_over, if_known}
 use Rattle.centre_rules.specs.State.{Same, State, Plan, IsSound, IsMarked}
 use Rattle.centre_rules.proofs.Marked.{marked_same}
-use Rattle.centre_core.specs.Taken.{sum_of, marks_with, Takes, MayTake, Fits, named_by, IsNoAdopt}
+use Rattle.centre_core.specs.Taken.{sum_of, marks_with, Takes, MayTake, Fits, accounts_of, IsNoAdopt}
 use Rattle.centre_core.proofs.Taking.{few_more, map_same}
 use Rattle.open_incidents.specs.Marked.{IsFew, HaveActRoom}
 use Rattle.incidents.specs.Tables.{TableValue}
 use Rattle.centre_core.specs.Kept.{IsReady, IsAdopted, IsSetupOf, CarriesSetup, HasRoomFor, NoLess, IsWorked, MayRecord, Records, IsCentre}
 use Rattle.centre_core.proofs.Ordered.{fits_of}
+use Rattle.centre_core.proofs.Owned.{carried_own}
 use Rattle.centre_core.proofs.Timely.{carried_timely}
 
 -- the marks of an event are those with the signals that it carries
@@ -73,7 +74,7 @@ may_record p setup s t ready sum rooms entries same more few recorded =
       };
       recorded = recorded;
       room = record {
-        accounts = omega (arith, room.accounts, rooms.accounts, more.accounts);
+        accounts = omega (arith, room.accounts, rooms.accounts, more.accounts, ap (λ (x : Summary). length (lacking x.rows (accounts_of p.event p.carried))) both);
         incidents = omega (arith, room.incidents, rooms.incidents, more.incidents, ap (λ (x : Summary). length x.incidents) both);
       };
     }
@@ -91,7 +92,8 @@ may_take s e at r setup xs v t entries last recorded text may sum rooms kept = r
   acts = kept.acts;
   few = may.worked.few;
   moments = carried_timely s.sum e at xs may.moment (may.worked.carried may.recorded);
-  accounts = omega (arith, may.room.accounts, ap (λ x. x.accounts) rooms);
+  own = carried_own s.sum e at xs (may.worked.carried may.recorded);
+  accounts = omega (arith, may.room.accounts, ap (λ x. x.accounts) rooms, ap (λ (x : Summary). length (lacking x.rows (accounts_of e xs))) sum);
   incidents = omega (arith, may.room.incidents, ap (λ x. x.incidents) rooms, ap (λ (x : Summary). length x.incidents) sum);
   fits = subst (λ (x : Summary). Fits e at r x.incidents) sum (fits_of s.sum e at r may.worked.answer);
 }

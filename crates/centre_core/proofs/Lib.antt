@@ -7,3 +7,4 @@ pub mod Ordered
 pub mod Worked
 pub mod RaisedAt
 pub mod Taking
+pub mod Owned

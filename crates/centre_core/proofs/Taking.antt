@@ -1,5 +1,5 @@
 -- Marks taken up in place.
-use Rattle.std.proofs.Common.{◌≡◌, ◌<◌, ◌≤◌, ◌^◌, ℕ, ◌+◌, List, [], ◌∷◌, ◌++◌, map, length, take, Bool, true, false, cond, refl, sym, ap, ◌∙◌, Option, arith, subst, length-append, inl, inr}
+use Rattle.std.proofs.Common.{◌≡◌, ◌<◌, ◌≤◌, ◌^◌, ℕ, zero, suc, ◌+◌, Some, drop, slice_get, List, [], ◌∷◌, ◌++◌, map, length, take, Bool, true, false, cond, refl, sym, ap, ◌∙◌, Option, arith, subst, length-append, inl, inr}
 use Rattle.std.specs.Prelude.{◌⊎◌}
 use Rattle.std.proofs.lemmas.List.{take_all, length-map, map-append}
 use Rattle.arc_data.specs.Incidents.{Each}
@@ -121,22 +121,20 @@ pub record CarriesSome (n : ℕ) (xs : List Carried) (v w : RowsValue) (t u : Ta
   pub same : (l r k q : ℕ) (text : Option (List ℕ)) → Same (sum_of k q text w u) [] (sum_of l r text v t) (onto (map Carries (take n xs)) [])
   pub few : (m : ℕ) → IsFew m t.opened t.incidents → IsFew (m + n) u.opened u.incidents
   pub acts : HaveActRoom t.incidents → HaveActRoom u.incidents
-  pub accounts : length xs ≤ w.room + n
   pub incidents : length u.incidents + length xs ≤ u.room + n
 
-pub carries_none : (xs : List Carried) (v : RowsValue) (t : TableValue) → length xs ≤ v.room → length t.incidents + length xs ≤ t.room → CarriesSome 0 xs v v t t
-carries_none xs v t accounts incidents = record {
+pub carries_none : (xs : List Carried) (v : RowsValue) (t : TableValue) → length t.incidents + length xs ≤ t.room → CarriesSome 0 xs v v t t
+carries_none xs v t incidents = record {
   same = λ l r k q text. same_sums l r k q text v t;
   few = λ m x. few_more m (m + 0) t.opened t.incidents (omega arith) x;
   acts = λ x. x;
-  accounts = omega (arith, accounts);
   incidents = omega (arith, incidents);
 }
 
 pub carries_more : (n : ℕ) (xs : List Carried) (x : Carried) (v w w' : RowsValue) (t u u' : TableValue) → CarriesSome n xs v w t u → take (n + 1) xs ≡ take n xs ++ x ∷ []
-    → Marked (Carries x) w w' → w.room ≤ w'.room + 1 → u' ≡ marked_table (Carries x) u
+    → Marked (Carries x) w w' → u' ≡ marked_table (Carries x) u
     → ((m : ℕ) → IsFew m u.opened u.incidents → IsFew (m + 1) u'.opened u'.incidents) → (HaveActRoom u.incidents → HaveActRoom u'.incidents) → CarriesSome (n + 1) xs v w' t u'
-carries_more n xs x v w w' t u u' before next rows room table few acts = record {
+carries_more n xs x v w w' t u u' before next rows table few acts = record {
   same = λ l r k q text.
       subst (λ (ms : List Mark). Same (sum_of k q text w' u') [] (sum_of l r text v t) ms)
       (sym (ap (λ (ys : List Carried). onto (map Carries ys) []) next ∙ ap (λ (ms : List Mark). onto ms []) (map-append Carries (take n xs) (x ∷ [])) ∙ onto_last (map Carries (take n xs)) (Carries x) []))
@@ -144,7 +142,6 @@ carries_more n xs x v w w' t u u' before next rows room table few acts = record 
       (is_marked (Carries x) w w' u u' l r k q text refl rows (ap (λ (y : TableValue). y.opened) table) (ap (λ (y : TableValue). y.incidents) table)));
   few = λ m y. few_more (m + n + 1) (m + (n + 1)) u'.opened u'.incidents (omega arith) (few (m + n) (before.few m y));
   acts = λ y. acts (before.acts y);
-  accounts = omega (arith, before.accounts, room);
   incidents = omega (arith, before.incidents, ap (λ (y : TableValue). length y.incidents) table, ap (λ (y : TableValue). y.room) table, length_carries x u.opened u.incidents);
 }
 
@@ -154,6 +151,12 @@ carries_all n xs v w t u all le c = record {
   few = λ m x. few_more (m + n) (m + 8192) u.opened u.incidents (omega (arith, le)) (c.few m x);
   acts = c.acts;
 }
+
+-- the accounts of the signals from a place on: first that of the signal there
+pub drop_next : (xs : List Carried) (n : ℕ) (x : Carried) → slice_get xs n ≡ Some x → drop n xs ≡ x ∷ drop (n + 1) xs
+drop_next [] n x at = absurd (cc)
+drop_next (y ∷ ys) zero x at = let here : y ≡ x = cc in ap (λ z. z ∷ ys) here
+drop_next (y ∷ ys) (suc n) x at = drop_next ys n x at
 
 -- A message, and then its signals.
 

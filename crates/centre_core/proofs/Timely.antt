@@ -15,11 +15,11 @@ use Rattle.centre_rules.specs.Carrying.{carried, carried_by, carried_sent, is_ir
 use Rattle.centre_rules.specs.History.{IsMoment}
 
 -- it holds of each
-abbrev AllOf : {X : Type 0} → (X → Type 0) → List X → Type 0
+abbrev pub AllOf : {X : Type 0} → (X → Type 0) → List X → Type 0
 AllOf P [] = Unit {0}
 AllOf P (x ∷ xs) = P x × AllOf P xs
 
-all_by : {X : Type 0} → (P : X → Type 0) (xs : List X) → AllOf P xs → All P xs
+pub all_by : {X : Type 0} → (P : X → Type 0) (xs : List X) → AllOf P xs → All P xs
 all_by P [] all k d lt = absurd (omega (arith, lt))
 all_by P (x ∷ xs) all zero d lt = all.0
 all_by P (x ∷ xs) all (suc k) d lt = all_by P xs all.1 k d (omega (arith, lt))

@@ -10,9 +10,10 @@ use Rattle.centre_rules.specs.Carrying.{carried_by}
 use Rattle.centre_rules.specs.History.{is_recorded, marks_of, onto, IsMoment}
 use Rattle.centre_rules.specs.Answers.{answer_over}
 use Rattle.centre_rules.specs.State.{State, Rooms, Same, Plan, IsSound}
-use Rattle.centre_core.specs.Taken.{named_by}
+use Rattle.centre_core.specs.Taken.{accounts_of}
 use Rattle.open_incidents.specs.Marked.{IsFew, HaveActRoom}
 use Rattle.incidents.specs.Tables.{TableValue}
+use Rattle.known_accounts.specs.Rows.{lacking}
 
 -- a setup that is kept is the one that its text means, and a recorded entry raises no count by more than 8,192
 pub record IsCentre (entries recorded last : ℕ) (text : Option (List ℕ)) (t : TableValue) : Type 0 where
@@ -54,8 +55,12 @@ pub record NoLess (r s : Rooms) : Type 0 where
 
 -- there is room for what a recorded event with these signals brings
 pub record HasRoomFor (event : Event) (carried : List Carried) (s : State) : Type 0 where
-  pub accounts : named_by event + length carried ≤ s.rooms.accounts
+  pub accounts : length (lacking s.sum.rows (accounts_of event carried)) ≤ s.rooms.accounts
   pub incidents : length s.sum.incidents + length carried ≤ s.rooms.incidents
+
+-- how many rows lack for what an event at a moment tells of
+abbrev pub needed : Summary → Event → ℕ → ℕ
+needed s event at = length (lacking s.rows (accounts_of event (carried_by s [] event at)))
 
 -- What has been worked out.
 

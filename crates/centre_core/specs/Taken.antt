@@ -8,7 +8,7 @@ use Rattle.arc_data.specs.declared.event.Event.TheVariants.{Release, Close, Show
 use Rattle.arc_data.specs.declared.incident.Incident.{Incident}
 use Rattle.arc_data.specs.declared.reply.Reply.{Reply}
 use Rattle.arc_data.specs.declared.reply.Reply.TheVariants.{Recorded, Closed}
-use Rattle.known_accounts.specs.Rows.{RowsValue}
+use Rattle.known_accounts.specs.Rows.{RowsValue, HasRoom}
 use Rattle.centre_rules.specs.Summary.{Summary}
 use Rattle.centre_rules.specs.Marks.{Mark, Adopts, Starts, Sends, Hears, Carries, Carried}
 use Rattle.centre_rules.specs.History.{IsMoment, onto, acted_by, claim_marks, act_marks, release_marks, close_marks}
@@ -33,11 +33,20 @@ abbrev pub IsNoAdopt : Event → Type 0
 IsNoAdopt (Adopt text) = ⊥
 IsNoAdopt event = Unit {0}
 
--- how many accounts the event itself names that may lack a row
-abbrev pub named_by : Event → ℕ
-named_by (Sent m) = 1
-named_by (Beat account) = 1
-named_by event = 0
+-- the accounts of which a recorded event with these signals tells: a message and a heartbeat of their own, a Tick of those of its signals
+abbrev pub accounts_of : Event → List Carried → List (List ℕ)
+accounts_of (Sent m) xs = m.account ∷ []
+accounts_of (Beat account) xs = account ∷ []
+accounts_of event xs = map (λ (x : Carried). x.account) xs
+
+-- each signal is of the account
+abbrev pub AreOf : List ℕ → List Carried → Type 0
+AreOf account xs = All (λ (x : Carried). x.account ≡ account) xs
+
+-- those that a message carries are of its account
+abbrev pub AreOwn : Event → List Carried → Type 0
+AreOwn (Sent m) xs = AreOf m.account xs
+AreOwn event xs = Unit {0}
 
 -- the marks of a recorded event that carries these signals
 abbrev pub marks_with : List Carried → Event → ℕ → Reply → List Mark
@@ -77,6 +86,7 @@ pub record MayTake (event : Event) (at : ℕ) (reply : Reply) (carried : List Ca
   pub acts : HaveActRoom t.incidents
   pub few : length carried ≤ 8000
   pub moments : AreOfMoments carried
-  pub accounts : named_by event + length carried ≤ v.room
+  pub own : AreOwn event carried
+  pub accounts : HasRoom (accounts_of event carried) v
   pub incidents : length t.incidents + length carried ≤ t.room
   pub fits : Fits event at reply t.incidents

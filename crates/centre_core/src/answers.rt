@@ -5,7 +5,7 @@ ghost use Rattle.centre_rules.specs.Answers.{answer_over};
 ghost use Rattle.centre_rules.specs.History.{IsMoment};
 ghost use Rattle.centre_core.specs.Kept.{IsAdopted, IsWorked, IsPlain};
 
-use crate::carrying::{raise, signals_sent};
+use crate::carrying::{found, raise, signals_sent};
 use crate::centre::Centre;
 use crate::orders::on_adopt;
 use arc_data::{Acted, Carried, Event, Memory, Message, Reply};
@@ -51,7 +51,8 @@ impl Centre {
         let Some(setup) = self.accounts.setup() else {
             return Ok(alone(alloc, Reply::Unknown));
         };
-        if !setup.knows(&message.account) {
+        let place = found(setup, &message.account);
+        if place.is_none() {
             return Ok(alone(alloc, Reply::Unknown));
         }
         let content = message.content.bytes();
@@ -61,7 +62,7 @@ impl Centre {
         if let Some(first) = self.accounts.rows().repeat(message, at) {
             return Ok(alone(alloc, Reply::Repeat { first }));
         }
-        let carried = signals_sent(alloc, setup, &message.account, at, &signals)?;
+        let carried = signals_sent(alloc, setup, &message.account, place, at, &signals)?;
         Ok(Worked {
             reply: Reply::Taken,
             carried,

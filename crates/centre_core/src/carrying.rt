@@ -1,13 +1,13 @@
 // The signals that messages and Ticks carry, each with the steps of the incident that it would open.
-ghost use Rattle.std.specs.Prelude.{◌≡◌, ◌<◌, ◌≤◌, ◌+◌, ◌++◌, ◌∷◌, [], List, Some, length, IfOk, OnOk};
+ghost use Rattle.std.specs.Prelude.{◌≡◌, ◌<◌, ◌≤◌, ◌+◌, ◌++◌, ◌∷◌, [], List, ℕ, Some, is_some, length, IfOk, IfSome, OnOk};
 ghost use Rattle.std.specs.List.{flat_map, All};
 ghost use Rattle.arc_data.specs.declared.signal.Class.TheVariants.{CommFail, LateClose};
-ghost use Rattle.alarm_rules.specs.Setups.{Account, account_of, meaning, steps_of};
+ghost use Rattle.alarm_rules.specs.Setups.{Account, account_of, has_account, meaning, steps_of};
 ghost use Rattle.centre_rules.specs.Carrying.{carried as carried_of, carried_sent, own_signal as plain_signal, is_irregular as irregular_at};
 ghost use Rattle.centre_rules.specs.Carrying.{raised_where, is_silent, is_late};
 ghost use Rattle.centre_rules.specs.History.{IsMoment};
 ghost use Rattle.known_accounts.specs.Supervised.{ArePlacesOf, rows_sum};
-ghost use Rattle.centre_core.specs.Raised.{raised_of};
+ghost use Rattle.centre_core.specs.Raised.{raised_of, IsFound};
 
 use accounts::Setup;
 use arc_data::{Carried, Class, Kind, Memory, Signal, Signals, StepList, Txt};
@@ -20,17 +20,19 @@ pub(crate) fn signals_sent(
     alloc: Global,
     setup: &Setup,
     account: &Txt,
+    place: Option<usize>,
     at: u64,
     signals: &Signals,
 ) -> Result<Vec<Carried>, Memory>
     requires moment { IsMoment at }
+    requires place { IsFound (meaning setup.now) account.now place }
     requires few { length signals.now ≤ 8 }
     ensures sent { IfOk result (λ v. v.items ≡ flat_map (carried_sent (meaning setup.now) account.now at) signals.now) }
     ensures few { IfOk result (λ v. length v.items ≤ 16) }
 {
     let mut sent = Vec::new(alloc);
     for i in 0..signals.count() {
-        push_sent(&mut sent, setup, account, at, signals.at(i))?;
+        push_sent(&mut sent, setup, account, place, at, signals.at(i))?;
     }
     Ok(sent)
 }
@@ -64,18 +66,20 @@ fn push_sent(
     sent: &mut Vec<Carried>,
     setup: &Setup,
     account: &Txt,
+    place: Option<usize>,
     at: u64,
     signal: Signal,
 ) -> Result<(), Memory>
-    requires { IsMoment at }
+    requires moment { IsMoment at }
+    requires place { IsFound (meaning setup.now) account.now place }
     ensures sent { OnOk result (sent.new.items ≡ sent.old.items ++ carried_sent (meaning setup.now) account.now at signal) }
     ensures few { length sent.new.items ≤ length sent.old.items + 2 }
 {
-    let irregular = is_irregular(setup, account, signal.kind, at);
-    push(sent, carried(setup, account, at, false, signal))?;
+    let irregular = is_irregular(setup, place, signal.kind, at);
+    push(sent, carried(setup, account, place, at, false, signal))?;
     if irregular {
         let irregular = own_signal(Class::Irregular);
-        push(sent, carried(setup, account, at, false, irregular))?;
+        push(sent, carried(setup, account, place, at, false, irregular))?;
     }
     Ok(())
 }
@@ -96,15 +100,27 @@ fn raise_at(
 {
     for i in 0..places.count() {
         let account = setup.account(places.at(i));
+        let place = found(setup, &account.number);
         let signal = own_signal(class);
-        push(raised, carried(setup, &account.number, at, true, signal))?;
+        push(
+            raised,
+            carried(setup, &account.number, place, at, true, signal),
+        )?;
     }
     Ok(())
 }
 
-// A signal of an account, with the steps of the incident that it would open.
-fn carried(setup: &Setup, account: &Txt, at: u64, by_tick: bool, signal: Signal) -> Carried
-    requires { IsMoment at }
+// A signal of an account that stands at a place of the setup, or nowhere, with the steps of the incident that it would open.
+fn carried(
+    setup: &Setup,
+    account: &Txt,
+    place: Option<usize>,
+    at: u64,
+    by_tick: bool,
+    signal: Signal,
+) -> Carried
+    requires moment { IsMoment at }
+    requires place { IsFound (meaning setup.now) account.now place }
     ensures { result ≡ carried_of (meaning setup.now) account.now at by_tick signal }
 {
     Carried {
@@ -112,16 +128,17 @@ fn carried(setup: &Setup, account: &Txt, at: u64, by_tick: bool, signal: Signal)
         signal,
         at,
         by_tick,
-        steps: steps_for(setup, account, signal.class, at),
+        steps: steps_for(setup, place, signal.class, at),
     }
 }
 
-// The steps of an incident of an account and class that opens at a moment.
-fn steps_for(setup: &Setup, account: &Txt, class: Class, at: u64) -> StepList
-    requires { IsMoment at }
-    ensures { result ≡ steps_of (meaning setup.now) account.now class at }
+// The steps of an incident of a class that opens at a moment, of the account that stands at a place of the setup, or nowhere.
+fn steps_for(setup: &Setup, place: Option<usize>, class: Class, at: u64) -> StepList
+    requires moment { IsMoment at }
+    requires within { IfSome place (λ p. p < length (meaning setup.now).accounts) }
+    ensures { (account : List ℕ) → IsFound (meaning setup.now) account place → result ≡ steps_of (meaning setup.now) account class at }
 {
-    let Some(place) = setup.place(account) else {
+    let Some(place) = place else {
         return StepList::new();
     };
     let station = setup.account(place);
@@ -129,19 +146,28 @@ fn steps_for(setup: &Setup, account: &Txt, class: Class, at: u64) -> StepList
     plan.steps(station.week.in_hours(at), station.holders)
 }
 
-// Whether a signal of this kind is an opening outside the account's windows.
-fn is_irregular(setup: &Setup, account: &Txt, kind: Kind, at: u64) -> bool
-    requires { IsMoment at }
-    ensures { result ≡ irregular_at (account_of (meaning setup.now) account.now) kind at }
+// Whether a signal of this kind is an opening outside the windows of the account that stands at a place of the setup, or nowhere.
+fn is_irregular(setup: &Setup, place: Option<usize>, kind: Kind, at: u64) -> bool
+    requires moment { IsMoment at }
+    requires within { IfSome place (λ p. p < length (meaning setup.now).accounts) }
+    ensures { (account : List ℕ) → IsFound (meaning setup.now) account place → result ≡ irregular_at (account_of (meaning setup.now) account) kind at }
 {
     if !matches!(kind, Kind::Opening) {
         return false;
     }
-    let Some(place) = setup.place(account) else {
+    let Some(place) = place else {
         return false;
     };
     let week = &setup.account(place).week;
     week.has_windows() && !week.in_hours(at)
+}
+
+/// The place of an account in a setup, or none.
+pub(crate) fn found(setup: &Setup, account: &Txt) -> Option<usize>
+    ensures found { IsFound (meaning setup.now) account.now result }
+    ensures known { is_some result ≡ has_account (meaning setup.now) account.now }
+{
+    setup.place(account)
 }
 
 // A signal that no panel sent.

@@ -1,12 +1,12 @@
 // What is kept of a history.
-ghost use Rattle.std.specs.Prelude.{◌≡◌, ◌<◌, ◌^◌, ◌∷◌, [], List, ℕ, IfOk};
+ghost use Rattle.std.specs.Prelude.{◌≡◌, ◌≤◌, ◌<◌, ◌^◌, ◌∷◌, [], List, ℕ, IfOk, max};
 ghost use Rattle.std.specs.Option.{option_map};
 ghost use Rattle.arc_data.specs.WellFormed.{IsWellFormed};
 ghost use Rattle.centre_rules.specs.Summary.{Summary, nothing};
 ghost use Rattle.centre_rules.specs.History.{Entry, moment_after, IsMoment};
 ghost use Rattle.centre_rules.specs.Answers.{answer};
 ghost use Rattle.centre_rules.specs.State.{StandsFor, Grows, entry_of};
-ghost use Rattle.centre_core.specs.Kept.{MayRecord, Records, IsAdopted, NoLess};
+ghost use Rattle.centre_core.specs.Kept.{MayRecord, Records, IsAdopted, NoLess, needed};
 
 use crate::marks::mark;
 use crate::ready::{Done, Ready};
@@ -102,8 +102,8 @@ impl Centre {
     }
 
     /// Works out the answer to an event that is submitted at a reading of the clock (seconds since 1970), and takes all
-    /// the memory that applying it needs. What is kept stays, and there is never less room than before. The error is
-    /// want of memory.
+    /// the memory that applying it needs, for no more accounts than lack a row. What is kept stays, and there is never less room
+    /// than before. The error is want of memory.
     pub fn prepare(&mut self, alloc: Global, event: Event, clock: u64) -> Result<Ready, Memory>
         requires formed { IsWellFormed event }
         requires clock { IsMoment clock }
@@ -111,6 +111,7 @@ impl Centre {
         ensures entries { self.new.entries ≡ self.old.entries }
         ensures sum { self.new.sum ≡ self.old.sum }
         ensures rooms { NoLess self.old.rooms self.new.rooms }
+        ensures most { self.new.rooms.accounts ≤ max self.old.rooms.accounts (needed self.old.sum event (max clock self.old.sum.last)) }
         ensures stays { (b : Summary) (h : List Entry) → StandsFor b self.old h → StandsFor b self.new h }
         ensures made { IfOk result (λ r. r.of ≡ self.new) }
         ensures event { IfOk result (λ r. r.event ≡ event) }
@@ -121,7 +122,7 @@ impl Centre {
         let setup = adopted(alloc, &event)?;
         let worked = self.work_out(alloc, &event, &setup, at)?;
         if is_recorded(&worked.reply) {
-            self.reserve(alloc, &event, worked.carried.len())?;
+            self.reserve(alloc, &event, &worked.carried)?;
         }
         Ok(Ready {
             event,

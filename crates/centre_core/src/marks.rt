@@ -1,17 +1,18 @@
 // What recorded events leave in the rows and the table. None of these calls takes memory.
-ghost use Rattle.std.specs.Prelude.{◌≡◌, ◌≤◌, ◌^◌, ◌+◌, ◌∷◌, [], ℕ, length, map, IsSome};
+ghost use Rattle.std.specs.Prelude.{◌≡◌, ◌≤◌, ◌^◌, ◌+◌, ◌∷◌, [], List, ℕ, length, map, IsSome};
 ghost use Rattle.std.specs.List.{find};
 ghost use Rattle.arc_data.specs.Incidents.{has_number};
 ghost use Rattle.arc_data.specs.declared.reply.Reply.TheVariants.{Recorded, Closed};
-ghost use Rattle.known_accounts.specs.Rows.{RowsValue};
-ghost use Rattle.centre_rules.specs.Marks.{Starts, Hears, Sends, Carries};
+ghost use Rattle.known_accounts.specs.Rows.{RowsValue, HasRoom};
+ghost use Rattle.known_accounts.specs.Supervised.{IsPlaceOf};
+ghost use Rattle.centre_rules.specs.Marks.{Starts, Hears, Sends, Carries, Carried};
 ghost use Rattle.centre_rules.specs.History.{acted_by, claim_marks, act_marks, release_marks, close_marks};
 ghost use Rattle.open_incidents.specs.Marked.{IsFew, HaveActRoom, FitsAct};
 ghost use Rattle.incidents.specs.Tables.{TableValue};
-ghost use Rattle.centre_core.specs.Taken.{Takes, MayTake, AreOfMoments, IsNoAdopt, marks_with};
+ghost use Rattle.centre_core.specs.Taken.{Takes, MayTake, AreOf, AreOfMoments, IsNoAdopt, marks_with};
 
 use arc_data::{Carried, Event, Message, Outcome, Reply, Step, Txt};
-use known_accounts::SupervisedAccounts;
+use known_accounts::{AccountPlace, SupervisedAccounts};
 use open_incidents::QueuedTable;
 
 /// Takes up the marks of a recorded event that is no Adopt, with its reply and the signals that it carries.
@@ -31,8 +32,11 @@ pub(crate) fn mark(
     match event {
         Event::Start => start(accounts, table, at),
         Event::Message(message) => send(accounts, table, message, at, carried),
-        Event::Beat { account } => accounts.hear(&account, at),
-        Event::Tick => carry_all(accounts, table, carried),
+        Event::Beat { account } => {
+            let place = accounts.place(&account);
+            accounts.hear(place, at);
+        }
+        Event::Tick => carry_each(accounts, table, carried),
         Event::Claim { operator, .. } | Event::Next { operator } => {
             claim(table, operator, at, reply);
         }
@@ -58,7 +62,7 @@ fn start(accounts: &mut SupervisedAccounts, table: &mut QueuedTable, at: u64)
     table.start();
 }
 
-// A message is recorded, and its signals are taken up.
+// A message is recorded, and its signals are taken up, which are of its account.
 fn send(
     accounts: &mut SupervisedAccounts,
     table: &mut QueuedTable,
@@ -69,27 +73,51 @@ fn send(
     requires bound { IsFew (2 ^ 61) table.old.opened table.old.incidents }
     requires few { length carried.now ≤ 8000 }
     requires moments { AreOfMoments carried.now }
-    requires accounts { 1 + length carried.now ≤ accounts.old.rows.room }
+    requires own { AreOf message.account carried.now }
+    requires accounts { HasRoom (message.account ∷ []) accounts.old.rows }
     requires incidents { length table.old.incidents + length carried.now ≤ table.old.room }
     ensures text { accounts.new.text ≡ accounts.old.text }
     ensures taken { Takes (Sends message at ∷ map Carries carried.now) accounts.old.rows accounts.new.rows table.old table.new }
 {
-    accounts.send(message, at);
-    carry_all(accounts, table, carried);
+    let place = accounts.place(&message.account);
+    accounts.send(place, message, at);
+    carry_own(accounts, table, place, carried);
 }
 
-// Takes up signals, one after another.
-fn carry_all(accounts: &mut SupervisedAccounts, table: &mut QueuedTable, carried: &[Carried])
+// Takes up signals of the account that stands here, one after another.
+fn carry_own(
+    accounts: &mut SupervisedAccounts,
+    table: &mut QueuedTable,
+    place: AccountPlace,
+    carried: &[Carried],
+)
     requires bound { IsFew (2 ^ 61) table.old.opened table.old.incidents }
     requires few { length carried.now ≤ 8000 }
     requires moments { AreOfMoments carried.now }
-    requires accounts { length carried.now ≤ accounts.old.rows.room }
+    requires own { (account : List ℕ) × AreOf account carried.now × IsPlaceOf account place accounts.old }
     requires incidents { length table.old.incidents + length carried.now ≤ table.old.room }
     ensures text { accounts.new.text ≡ accounts.old.text }
     ensures taken { Takes (map Carries carried.now) accounts.old.rows accounts.new.rows table.old table.new }
 {
     for x in carried {
-        accounts.carry(x);
+        accounts.carry(place, x);
+        table.carry(x);
+    }
+}
+
+// Takes up signals of any accounts, one after another.
+fn carry_each(accounts: &mut SupervisedAccounts, table: &mut QueuedTable, carried: &[Carried])
+    requires bound { IsFew (2 ^ 61) table.old.opened table.old.incidents }
+    requires few { length carried.now ≤ 8000 }
+    requires moments { AreOfMoments carried.now }
+    requires accounts { HasRoom (map (λ (x : Carried). x.account) carried.now) accounts.old.rows }
+    requires incidents { length table.old.incidents + length carried.now ≤ table.old.room }
+    ensures text { accounts.new.text ≡ accounts.old.text }
+    ensures taken { Takes (map Carries carried.now) accounts.old.rows accounts.new.rows table.old table.new }
+{
+    for x in carried {
+        let place = accounts.place(&x.account);
+        accounts.carry(place, x);
         table.carry(x);
     }
 }

@@ -6,7 +6,7 @@ use Rattle.std.specs.Str.{bytes_eq}
 use Rattle.indexmap.specs.IndexMap.{set_value_at}
 use Rattle.centre_rules.specs.Summary.{AccountRow, row_or}
 use Rattle.known_accounts.specs.declared.row.Row.{Row}
-use Rattle.known_accounts.specs.Rows.{RowsValue, row_at, known, now_heard, Marked}
+use Rattle.known_accounts.specs.Rows.{RowsValue, row_at, known, now_heard, numbers, Marked}
 use Rattle.centre_rules.specs.Marks.{Starts}
 
 -- the first so many of them heard
@@ -58,3 +58,8 @@ started_marked at start rs ss n k e =
       opening = λ a. ap (λ x. x.opening) (told a);
       recent = λ a. ap (λ x. take 32 x.messages) (told a);
     }
+
+-- and has the row that it had
+pub heard_numbers : (at : ℕ) (rs : List AccountRow) → numbers (map (now_heard at) rs) ≡ numbers rs
+heard_numbers at [] = refl
+heard_numbers at (r ∷ rs) = ap (λ l. r.account ∷ l) (heard_numbers at rs)

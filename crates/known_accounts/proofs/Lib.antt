@@ -1,6 +1,8 @@
 pub mod Heard
-pub mod Known
+pub mod Found
 pub mod Written
+pub mod Numbered
+pub mod Standing
 pub mod Distinct
 pub mod Placed
 pub mod Openings

@@ -9,7 +9,7 @@ use Rattle.known_accounts.specs.Rows.{RowsValue, row_in}
 use Rattle.centre_rules.specs.Summary.{Opened, AccountRow}
 use Rattle.known_accounts.specs.declared.deadlines.Deadlines.{Deadlines}
 use Rattle.known_accounts.specs.Roomed.{HasPlaces, IsRenewed}
-use Rattle.known_accounts.specs.Supervised.{later, silence_of, silence_after, lateness_of, lateness_after, KeepsOthers, accounts_in}
+use Rattle.known_accounts.specs.Supervised.{later, silence_of, silence_after, lateness_of, lateness_after, IsPlaceIn, KeepsOthers, accounts_in}
 use Rattle.known_accounts.proofs.Distinct.{distinct_numbers}
 use Rattle.known_accounts.proofs.Placed.{set_one, set_none, set_next, AreSameBut}
 
@@ -56,6 +56,20 @@ module _ (g h : Account → Option ℕ) (account : List ℕ) (same : AreSameBut 
   lacking_in setup text before is none are =
       subst (λ o. before ≡ map h (accounts_in o)) (sym is)
       (subst (λ o. before ≡ map g (accounts_in o)) is are ∙ set_none g h (meaning text).accounts account none same)
+
+-- the account at the place where one stands is that one
+pub own_number : (account : List ℕ) (place : Option ℕ) (setup : Option (List ℕ)) (text : List ℕ) (p : ℕ) (a : Account) → IsPlaceIn account place setup
+    → setup ≡ Some text → place ≡ Some p → slice_get (meaning text).accounts p ≡ Some a → a.number ≡ account
+own_number account place setup text p a there is at found =
+    let numbered : IfSome (Some p) (λ q. IfSome (slice_get (accounts_in (Some text)) q) (λ x. x.number ≡ account)) =
+    subst (λ o. IfSome o (λ q. IfSome (slice_get (accounts_in (Some text)) q) (λ x. x.number ≡ account))) at
+    (subst (λ o. IfSome place (λ q. IfSome (slice_get (accounts_in o) q) (λ x. x.number ≡ account))) is there.number) in
+    subst (λ (o : Option Account). IfSome o (λ x. x.number ≡ account)) found numbered
+
+-- and where it stands nowhere, it has no place
+pub no_place : (account : List ℕ) (place : Option ℕ) (setup : Option (List ℕ)) (text : List ℕ) → IsPlaceIn account place setup → setup ≡ Some text
+    → place ≡ None → position (has_number account) (meaning text).accounts ≡ None
+no_place account place setup text there is none = ap (λ o. position (has_number account) (accounts_in o)) (sym is) ∙ sym there.is ∙ none
 
 -- Where the same is known of each account, the deadlines are the same.
 

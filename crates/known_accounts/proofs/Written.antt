@@ -11,7 +11,7 @@ use Rattle.centre_rules.specs.Marks.{Mark, Hears, Sends, Carries, Carried, openi
 use Rattle.centre_rules.specs.Summary.{AccountRow, Past, Opened}
 use Rattle.known_accounts.specs.declared.row.Row.{Row}
 use Rattle.known_accounts.specs.Rows.{RowsValue, row_at, row_in, known, Marked}
-use Rattle.known_accounts.proofs.Known.{from_row, known_is}
+use Rattle.known_accounts.proofs.Found.{from_row, known_is}
 
 -- in fs stands w at the account a, where es has r, and all else as in es
 pub record WritesAt (a : List ℕ) (r w : Row) (es fs : List (List ℕ × Row)) : Type 0 where

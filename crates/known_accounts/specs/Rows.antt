@@ -1,7 +1,8 @@
 -- What is known of accounts.
-use Rattle.std.specs.Prelude.{◌≡◌, ℕ, List, map, take, false, Option, Some}
-use Rattle.std.specs.List.{find}
+use Rattle.std.specs.Prelude.{◌≡◌, ◌≤◌, ◌+◌, ◌++◌, ℕ, List, [], ◌∷◌, map, take, length, slice_get, Bool, false, not, if◌then◌else◌, Option, Some, None}
+use Rattle.std.specs.List.{find, filter, list_any}
 use Rattle.std.specs.Str.{bytes_eq}
+use Rattle.known_accounts.specs.declared.row.Known.{Known}
 use Rattle.known_accounts.specs.declared.row.Row.{Row}
 use Rattle.centre_rules.specs.Summary.{AccountRow, row_or}
 use Rattle.centre_rules.specs.Marks.{Mark, start_at, heard_at, failed_at, opening_at, messages_at}
@@ -23,6 +24,12 @@ known start rows account = row_or (find (λ r. bytes_eq r.account account) rows)
 abbrev pub row_in : RowsValue → List ℕ → AccountRow
 row_in v account = known v.start v.rows account
 
+-- the part of a row that deadlines go by
+pub record Tells (row : AccountRow) (known : Known) : Type 0 where
+  pub heard : known.heard ≡ row.heard
+  pub failed : known.failed ≡ row.failed
+  pub opening : known.opening ≡ row.opening
+
 -- a row of an account that is heard
 abbrev pub now_heard : ℕ → AccountRow → AccountRow
 now_heard at r = record r { heard = Some at; failed = false }
@@ -35,3 +42,40 @@ pub record Marked (m : Mark) (v w : RowsValue) : Type 0 where
   pub opening : (account : List ℕ) → (row_in w account).opening ≡ opening_at account m (row_in v account).opening
   pub recent : (account : List ℕ)
       → take 32 (row_in w account).messages ≡ take 32 (messages_at account m (row_in v account).messages)
+
+-- Which accounts have a row, and memory for those that have none.
+
+-- the accounts that have a row, in the order of their rows
+abbrev pub numbers : List AccountRow → List (List ℕ)
+numbers rows = map (λ r. r.account) rows
+
+abbrev pub has_row : List AccountRow → List ℕ → Bool
+has_row rows account = list_any (bytes_eq account) (numbers rows)
+
+-- those of these accounts that have no row
+abbrev pub lacking : List AccountRow → List (List ℕ) → List (List ℕ)
+lacking rows accounts = filter (λ a. not (has_row rows a)) accounts
+
+-- there is memory for a row of each of these accounts that has none
+abbrev pub HasRoom : List (List ℕ) → RowsValue → Type 0
+HasRoom accounts v = length (lacking v.rows accounts) ≤ v.room
+
+-- the row of the account stands at this place
+abbrev pub StandsAt : List ℕ → ℕ → List AccountRow → Type 0
+StandsAt account place rows = slice_get (numbers rows) place ≡ Some account
+
+-- an account that had no row has one, behind the others, and room for one is taken; what is known stays
+pub record MakesRow (account : List ℕ) (v w : RowsValue) : Type 0 where
+  pub start : w.start ≡ v.start
+  pub known : (a : List ℕ) → row_in w a ≡ row_in v a
+  pub rows : numbers w.rows ≡ (if has_row v.rows account then numbers v.rows else numbers v.rows ++ account ∷ [])
+  pub room : v.room ≤ w.room + length (lacking v.rows (account ∷ []))
+
+-- the same accounts have a row, at the same places, and there is as much room
+pub record KeepsRows (v w : RowsValue) : Type 0 where
+  pub rows : numbers w.rows ≡ numbers v.rows
+  pub room : w.room ≡ v.room
+
+-- of an account without a row: it was heard at the last Start, and nothing more is known
+abbrev pub blank : Option ℕ → Row
+blank start = record { heard = start; failed = false; opening = None; window = [] }

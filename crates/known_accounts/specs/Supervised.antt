@@ -1,14 +1,16 @@
 -- When the accounts of a setup are silent, and when they close late.
-use Rattle.std.specs.Prelude.{◌≡◌, ◌+◌, ◌-◌, ◌^◌, ℕ, List, [], Bool, true, false, Option, Some, None, IfSome, IsOk, if◌then◌else◌}
-use Rattle.std.specs.Prelude.{map, min, slice_get}
+use Rattle.std.specs.Prelude.{◌≡◌, ◌<◌, ◌+◌, ◌-◌, ◌^◌, ℕ, List, [], Bool, true, false, Option, Some, None, IfSome, IsOk, if◌then◌else◌}
+use Rattle.std.specs.Prelude.{map, min, length, slice_get}
+use Rattle.std.specs.List.{position}
 use Rattle.std.specs.Option.{option_map}
 use Rattle.std.specs.Str.{bytes_eq}
 use Rattle.arc_data.specs.declared.incident.Carried.{Carried}
 use Rattle.arc_data.specs.declared.signal.Kind.{Kind}
 use Rattle.arc_data.specs.declared.signal.Kind.TheVariants.{Opening, Closing}
-use Rattle.alarm_rules.specs.Setups.{Account, setup_of, meaning}
+use Rattle.alarm_rules.specs.Setups.{Account, setup_of, meaning, has_number}
 use Rattle.alarm_rules.specs.Weeks.{Week, next_close}
-use Rattle.known_accounts.specs.Rows.{RowsValue, row_in}
+use Rattle.known_accounts.specs.declared.supervised_accounts.AccountPlace.{AccountPlace}
+use Rattle.known_accounts.specs.Rows.{RowsValue, StandsAt, row_in}
 use Rattle.centre_rules.specs.History.{IsMoment}
 use Rattle.centre_rules.specs.Summary.{Summary, AccountRow, Opened}
 
@@ -25,6 +27,17 @@ rows_sum v = record { last = 0; recorded = 0; opened = 0; start = v.start; text 
 abbrev pub accounts_in : Option (List ℕ) → List Account
 accounts_in None = []
 accounts_in (Some text) = (meaning text).accounts
+
+-- where the account stands in the setup in force: at its place, or nowhere
+pub record IsPlaceIn (account : List ℕ) (place : Option ℕ) (text : Option (List ℕ)) : Type 0 where
+  pub is : place ≡ position (has_number account) (accounts_in text)
+  pub within : IfSome place (λ p. p < length (accounts_in text))
+  pub number : IfSome place (λ p. IfSome (slice_get (accounts_in text) p) (λ x. x.number ≡ account))
+
+-- where the account stands: its row, and in the setup in force
+pub record IsPlaceOf (account : List ℕ) (place : AccountPlace) (s : SupervisedValue) : Type 0 where
+  pub row : StandsAt account place.row s.rows.rows
+  pub setup : IsPlaceIn account place.setup s.text
 
 -- Deadlines. An account is overdue once its deadline is passed. A moment that no u64 holds is put off to the last one, which no
 -- clock reaches.

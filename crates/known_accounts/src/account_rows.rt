@@ -1,15 +1,15 @@
 // What is known of each account.
-ghost use Rattle.std.specs.Prelude.{◌≡◌, ◌≤◌, ◌<◌, ◌+◌, [], List, ℕ, Bool, true, false, is_some, None, Some, length, max, map, take, OnOk};
+ghost use Rattle.std.specs.Prelude.{◌≡◌, ◌≤◌, ◌<◌, ◌+◌, ◌++◌, ◌∷◌, [], List, ℕ, false, is_some, None, length, max, map, take, OnOk};
 ghost use Rattle.std.specs.List.{find, All};
 ghost use Rattle.std.specs.Option.{option_map};
 ghost use Rattle.std.specs.Str.{bytes_eq};
 ghost use Rattle.indexmap.specs.IndexMap.{get, spare as spare_of};
 ghost use Rattle.centre_rules.specs.Answers.{repeats};
 ghost use Rattle.centre_rules.specs.Marks.{Starts, Hears, Sends, Carries};
-ghost use Rattle.known_accounts.specs.Rows.{row_at, row_in, known, now_heard, Marked};
+ghost use Rattle.known_accounts.specs.Rows.{row_at, row_in, now_heard, has_row, blank, HasRoom, StandsAt, MakesRow, KeepsRows, Marked, Tells};
 
-use crate::row::Row;
-use arc_data::{Carried, Memory, Message, Opened, Txt};
+use crate::row::{Known, Row};
+use arc_data::{Carried, Memory, Message, Txt};
 use indexmap::IndexMap;
 use repeat_window::{Seen, Window};
 use std::alloc::Global;
@@ -61,12 +61,13 @@ impl AccountRows {
         }
     }
 
-    /// Takes memory for so many accounts. The error is want of memory.
+    /// Takes memory for so many accounts, and for no more. The error is want of memory.
     pub fn reserve(&mut self, alloc: Global, more: usize) -> Result<(), Memory>
         ensures start { self.new.start ≡ self.old.start }
         ensures rows { self.new.rows ≡ self.old.rows }
         ensures room { self.old.room ≤ self.new.room }
         ensures enough { OnOk result (more ≤ self.new.room) }
+        ensures most { self.new.room ≤ max self.old.room more }
     {
         let Ok(()) = self.by_account.reserve(more) else {
             return Err(Memory);
@@ -77,60 +78,70 @@ impl AccountRows {
     /// A run starts: each account is heard.
     pub fn start(&mut self, at: u64)
         ensures marked { Marked (Starts at) self.old self.new }
-        ensures room { self.new.room ≡ self.old.room }
+        ensures kept { KeepsRows self.old self.new }
     {
         self.start = Some(at);
         hear_all(&mut self.by_account, at);
     }
 
-    /// An account is heard.
-    pub fn hear(&mut self, account: &Txt, at: u64)
-        requires { 0 < self.old.room }
-        ensures marked { Marked (Hears account.now at) self.old self.new }
-        ensures room { self.old.room ≤ self.new.room + 1 }
+    /// The place of the row of an account, which is made where it has none: then it is known that the account was heard at the last
+    /// Start, and nothing more.
+    pub fn place(&mut self, account: &Txt) -> usize
+        requires { HasRoom (account.now ∷ []) self.old }
+        ensures there { StandsAt account.now result self.new.rows }
+        ensures made { MakesRow account.now self.old self.new }
     {
-        make_row(&mut self.by_account, &mut self.windows, self.start, account);
-        let Some(row) = self.by_account.get_mut(account) else {
+        match self.by_account.get_index_of(account) {
+            Some(place) => place,
+            None => {
+                let place = self.by_account.len();
+                make_row(&mut self.by_account, &mut self.windows, self.start, account);
+                place
+            }
+        }
+    }
+
+    /// The account whose row stands at this place is heard.
+    pub fn hear(&mut self, place: usize, at: u64)
+        requires { place < length self.old.rows }
+        ensures marked { (account : List ℕ) → StandsAt account place self.old.rows → Marked (Hears account at) self.old self.new }
+        ensures kept { KeepsRows self.old self.new }
+    {
+        let Some(row) = self.by_account.get_index_mut(place) else {
             unreachable!()
         };
         row.hear(at);
     }
 
-    /// A message of its account is recorded.
-    pub fn send(&mut self, message: Message, at: u64)
-        requires { 0 < self.old.room }
+    /// A message of the account whose row stands at this place is recorded.
+    pub fn send(&mut self, place: usize, message: Message, at: u64)
+        requires { StandsAt message.account place self.old.rows }
         ensures marked { Marked (Sends message at) self.old self.new }
-        ensures room { self.old.room ≤ self.new.room + 1 }
+        ensures kept { KeepsRows self.old self.new }
     {
-        let account = message.account;
-        make_row(
-            &mut self.by_account,
-            &mut self.windows,
-            self.start,
-            &account,
-        );
-        let Some(row) = self.by_account.get_mut(&account) else {
+        let Some(row) = self.by_account.get_index_mut(place) else {
             unreachable!()
         };
         row.send(Seen { message, at });
     }
 
-    /// An account has a signal.
-    pub fn carry(&mut self, x: &Carried)
-        requires { 0 < self.old.room }
+    /// The account whose row stands at this place has a signal.
+    pub fn carry(&mut self, place: usize, x: &Carried)
+        requires { StandsAt x.now.account place self.old.rows }
         ensures marked { Marked (Carries x.now) self.old self.new }
-        ensures room { self.old.room ≤ self.new.room + 1 }
+        ensures kept { KeepsRows self.old self.new }
     {
-        make_row(
-            &mut self.by_account,
-            &mut self.windows,
-            self.start,
-            &x.account,
-        );
-        let Some(row) = self.by_account.get_mut(&x.account) else {
+        let Some(row) = self.by_account.get_index_mut(place) else {
             unreachable!()
         };
         row.carry(x);
+    }
+
+    /// Whether an account has a row: whether more is known of it than the last Start.
+    pub fn has(&self, account: &Txt) -> bool
+        ensures { result ≡ has_row self.now.rows account.now }
+    {
+        self.by_account.contains_key(account)
     }
 
     /// The last Start.
@@ -140,34 +151,29 @@ impl AccountRows {
         self.start
     }
 
-    /// When an account was last heard.
-    pub fn heard(&self, account: &Txt) -> Option<u64>
-        ensures { result ≡ (row_in self.now account.now).heard }
+    /// What deadlines of an account go by.
+    pub fn known(&self, account: &Txt) -> Known
+        ensures { Tells (row_in self.now account.now) result }
     {
         match self.by_account.get(account) {
-            Some(row) => row.heard,
-            None => self.start,
+            Some(row) => row.known(),
+            None => Known {
+                heard: self.start,
+                failed: false,
+                opening: None,
+            },
         }
     }
 
-    /// Whether a Tick has raised a CommFail of an account since it was last heard.
-    pub fn failed(&self, account: &Txt) -> bool
-        ensures { result ≡ (row_in self.now account.now).failed }
+    /// What deadlines of the account whose row stands at this place go by.
+    pub fn known_at(&self, place: usize) -> Known
+        requires { place < length self.now.rows }
+        ensures { (account : List ℕ) → StandsAt account place self.now.rows → Tells (row_in self.now account) result }
     {
-        match self.by_account.get(account) {
-            Some(row) => row.failed,
-            None => false,
-        }
-    }
-
-    /// The last opening signal of an account, while it is open.
-    pub fn opening(&self, account: &Txt) -> Option<Opened>
-        ensures { result ≡ (row_in self.now account.now).opening }
-    {
-        match self.by_account.get(account) {
-            Some(row) => row.opening,
-            None => None,
-        }
+        let Some((_, row)) = self.by_account.get_index(place) else {
+            unreachable!()
+        };
+        row.known()
     }
 
     /// The moment of the newest of the last 32 messages of the account that makes the message, at this moment, a repeat.
@@ -209,25 +215,22 @@ fn hear_all(rows: &mut IndexMap<Txt, Row>, at: u64)
     }
 }
 
-// Makes the account's row where it lacks: the account has been heard at the last Start, and nothing more is known.
+// Makes the row of an account that has none: the account has been heard at the last Start, and nothing more is known.
 fn make_row(
     rows: &mut IndexMap<Txt, Row>,
     windows: &mut Vec<Window>,
     start: Option<u64>,
     account: &Txt,
 )
+    requires none { is_some (get bytes_eq rows.old account.now) ≡ false }
     requires some { 0 < length windows.old.items }
     requires spare { length windows.old.items ≤ spare_of rows.old }
     requires empty { All (λ w. w ≡ []) windows.old.items }
-    ensures found { is_some (get bytes_eq rows.new account.now) ≡ true }
-    ensures same { (a : List ℕ) → known start (map row_at rows.new.entries) a ≡ known start (map row_at rows.old.entries) a }
-    ensures room { length windows.old.items ≤ length windows.new.items + 1 }
+    ensures entries { rows.new.entries ≡ rows.old.entries ++ (account.now, blank start) ∷ [] }
+    ensures room { length windows.old.items ≡ length windows.new.items + 1 }
     ensures spare { length windows.new.items ≤ spare_of rows.new }
     ensures empty { All (λ w. w ≡ []) windows.new.items }
 {
-    if rows.contains_key(account) {
-        return;
-    }
     let Some(window) = windows.pop() else {
         unreachable!()
     };

@@ -1,15 +1,17 @@
 // The deadlines of the accounts of a setup, by their places.
-ghost use Rattle.std.specs.Prelude.{◌≡◌, ◌<◌, length, map, replicate, slice_get, slice_set, None, IfOk, IfSome, IsOk};
+ghost use Rattle.std.specs.Prelude.{◌≡◌, ◌<◌, List, ℕ, length, map, replicate, slice_get, slice_set, None, IfOk, IfSome, IsOk};
 ghost use Rattle.alarm_rules.specs.Setups.{meaning, setup_of};
-ghost use Rattle.known_accounts.specs.Rows.{RowsValue};
-ghost use Rattle.known_accounts.specs.Supervised.{AreDeadlines, AreOpenedAtMoments, KeepsOthers, accounts_in, silence_of, lateness_of};
+ghost use Rattle.centre_rules.specs.History.{IsMoment};
+ghost use Rattle.known_accounts.specs.Rows.{RowsValue, Tells, row_in};
+ghost use Rattle.known_accounts.specs.Supervised.{AreDeadlines, AreOpenedAtMoments, IsPlaceIn, KeepsOthers, accounts_in, silence_of, lateness_of};
 ghost use Rattle.known_accounts.specs.Roomed.{HasPlaces, IsRenewed};
 
 use crate::account_rows::AccountRows;
 use crate::due::{lateness, silence};
+use crate::row::Known;
 use crate::uncounted::set;
 use accounts::Setup;
-use arc_data::{Memory, Txt};
+use arc_data::Memory;
 use std::alloc::Global;
 use supervision::Watch;
 
@@ -58,8 +60,9 @@ impl Deadlines {
         ensures places { HasPlaces (length (meaning setup.now).accounts) self.new }
     {
         let account = setup.account(place);
-        set(&mut self.silence, place, silence(account, rows));
-        set(&mut self.lateness, place, lateness(account, rows));
+        let known = rows.known(&account.number);
+        set(&mut self.silence, place, silence(account, known));
+        set(&mut self.lateness, place, lateness(account, known));
     }
 
     /// Sets the deadlines of all accounts.
@@ -73,41 +76,50 @@ impl Deadlines {
         }
     }
 
-    /// Sets the deadline of silence of an account, where the setup has it: of the others the same is known as before.
-    pub(crate) fn renew_silence(&mut self, setup: &Option<Setup>, rows: &AccountRows, account: &Txt)
+    /// Sets the deadline of silence of an account, where it stands in the setup: this is known of it, and of the others the same as before.
+    pub(crate) fn renew_silence(
+        &mut self,
+        setup: &Option<Setup>,
+        place: Option<usize>,
+        known: Known,
+    )
         requires valid { IfSome setup.now (λ x. IsOk (setup_of x)) }
         requires places { length self.old.silence ≡ length (accounts_in setup.now) }
-        ensures silence { (v : RowsValue) → KeepsOthers account.now v rows.now
+        requires within { IfSome place (λ p. p < length (accounts_in setup.now)) }
+        ensures silence { (account : List ℕ) (v w : RowsValue) → IsPlaceIn account place setup.now → Tells (row_in w account) known
+            → KeepsOthers account v w
             → self.old.silence ≡ map (silence_of v) (accounts_in setup.now)
-            → self.new.silence ≡ map (silence_of rows.now) (accounts_in setup.now) }
+            → self.new.silence ≡ map (silence_of w) (accounts_in setup.now) }
         ensures lateness { self.new.lateness ≡ self.old.lateness }
     {
         if let Some(setup) = setup {
-            if let Some(place) = setup.place(account) {
-                let deadline = silence(setup.account(place), rows);
+            if let Some(place) = place {
+                let deadline = silence(setup.account(place), known);
                 set(&mut self.silence, place, deadline);
             }
         }
     }
 
-    /// Sets the deadline of lateness of an account, where the setup has it: of the others the same is known as before.
+    /// Sets the deadline of lateness of an account, where it stands in the setup: this is known of it, and of the others the same as before.
     pub(crate) fn renew_lateness(
         &mut self,
         setup: &Option<Setup>,
-        rows: &AccountRows,
-        account: &Txt,
+        place: Option<usize>,
+        known: Known,
     )
         requires valid { IfSome setup.now (λ x. IsOk (setup_of x)) }
         requires places { length self.old.lateness ≡ length (accounts_in setup.now) }
-        requires openings { AreOpenedAtMoments rows.now }
+        requires within { IfSome place (λ p. p < length (accounts_in setup.now)) }
+        requires opening { IfSome known.opening (λ o. IsMoment o.at) }
         ensures silence { self.new.silence ≡ self.old.silence }
-        ensures lateness { (v : RowsValue) → KeepsOthers account.now v rows.now
+        ensures lateness { (account : List ℕ) (v w : RowsValue) → IsPlaceIn account place setup.now → Tells (row_in w account) known
+            → KeepsOthers account v w
             → self.old.lateness ≡ map (lateness_of v) (accounts_in setup.now)
-            → self.new.lateness ≡ map (lateness_of rows.now) (accounts_in setup.now) }
+            → self.new.lateness ≡ map (lateness_of w) (accounts_in setup.now) }
     {
         if let Some(setup) = setup {
-            if let Some(place) = setup.place(account) {
-                let deadline = lateness(setup.account(place), rows);
+            if let Some(place) = place {
+                let deadline = lateness(setup.account(place), known);
                 set(&mut self.lateness, place, deadline);
             }
         }

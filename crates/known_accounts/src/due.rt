@@ -1,30 +1,32 @@
 // When one account is silent, and when it closes late, and which signals tell of it.
-ghost use Rattle.std.specs.Prelude.{◌≡◌};
-ghost use Rattle.accounts.specs.Accounts.{defined};
-ghost use Rattle.known_accounts.specs.Supervised.{later as later_by, silence_of, lateness_of, moves_deadlines, AreOpenedAtMoments};
+ghost use Rattle.std.specs.Prelude.{◌≡◌, IfSome};
+ghost use Rattle.centre_rules.specs.History.{IsMoment};
+ghost use Rattle.centre_rules.specs.Summary.{AccountRow};
+ghost use Rattle.known_accounts.specs.Rows.{Tells};
+ghost use Rattle.known_accounts.specs.Supervised.{later as later_by, silence_after, lateness_after, moves_deadlines};
 
-use crate::account_rows::AccountRows;
+use crate::row::Known;
 use accounts::Account;
 use arc_data::{Carried, Kind};
 
-/// After which moment a Tick finds the account silent.
-pub(crate) fn silence(account: &Account, rows: &AccountRows) -> Option<u64>
-    ensures { result ≡ silence_of rows.now (defined account.now) }
+/// After which moment a Tick finds the account silent, of which this is known.
+pub(crate) fn silence(account: &Account, known: Known) -> Option<u64>
+    ensures { (row : AccountRow) → Tells row known → result ≡ silence_after row account.now.beat }
 {
     let interval = account.beat?;
-    if rows.failed(&account.number) {
+    if known.failed {
         return None;
     }
-    let heard = rows.heard(&account.number)?;
+    let heard = known.heard?;
     Some(later(heard, interval))
 }
 
-/// After which moment a Tick finds that the account closes late.
-pub(crate) fn lateness(account: &Account, rows: &AccountRows) -> Option<u64>
-    requires { AreOpenedAtMoments rows.now }
-    ensures { result ≡ lateness_of rows.now (defined account.now) }
+/// After which moment a Tick finds that the account closes late, of which this is known.
+pub(crate) fn lateness(account: &Account, known: Known) -> Option<u64>
+    requires { IfSome known.opening (λ o. IsMoment o.at) }
+    ensures { result ≡ lateness_after known.opening account.now.week }
 {
-    let opened = rows.opening(&account.number)?;
+    let opened = known.opening?;
     if opened.late {
         return None;
     }

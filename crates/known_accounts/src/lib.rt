@@ -13,6 +13,7 @@ mod watched_setup;
 pub use account_rows::AccountRows;
 pub use accounts::Setup;
 pub use arc_data::{Carried, Memory, Message, Opened, Txt};
-pub use supervised_accounts::SupervisedAccounts;
+pub use row::Known;
+pub use supervised_accounts::{AccountPlace, SupervisedAccounts};
 pub use supervision::Places;
 pub use watched_setup::WatchedSetup;

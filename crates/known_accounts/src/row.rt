@@ -18,7 +18,27 @@ pub(crate) struct Row {
     pub window: Window,
 }
 
+/// What deadlines of an account go by: when it was last heard, whether a Tick has raised a CommFail of it since, and its last opening
+/// signal while it is open.
+#[derive(Clone, Copy)]
+pub struct Known {
+    pub heard: Option<u64>,
+    pub failed: bool,
+    pub opening: Option<Opened>,
+}
+
 impl Row {
+    /// What deadlines go by.
+    pub(crate) fn known(&self) -> Known
+        ensures { result ≡ record { heard = self.now.heard; failed = self.now.failed; opening = self.now.opening } }
+    {
+        Known {
+            heard: self.heard,
+            failed: self.failed,
+            opening: self.opening,
+        }
+    }
+
     /// The account was heard.
     pub(crate) fn hear(&mut self, at: u64)
         ensures { self.new ≡ record self.old { heard = Some at; failed = false } }

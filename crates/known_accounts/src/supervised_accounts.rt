@@ -1,12 +1,12 @@
 // What is known of each account, and by when it has to be heard and closed. None of the calls that make a mark takes memory.
-ghost use Rattle.std.specs.Prelude.{◌≡◌, ◌≤◌, ◌<◌, ◌+◌, [], None, Some, IfOk, OnOk};
+ghost use Rattle.std.specs.Prelude.{◌≡◌, ◌≤◌, [], ◌∷◌, List, ℕ, max, None, Some, IfOk, OnOk};
 ghost use Rattle.std.specs.List.{filter};
 ghost use Rattle.std.specs.Option.{option_map};
-ghost use Rattle.known_accounts.specs.Rows.{Marked};
+ghost use Rattle.known_accounts.specs.Rows.{HasRoom, KeepsRows, MakesRow, Marked};
 ghost use Rattle.centre_rules.specs.Carrying.{is_silent, is_late};
 ghost use Rattle.centre_rules.specs.History.{IsMoment};
 ghost use Rattle.centre_rules.specs.Marks.{Starts, Hears, Sends, Carries};
-ghost use Rattle.known_accounts.specs.Supervised.{ArePlacesOf, accounts_in, rows_sum};
+ghost use Rattle.known_accounts.specs.Supervised.{ArePlacesOf, IsPlaceIn, IsPlaceOf, accounts_in, rows_sum};
 
 use crate::account_rows::AccountRows;
 use crate::deadlines::Deadlines;
@@ -18,6 +18,13 @@ use arc_data::{Carried, Memory, Message, Txt};
 use std::alloc::Global;
 use std::marker::Model;
 use supervision::Places;
+
+/// Where an account stands: the place of its row, and its place in the setup in force, where that has it.
+#[derive(Clone, Copy)]
+pub struct AccountPlace {
+    pub row: usize,
+    pub setup: Option<usize>,
+}
 
 /// What is known of each account, the setup in force, and for each of its accounts the deadlines of its silence and of its late
 /// closing. Contracts see the setup's text, and the rows.
@@ -63,13 +70,14 @@ impl SupervisedAccounts {
         }
     }
 
-    /// Takes memory for so many accounts of which nothing is known yet. The error is want of memory.
+    /// Takes memory for so many accounts that have no row yet, and for no more. The error is want of memory.
     pub fn reserve(&mut self, alloc: Global, more: usize) -> Result<(), Memory>
         ensures text { self.new.text ≡ self.old.text }
         ensures start { self.new.rows.start ≡ self.old.rows.start }
         ensures rows { self.new.rows.rows ≡ self.old.rows.rows }
         ensures room { self.old.rows.room ≤ self.new.rows.room }
         ensures enough { OnOk result (more ≤ self.new.rows.room) }
+        ensures most { self.new.rows.room ≤ max self.old.rows.room more }
     {
         self.rows.reserve(alloc, more)
     }
@@ -127,7 +135,7 @@ impl SupervisedAccounts {
     pub fn start(&mut self, at: u64)
         ensures text { self.new.text ≡ self.old.text }
         ensures marked { Marked (Starts at) self.old.rows self.new.rows }
-        ensures room { self.new.rows.room ≡ self.old.rows.room }
+        ensures kept { KeepsRows self.old.rows self.new.rows }
     {
         self.rows.start(at);
         if let Some(setup) = &self.setup {
@@ -135,45 +143,69 @@ impl SupervisedAccounts {
         }
     }
 
-    /// An account is heard.
-    pub fn hear(&mut self, account: &Txt, at: u64)
-        requires { 0 < self.old.rows.room }
+    /// Where an account stands. Its row is made where it has none.
+    pub fn place(&mut self, account: &Txt) -> AccountPlace
+        requires { HasRoom (account.now ∷ []) self.old.rows }
         ensures text { self.new.text ≡ self.old.text }
-        ensures marked { Marked (Hears account.now at) self.old.rows self.new.rows }
-        ensures room { self.old.rows.room ≤ self.new.rows.room + 1 }
+        ensures there { IsPlaceOf account.now result self.new }
+        ensures made { MakesRow account.now self.old.rows self.new.rows }
     {
-        self.rows.hear(account, at);
-        self.deadlines
-            .renew_silence(&self.setup, &self.rows, account);
+        let row = self.rows.place(account);
+        let setup = place_in(&self.setup, account);
+        AccountPlace { row, setup }
     }
 
-    /// A message of its account is recorded.
-    pub fn send(&mut self, message: Message, at: u64)
-        requires { 0 < self.old.rows.room }
+    /// The account that stands here is heard.
+    pub fn hear(&mut self, place: AccountPlace, at: u64)
+        requires { (account : List ℕ) × IsPlaceOf account place self.old }
+        ensures text { self.new.text ≡ self.old.text }
+        ensures marked { (account : List ℕ) → IsPlaceOf account place self.old → Marked (Hears account at) self.old.rows self.new.rows }
+        ensures kept { KeepsRows self.old.rows self.new.rows }
+    {
+        self.rows.hear(place.row, at);
+        let known = self.rows.known_at(place.row);
+        self.deadlines
+            .renew_silence(&self.setup, place.setup, known);
+    }
+
+    /// A message of the account that stands here is recorded.
+    pub fn send(&mut self, place: AccountPlace, message: Message, at: u64)
+        requires { IsPlaceOf message.account place self.old }
         ensures text { self.new.text ≡ self.old.text }
         ensures marked { Marked (Sends message at) self.old.rows self.new.rows }
-        ensures room { self.old.rows.room ≤ self.new.rows.room + 1 }
+        ensures kept { KeepsRows self.old.rows self.new.rows }
     {
-        let account = message.account;
-        self.rows.send(message, at);
+        self.rows.send(place.row, message, at);
+        let known = self.rows.known_at(place.row);
         self.deadlines
-            .renew_silence(&self.setup, &self.rows, &account);
+            .renew_silence(&self.setup, place.setup, known);
     }
 
-    /// An account has a signal.
-    pub fn carry(&mut self, x: &Carried)
-        requires room { 0 < self.old.rows.room }
+    /// The account that stands here has a signal.
+    pub fn carry(&mut self, place: AccountPlace, x: &Carried)
+        requires there { IsPlaceOf x.now.account place self.old }
         requires moment { IsMoment x.now.at }
         ensures text { self.new.text ≡ self.old.text }
         ensures marked { Marked (Carries x.now) self.old.rows self.new.rows }
-        ensures room { self.old.rows.room ≤ self.new.rows.room + 1 }
+        ensures kept { KeepsRows self.old.rows self.new.rows }
     {
-        self.rows.carry(x);
+        self.rows.carry(place.row, x);
         if moves(x) {
+            let known = self.rows.known_at(place.row);
             self.deadlines
-                .renew_silence(&self.setup, &self.rows, &x.account);
+                .renew_silence(&self.setup, place.setup, known);
             self.deadlines
-                .renew_lateness(&self.setup, &self.rows, &x.account);
+                .renew_lateness(&self.setup, place.setup, known);
         }
+    }
+}
+
+// Where an account stands in the setup in force.
+fn place_in(setup: &Option<Setup>, account: &Txt) -> Option<usize>
+    ensures { IsPlaceIn account.now result setup.now }
+{
+    match setup {
+        Some(setup) => setup.place(account),
+        None => None,
     }
 }

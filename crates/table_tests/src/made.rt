@@ -11,7 +11,9 @@ pub(crate) fn text(rt: &impl Abort, bytes: &[u8]) -> Txt {
 }
 
 /// A burglary of this account, with this sequence.
-pub(crate) fn message(rt: &impl Abort, alloc: Global, account: Txt, seq: u16) -> Message {
+pub(crate) fn message(rt: &impl Abort, alloc: Global, account: Txt, seq: u16) -> Message
+    ensures { result.account ≡ account }
+{
     Message {
         account,
         receiver: None,
@@ -24,7 +26,8 @@ pub(crate) fn message(rt: &impl Abort, alloc: Global, account: Txt, seq: u16) ->
 
 /// A signal of an account, without steps.
 pub(crate) fn carried(account: Txt, signal: Signal, at: u64, by_tick: bool) -> Carried
-    ensures { result.at ≡ at }
+    ensures at { result.at ≡ at }
+    ensures account { result.account ≡ account }
 {
     Carried {
         account,

@@ -3,8 +3,9 @@ ghost use Rattle.std.specs.Prelude.{◌≡◌, ◌≤◌, ◌<◌, ◌+◌};
 
 use crate::made::{carried, message, signal, text};
 use crate::same::same;
-use arc_data::{Carried, Class, Kind, Opened};
+use arc_data::{Carried, Class, Kind, Message, Opened, Txt};
 use known_accounts::AccountRows;
+use std::alloc::Global;
 use std::process::Abort;
 
 fn sign(rt: &impl Abort, class: Class, kind: Kind, at: u64, by_tick: bool) -> Carried {
@@ -19,14 +20,42 @@ fn compare_heard(
     failed: bool,
     what: &str,
 ) {
-    let account = text(rt, b"1234");
-    same(rt, rows.heard(&account), heard, what);
-    same(rt, rows.failed(&account), failed, what);
+    let known = rows.known(&text(rt, b"1234"));
+    same(rt, known.heard, heard, what);
+    same(rt, known.failed, failed, what);
 }
 
 fn compare_opening(rt: &impl Abort, rows: &AccountRows, opening: Option<Opened>, what: &str) {
-    let got = rows.opening(&text(rt, b"1234"));
-    same(rt, got, opening, what);
+    let known = rows.known(&text(rt, b"1234"));
+    same(rt, known.opening, opening, what);
+}
+
+// The account has a signal.
+fn carry(rows: &mut AccountRows, x: &Carried)
+    requires { 1 ≤ rows.old.room }
+{
+    let place = rows.place(&x.account);
+    rows.carry(place, x);
+}
+
+fn hear(rows: &mut AccountRows, account: &Txt, at: u64)
+    requires { 1 ≤ rows.old.room }
+{
+    let place = rows.place(account);
+    rows.hear(place, at);
+}
+
+fn send(rows: &mut AccountRows, message: Message, at: u64)
+    requires { 1 ≤ rows.old.room }
+{
+    let place = rows.place(&message.account);
+    rows.send(place, message, at);
+}
+
+fn reserve(rt: &impl Abort, alloc: Global, rows: &mut AccountRows)
+    ensures { 1 ≤ rows.new.room }
+{
+    rows.reserve(alloc, 1).expect(rt, "memory");
 }
 
 #[test]
@@ -40,13 +69,17 @@ fn heard_and_failed(rt: HostRuntime) {
     rows.start(10);
     same(&rt, rows.last_start(), Some(10), "a start");
     compare_heard(&rt, &rows, Some(10), false, "a start");
-    rows.reserve(rt.alloc(), 3).expect(&rt, "memory");
-    rows.carry(&failure);
+    reserve(&rt, rt.alloc(), &mut rows);
+    same(&rt, rows.has(&account), false, "no row yet");
+    carry(&mut rows, &failure);
+    same(&rt, rows.has(&account), true, "a row");
     compare_heard(&rt, &rows, Some(10), true, "a failure");
-    rows.hear(&account, 120);
+    reserve(&rt, rt.alloc(), &mut rows);
+    hear(&mut rows, &account, 120);
     compare_heard(&rt, &rows, Some(120), false, "heard again");
     // A panel's own signal of that class does not count.
-    rows.carry(&own);
+    reserve(&rt, rt.alloc(), &mut rows);
+    carry(&mut rows, &own);
     compare_heard(&rt, &rows, Some(120), false, "its own signal");
     rows.start(200);
     compare_heard(&rt, &rows, Some(200), false, "another start");
@@ -58,13 +91,15 @@ fn open_and_closed(rt: HostRuntime) {
     let opening = sign(&rt, Class::OpenClose, Kind::Opening, 100, false);
     let late = sign(&rt, Class::LateClose, Kind::New, 1100, true);
     let closing = sign(&rt, Class::OpenClose, Kind::Closing, 1200, false);
-    rows.reserve(rt.alloc(), 3).expect(&rt, "memory");
-    rows.carry(&opening);
+    reserve(&rt, rt.alloc(), &mut rows);
+    carry(&mut rows, &opening);
     let (at, in_time, too_late) = (100, false, true);
     compare_opening(&rt, &rows, Some(Opened { at, late: in_time }), "open");
-    rows.carry(&late);
+    reserve(&rt, rt.alloc(), &mut rows);
+    carry(&mut rows, &late);
     compare_opening(&rt, &rows, Some(Opened { at, late: too_late }), "late");
-    rows.carry(&closing);
+    reserve(&rt, rt.alloc(), &mut rows);
+    carry(&mut rows, &closing);
     compare_opening(&rt, &rows, None, "closed");
 }
 
@@ -74,10 +109,10 @@ fn repeats(rt: HostRuntime) {
     let account = text(&rt, b"1234");
     let sent = message(&rt, rt.alloc(), account, 1);
     let again = message(&rt, rt.alloc(), account, 1);
-    rows.reserve(rt.alloc(), 1).expect(&rt, "memory");
+    reserve(&rt, rt.alloc(), &mut rows);
     same(&rt, rows.repeat(&sent, 100), None, "the first");
-    rows.send(again, 100);
+    send(&mut rows, again, 100);
     same(&rt, rows.repeat(&sent, 400), Some(100), "in time");
     same(&rt, rows.repeat(&sent, 401), None, "too late");
-    same(&rt, rows.heard(&account), Some(100), "heard");
+    compare_heard(&rt, &rows, Some(100), false, "heard");
 }

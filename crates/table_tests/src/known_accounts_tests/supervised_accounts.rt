@@ -102,7 +102,8 @@ fn adopt(rt: &impl Abort, alloc: Global, accounts: &mut SupervisedAccounts, text
 
 // The signal of a word: a Tick raises a failure or a late closing, and a panel sends an opening or a closing.
 fn sign(rt: &impl Abort, word: &str, account: Txt, at: u64) -> Carried
-    ensures { result.at ≡ at }
+    ensures at { result.at ≡ at }
+    ensures account { result.account ≡ account }
 {
     let (class, kind, by_tick) = match word {
         "fail" => (Class::CommFail, Kind::New, true),
@@ -126,10 +127,11 @@ fn mark(
 {
     let account = text(rt, account.as_bytes());
     accounts.reserve(alloc, 1).expect(rt, "memory");
+    let place = accounts.place(&account);
     match word {
-        "hear" => accounts.hear(&account, at),
-        "send" => accounts.send(message(rt, alloc, account, 1), at),
-        _ => accounts.carry(&sign(rt, word, account, at)),
+        "hear" => accounts.hear(place, at),
+        "send" => accounts.send(place, message(rt, alloc, account, 1), at),
+        _ => accounts.carry(place, &sign(rt, word, account, at)),
     }
 }
 

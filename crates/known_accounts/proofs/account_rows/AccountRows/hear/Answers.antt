@@ -1,22 +1,19 @@
-use Rattle.std.proofs.Common.{◌≡◌, ℕ, List, Some, cond, ap, ◌∙◌, refl, map, sym}
-use Rattle.std.specs.Map.{lookup}
-use Rattle.std.specs.Str.{bytes_eq}
-use Rattle.centre_rules.specs.Marks.{Hears}
-use Rattle.known_accounts.specs.declared.row.Row.{Row}
-use Rattle.known_accounts.specs.Rows.{RowsValue, row_at}
-use Rattle.known_accounts.proofs.Written.{WritesAt, heard_marked, remade}
+-- The row is written through.
+use Rattle.std.proofs.Common.{ap, ◌∙◌, sym, subst, refl}
+use Rattle.known_accounts.specs.Rows.{RowsValue, StandsAt}
+use Rattle.known_accounts.proofs.Numbered.{writes_at, numbers_kept}
+use Rattle.known_accounts.proofs.Written.{heard_marked}
 use Rattle.known_accounts.proofs.account_rows.AccountRows.hear.Goals as goal
 
 pub returns-clause-marked : goal.returns-clause-marked
-returns-clause-marked c =
-    let a = c.args.account.now in
-    let es = c.make_row.new.rows.entries in
-    let row = c.in-Some.row.now in
-    let through = c.get_mut.follows.holds c.hear.new.self in
-    let changes = through.3 c.make_row.ensures.found in
-    let writes : WritesAt a row _ es _ = record {
-      before = sym c.in-Some.ensures.value;
-      after = λ b. changes.0 b ∙ ap (λ (w : Row). cond (bytes_eq a b) (Some w) (lookup (bytes_eq b) es)) c.hear.ensures;
-    } in
-    let made : RowsValue = record { start = c.self.inside.start; rows = map row_at es; room = 0 } in
-    rw (← c.self.view_is) (remade (Hears a c.args.at) _ made _ refl c.make_row.ensures.same (heard_marked a c.args.at c.self.inside.start row es _ 0 _ writes))
+returns-clause-marked c account stands =
+    let m = c.self.inside.by_account in
+    let at : StandsAt account c.args.place _ = subst (λ (v : RowsValue). StandsAt account c.args.place v.rows) (sym c.self.view_is) stands in
+    rw (← c.self.view_is, c.hear.ensures)
+    (heard_marked account c.args.at c.self.inside.start c.in-Some.row.now m.entries _ _ _
+    (writes_at m c.args.place account c.in-Some.row.now _ c.get_index_mut.ensures.unique at (sym c.in-Some.ensures.value)))
+
+pub returns-clause-kept : goal.returns-clause-kept
+returns-clause-kept c =
+    rw (← c.self.view_is)
+    (record { rows = numbers_kept c.self.inside.by_account.entries c.args.place _; room = refl })

@@ -5,7 +5,7 @@ use Rattle.centre_rules.specs.Answers.{repeats}
 use Rattle.centre_rules.specs.Summary.{AccountRow, Past}
 use Rattle.known_accounts.specs.declared.row.Row.{Row}
 use Rattle.known_accounts.specs.Rows.{RowsValue, row_in}
-use Rattle.known_accounts.proofs.Known.{from_row, known_is}
+use Rattle.known_accounts.proofs.Found.{from_row, known_is}
 use Rattle.known_accounts.proofs.account_rows.AccountRows.repeat.Goals as goal
 
 pub returns-in-Some : goal.returns-in-Some

@@ -1,21 +1,25 @@
 -- The deadline at the account's place is set; or it has none.
-use Rattle.std.proofs.Common.{◌∙◌, sym, ap}
-use Rattle.std.specs.Prelude.{slice_set}
+use Rattle.std.proofs.Common.{◌≡◌, ◌∙◌, sym, ap, subst}
+use Rattle.std.specs.Prelude.{IfSome, Option, slice_get, slice_set}
 use Rattle.accounts.specs.Accounts.{defined}
-use Rattle.known_accounts.specs.Supervised.{lateness_of}
-use Rattle.known_accounts.proofs.Renewed.{renewed_in, lacking_in, lateness_kept}
+use Rattle.alarm_rules.specs.Setups.{meaning}
+use Rattle.centre_rules.specs.Summary.{Opened}
+use Rattle.known_accounts.specs.Rows.{Tells, row_in}
+use Rattle.known_accounts.specs.Supervised.{lateness_of, lateness_after}
+use Rattle.known_accounts.proofs.Renewed.{renewed_in, lacking_in, lateness_kept, own_number, no_place}
 use Rattle.known_accounts.proofs.deadlines.Deadlines.renew_lateness.Goals as goal
 
 pub returns-in-Some-place-clause-lateness : goal.returns-in-Some-place-clause-lateness
-returns-in-Some-place-clause-lateness c v others are =
-    let w = c.args.rows.now in
+returns-in-Some-place-clause-lateness c account v w there tells others are =
     let place = c.in-Some-place.place in
-    renewed_in (lateness_of v) (lateness_of w) c.args.account.now (lateness_kept c.args.account.now v w others) c.args.setup.now c.in-Some.setup place
-    (defined c.account.result.now) c.args.self.now.lateness c.set.new.watch c.in-Some.is c.requires.valid c.account.ensures.value
-    c.in-Some-place.ensures.number (c.set.ensures ∙ ap (slice_set c.args.self.now.lateness place) c.lateness-deadline.ensures) are
+    let a = defined c.account.result.now in
+    let own : a.number ≡ account = own_number account c.args.place c.args.setup.now c.in-Some.setup place a there c.in-Some.is c.in-Some-place.is c.account.ensures.value in
+    let told = subst (λ n. Tells (row_in w n) c.args.known) (sym own) tells in
+    renewed_in (lateness_of v) (lateness_of w) account (lateness_kept account v w others) c.args.setup.now c.in-Some.setup place
+    a c.args.self.now.lateness c.set.new.watch c.in-Some.is c.requires.valid c.account.ensures.value
+    (rw c.account.ensures.value own) (c.set.ensures ∙ ap (slice_set c.args.self.now.lateness place) (c.lateness-deadline.ensures ∙ ap (λ (o : Option Opened). lateness_after o a.week) told.opening)) are
 
 pub returns-in_default-place-clause-lateness : goal.returns-in_default-place-clause-lateness
-returns-in_default-place-clause-lateness c v others are =
-    let w = c.args.rows.now in
-    lacking_in (lateness_of v) (lateness_of w) c.args.account.now (lateness_kept c.args.account.now v w others) c.args.setup.now c.in-Some.setup
-    c.args.self.now.lateness c.in-Some.is (sym c.place.ensures.place ∙ c.in_default-place.is) are
+returns-in_default-place-clause-lateness c account v w there tells others are =
+    lacking_in (lateness_of v) (lateness_of w) account (lateness_kept account v w others) c.args.setup.now c.in-Some.setup
+    c.args.self.now.lateness c.in-Some.is (no_place account c.args.place c.args.setup.now c.in-Some.setup there c.in-Some.is c.in_default-place.is) are

@@ -7,7 +7,7 @@ use Rattle.std.specs.Str.{bytes_eq}
 use Rattle.std.proofs.lemmas.Slice.Eq.{bytes_eq-Decides}
 use Rattle.centre_rules.specs.Summary.{AccountRow, row_or}
 use Rattle.known_accounts.specs.declared.row.Row.{Row}
-use Rattle.known_accounts.specs.Rows.{row_at, known}
+use Rattle.known_accounts.specs.Rows.{row_at, known, blank}
 
 equal_back : (a b : List ℕ) (t u : Bool) → bytes_eq a b ≡ t → bytes_eq b a ≡ u → t ≡ u
 equal_back a b true u e f = sym ((bytes_eq-Decides b a).1 (sym ((bytes_eq-Decides a b).0 e))) ∙ f
@@ -44,9 +44,6 @@ more_if : (start : Option ℕ) (b : List ℕ) (r : AccountRow) (xs ys : List Acc
     → row_or (cond t (Some r) (find (λ x. bytes_eq x.account b) xs)) b start ≡ row_or (cond t (Some r) (find (λ x. bytes_eq x.account b) ys)) b start
 more_if start b r xs ys true e = refl
 more_if start b r xs ys false e = e
-
-abbrev pub blank : Option ℕ → Row
-blank start = record { heard = start; failed = false; opening = None; window = [] }
 
 -- a row more that tells nothing but the last Start
 pub known_blank : (start : Option ℕ) (es : List (List ℕ × Row)) (a b : List ℕ) → known start (map row_at (es ++ (a, blank start) ∷ [])) b ≡ known start (map row_at es) b
