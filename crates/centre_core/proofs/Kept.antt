@@ -88,7 +88,7 @@ no_adopt event other = tt
 pub may_take : (s : State) (e : Event) (at : ℕ) (r : Reply) (setup : Option (List ℕ)) (xs : List Carried) (v : RowsValue) (t : TableValue) (entries last recorded : ℕ) (text : Option (List ℕ))
     → MayRecord s e at r setup xs → s.sum ≡ sum_of last recorded text v t → s.rooms ≡ record { incidents = t.room; accounts = v.room } → IsCentre entries recorded last text t → MayTake e at r xs v t
 may_take s e at r setup xs v t entries last recorded text may sum rooms kept = record {
-  bound = few_more (recorded * 8192) (2 ^ 61) t.opened t.incidents (omega (arith, kept.few, kept.bound)) kept.counts;
+  bound = few_more (recorded * 4000) (2 ^ 61) t.opened t.incidents (omega (arith, kept.few, kept.bound)) kept.counts;
   acts = kept.acts;
   few = may.worked.few;
   moments = carried_timely s.sum e at xs may.moment (may.worked.carried may.recorded);
@@ -128,6 +128,7 @@ records_adopted s t new at r setup xs v b last recorded text may before entries 
     start = refl;
     opened = refl;
     incidents = sym (adopted_same new b.incidents);
+    rows = λ a. refl;
     heard = λ a. refl;
     failed = λ a. refl;
     opening = λ a. refl;
@@ -135,8 +136,8 @@ records_adopted s t new at r setup xs v b last recorded text may before entries 
   }));
 }
 
-pub counts_up : (recorded opened : ℕ) (is : List Incident) → IsFew (recorded * 8192) opened is → IsFew ((recorded + 1) * 8192) opened is
-counts_up recorded opened is w = few_more (recorded * 8192) ((recorded + 1) * 8192) opened is (omega arith) w
+pub counts_up : (recorded opened : ℕ) (is : List Incident) → IsFew (recorded * 4000) opened is → IsFew ((recorded + 1) * 4000) opened is
+counts_up recorded opened is w = few_more (recorded * 4000) ((recorded + 1) * 4000) opened is (omega arith) w
 
-pub counts_taken : (recorded opened : ℕ) (is : List Incident) → IsFew (recorded * 8192 + 8192) opened is → IsFew ((recorded + 1) * 8192) opened is
-counts_taken recorded opened is w = few_more (recorded * 8192 + 8192) ((recorded + 1) * 8192) opened is (omega arith) w
+pub counts_taken : (recorded opened : ℕ) (is : List Incident) → IsFew (recorded * 4000 + 4000) opened is → IsFew ((recorded + 1) * 4000) opened is
+counts_taken recorded opened is w = few_more (recorded * 4000 + 4000) ((recorded + 1) * 4000) opened is (omega arith) w

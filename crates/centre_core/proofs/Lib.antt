@@ -6,5 +6,8 @@ pub mod Timely
 pub mod Ordered
 pub mod Worked
 pub mod RaisedAt
+pub mod OneOrder
+pub mod Summed
+pub mod Written
 pub mod Taking
 pub mod Owned

@@ -1,6 +1,8 @@
 -- Marks taken up in place.
-use Rattle.std.proofs.Common.{◌≡◌, ◌<◌, ◌≤◌, ◌^◌, ℕ, zero, suc, ◌+◌, Some, drop, slice_get, List, [], ◌∷◌, ◌++◌, map, length, take, Bool, true, false, cond, refl, sym, ap, ◌∙◌, Option, arith, subst, length-append, inl, inr}
-use Rattle.std.specs.Prelude.{◌⊎◌}
+use Rattle.std.proofs.Common.{◌≡◌, ◌<◌, ◌≤◌, ◌^◌, ℕ, zero, suc, ◌+◌, drop, get_or, List, [], ◌∷◌, ◌++◌, map, length, take, Bool, true, false, cond, refl, sym, ap, ◌∙◌, Option, arith, subst, length-append, inl, inr}
+use Rattle.std.specs.Prelude.{◌⊎◌, not}
+use Rattle.std.proofs.lemmas.List.Elements.{filter-append}
+use Rattle.centre_rules.specs.Summary.{AccountRow}
 use Rattle.std.proofs.lemmas.List.{take_all, length-map, map-append}
 use Rattle.arc_data.specs.Incidents.{Each}
 use Rattle.arc_data.specs.declared.event.Event.{Event}
@@ -11,8 +13,8 @@ use Rattle.arc_data.specs.declared.reply.Reply.{Reply}
 use Rattle.arc_data.specs.declared.reply.Reply.TheVariants.{Claimed, Recorded, Released, Closed}
 use Rattle.arc_data.specs.declared.signal.Class.{Class}
 use Rattle.arc_data.specs.declared.step.Acted.{Acted}
-use Rattle.known_accounts.specs.Rows.{RowsValue, Marked}
-use Rattle.centre_rules.specs.Marks.{Mark, Sends, Hears, Carries, Claims, Acts, Releases, Closes, Carried, text_at}
+use Rattle.known_accounts.specs.Rows.{RowsValue, Marked, lacking}
+use Rattle.centre_rules.specs.Marks.{Mark, Sends, Hears, Carries, Claims, Acts, Releases, Closes, Carried, has_row, text_at}
 use Rattle.centre_rules.specs.Cases.{opens, fresh}
 use Rattle.centre_rules.specs.Tables.{touched_by, opened_after, table_after}
 use Rattle.centre_rules.specs.History.{onto, claim_marks, act_marks, release_marks, close_marks}
@@ -30,6 +32,7 @@ pub is_marked : (m : Mark) (v w : RowsValue) (t u : TableValue) (l r k q : ℕ) 
 is_marked m v w t u l r k q text keeps rows opened incidents = record {
   text = sym keeps;
   start = rows.start;
+  rows = rows.rows;
   opened = opened;
   incidents = incidents;
   heard = rows.heard;
@@ -50,7 +53,7 @@ pub one_taken : (m : Mark) (v w : RowsValue) (t u : TableValue) → ((text : Opt
     → ((n : ℕ) → IsFew n t.opened t.incidents → IsFew n u.opened u.incidents) → (HaveActRoom t.incidents → HaveActRoom u.incidents) → Takes (m ∷ []) v w t u
 one_taken m v w t u keeps rows opened incidents few acts = record {
   same = λ l r k q text. marked_same m _ _ (is_marked m v w t u l r k q text (keeps text) rows opened incidents);
-  few = λ n x. few_more n (n + 8192) u.opened u.incidents (omega arith) (few n x);
+  few = λ n x. few_more n (n + 4000) u.opened u.incidents (omega arith) (few n x);
   acts = acts;
 }
 
@@ -61,12 +64,12 @@ table_taken m v t u keeps rows e few acts = one_taken m v v t u keeps rows (ap (
 
 -- no mark
 same_sums : (l r k q : ℕ) (text : Option (List ℕ)) (v : RowsValue) (t : TableValue) → Same (sum_of k q text v t) [] (sum_of l r text v t) []
-same_sums l r k q text v t = record { text = refl; start = refl; opened = refl; incidents = refl; heard = λ a. refl; failed = λ a. refl; opening = λ a. refl; recent = λ a. refl }
+same_sums l r k q text v t = record { text = refl; start = refl; opened = refl; incidents = refl; rows = λ a. refl; heard = λ a. refl; failed = λ a. refl; opening = λ a. refl; recent = λ a. refl }
 
 pub none_taken : (v : RowsValue) (t : TableValue) → Takes [] v v t t
 none_taken v t = record {
   same = λ l r k q text. same_sums l r k q text v t;
-  few = λ n x. few_more n (n + 8192) t.opened t.incidents (omega arith) x;
+  few = λ n x. few_more n (n + 4000) t.opened t.incidents (omega arith) x;
   acts = λ x. x;
 }
 
@@ -85,16 +88,16 @@ heard_same account at is = map_same (Hears account at) (λ i. refl) is
 -- a mark of the table leaves the rows
 
 pub rows_claims : (o : List ℕ) (n at : ℕ) (v : RowsValue) → Marked (Claims o n at) v v
-rows_claims o n at v = record { start = refl; heard = λ a. refl; failed = λ a. refl; opening = λ a. refl; recent = λ a. refl }
+rows_claims o n at v = record { start = refl; rows = λ a. refl; heard = λ a. refl; failed = λ a. refl; opening = λ a. refl; recent = λ a. refl }
 
 pub rows_acts : (n : ℕ) (a : Acted) (v : RowsValue) → Marked (Acts n a) v v
-rows_acts n a v = record { start = refl; heard = λ b. refl; failed = λ b. refl; opening = λ b. refl; recent = λ b. refl }
+rows_acts n a v = record { start = refl; rows = λ b. refl; heard = λ b. refl; failed = λ b. refl; opening = λ b. refl; recent = λ b. refl }
 
 pub rows_releases : (n : ℕ) (v : RowsValue) → Marked (Releases n) v v
-rows_releases n v = record { start = refl; heard = λ a. refl; failed = λ a. refl; opening = λ a. refl; recent = λ a. refl }
+rows_releases n v = record { start = refl; rows = λ a. refl; heard = λ a. refl; failed = λ a. refl; opening = λ a. refl; recent = λ a. refl }
 
 pub rows_closes : (n : ℕ) (v : RowsValue) → Marked (Closes n) v v
-rows_closes n v = record { start = refl; heard = λ a. refl; failed = λ a. refl; opening = λ a. refl; recent = λ a. refl }
+rows_closes n v = record { start = refl; rows = λ a. refl; heard = λ a. refl; failed = λ a. refl; opening = λ a. refl; recent = λ a. refl }
 
 -- Signals.
 
@@ -145,18 +148,29 @@ carries_more n xs x v w w' t u u' before next rows table few acts = record {
   incidents = omega (arith, before.incidents, ap (λ (y : TableValue). length y.incidents) table, ap (λ (y : TableValue). y.room) table, length_carries x u.opened u.incidents);
 }
 
-pub carries_all : (n : ℕ) (xs : List Carried) (v w : RowsValue) (t u : TableValue) → length xs ≤ n → n ≤ 8000 → CarriesSome n xs v w t u → Takes (map Carries xs) v w t u
+pub carries_all : (n : ℕ) (xs : List Carried) (v w : RowsValue) (t u : TableValue) → length xs ≤ n → n ≤ 4000 → CarriesSome n xs v w t u → Takes (map Carries xs) v w t u
 carries_all n xs v w t u all le c = record {
   same = λ l r k q text. subst (λ (ys : List Carried). Same (sum_of k q text w u) [] (sum_of l r text v t) (onto (map Carries ys) [])) (take_all n xs all) (c.same l r k q text);
-  few = λ m x. few_more (m + n) (m + 8192) u.opened u.incidents (omega (arith, le)) (c.few m x);
+  few = λ m x. few_more (m + n) (m + 4000) u.opened u.incidents (omega (arith, le)) (c.few m x);
   acts = c.acts;
 }
 
--- the accounts of the signals from a place on: first that of the signal there
-pub drop_next : (xs : List Carried) (n : ℕ) (x : Carried) → slice_get xs n ≡ Some x → drop n xs ≡ x ∷ drop (n + 1) xs
-drop_next [] n x at = absurd (cc)
-drop_next (y ∷ ys) zero x at = let here : y ≡ x = cc in ap (λ z. z ∷ ys) here
-drop_next (y ∷ ys) (suc n) x at = drop_next ys n x at
+-- the signals from a place on: first that at the place
+pub drop_next : (xs : List Carried) (n : ℕ) (d : Carried) → n < length xs → drop n xs ≡ get_or xs n d ∷ drop (n + 1) xs
+drop_next [] n d lt = absurd (omega (arith, lt))
+drop_next (y ∷ ys) zero d lt = refl
+drop_next (y ∷ ys) (suc n) d lt =
+    let up : suc (n + 1) ≡ suc n + 1 = omega arith in
+    drop_next ys n d (omega (arith, lt)) ∙ ap (λ k. get_or ys n d ∷ drop k (y ∷ ys)) up
+
+-- how many rows lack for one signal more
+pub lacking_more : (rs : List AccountRow) (xs ys : List Carried) (x : Carried) → ys ≡ xs ++ x ∷ []
+    → length (lacking rs (map (λ (x : Carried). x.account) ys)) ≡ length (lacking rs (map (λ (x : Carried). x.account) xs)) + length (lacking rs (x.account ∷ []))
+lacking_more rs xs ys x next =
+    let number : Carried → List ℕ = λ x. x.account in
+    ap (λ l. length (lacking rs (map number l))) next ∙ ap (λ l. length (lacking rs l)) (map-append number xs (x ∷ []))
+    ∙ ap length (filter-append (λ a. not (has_row rs a)) (map number xs) (x.account ∷ []))
+    ∙ length-append (lacking rs (map number xs)) (lacking rs (x.account ∷ []))
 
 -- A message, and then its signals.
 

@@ -15,13 +15,13 @@ use Rattle.open_incidents.specs.Marked.{IsFew, HaveActRoom}
 use Rattle.incidents.specs.Tables.{TableValue}
 use Rattle.known_accounts.specs.Rows.{lacking}
 
--- a setup that is kept is the one that its text means, and a recorded entry raises no count by more than 8,192
+-- a setup that is kept is the one that its text means, and a recorded entry raises no count by more than 4,000
 pub record IsCentre (entries recorded last : ℕ) (text : Option (List ℕ)) (t : TableValue) : Type 0 where
   pub few : recorded ≤ entries
   pub bound : entries ≤ 2 ^ 48
   pub moment : IsMoment last
   pub valid : IfSome text (λ x. IsOk (setup_of x))
-  pub counts : IsFew (recorded * 8192) t.opened t.incidents
+  pub counts : IsFew (recorded * 4000) t.opened t.incidents
   pub acts : HaveActRoom t.incidents
 
 -- Setups.
@@ -68,13 +68,13 @@ needed s event at = length (lacking s.rows (accounts_of event (carried_by s [] e
 pub record IsWorked (s : Summary) (event : Event) (at : ℕ) (reply : Reply) (signals : List Carried) : Type 0 where
   pub answer : reply ≡ answer_over s [] event at
   pub carried : is_recorded reply ≡ true → signals ≡ carried_by s [] event at
-  pub few : length signals ≤ 8000
+  pub few : length signals ≤ 4000
 
 -- it is sound, the setup of an Adopt was read, and there is room
 pub record IsReady (p : Plan) (setup : Option (List ℕ)) : Type 0 where
   pub sound : IsSound p
   pub adopted : IsAdopted p.event setup
-  pub few : length p.carried ≤ 8000
+  pub few : length p.carried ≤ 4000
   pub room : is_recorded p.reply ≡ true → HasRoomFor p.event p.carried p.of
 
 -- a recorded entry of this event can be kept, once it is counted

@@ -12,3 +12,4 @@ pub mod Halls
 pub mod Runs
 pub mod Setting
 pub mod InForce
+pub mod Summing

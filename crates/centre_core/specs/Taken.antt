@@ -66,7 +66,7 @@ marks_with xs Rows at reply = []
 -- rows w and a table u are rows v and a table t after these marks, the oldest first
 pub record Takes (ms : List Mark) (v w : RowsValue) (t u : TableValue) : Type 0 where
   pub same : (l r k q : ℕ) (text : Option (List ℕ)) → Same (sum_of k q text w u) [] (sum_of l r text v t) (onto ms [])
-  pub few : (n : ℕ) → IsFew n t.opened t.incidents → IsFew (n + 8192) u.opened u.incidents
+  pub few : (n : ℕ) → IsFew n t.opened t.incidents → IsFew (n + 4000) u.opened u.incidents
   pub acts : HaveActRoom t.incidents → HaveActRoom u.incidents
 
 -- a recorded act is of the expected step of an open incident that its operator holds; a closed incident is open
@@ -84,7 +84,7 @@ AreOfMoments xs = All (λ (x : Carried). IsMoment x.at) xs
 pub record MayTake (event : Event) (at : ℕ) (reply : Reply) (carried : List Carried) (v : RowsValue) (t : TableValue) : Type 0 where
   pub bound : IsFew (2 ^ 61) t.opened t.incidents
   pub acts : HaveActRoom t.incidents
-  pub few : length carried ≤ 8000
+  pub few : length carried ≤ 4000
   pub moments : AreOfMoments carried
   pub own : AreOwn event carried
   pub accounts : HasRoom (accounts_of event carried) v

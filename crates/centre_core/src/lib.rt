@@ -5,11 +5,13 @@
 mod answers;
 mod carrying;
 mod centre;
+mod copying;
 mod hall;
 mod marks;
 mod orders;
 mod ready;
 mod reserving;
+mod summing;
 
 pub use accounts::Setup;
 pub use arc_data::{Blob, Event, Memory, Message, Reply, Token};

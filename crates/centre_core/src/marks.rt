@@ -71,7 +71,7 @@ fn send(
     carried: &[Carried],
 )
     requires bound { IsFew (2 ^ 61) table.old.opened table.old.incidents }
-    requires few { length carried.now ≤ 8000 }
+    requires few { length carried.now ≤ 4000 }
     requires moments { AreOfMoments carried.now }
     requires own { AreOf message.account carried.now }
     requires accounts { HasRoom (message.account ∷ []) accounts.old.rows }
@@ -92,7 +92,7 @@ fn carry_own(
     carried: &[Carried],
 )
     requires bound { IsFew (2 ^ 61) table.old.opened table.old.incidents }
-    requires few { length carried.now ≤ 8000 }
+    requires few { length carried.now ≤ 4000 }
     requires moments { AreOfMoments carried.now }
     requires own { (account : List ℕ) × AreOf account carried.now × IsPlaceOf account place accounts.old }
     requires incidents { length table.old.incidents + length carried.now ≤ table.old.room }
@@ -108,7 +108,7 @@ fn carry_own(
 // Takes up signals of any accounts, one after another.
 fn carry_each(accounts: &mut SupervisedAccounts, table: &mut QueuedTable, carried: &[Carried])
     requires bound { IsFew (2 ^ 61) table.old.opened table.old.incidents }
-    requires few { length carried.now ≤ 8000 }
+    requires few { length carried.now ≤ 4000 }
     requires moments { AreOfMoments carried.now }
     requires accounts { HasRoom (map (λ (x : Carried). x.account) carried.now) accounts.old.rows }
     requires incidents { length table.old.incidents + length carried.now ≤ table.old.room }

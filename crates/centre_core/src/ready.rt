@@ -66,7 +66,7 @@ impl Ready {
     /// The signals that the entry carries, where it is recorded.
     pub fn carried(&self) -> &[Carried]
         ensures carried { is_recorded self.now.reply ≡ true → result.now ≡ carried_by self.now.of.sum [] self.now.event self.now.at }
-        ensures few { length result.now ≤ 8000 }
+        ensures few { length result.now ≤ 4000 }
     {
         &self.carried
     }

@@ -19,7 +19,7 @@ impl Centre {
         event: &Event,
         carried: &[Carried],
     ) -> Result<(), Memory>
-        requires { length carried.now ≤ 8000 }
+        requires { length carried.now ≤ 4000 }
         ensures entries { self.new.entries ≡ self.old.entries }
         ensures sum { self.new.sum ≡ self.old.sum }
         ensures rooms { NoLess self.old.rooms self.new.rooms }
@@ -35,7 +35,7 @@ impl Centre {
 
 // How many rows lack for an event that carries these signals.
 fn rows_for(rows: &AccountRows, event: &Event, carried: &[Carried]) -> usize
-    requires { length carried.now ≤ 8000 }
+    requires { length carried.now ≤ 4000 }
     ensures { result ≡ length (lacking rows.now.rows (accounts_of event.now carried.now)) }
 {
     match event {
@@ -47,7 +47,7 @@ fn rows_for(rows: &AccountRows, event: &Event, carried: &[Carried]) -> usize
 
 // How many rows lack for the accounts of these signals.
 fn rows_of(rows: &AccountRows, carried: &[Carried]) -> usize
-    requires { length carried.now ≤ 8000 }
+    requires { length carried.now ≤ 4000 }
     ensures { result ≡ length (lacking rows.now.rows (map (λ (x : Carried). x.account) carried.now)) }
 {
     let mut count = 0;
@@ -62,5 +62,5 @@ fn row_for(rows: &AccountRows, account: &Txt) -> usize
     ensures value { result ≡ length (lacking rows.now.rows (account.now ∷ [])) }
     ensures one { result ≤ 1 }
 {
-    if rows.has(account) { 0 } else { 1 }
+    if rows.get(account).is_some() { 0 } else { 1 }
 }

@@ -1,6 +1,6 @@
 -- A summary tells what its history tells.
 use Rattle.std.proofs.Common.{◌≡◌, ◌≤◌, ℕ, zero, suc, ◌+◌, List, [], ◌∷◌, ◌++◌, map, length, take, Bool, true, false, cond, refl, sym, ap, ◌∙◌, Some, None, arith, subst}
-use Rattle.std.specs.Prelude.{◌||◌, ◌&&◌}
+use Rattle.std.specs.Prelude.{◌||◌, ◌&&◌, is_some}
 use Rattle.std.specs.Cmp.Lexicographic.{slice_cmp}
 use Rattle.std.specs.List.{find, list_any}
 use Rattle.std.specs.Option.{option_map}
@@ -11,7 +11,7 @@ use Rattle.std.proofs.lemmas.Slice.Eq.{bytes_eq-Decides}
 use Rattle.arc_data.specs.Classes.{same_class}
 use Rattle.arc_data.specs.declared.signal.Class.TheVariants.{CommFail}
 use Rattle.centre_rules.specs.Summary.{Summary, AccountRow, Past, row_of, row_or}
-use Rattle.centre_rules.specs.Marks.{Mark, Starts, Sends, Hears, Carries, start, heard, failed, opening, messages, is_raised}
+use Rattle.centre_rules.specs.Marks.{Mark, Starts, Sends, Hears, Carries, start, has_row, keeps_row, heard, failed, opening, messages, is_raised}
 use Rattle.centre_rules.specs.History.{Entry, marks, last, recorded, is_recorded}
 use Rattle.centre_rules.specs.Desks.{best}
 use Rattle.centre_rules.specs.Answers.{repeats, IsLegal}
@@ -113,6 +113,53 @@ row_by s ms a false e = unknown_row s ms a (unknown s ms a e)
 row_summed : (s : Summary) (h : List Entry) (a : List ℕ) → row_of (summary_of s h) a ≡ account_row s (marks s h) a
 row_summed s h a = ap (λ f. row_or f a (start s (marks s h))) (find_named s (marks s h) a (names s (marks s h))) ∙ row_by s (marks s h) a (is_named a (names s (marks s h))) refl
 
+-- An account has a row in the summary exactly where it is named.
+
+or_twice : (p q : Bool) → (p || q) ≡ (p || (p || q))
+or_twice true q = refl
+or_twice false q = refl
+
+or_swap : (p q r : Bool) → (p || (q || r)) ≡ (q || (p || r))
+or_swap true true r = refl
+or_swap true false r = refl
+or_swap false q r = refl
+
+any_at : (a x y : List ℕ) (ys : List (List ℕ)) (b c : Bool) → bytes_eq y x ≡ b → is_named a (named x ys) ≡ (bytes_eq x a || is_named a ys)
+    → is_named a (cond b (y ∷ ys) (cond c (x ∷ y ∷ ys) (y ∷ named x ys))) ≡ (bytes_eq x a || (bytes_eq y a || is_named a ys))
+any_at a x y ys true c t e =
+    subst (λ (z : List ℕ). (bytes_eq y a || is_named a ys) ≡ (bytes_eq z a || (bytes_eq y a || is_named a ys))) ((bytes_eq-Decides y x).0 t) (or_twice (bytes_eq y a) (is_named a ys))
+any_at a x y ys false true t e = refl
+any_at a x y ys false false t e = ap (λ p. bytes_eq y a || p) e ∙ or_swap (bytes_eq y a) (bytes_eq x a) (is_named a ys)
+
+any_named : (a x : List ℕ) (ys : List (List ℕ)) → is_named a (named x ys) ≡ (bytes_eq x a || is_named a ys)
+any_named a x [] = refl
+any_named a x (y ∷ ys) = any_at a x y ys (bytes_eq y x) (is_lt (slice_cmp nat_cmp x y)) refl (any_named a x ys)
+
+any_if : (a : List ℕ) (r : AccountRow) (rows : List AccountRow) (b : Bool) → is_named a (map (λ x. x.account) rows) ≡ has_row rows a
+    → (b || is_named a (map (λ x. x.account) rows)) ≡ is_some (cond b (Some r) (find (λ x. bytes_eq x.account a) rows))
+any_if a r rows true e = refl
+any_if a r rows false e = e
+
+any_row : (a : List ℕ) (rows : List AccountRow) → is_named a (map (λ x. x.account) rows) ≡ has_row rows a
+any_row a [] = refl
+any_row a (r ∷ rows) = any_if a r rows (bytes_eq r.account a) (any_row a rows)
+
+pub keeps_named : (s : Summary) (ms : List Mark) (a : List ℕ) → is_named a (names s ms) ≡ keeps_row s ms a
+keeps_named s [] a = any_row a s.rows
+keeps_named s (Sends m at ∷ ms) a = any_named a m.account (names s ms) ∙ ap (λ p. bytes_eq m.account a || p) (keeps_named s ms a)
+keeps_named s (Hears x at ∷ ms) a = any_named a x (names s ms) ∙ ap (λ p. bytes_eq x a || p) (keeps_named s ms a)
+keeps_named s (Carries x ∷ ms) a = any_named a x.account (names s ms) ∙ ap (λ p. bytes_eq x.account a || p) (keeps_named s ms a)
+keeps_named s (m ∷ ms) a = keeps_named s ms a
+
+some_if : (s : Summary) (ms : List Mark) (a : List ℕ) (b : Bool) → is_some (cond b (Some (account_row s ms a)) None) ≡ b
+some_if s ms a true = refl
+some_if s ms a false = refl
+
+has_summed : (s : Summary) (h : List Entry) (a : List ℕ) → has_row (summary_of s h).rows a ≡ keeps_row s (marks s h) a
+has_summed s h a =
+    ap is_some (find_named s (marks s h) a (names s (marks s h))) ∙ some_if s (marks s h) a (is_named a (names s (marks s h)))
+    ∙ keeps_named s (marks s h) a
+
 take_twice : (n : ℕ) (xs : List Past) → take n (take n xs) ≡ take n xs
 take_twice zero xs = refl
 take_twice (suc n) [] = refl
@@ -124,6 +171,7 @@ same_summed s h = record {
   start = refl;
   opened = refl;
   incidents = incidents_begin (summary_of s h);
+  rows = λ a. has_summed s h a;
   heard = λ a. ap (λ (r : AccountRow). r.heard) (row_summed s h a);
   failed = λ a. ap (λ (r : AccountRow). r.failed) (row_summed s h a);
   opening = λ a. ap (λ (r : AccountRow). r.opening) (row_summed s h a);

@@ -14,6 +14,7 @@ marked_same m s t w = record {
   start = w.start;
   opened = w.opened ∙ sym (opened_step s m [] ∙ ap (opened_after m s.opened) (incidents_begin s));
   incidents = incidents_begin t ∙ w.incidents ∙ sym (incidents_step s m [] ∙ ap (table_after m s.opened) (incidents_begin s));
+  rows = w.rows;
   heard = w.heard;
   failed = w.failed;
   opening = w.opening;

@@ -8,7 +8,7 @@ use Rattle.arc_data.specs.declared.event.Event.TheVariants.{Adopt, Start, Messag
 use Rattle.arc_data.specs.declared.reply.Reply.{Reply}
 use Rattle.alarm_rules.specs.Setups.{Account, setup_of}
 use Rattle.centre_rules.specs.Summary.{Summary, Past}
-use Rattle.centre_rules.specs.Marks.{Mark, Sends, Carries, text_at, start_at, messages_at, heard_at, failed_at, opening_at, force, messages, heard, failed}
+use Rattle.centre_rules.specs.Marks.{Mark, Sends, Carries, text_at, start_at, keeps_row_at, messages_at, heard_at, failed_at, opening_at, force, messages, heard, failed}
 use Rattle.centre_rules.specs.Tables.{opened_after, table_after}
 use Rattle.centre_rules.specs.Carrying.{is_past, is_silent, closes_late, is_late, raised}
 use Rattle.centre_rules.specs.History.{marks_of, onto}
@@ -17,13 +17,13 @@ use Rattle.centre_rules.specs.State.{Same}
 use Rattle.centre_rules.proofs.Steps.{incidents_step, opened_step}
 
 pub same_refl : (s : Summary) (ms : List Mark) → Same s ms s ms
-same_refl s ms = record { text = refl; start = refl; opened = refl; incidents = refl; heard = λ a. refl; failed = λ a. refl; opening = λ a. refl; recent = λ a. refl }
+same_refl s ms = record { text = refl; start = refl; opened = refl; incidents = refl; rows = λ a. refl; heard = λ a. refl; failed = λ a. refl; opening = λ a. refl; recent = λ a. refl }
 
 pub same_sym : {s t : Summary} {ms ns : List Mark} → Same s ms t ns → Same t ns s ms
-same_sym w = record { text = sym w.text; start = sym w.start; opened = sym w.opened; incidents = sym w.incidents; heard = λ a. sym (w.heard a); failed = λ a. sym (w.failed a); opening = λ a. sym (w.opening a); recent = λ a. sym (w.recent a) }
+same_sym w = record { text = sym w.text; start = sym w.start; opened = sym w.opened; incidents = sym w.incidents; rows = λ a. sym (w.rows a); heard = λ a. sym (w.heard a); failed = λ a. sym (w.failed a); opening = λ a. sym (w.opening a); recent = λ a. sym (w.recent a) }
 
 pub same_trans : {s t u : Summary} {ms ns os : List Mark} → Same s ms t ns → Same t ns u os → Same s ms u os
-same_trans v w = record { text = v.text ∙ w.text; start = v.start ∙ w.start; opened = v.opened ∙ w.opened; incidents = v.incidents ∙ w.incidents; heard = λ a. v.heard a ∙ w.heard a; failed = λ a. v.failed a ∙ w.failed a; opening = λ a. v.opening a ∙ w.opening a; recent = λ a. v.recent a ∙ w.recent a }
+same_trans v w = record { text = v.text ∙ w.text; start = v.start ∙ w.start; opened = v.opened ∙ w.opened; incidents = v.incidents ∙ w.incidents; rows = λ a. v.rows a ∙ w.rows a; heard = λ a. v.heard a ∙ w.heard a; failed = λ a. v.failed a ∙ w.failed a; opening = λ a. v.opening a ∙ w.opening a; recent = λ a. v.recent a ∙ w.recent a }
 
 take_front : (n : ℕ) (xs : List Past) → take n (take (suc n) xs) ≡ take n xs
 take_front zero xs = refl
@@ -49,6 +49,7 @@ same_step {s} {t} {ms} {ns} m w = record {
   start = ap (start_at m) w.start;
   opened = opened_step s m ms ∙ (λ i. opened_after m (w.opened i) (w.incidents i)) ∙ sym (opened_step t m ns);
   incidents = incidents_step s m ms ∙ (λ i. table_after m (w.opened i) (w.incidents i)) ∙ sym (incidents_step t m ns);
+  rows = λ a. ap (keeps_row_at a m) (w.rows a);
   heard = λ a. ap (heard_at a m) (w.heard a);
   failed = λ a. ap (failed_at a m) (w.failed a);
   opening = λ a. ap (opening_at a m) (w.opening a);

@@ -1,7 +1,8 @@
 -- What recorded entries leave behind, one mark after another. Lists of marks stand the newest first. Each question has a
 -- base in the summary, and then goes by the newest mark.
 use Rattle.std.specs.Prelude.{ℕ, List, [], ◌∷◌, ◌&&◌, ◌||◌, Bool, true, false, if◌then◌else◌}
-use Rattle.std.specs.Prelude.{Option, Some, None, option_and_then}
+use Rattle.std.specs.Prelude.{Option, Some, None, option_and_then, is_some}
+use Rattle.std.specs.List.{find}
 use Rattle.std.specs.Option.{option_map}
 use Rattle.std.specs.Result.{result_ok}
 use Rattle.std.specs.Str.{bytes_eq}
@@ -14,7 +15,7 @@ use Rattle.arc_data.specs.declared.signal.Kind.{Kind}
 use Rattle.arc_data.specs.declared.signal.Kind.TheVariants.{Opening, Closing}
 use Rattle.arc_data.specs.declared.step.Acted.{Acted}
 use Rattle.alarm_rules.specs.Setups.{Setup, setup_of}
-use Rattle.centre_rules.specs.Summary.{Summary, Past, Opened, row_of}
+use Rattle.centre_rules.specs.Summary.{Summary, AccountRow, Past, Opened, row_of}
 
 -- A setup text comes into force; a run starts; an account sends a message, or is heard without one; it has a signal; an
 -- operator claims an incident; a step of it is carried out; it is released; it is closed.
@@ -62,6 +63,21 @@ messages_at account m before = before
 abbrev pub messages : Summary → List Mark → List ℕ → List Past
 messages s [] account = (row_of s account).messages
 messages s (m ∷ ms) account = messages_at account m (messages s ms account)
+
+-- Whether an account has a row: a recorded message or heartbeat or a signal names it, or it had one.
+
+abbrev pub keeps_row_at : List ℕ → Mark → Bool → Bool
+keeps_row_at account (Sends message at) before = bytes_eq message.account account || before
+keeps_row_at account (Hears x at) before = bytes_eq x account || before
+keeps_row_at account (Carries x) before = bytes_eq x.account account || before
+keeps_row_at account m before = before
+
+abbrev pub has_row : List AccountRow → List ℕ → Bool
+has_row rows account = is_some (find (λ r. bytes_eq r.account account) rows)
+
+abbrev pub keeps_row : Summary → List Mark → List ℕ → Bool
+keeps_row s [] account = has_row s.rows account
+keeps_row s (m ∷ ms) account = keeps_row_at account m (keeps_row s ms account)
 
 -- When an account was last heard: the last Start, or recorded message or heartbeat of it. None before the first.
 

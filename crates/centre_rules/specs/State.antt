@@ -4,20 +4,21 @@ use Rattle.arc_data.specs.WellFormed.{IsWellFormed}
 use Rattle.arc_data.specs.declared.event.Event.{Event}
 use Rattle.arc_data.specs.declared.reply.Reply.{Reply}
 use Rattle.centre_rules.specs.Summary.{Summary, row_of}
-use Rattle.centre_rules.specs.Marks.{Mark, Carried, text, start, heard, failed, opening}
-use Rattle.centre_rules.specs.Marks.{text_at, start_at, heard_at, failed_at, opening_at, messages_at}
+use Rattle.centre_rules.specs.Marks.{Mark, Carried, text, start, keeps_row, heard, failed, opening}
+use Rattle.centre_rules.specs.Marks.{text_at, start_at, keeps_row_at, has_row, heard_at, failed_at, opening_at, messages_at}
 use Rattle.centre_rules.specs.Cases.{opened, incidents}
 use Rattle.centre_rules.specs.Tables.{opened_after, table_after}
 use Rattle.centre_rules.specs.Carrying.{carried_by}
 use Rattle.centre_rules.specs.History.{Entry, recorded, last, marks, is_recorded, IsMoment}
 use Rattle.centre_rules.specs.Answers.{recent, answer_over, IsLegal}
 
--- Two lists of marks, each over its summary, tell the same of everything that an answer asks.
+-- Two lists of marks, each over its summary, tell the same of everything that an answer asks, and there are rows of the same accounts.
 pub record Same (s : Summary) (ms : List Mark) (t : Summary) (ns : List Mark) : Type 0 where
   pub text : text s ms ≡ text t ns
   pub start : start s ms ≡ start t ns
   pub opened : opened s ms ≡ opened t ns
   pub incidents : incidents s ms ≡ incidents t ns
+  pub rows : (account : List ℕ) → keeps_row s ms account ≡ keeps_row t ns account
   pub heard : (account : List ℕ) → heard s ms account ≡ heard t ns account
   pub failed : (account : List ℕ) → failed s ms account ≡ failed t ns account
   pub opening : (account : List ℕ) → opening s ms account ≡ opening t ns account
@@ -76,6 +77,7 @@ pub record IsMarked (m : Mark) (s t : Summary) : Type 0 where
   pub start : t.start ≡ start_at m s.start
   pub opened : t.opened ≡ opened_after m s.opened s.incidents
   pub incidents : t.incidents ≡ table_after m s.opened s.incidents
+  pub rows : (account : List ℕ) → has_row t.rows account ≡ keeps_row_at account m (has_row s.rows account)
   pub heard : (account : List ℕ) → (row_of t account).heard ≡ heard_at account m (row_of s account).heard
   pub failed : (account : List ℕ) → (row_of t account).failed ≡ failed_at account m (row_of s account).failed
   pub opening : (account : List ℕ) → (row_of t account).opening ≡ opening_at account m (row_of s account).opening

@@ -1,5 +1,5 @@
 -- The summary of a history: what later answers can ask of it.
-use Rattle.std.specs.Prelude.{ℕ, ◌+◌, List, [], ◌∷◌, if◌then◌else◌, map, length}
+use Rattle.std.specs.Prelude.{◌≡◌, ℕ, ◌+◌, List, [], ◌∷◌, true, if◌then◌else◌, map, length}
 use Rattle.std.specs.Cmp.Lexicographic.{slice_cmp}
 use Rattle.std.specs.Ordering.{nat_cmp, is_lt}
 use Rattle.std.specs.Str.{bytes_eq}
@@ -8,6 +8,12 @@ use Rattle.centre_rules.specs.Marks.{Mark, Sends, Hears, Carries, text, start, h
 use Rattle.centre_rules.specs.Cases.{opened, incidents}
 use Rattle.centre_rules.specs.History.{Entry, marks, last, recorded}
 use Rattle.centre_rules.specs.Answers.{recent}
+
+-- each account stands before the next, by bytes
+abbrev pub AscendByBytes : List (List ℕ) → Type 0
+AscendByBytes [] = Unit {0}
+AscendByBytes (a ∷ []) = Unit {0}
+AscendByBytes (a ∷ b ∷ xs) = (is_lt (slice_cmp nat_cmp a b) ≡ true) × AscendByBytes (b ∷ xs)
 
 -- an account put in its place among others, if it is not there; they ascend by bytes
 abbrev pub named : List ℕ → List (List ℕ) → List (List ℕ)

@@ -8,6 +8,7 @@ ghost use Rattle.centre_rules.specs.History.{Entry, IsMoment};
 ghost use Rattle.centre_rules.specs.Answers.{if_known};
 
 mod storm;
+mod summaries;
 mod words;
 
 use crate::account_numbers::account_of;

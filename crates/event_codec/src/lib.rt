@@ -4,5 +4,8 @@
 mod reading;
 mod writing;
 
-pub use reading::decode;
-pub use writing::encode;
+pub use reading::{
+    account_at, act_at, byte_at, content_at, decode, line_at, operator_at, piece_at, receiver_at,
+    setup_at, step_at, text_at, token_at, u16_at, u32_at, u64_at,
+};
+pub use writing::{byte_of_outcome, byte_of_token, encode, put, put_byte, put_text};

@@ -13,7 +13,8 @@ use alarm_rules::{are_hex, is_name};
 use arc_data::{Blob, CloseCode, Event, Memory, Message, Outcome, Step, Token, Txt};
 use std::alloc::Global;
 
-fn byte_at(bytes: &[u8]) -> Option<(u8, &[u8])>
+/// A byte, and those behind it. None where there is none.
+pub fn byte_at(bytes: &[u8]) -> Option<(u8, &[u8])>
     ensures { MatchOption result (byte_at bytes.now ≡ None) (λ x. byte_at bytes.now ≡ Some (x.0, x.1.now)) }
 {
     match bytes {
@@ -22,8 +23,8 @@ fn byte_at(bytes: &[u8]) -> Option<(u8, &[u8])>
     }
 }
 
-// So many bytes.
-fn piece_at(count: usize, bytes: &[u8]) -> Option<(&[u8], &[u8])>
+/// So many bytes, and those behind them. None where there are fewer.
+pub fn piece_at(count: usize, bytes: &[u8]) -> Option<(&[u8], &[u8])>
     ensures { MatchOption result (piece_at count bytes.now ≡ None) (λ x. piece_at count bytes.now ≡ Some (x.0.now, x.1.now)) }
 {
     if bytes.len() < count {
@@ -32,9 +33,9 @@ fn piece_at(count: usize, bytes: &[u8]) -> Option<(&[u8], &[u8])>
     Some(bytes.split_at(count))
 }
 
-// A number of two bytes, at most so much.
+/// A number of two bytes, at most so much, and the bytes behind it.
 #[tactic(auto, unfolding(crate::specs::Reading::number_up_to))]
-fn u16_at(most: u16, bytes: &[u8]) -> Option<(u16, &[u8])>
+pub fn u16_at(most: u16, bytes: &[u8]) -> Option<(u16, &[u8])>
     ensures { MatchOption result (number_up_to w16 most bytes.now ≡ None) (λ x. number_up_to w16 most bytes.now ≡ Some (x.0, x.1.now)) }
 {
     if bytes.len() < 2 {
@@ -49,9 +50,9 @@ fn u16_at(most: u16, bytes: &[u8]) -> Option<(u16, &[u8])>
     }
 }
 
-// A number of four bytes, at most so much.
+/// A number of four bytes, at most so much, and the bytes behind it.
 #[tactic(auto, unfolding(crate::specs::Reading::number_up_to))]
-fn u32_at(most: u32, bytes: &[u8]) -> Option<(u32, &[u8])>
+pub fn u32_at(most: u32, bytes: &[u8]) -> Option<(u32, &[u8])>
     ensures { MatchOption result (number_up_to w32 most bytes.now ≡ None) (λ x. number_up_to w32 most bytes.now ≡ Some (x.0, x.1.now)) }
 {
     if bytes.len() < 4 {
@@ -66,8 +67,8 @@ fn u32_at(most: u32, bytes: &[u8]) -> Option<(u32, &[u8])>
     }
 }
 
-// A number of eight bytes.
-fn u64_at(bytes: &[u8]) -> Option<(u64, &[u8])>
+/// A number of eight bytes, and the bytes behind it.
+pub fn u64_at(bytes: &[u8]) -> Option<(u64, &[u8])>
     ensures { MatchOption result (number_at w64 bytes.now ≡ None) (λ x. number_at w64 bytes.now ≡ Some (x.0, x.1.now)) }
 {
     if bytes.len() < 8 {
@@ -94,9 +95,9 @@ fn moment_at(bytes: &[u8]) -> Option<(u64, &[u8])>
     }
 }
 
-// A byte of length, and that many bytes.
+/// A byte of length and that many bytes, and the bytes behind them.
 #[tactic(auto, unfolding(crate::specs::Reading::text_at))]
-fn text_at(bytes: &[u8]) -> Option<(&[u8], &[u8])>
+pub fn text_at(bytes: &[u8]) -> Option<(&[u8], &[u8])>
     ensures { MatchOption result (text_at bytes.now ≡ None) (λ x. text_at bytes.now ≡ Some (x.0.now, x.1.now)) }
 {
     let (count, rest) = byte_at(bytes)?;
@@ -114,8 +115,8 @@ fn short(text: &[u8]) -> Txt
     }
 }
 
-// An account: 3 to 16 hexadecimal digits in capitals.
-fn account_at(bytes: &[u8]) -> Option<(Txt, &[u8])>
+/// An account, 3 to 16 hexadecimal digits in capitals, and the bytes behind it.
+pub fn account_at(bytes: &[u8]) -> Option<(Txt, &[u8])>
     ensures { MatchOption result (account_at bytes.now ≡ None) (λ x. account_at bytes.now ≡ Some (x.0, x.1.now)) }
 {
     let (text, rest) = text_at(bytes)?;
@@ -148,8 +149,8 @@ fn is_capital_hex(byte: u8) -> bool
     matches!(byte, b'0'..=b'9' | b'A'..=b'F')
 }
 
-// The name of an operator.
-fn operator_at(bytes: &[u8]) -> Option<(Txt, &[u8])>
+/// The name of an operator, and the bytes behind it.
+pub fn operator_at(bytes: &[u8]) -> Option<(Txt, &[u8])>
     ensures { MatchOption result (short_at is_name bytes.now ≡ None) (λ x. short_at is_name bytes.now ≡ Some (x.0, x.1.now)) }
 {
     let (text, rest) = text_at(bytes)?;
@@ -160,8 +161,8 @@ fn operator_at(bytes: &[u8]) -> Option<(Txt, &[u8])>
     }
 }
 
-// The digits of an `L` field.
-fn line_at(bytes: &[u8]) -> Option<(Txt, &[u8])>
+/// The digits of an `L` field, and the bytes behind them.
+pub fn line_at(bytes: &[u8]) -> Option<(Txt, &[u8])>
     ensures { MatchOption result (short_at (is_run is_hex 1 6) bytes.now ≡ None)
         (λ x. short_at (is_run is_hex 1 6) bytes.now ≡ Some (x.0, x.1.now)) }
 {
@@ -183,8 +184,8 @@ fn are_digits(text: &[u8]) -> bool
     are_hex(text)
 }
 
-// The digits of an `R` field. None of them stand for no such field.
-fn receiver_at(bytes: &[u8]) -> Option<(Option<Txt>, &[u8])>
+/// The digits of an `R` field, and the bytes behind them. No digits stand for no such field.
+pub fn receiver_at(bytes: &[u8]) -> Option<(Option<Txt>, &[u8])>
     ensures { MatchOption result (receiver_at bytes.now ≡ None) (λ x. receiver_at bytes.now ≡ Some (x.0, x.1.now)) }
 {
     let (text, rest) = text_at(bytes)?;
@@ -197,25 +198,26 @@ fn receiver_at(bytes: &[u8]) -> Option<(Option<Txt>, &[u8])>
     }
 }
 
-// A setup text.
+/// A setup text, and the bytes behind it.
 #[tactic(auto, unfolding(crate::specs::Reading::long_at))]
-fn setup_at(bytes: &[u8]) -> Option<(&[u8], &[u8])>
+pub fn setup_at(bytes: &[u8]) -> Option<(&[u8], &[u8])>
     ensures { MatchOption result (long_at w32 4194304 bytes.now ≡ None) (λ x. long_at w32 4194304 bytes.now ≡ Some (x.0.now, x.1.now)) }
 {
     let (count, rest) = u32_at(4_194_304, bytes)?;
     piece_at(count as usize, rest)
 }
 
-// The content of a message.
+/// The content of a message, and the bytes behind it.
 #[tactic(auto, unfolding(crate::specs::Reading::long_at))]
-fn content_at(bytes: &[u8]) -> Option<(&[u8], &[u8])>
+pub fn content_at(bytes: &[u8]) -> Option<(&[u8], &[u8])>
     ensures { MatchOption result (long_at w16 4095 bytes.now ≡ None) (λ x. long_at w16 4095 bytes.now ≡ Some (x.0.now, x.1.now)) }
 {
     let (count, rest) = u16_at(4095, bytes)?;
     piece_at(usize::from(count), rest)
 }
 
-fn token_at(bytes: &[u8]) -> Option<(Token, &[u8])>
+/// A token, and the bytes behind it.
+pub fn token_at(bytes: &[u8]) -> Option<(Token, &[u8])>
     ensures { MatchOption result (coded_at token_of bytes.now ≡ None) (λ x. coded_at token_of bytes.now ≡ Some (x.0, x.1.now)) }
 {
     match bytes {
@@ -263,16 +265,17 @@ fn step_of(byte: u8) -> Option<Step>
     }
 }
 
-fn step_at(bytes: &[u8]) -> Option<(Step, &[u8])>
+/// A step, and the bytes behind it.
+pub fn step_at(bytes: &[u8]) -> Option<(Step, &[u8])>
     ensures { MatchOption result (coded_at step_of bytes.now ≡ None) (λ x. coded_at step_of bytes.now ≡ Some (x.0, x.1.now)) }
 {
     let (byte, rest) = byte_at(bytes)?;
     Some((step_of(byte)?, rest))
 }
 
-// A step, an outcome that fits it, and the bytes behind both.
+/// A step, an outcome that fits it, and the bytes behind both.
 #[tactic(auto, unfolding(crate::specs::Reading::outcome_at))]
-fn act_at(bytes: &[u8]) -> Option<(Step, Outcome, &[u8])>
+pub fn act_at(bytes: &[u8]) -> Option<(Step, Outcome, &[u8])>
     ensures { MatchOption result (outcome_at bytes.now ≡ None) (λ x. outcome_at bytes.now ≡ Some ((x.0, x.1), x.2.now)) }
 {
     let (step, rest) = step_at(bytes)?;

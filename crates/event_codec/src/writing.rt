@@ -112,8 +112,8 @@ fn put_order(operator: &Txt, number: u64, out: &mut Vec<u8>) -> Result<(), Memor
     put(&number.to_be_bytes(), out)
 }
 
-// A byte of length, and the bytes.
-fn put_text(text: &Txt, out: &mut Vec<u8>) -> Result<(), Memory>
+/// Puts a byte of length last, and the bytes. The error is want of memory.
+pub fn put_text(text: &Txt, out: &mut Vec<u8>) -> Result<(), Memory>
     ensures { OnOk result (out.new.items ≡ out.old.items ++ short_text text.now) }
 {
     let bytes = text.bytes();
@@ -121,7 +121,8 @@ fn put_text(text: &Txt, out: &mut Vec<u8>) -> Result<(), Memory>
     put(bytes, out)
 }
 
-fn put_byte(byte: u8, out: &mut Vec<u8>) -> Result<(), Memory>
+/// Puts a byte last. The error is want of memory.
+pub fn put_byte(byte: u8, out: &mut Vec<u8>) -> Result<(), Memory>
     ensures { OnOk result (out.new.items ≡ out.old.items ++ byte ∷ []) }
 {
     match out.push(byte) {
@@ -130,7 +131,8 @@ fn put_byte(byte: u8, out: &mut Vec<u8>) -> Result<(), Memory>
     }
 }
 
-fn put(bytes: &[u8], out: &mut Vec<u8>) -> Result<(), Memory>
+/// Puts bytes last. The error is want of memory.
+pub fn put(bytes: &[u8], out: &mut Vec<u8>) -> Result<(), Memory>
     ensures { OnOk result (out.new.items ≡ out.old.items ++ bytes.now) }
 {
     match out.extend_from_slice(bytes) {
@@ -139,7 +141,8 @@ fn put(bytes: &[u8], out: &mut Vec<u8>) -> Result<(), Memory>
     }
 }
 
-fn byte_of_token(token: Token) -> u8
+/// The byte that stands for a token.
+pub fn byte_of_token(token: Token) -> u8
     ensures { result ≡ token_byte token }
 {
     match token {
@@ -163,7 +166,8 @@ fn byte_of_step(step: Step) -> u8
     }
 }
 
-fn byte_of_outcome(outcome: Outcome) -> u8
+/// The byte that stands for an outcome.
+pub fn byte_of_outcome(outcome: Outcome) -> u8
     ensures { result ≡ outcome_byte outcome }
 {
     match outcome {

@@ -1,10 +1,12 @@
 -- Rows found by their account.
 use Rattle.std.proofs.Common.{◌≡◌, ℕ, List, [], ◌∷◌, ◌++◌, map, Bool, true, false, cond, Option, Some, None, refl, sym, ap, ◌∙◌, suc, arith}
-use Rattle.std.specs.List.{find, All}
-use Rattle.std.specs.Map.{lookup}
+use Rattle.std.specs.Prelude.{is_some, ◌||◌}
+use Rattle.std.specs.List.{find, list_any, All}
+use Rattle.std.specs.Map.{keys_of, lookup}
 use Rattle.std.specs.Option.{option_map}
 use Rattle.std.specs.Str.{bytes_eq}
 use Rattle.std.proofs.lemmas.Slice.Eq.{bytes_eq-Decides}
+use Rattle.centre_rules.specs.Marks.{has_row}
 use Rattle.centre_rules.specs.Summary.{AccountRow, row_or}
 use Rattle.known_accounts.specs.declared.row.Row.{Row}
 use Rattle.known_accounts.specs.Rows.{row_at, known, blank}
@@ -49,6 +51,55 @@ more_if start b r xs ys false e = e
 pub known_blank : (start : Option ℕ) (es : List (List ℕ × Row)) (a b : List ℕ) → known start (map row_at (es ++ (a, blank start) ∷ [])) b ≡ known start (map row_at es) b
 known_blank start [] a b = new_if start a b (bytes_eq a b) refl
 known_blank start (e ∷ es) a b = more_if start b (row_at e) (map row_at (es ++ (a, blank start) ∷ [])) (map row_at es) (bytes_eq e.0 b) (known_blank start es a b)
+
+-- Whether an account has a row.
+
+has_if : (a : List ℕ) (e : List ℕ × Row) (es : List (List ℕ × Row)) (t : Bool) → has_row (map row_at es) a ≡ is_some (lookup (bytes_eq a) es)
+    → is_some (cond t (Some (row_at e)) (find (λ r. bytes_eq r.account a) (map row_at es))) ≡ is_some (cond t (Some e.1) (lookup (bytes_eq a) es))
+has_if a e es true rest = refl
+has_if a e es false rest = rest
+
+-- it has one where the map has something at it
+pub has_is : (es : List (List ℕ × Row)) (a : List ℕ) → has_row (map row_at es) a ≡ is_some (lookup (bytes_eq a) es)
+has_is [] a = refl
+has_is (e ∷ es) a =
+    ap (λ t. is_some (cond t (Some (row_at e)) (find (λ r. bytes_eq r.account a) (map row_at es)))) (equal_both e.0 a)
+    ∙ has_if a e es (bytes_eq a e.0) (has_is es a)
+
+any_if : (e : List ℕ × Row) (es : List (List ℕ × Row)) (a : List ℕ) (t : Bool) → list_any (λ x. bytes_eq x a) (keys_of es) ≡ has_row (map row_at es) a
+    → (t || list_any (λ x. bytes_eq x a) (keys_of es)) ≡ is_some (cond t (Some (row_at e)) (find (λ r. bytes_eq r.account a) (map row_at es)))
+any_if e es a true rest = refl
+any_if e es a false rest = rest
+
+-- it has one where it is among the accounts
+pub any_key : (es : List (List ℕ × Row)) (a : List ℕ) → list_any (λ x. bytes_eq x a) (keys_of es) ≡ has_row (map row_at es) a
+any_key [] a = refl
+any_key (e ∷ es) a = any_if e es a (bytes_eq e.0 a) (any_key es a)
+
+some_if : {X : Type 0} (x : X) (t : Bool) → is_some (cond t (Some x) None) ≡ (t || false)
+some_if x true = refl
+some_if x false = refl
+
+or_if : (a : List ℕ) (r : AccountRow) (xs ys : List AccountRow) (t p : Bool) → has_row xs a ≡ (p || has_row ys a)
+    → is_some (cond t (Some r) (find (λ x. bytes_eq x.account a) xs)) ≡ (p || is_some (cond t (Some r) (find (λ x. bytes_eq x.account a) ys)))
+or_if a r xs ys true true e = refl
+or_if a r xs ys true false e = refl
+or_if a r xs ys false p e = e
+
+-- a row more
+pub has_more : (es : List (List ℕ × Row)) (e : List ℕ × Row) (a : List ℕ) → has_row (map row_at (es ++ e ∷ [])) a ≡ (bytes_eq e.0 a || has_row (map row_at es) a)
+has_more [] e a = some_if (row_at e) (bytes_eq e.0 a)
+has_more (x ∷ es) e a = or_if a (row_at x) (map row_at (es ++ e ∷ [])) (map row_at es) (bytes_eq x.0 a) (bytes_eq e.0 a) (has_more es e a)
+
+or_own : (a b : List ℕ) (t p : Bool) → bytes_eq a b ≡ t → (t ≡ true → p ≡ true) → p ≡ (t || p)
+or_own a b true p is own = own refl
+or_own a b false p is own = refl
+
+-- none more, where the account has one
+pub has_own : (es : List (List ℕ × Row)) (a b : List ℕ) → is_some (lookup (bytes_eq a) es) ≡ true → has_row (map row_at es) b ≡ (bytes_eq a b || has_row (map row_at es) b)
+has_own es a b there =
+    or_own a b (bytes_eq a b) (has_row (map row_at es) b) refl
+    (λ is. has_is es b ∙ ap (λ (x : List ℕ). is_some (lookup (bytes_eq x) es)) (sym ((bytes_eq-Decides a b).0 is)) ∙ there)
 
 -- the last of texts that are all empty
 pub last_empty : {X : Type 0} → (ws : List (List X)) (w : List X) → All (λ x. x ≡ []) (ws ++ w ∷ []) → w ≡ []

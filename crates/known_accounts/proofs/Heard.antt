@@ -1,5 +1,6 @@
 -- All rows heard at once.
 use Rattle.std.proofs.Common.{◌≡◌, ◌≤◌, ℕ, zero, suc, ◌+◌, List, [], ◌∷◌, map, length, take, Bool, true, false, cond, Option, Some, None, refl, sym, ap, ◌∙◌, slice_get, arith}
+use Rattle.std.specs.Prelude.{is_some}
 use Rattle.std.specs.List.{find}
 use Rattle.std.specs.Map.{values_of}
 use Rattle.std.specs.Str.{bytes_eq}
@@ -7,7 +8,7 @@ use Rattle.indexmap.specs.IndexMap.{set_value_at}
 use Rattle.centre_rules.specs.Summary.{AccountRow, row_or}
 use Rattle.known_accounts.specs.declared.row.Row.{Row}
 use Rattle.known_accounts.specs.Rows.{RowsValue, row_at, known, now_heard, numbers, Marked}
-use Rattle.centre_rules.specs.Marks.{Starts}
+use Rattle.centre_rules.specs.Marks.{Starts, has_row}
 
 -- the first so many of them heard
 abbrev pub heard_first : ℕ → ℕ → List AccountRow → List AccountRow
@@ -47,12 +48,22 @@ pub known_started : (at : ℕ) (start : Option ℕ) (rs : List AccountRow) (a : 
 known_started at start [] a = refl
 known_started at start (r ∷ rs) a = start_if at a start r rs (bytes_eq r.account a) (known_started at start rs a)
 
+has_if : (at : ℕ) (a : List ℕ) (r : AccountRow) (rs : List AccountRow) (t : Bool) → has_row (map (now_heard at) rs) a ≡ has_row rs a
+    → is_some (cond t (Some (now_heard at r)) (find (λ x. bytes_eq x.account a) (map (now_heard at) rs))) ≡ is_some (cond t (Some r) (find (λ x. bytes_eq x.account a) rs))
+has_if at a r rs true e = refl
+has_if at a r rs false e = e
+
+has_started : (at : ℕ) (rs : List AccountRow) (a : List ℕ) → has_row (map (now_heard at) rs) a ≡ has_row rs a
+has_started at [] a = refl
+has_started at (r ∷ rs) a = has_if at a r rs (bytes_eq r.account a) (has_started at rs a)
+
 pub started_marked : (at : ℕ) (start : Option ℕ) (rs ss : List AccountRow) (n k : ℕ) → ss ≡ map (now_heard at) rs
     → Marked (Starts at) (record { start = start; rows = rs; room = n }) (record { start = Some at; rows = ss; room = k })
 started_marked at start rs ss n k e =
     let told : (a : List ℕ) → known (Some at) ss a ≡ now_heard at (known start rs a) = λ a. ap (λ (xs : List AccountRow). known (Some at) xs a) e ∙ known_started at start rs a in
     record {
       start = refl;
+      rows = λ a. ap (λ (xs : List AccountRow). has_row xs a) e ∙ has_started at rs a;
       heard = λ a. ap (λ x. x.heard) (told a);
       failed = λ a. ap (λ x. x.failed) (told a);
       opening = λ a. ap (λ x. x.opening) (told a);

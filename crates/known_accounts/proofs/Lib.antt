@@ -1,5 +1,7 @@
+pub mod Copied
 pub mod Heard
 pub mod Found
+pub mod Ordered
 pub mod Written
 pub mod Numbered
 pub mod Standing

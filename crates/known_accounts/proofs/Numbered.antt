@@ -15,10 +15,10 @@ use Rattle.indexmap.proofs.CallerLemmas.{updates-with_value_at}
 use Rattle.indexmap.proofs.MapLemmas.{Found-position, index-first}
 use Rattle.indexmap.proofs.RemoveLemmas.{own_first}
 use Rattle.accounts.proofs.StandLemmas.{place-there}
-use Rattle.centre_rules.specs.Marks.{Mark}
+use Rattle.centre_rules.specs.Marks.{Mark, has_row, keeps_row_at}
 use Rattle.centre_rules.specs.Summary.{AccountRow}
 use Rattle.known_accounts.specs.declared.row.Row.{Row}
-use Rattle.known_accounts.specs.Rows.{RowsValue, row_at, known, blank, numbers, has_row, lacking, HasRoom, StandsAt, MakesRow, KeepsRows, Marked}
+use Rattle.known_accounts.specs.Rows.{RowsValue, row_at, known, blank, numbers, lacking, HasRoom, StandsAt, MakesRow, KeepsRows, Marked}
 use Rattle.known_accounts.proofs.Found.{from_row, known_is, known_blank}
 use Rattle.known_accounts.proofs.Written.{WritesAt, remade}
 
@@ -27,35 +27,33 @@ pub numbers_are : (es : List (List ℕ × Row)) → numbers (map row_at es) ≡ 
 numbers_are [] = refl
 numbers_are (e ∷ es) = ap (λ l. e.0 ∷ l) (numbers_are es)
 
-any_if : (b : Bool) (x : Row) (o : Option Row) (t : Bool) → t ≡ is_some o → (b || t) ≡ is_some (cond b (Some x) o)
-any_if true x o t e = refl
-any_if false x o t e = e
+any_if : (t : Bool) (r : AccountRow) (p : Bool) (o : Option AccountRow) → p ≡ is_some o → (t || p) ≡ is_some (cond t (Some r) o)
+any_if true r p o e = refl
+any_if false r p o e = e
 
-any_is : (p : List ℕ → Bool) (es : List (List ℕ × Row)) → list_any p (keys_of es) ≡ is_some (lookup p es)
-any_is p [] = refl
-any_is p (e ∷ es) = any_if (p e.0) e.1 (lookup p es) (list_any p (keys_of es)) (any_is p es)
-
--- an account has a row where the map has a value at it
-pub has_is : (es : List (List ℕ × Row)) (a : List ℕ) → has_row (map row_at es) a ≡ is_some (lookup (bytes_eq a) es)
-has_is es a = ap (list_any (bytes_eq a)) (numbers_are es) ∙ any_is (bytes_eq a) es
+-- an account has a row where it is one of these
+pub any_number : (rs : List AccountRow) (a : List ℕ) → list_any (λ x. bytes_eq x a) (numbers rs) ≡ has_row rs a
+any_number [] a = refl
+any_number (r ∷ rs) a =
+    any_if (bytes_eq r.account a) r (list_any (λ x. bytes_eq x a) (numbers rs)) (find (λ x. bytes_eq x.account a) rs) (any_number rs a)
 
 -- Where a row stands.
 
-own_if : (a x : List ℕ) (xs : List (List ℕ)) (b : Bool) → bytes_eq a x ≡ b → (b || list_any (bytes_eq a) xs) ≡ true
-    → (list_any (bytes_eq a) xs ≡ true → find (bytes_eq a) xs ≡ Some a) → cond b (Some x) (find (bytes_eq a) xs) ≡ Some a
-own_if a x xs true e is rest = ap Some (sym ((bytes_eq-Decides a x).0 e))
-own_if a x xs false e is rest = rest is
+own_if : (a : List ℕ) (e : List ℕ × Row) (es : List (List ℕ × Row)) (b : Bool) → bytes_eq a e.0 ≡ b → is_some (cond b (Some e.1) (lookup (bytes_eq a) es)) ≡ true
+    → (is_some (lookup (bytes_eq a) es) ≡ true → find (bytes_eq a) (keys_of es) ≡ Some a) → cond b (Some e.0) (find (bytes_eq a) (keys_of es)) ≡ Some a
+own_if a e es true is found rest = ap Some (sym ((bytes_eq-Decides a e.0).0 is))
+own_if a e es false is found rest = rest found
 
-find_own : (a : List ℕ) (xs : List (List ℕ)) → list_any (bytes_eq a) xs ≡ true → find (bytes_eq a) xs ≡ Some a
-find_own a [] is = absurd (false≢true is)
-find_own a (x ∷ xs) is = own_if a x xs (bytes_eq a x) refl is (find_own a xs)
+find_own : (a : List ℕ) (es : List (List ℕ × Row)) → is_some (lookup (bytes_eq a) es) ≡ true → find (bytes_eq a) (keys_of es) ≡ Some a
+find_own a [] found = absurd (false≢true found)
+find_own a (e ∷ es) found = own_if a e es (bytes_eq a e.0) refl found (find_own a es)
 
 -- at the place that was found
 pub stands_found : (es : List (List ℕ × Row)) (a : List ℕ) (i : ℕ) → Some i ≡ position (bytes_eq a) (keys_of es) → is_some (lookup (bytes_eq a) es) ≡ true
     → StandsAt a i (map row_at es)
 stands_found es a i at found =
     ap (λ l. slice_get l i) (numbers_are es) ∙ place-there (bytes_eq a) (keys_of es) (Some i) at
-    ∙ find_own a (keys_of es) (any_is (bytes_eq a) es ∙ found)
+    ∙ find_own a es found
 
 last_of : (es : List (List ℕ × Row)) (a : List ℕ) (r : Row) → slice_get (keys_of (es ++ (a, r) ∷ [])) (length es) ≡ Some a
 last_of [] a r = refl
@@ -95,9 +93,26 @@ made_last start es a n k none room = record {
   room = omega (arith, room, lacks_one (record { start = start; rows = map row_at es; room = n }) a none);
 }
 
--- a row that is made tells nothing: a mark after it is one of what was known before
-pub made_marked : (a : List ℕ) (m : Mark) (v u w : RowsValue) → MakesRow a v u → Marked m u w → Marked m v w
-made_marked a m v u w made marked = remade m v u w made.start made.known marked
+or_again : (p q : Bool) → (p || (q || (p || false))) ≡ (p || q)
+or_again true q = refl
+or_again false true = refl
+or_again false false = refl
+
+made_rows : (a b : List ℕ) (v w : RowsValue) (t : Bool) → has_row v.rows a ≡ t → numbers w.rows ≡ (if t then numbers v.rows else numbers v.rows ++ a ∷ [])
+    → (bytes_eq a b || has_row w.rows b) ≡ (bytes_eq a b || has_row v.rows b)
+made_rows a b v w true is rows =
+    ap (λ p. bytes_eq a b || p) (sym (any_number w.rows b) ∙ ap (list_any (λ x. bytes_eq x b)) rows ∙ any_number v.rows b)
+made_rows a b v w false is rows =
+    ap (λ p. bytes_eq a b || p)
+    (sym (any_number w.rows b) ∙ ap (list_any (λ x. bytes_eq x b)) rows ∙ list_any-append (λ x. bytes_eq x b) (numbers v.rows) (a ∷ []))
+    ∙ or_again (bytes_eq a b) (list_any (λ x. bytes_eq x b) (numbers v.rows)) ∙ ap (λ p. bytes_eq a b || p) (any_number v.rows b)
+
+-- a row that is made tells nothing: a mark of its account behind it is one of what was known before
+pub made_marked : (a : List ℕ) (m : Mark) (v u w : RowsValue) → ((b : List ℕ) (p : Bool) → keeps_row_at b m p ≡ (bytes_eq a b || p)) → MakesRow a v u
+    → Marked m u w → Marked m v w
+made_marked a m v u w own made marked =
+    remade m v u w made.start made.known
+    (λ b. own b (has_row u.rows b) ∙ made_rows a b v u (has_row v.rows a) refl made.rows ∙ sym (own b (has_row v.rows b))) marked
 
 -- Rows written through.
 
@@ -155,7 +170,13 @@ stands_kept v w a i kept stands = ap (λ l. slice_get l i) kept.rows ∙ stands
 
 -- those of these accounts that are none of the others
 abbrev besides : List (List ℕ) → List (List ℕ) → List (List ℕ)
-besides others accounts = filter (λ a. not (list_any (bytes_eq a) others)) accounts
+besides others accounts = filter (λ a. not (list_any (λ x. bytes_eq x a) others)) accounts
+
+lacking_is : (rs : List AccountRow) (accounts : List (List ℕ)) → lacking rs accounts ≡ besides (numbers rs) accounts
+lacking_is rs [] = refl
+lacking_is rs (a ∷ accounts) =
+    ap (λ t. cond (not t) (a ∷ lacking rs accounts) (lacking rs accounts)) (sym (any_number rs a))
+    ∙ ap (λ l. cond (not (list_any (λ x. bytes_eq x a) (numbers rs))) (a ∷ l) l) (lacking_is rs accounts)
 
 fewer_if : (s t : Bool) (a : List ℕ) (xs ys : List (List ℕ)) → length xs ≤ length ys → length (cond (not (s || t)) (a ∷ xs) xs) ≤ length (cond (not s) (a ∷ ys) ys)
 fewer_if true t a xs ys le = le
@@ -165,14 +186,18 @@ fewer_if false false a xs ys le = omega (arith, le)
 fewer : (others more accounts : List (List ℕ)) → length (besides (others ++ more) accounts) ≤ length (besides others accounts)
 fewer others more [] = omega arith
 fewer others more (a ∷ accounts) =
-    rw (list_any-append (bytes_eq a) others more)
-    (fewer_if (list_any (bytes_eq a) others) (list_any (bytes_eq a) more) a (besides (others ++ more) accounts) (besides others accounts) (fewer others more accounts))
+    rw (list_any-append (λ x. bytes_eq x a) others more)
+    (fewer_if (list_any (λ x. bytes_eq x a) others) (list_any (λ x. bytes_eq x a) more) a (besides (others ++ more) accounts) (besides others accounts) (fewer others more accounts))
+
+lacks : (v : RowsValue) (accounts : List (List ℕ)) → length (lacking v.rows accounts) ≡ length (besides (numbers v.rows) accounts)
+lacks v accounts = ap length (lacking_is v.rows accounts)
 
 room_if : (t : Bool) (a : List ℕ) (rest : List (List ℕ)) (v w : RowsValue) → has_row v.rows a ≡ t
     → numbers w.rows ≡ (if t then numbers v.rows else numbers v.rows ++ a ∷ []) → v.room ≤ w.room + cond t 0 1
     → length (cond (not t) (a ∷ lacking v.rows rest) (lacking v.rows rest)) ≤ v.room → HasRoom rest w
-room_if true a rest v w is rows room enough = omega (arith, room, enough, ap (λ l. length (besides l rest)) rows)
-room_if false a rest v w is rows room enough = omega (arith, room, enough, ap (λ l. length (besides l rest)) rows, fewer (numbers v.rows) (a ∷ []) rest)
+room_if true a rest v w is rows room enough = omega (arith, room, enough, ap (λ l. length (besides l rest)) rows, lacks v rest, lacks w rest)
+room_if false a rest v w is rows room enough =
+    omega (arith, room, enough, ap (λ l. length (besides l rest)) rows, fewer (numbers v.rows) (a ∷ []) rest, lacks v rest, lacks w rest)
 
 -- once the row of an account is made, there is room for those of the others
 pub room_left : (a : List ℕ) (rest : List (List ℕ)) (v w : RowsValue) → MakesRow a v w → HasRoom (a ∷ rest) v → HasRoom rest w
@@ -196,4 +221,5 @@ pub room_first : (a : List ℕ) (rest : List (List ℕ)) (v : RowsValue) → Has
 room_first a rest v enough = one_if (has_row v.rows a) a (lacking v.rows rest) v.room enough
 
 pub room_kept : (accounts : List (List ℕ)) (v w : RowsValue) → KeepsRows v w → HasRoom accounts v → HasRoom accounts w
-room_kept accounts v w kept enough = omega (arith, enough, kept.room, ap (λ l. length (besides l accounts)) kept.rows)
+room_kept accounts v w kept enough =
+    omega (arith, enough, kept.room, ap (λ l. length (besides l accounts)) kept.rows, lacks v accounts, lacks w accounts)

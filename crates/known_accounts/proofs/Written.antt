@@ -7,11 +7,11 @@ use Rattle.std.proofs.lemmas.Slice.Eq.{bytes_eq-Decides}
 use Rattle.arc_data.specs.Classes.{same_class}
 use Rattle.arc_data.specs.declared.event.Message.{Message}
 use Rattle.arc_data.specs.declared.signal.Class.TheVariants.{CommFail, LateClose}
-use Rattle.centre_rules.specs.Marks.{Mark, Hears, Sends, Carries, Carried, opening_by, is_raised, start_at, heard_at, failed_at, opening_at, messages_at}
+use Rattle.centre_rules.specs.Marks.{Mark, Hears, Sends, Carries, Carried, opening_by, is_raised, start_at, has_row, keeps_row_at, heard_at, failed_at, opening_at, messages_at}
 use Rattle.centre_rules.specs.Summary.{AccountRow, Past, Opened}
 use Rattle.known_accounts.specs.declared.row.Row.{Row}
 use Rattle.known_accounts.specs.Rows.{RowsValue, row_at, row_in, known, Marked}
-use Rattle.known_accounts.proofs.Found.{from_row, known_is}
+use Rattle.known_accounts.proofs.Found.{from_row, known_is, has_is}
 
 -- in fs stands w at the account a, where es has r, and all else as in es
 pub record WritesAt (a : List ℕ) (r w : Row) (es fs : List (List ℕ × Row)) : Type 0 where
@@ -41,14 +41,33 @@ module _ (start : Option ℕ) {a : List ℕ} {r w : Row} {es fs : List (List ℕ
   pub part : {X : Type 0} (f : AccountRow → X) (y : X → X) → f (row_at (b, w)) ≡ y (f (row_at (b, r))) → f (known start (map row_at fs) b) ≡ cond (bytes_eq a b) (y (f (known start (map row_at es) b))) (f (known start (map row_at es) b))
   part f y e = ap f own_after ∙ part_if f (bytes_eq a b) (known start (map row_at es) b) y (own_before (bytes_eq a b) refl) e
 
+some_at : {X : Type 0} (t : Bool) (x : X) (o : Option X) → is_some (cond t (Some x) o) ≡ (t || is_some o)
+some_at true x o = refl
+some_at false x o = refl
+
+-- which accounts have a row behind the write
+pub has_written : {a : List ℕ} {r w : Row} {es fs : List (List ℕ × Row)} → WritesAt a r w es fs → (b : List ℕ) → has_row (map row_at fs) b ≡ (bytes_eq a b || has_row (map row_at es) b)
+has_written {a} {r} {w} {es} {fs} writes b =
+    has_is fs b ∙ ap is_some (writes.after b) ∙ some_at (bytes_eq a b) w (lookup (bytes_eq b) es) ∙ ap (λ p. bytes_eq a b || p) (sym (has_is es b))
+
+or_twice : (p q : Bool) → (p || (p || q)) ≡ (p || q)
+or_twice true q = refl
+or_twice false q = refl
+
+-- a row that was made, and then written through
+pub made_twice : (a b : List ℕ) (us vs : List AccountRow) → has_row us b ≡ (bytes_eq a b || has_row vs b) → (bytes_eq a b || has_row us b) ≡ (bytes_eq a b || has_row vs b)
+made_twice a b us vs e = ap (λ p. bytes_eq a b || p) e ∙ or_twice (bytes_eq a b) (has_row vs b)
+
 same_if : {X : Type 0} (t : Bool) (x : X) → cond t x x ≡ x
 same_if true x = refl
 same_if false x = refl
 
 -- what is known, and nothing of it changed by a row that tells nothing
-pub remade : (m : Mark) (v u w : RowsValue) → u.start ≡ v.start → ((a : List ℕ) → row_in u a ≡ row_in v a) → Marked m u w → Marked m v w
-remade m v u w start same marked = record {
+pub remade : (m : Mark) (v u w : RowsValue) → u.start ≡ v.start → ((a : List ℕ) → row_in u a ≡ row_in v a)
+    → ((a : List ℕ) → keeps_row_at a m (has_row u.rows a) ≡ keeps_row_at a m (has_row v.rows a)) → Marked m u w → Marked m v w
+remade m v u w start same rows marked = record {
   start = marked.start ∙ ap (start_at m) start;
+  rows = λ a. marked.rows a ∙ rows a;
   heard = λ a. marked.heard a ∙ ap (λ (x : AccountRow). heard_at a m x.heard) (same a);
   failed = λ a. marked.failed a ∙ ap (λ (x : AccountRow). failed_at a m x.failed) (same a);
   opening = λ a. marked.opening a ∙ ap (λ (x : AccountRow). opening_at a m x.opening) (same a);
@@ -65,6 +84,7 @@ pub heard_marked : (a : List ℕ) (at : ℕ) (start : Option ℕ) (r : Row) (es 
     → Marked (Hears a at) (record { start = start; rows = map row_at es; room = n }) (record { start = start; rows = map row_at fs; room = k })
 heard_marked a at start r es fs n k w = record {
   start = refl;
+  rows = λ b. has_written w b;
   heard = λ b. part start w b (λ x. x.heard) (λ x. Some at) refl;
   failed = λ b. part start w b (λ x. x.failed) (λ x. false) refl;
   opening = λ b. part start w b (λ x. x.opening) (λ x. x) refl ∙ same_if (bytes_eq a b) _;
@@ -87,6 +107,7 @@ pub sent_marked : (m : Message) (at : ℕ) (start : Option ℕ) (r : Row) (es fs
     → Marked (Sends m at) (record { start = start; rows = map row_at es; room = n }) (record { start = start; rows = map row_at fs; room = k })
 sent_marked m at start r es fs n k w = record {
   start = refl;
+  rows = λ b. has_written w b;
   heard = λ b. part start w b (λ x. x.heard) (λ x. Some at) refl;
   failed = λ b. part start w b (λ x. x.failed) (λ x. false) refl;
   opening = λ b. part start w b (λ x. x.opening) (λ x. x) refl ∙ same_if (bytes_eq m.account b) _;
@@ -114,6 +135,7 @@ pub carried_marked : (x : Carried) (start : Option ℕ) (r : Row) (es fs : List 
     → Marked (Carries x) (record { start = start; rows = map row_at es; room = n }) (record { start = start; rows = map row_at fs; room = k })
 carried_marked x start r es fs n k w = record {
   start = refl;
+  rows = λ b. has_written w b;
   heard = λ b. part start w b (λ y. y.heard) (λ y. y) refl ∙ same_if (bytes_eq x.account b) _;
   failed = λ b. part start w b (λ y. y.failed) (λ y. (x.by_tick && same_class x.signal.class CommFail) || y) refl ∙ raised_if (x.by_tick && same_class x.signal.class CommFail) (bytes_eq x.account b) _;
   opening = λ b. part start w b (λ y. y.opening) (λ y. opening_by x.signal.kind x.at (x.by_tick && same_class x.signal.class LateClose) y) refl ∙ opened_if x (x.by_tick && same_class x.signal.class LateClose) (bytes_eq x.account b) _;

@@ -5,7 +5,7 @@ use Rattle.std.specs.Str.{bytes_eq}
 use Rattle.known_accounts.specs.declared.row.Known.{Known}
 use Rattle.known_accounts.specs.declared.row.Row.{Row}
 use Rattle.centre_rules.specs.Summary.{AccountRow, row_or}
-use Rattle.centre_rules.specs.Marks.{Mark, start_at, heard_at, failed_at, opening_at, messages_at}
+use Rattle.centre_rules.specs.Marks.{Mark, start_at, has_row, keeps_row_at, heard_at, failed_at, opening_at, messages_at}
 
 -- the last Start, the rows of the accounts of which more is known, and for how many further rows there is memory
 pub record RowsValue : Type 0 where
@@ -34,9 +34,11 @@ pub record Tells (row : AccountRow) (known : Known) : Type 0 where
 abbrev pub now_heard : ℕ → AccountRow → AccountRow
 now_heard at r = record r { heard = Some at; failed = false }
 
--- what is known of each account is what the mark makes of it; of its messages the last 32
+-- there are rows of the accounts of which the mark wants them; what is known of each account is what the mark makes of it; of its
+-- messages the last 32
 pub record Marked (m : Mark) (v w : RowsValue) : Type 0 where
   pub start : w.start ≡ start_at m v.start
+  pub rows : (account : List ℕ) → has_row w.rows account ≡ keeps_row_at account m (has_row v.rows account)
   pub heard : (account : List ℕ) → (row_in w account).heard ≡ heard_at account m (row_in v account).heard
   pub failed : (account : List ℕ) → (row_in w account).failed ≡ failed_at account m (row_in v account).failed
   pub opening : (account : List ℕ) → (row_in w account).opening ≡ opening_at account m (row_in v account).opening
@@ -48,9 +50,6 @@ pub record Marked (m : Mark) (v w : RowsValue) : Type 0 where
 -- the accounts that have a row, in the order of their rows
 abbrev pub numbers : List AccountRow → List (List ℕ)
 numbers rows = map (λ r. r.account) rows
-
-abbrev pub has_row : List AccountRow → List ℕ → Bool
-has_row rows account = list_any (bytes_eq account) (numbers rows)
 
 -- those of these accounts that have no row
 abbrev pub lacking : List AccountRow → List (List ℕ) → List (List ℕ)

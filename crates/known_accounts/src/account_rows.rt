@@ -6,7 +6,7 @@ ghost use Rattle.std.specs.Str.{bytes_eq};
 ghost use Rattle.indexmap.specs.IndexMap.{get, spare as spare_of};
 ghost use Rattle.centre_rules.specs.Answers.{repeats};
 ghost use Rattle.centre_rules.specs.Marks.{Starts, Hears, Sends, Carries};
-ghost use Rattle.known_accounts.specs.Rows.{row_at, row_in, now_heard, has_row, blank, HasRoom, StandsAt, MakesRow, KeepsRows, Marked, Tells};
+ghost use Rattle.known_accounts.specs.Rows.{row_at, row_in, now_heard, blank, HasRoom, StandsAt, MakesRow, KeepsRows, Marked, Tells};
 
 use crate::row::{Known, Row};
 use arc_data::{Carried, Memory, Message, Txt};
@@ -18,10 +18,10 @@ use std::marker::Model;
 /// What is known of each account: of one that has no row, only the last Start, at which each account is heard. Contracts see
 /// the last Start, the rows, and for how many further accounts there is memory.
 pub struct AccountRows {
-    start: Option<u64>,
-    by_account: IndexMap<Txt, Row>,
+    pub(crate) start: Option<u64>,
+    pub(crate) by_account: IndexMap<Txt, Row>,
     // Empty windows, for accounts that get a row later.
-    windows: Vec<Window>,
+    pub(crate) windows: Vec<Window>,
 }
 
 // Written out: one call wherever one is dropped, where a derived drop is spelled out at each exit.
@@ -135,13 +135,6 @@ impl AccountRows {
             unreachable!()
         };
         row.carry(x);
-    }
-
-    /// Whether an account has a row: whether more is known of it than the last Start.
-    pub fn has(&self, account: &Txt) -> bool
-        ensures { result ≡ has_row self.now.rows account.now }
-    {
-        self.by_account.contains_key(account)
     }
 
     /// The last Start.

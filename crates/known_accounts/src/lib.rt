@@ -5,6 +5,8 @@
 mod account_rows;
 mod deadlines;
 mod due;
+mod kept_accounts;
+mod kept_rows;
 mod row;
 mod supervised_accounts;
 mod uncounted;
@@ -13,7 +15,8 @@ mod watched_setup;
 pub use account_rows::AccountRows;
 pub use accounts::Setup;
 pub use arc_data::{Carried, Memory, Message, Opened, Txt};
-pub use row::Known;
+pub use repeat_window::{Seen, Window};
+pub use row::{Known, Row};
 pub use supervised_accounts::{AccountPlace, SupervisedAccounts};
 pub use supervision::Places;
 pub use watched_setup::WatchedSetup;

@@ -1,17 +1,18 @@
 // What is known of one account.
-ghost use Rattle.std.specs.Prelude.{◌≡◌, ◌∷◌, ◌&&◌, ◌||◌, take, false, Some};
+ghost use Rattle.std.specs.Prelude.{◌≡◌, ◌∷◌, ◌&&◌, ◌||◌, take, false, Some, IfOk};
 ghost use Rattle.std.specs.Option.{option_map};
 ghost use Rattle.arc_data.specs.Classes.{same_class};
 ghost use Rattle.arc_data.specs.declared.signal.Class.TheVariants.{CommFail, LateClose};
 ghost use Rattle.centre_rules.specs.Marks.{now_late, opening_by};
 
-use arc_data::{Carried, Class, Kind, Opened};
+use arc_data::{Carried, Class, Kind, Memory, Opened};
 use repeat_window::{Seen, Window};
+use std::alloc::Global;
 
 /// When the account was last heard, whether a Tick has raised a CommFail of it since, its last opening signal while it is open, and
 /// its last 32 messages.
 #[derive(Drop)]
-pub(crate) struct Row {
+pub struct Row {
     pub heard: Option<u64>,
     pub failed: bool,
     pub opening: Option<Opened>,
@@ -37,6 +38,19 @@ impl Row {
             failed: self.failed,
             opening: self.opening,
         }
+    }
+
+    /// A copy of it. The error is want of memory.
+    pub fn copy(&self, alloc: Global) -> Result<Row, Memory>
+        ensures { IfOk result (λ row. row ≡ self.now) }
+    {
+        let window = self.window.copy(alloc)?;
+        Ok(Row {
+            heard: self.heard,
+            failed: self.failed,
+            opening: self.opening,
+            window,
+        })
     }
 
     /// The account was heard.

@@ -29,9 +29,9 @@ pub struct AccountPlace {
 /// What is known of each account, the setup in force, and for each of its accounts the deadlines of its silence and of its late
 /// closing. Contracts see the setup's text, and the rows.
 pub struct SupervisedAccounts {
-    setup: Option<Setup>,
-    rows: AccountRows,
-    deadlines: Deadlines,
+    pub(crate) setup: Option<Setup>,
+    pub(crate) rows: AccountRows,
+    pub(crate) deadlines: Deadlines,
 }
 
 // Written out: one call wherever one is dropped, where a derived drop is spelled out at each exit.

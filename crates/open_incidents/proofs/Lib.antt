@@ -10,5 +10,6 @@ pub mod Numbers
 pub mod Holders
 pub mod HeldMarks
 pub mod FindHeld
+pub mod Put
 pub mod ListingLemmas
 pub mod OrderLemmas

@@ -3,6 +3,7 @@
 #![tactic(auto)]
 
 mod held;
+mod kept_incidents;
 pub mod listing;
 pub mod marks;
 pub mod orders;

@@ -22,9 +22,9 @@ use std::marker::Model;
 /// The table of open incidents, the queue of those that nobody holds, and the list of those that are held. Contracts see the
 /// table; its room is for how many open incidents there is memory in the table, in the queue and in the list.
 pub struct QueuedTable {
-    table: Table,
-    queue: Queue,
-    held: Held,
+    pub(crate) table: Table,
+    pub(crate) queue: Queue,
+    pub(crate) held: Held,
 }
 
 // Written out: one call wherever one is dropped, where a derived drop is spelled out at each exit.

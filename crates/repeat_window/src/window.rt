@@ -6,6 +6,7 @@ ghost use Rattle.centre_rules.specs.Answers.{repeats, same_message};
 ghost use Rattle.repeat_window.specs.Windows.{newest_of};
 
 use crate::{Memory, Message, Seen};
+use arc_data::Blob;
 use circular_buffer::HeapCircularBuffer;
 use std::alloc::Global;
 use std::marker::Model;
@@ -72,6 +73,18 @@ impl Window {
         }
     }
 
+    /// A copy of it. The error is want of memory.
+    pub fn copy(&self, alloc: Global) -> Result<Window, Memory>
+        ensures { IfOk result (λ window. window ≡ self.now) }
+    {
+        let mut copy = Window::new(alloc)?;
+        for i in 0..self.count() {
+            let seen = copied(alloc, self.at(i))?;
+            copy.push(seen);
+        }
+        Ok(copy)
+    }
+
     /// The moment of the newest of the last 32 that makes the message, at this moment, a repeat.
     pub fn holds(&self, message: &Message, at: u64) -> Option<u64>
         ensures { result ≡ option_map (λ p. p.at) (find (repeats message.now at) (take 32 self.now)) }
@@ -81,6 +94,25 @@ impl Window {
         }
         newest(&self.ring, message, at)
     }
+}
+
+// A message once more, with its moment.
+fn copied(alloc: Global, seen: &Seen) -> Result<Seen, Memory>
+    ensures { IfOk result (λ copy. copy ≡ seen.now) }
+{
+    let content = Blob::of(alloc, seen.message.content.bytes())?;
+    let message = Message {
+        account: seen.message.account,
+        receiver: seen.message.receiver,
+        line: seen.message.line,
+        seq: seen.message.seq,
+        token: seen.message.token,
+        content,
+    };
+    Ok(Seen {
+        message,
+        at: seen.at,
+    })
 }
 
 // The newest sequence, and behind it the first 31 of those before.

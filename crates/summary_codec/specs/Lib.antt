@@ -1,3 +1,4 @@
 pub use Rattle.summary_rules.specs.Conditions
 pub mod Reading
 pub mod OneSpelling
+pub mod Writing

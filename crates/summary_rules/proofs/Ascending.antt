@@ -82,7 +82,7 @@ rows_ascend_of : (s : Summary) (ms : List Mark) (xs : List (List ℕ)) → Every
 rows_ascend_of s ms [] w = tt
 rows_ascend_of s ms (x ∷ xs) w = (rows_before s ms x xs w.0, rows_ascend_of s ms xs w.1)
 
-names_ascend : (s : Summary) (ms : List Mark) → EveryTwo IsRowBefore s.rows → EveryTwo IsBefore (names s ms)
+pub names_ascend : (s : Summary) (ms : List Mark) → EveryTwo IsRowBefore s.rows → EveryTwo IsBefore (names s ms)
 names_ascend s [] w = accounts_ascend s.rows w
 names_ascend s (m ∷ ms) w = by m (names_ascend s ms w)
   where

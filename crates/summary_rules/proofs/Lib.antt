@@ -15,3 +15,4 @@ pub mod Formed
 pub mod Spelled
 pub mod Written
 pub mod Composing
+pub mod Short

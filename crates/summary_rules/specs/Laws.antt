@@ -96,6 +96,14 @@ abbrev pub SummariesAreSpelled : Type 0
 SummariesAreSpelled = (generation other : ℕ) (s : Summary) (h : List Entry) → HasFields generation s → IsSummary generation s → IsLegal s h
     → MaySpell other (summary_of s h) → IsSpelling other (summary_of s h) (summary_text other (summary_of s h))
 
+-- where its bytes are fewer than 2^32, four bytes hold the counts of its rows and of its incidents
+pub record AreFew (s : Summary) : Type 0 where
+  pub rows : length s.rows < 2 ^ 32
+  pub incidents : length s.incidents < 2 ^ 32
+
+abbrev pub ShortOnesAreFew : Type 0
+ShortOnesAreFew = (generation : ℕ) (s : Summary) → length (summary_text generation s) < 2 ^ 32 → AreFew s
+
 abbrev pub NothingIsSpelled : Type 0
 NothingIsSpelled = IsSpelling 1 nothing (summary_text 1 nothing)
 

@@ -1,5 +1,5 @@
 // What stays so of the summaries of histories.
-ghost use Rattle.summary_rules.specs.Laws.{RowsAscend, MomentsStay, MessagesStay, SetupsStay, IncidentsStay, CountsStay, ActsStay, SummariesAreSpelled, NothingIsSpelled, SummariesCompose};
+ghost use Rattle.summary_rules.specs.Laws.{RowsAscend, MomentsStay, MessagesStay, SetupsStay, IncidentsStay, CountsStay, ActsStay, SummariesAreSpelled, ShortOnesAreFew, NothingIsSpelled, SummariesCompose};
 
 /// The rows of the summary of a history ascend by account.
 #[tactic(auto, using(crate::proofs::Ascending::rows_ascend))]
@@ -48,6 +48,12 @@ pub fn law_acts_stay()
 /// 10000, at most 2^48 entries are recorded, and four bytes hold the counts of its rows and of its open incidents.
 pub fn law_summaries_are_spelled()
     ensures { SummariesAreSpelled }
+{}
+
+/// A summary of fewer than 2^32 bytes has no more rows and no more incidents than four bytes can count.
+#[tactic(auto, using(crate::proofs::Short::short_few))]
+pub fn law_short_ones_are_few()
+    ensures { ShortOnesAreFew }
 {}
 
 /// The empty summary, over which a first history begins, has a spelling.

@@ -1,15 +1,15 @@
 // Events and answers in words.
 ghost use Rattle.std.specs.Prelude.{◌≡◌, ◌≤◌, true, length};
-ghost use Rattle.arc_data.specs.Digits.{is_name};
+ghost use Rattle.arc_data.specs.Digits.{is_run, is_capital_hex, is_name};
 ghost use Rattle.arc_data.specs.WellFormed.{IsWellFormed};
 
-use arc_data::{Blob, CloseCode, Event, Outcome, Reply, Step, Txt};
+use arc_data::{Blob, CloseCode, Event, Outcome, Reply, Step, Token, Txt};
 use std::alloc::Global;
 use std::process::Abort;
-use test_stations::messages::{account, burglary};
+use test_stations::messages::{account, burglary, message};
 
-/// The event of a word: `adopt` of a setup whose account 1234 has no interval, one of 60 seconds, or is lacking; a message or a heartbeat
-/// of that account; an order of the operator ann on incident 1; `start`, `tick` and `list`.
+/// The event of a word: `adopt` of a setup whose account 1234 has no interval, one of 60 seconds, or is lacking, of one without operators,
+/// or of one with the account 9999 before it; a message, an opening or a heartbeat of that account, a message of that other one; an order of the operator ann on incident 1; `start`, `tick` and `list`.
 pub(super) fn event_of(rt: &impl Abort, alloc: Global, word: &str) -> Event
     ensures { IsWellFormed result }
 {
@@ -17,6 +17,16 @@ pub(super) fn event_of(rt: &impl Abort, alloc: Global, word: &str) -> Event
         "adopt" => adopt(rt, alloc, b"account 1234\noperator ann 1234\n"),
         "adopt beat" => adopt(rt, alloc, b"account 1234 beat 60\noperator ann 1234\n"),
         "adopt other" => adopt(rt, alloc, b"account 5678\noperator ann 1234\n"),
+        "adopt one" => adopt(rt, alloc, b"account 1234\n"),
+        "adopt two" => adopt(
+            rt,
+            alloc,
+            b"account 9999 beat 60\naccount 1234\noperator ann 1234\n",
+        ),
+        "opening" => {
+            message(alloc, account(), 2, Token::AdmCid, b"1401 00 001").expect(rt, "memory")
+        }
+        "message other" => burglary(alloc, other(), 1).expect(rt, "memory"),
         "message" => burglary(alloc, account(), 1).expect(rt, "memory"),
         "beat" => Event::Beat { account: account() },
         "start" => Event::Start,
@@ -56,6 +66,12 @@ fn adopt(rt: &impl Abort, alloc: Global, text: &[u8]) -> Event
 {
     let text = Blob::of(alloc, text).expect(rt, "memory");
     Event::Adopt { text }
+}
+
+fn other() -> Txt
+    ensures { is_run is_capital_hex 3 16 result ≡ true }
+{
+    Txt::of(b"9999").unwrap()
 }
 
 fn operator() -> Txt

@@ -70,9 +70,9 @@ fn heard_and_failed(rt: HostRuntime) {
     same(&rt, rows.last_start(), Some(10), "a start");
     compare_heard(&rt, &rows, Some(10), false, "a start");
     reserve(&rt, rt.alloc(), &mut rows);
-    same(&rt, rows.has(&account), false, "no row yet");
+    same(&rt, rows.get(&account).is_some(), false, "no row yet");
     carry(&mut rows, &failure);
-    same(&rt, rows.has(&account), true, "a row");
+    same(&rt, rows.get(&account).is_some(), true, "a row");
     compare_heard(&rt, &rows, Some(10), true, "a failure");
     reserve(&rt, rt.alloc(), &mut rows);
     hear(&mut rows, &account, 120);

@@ -33,5 +33,5 @@ carry-requires-clause-moment c = rw c.x-item.is (c.requires.moments c.loop-x.x-i
 
 pub carry-requires-clause-there : goal.carry-requires-clause-there
 carry-requires-clause-there c =
-    let own : c.x-item.result.account ≡ c.requires.own.0 = rw c.x-item.is (c.requires.own.1.0 c.loop-x.x-index c.x-item.result c.loop-x-test.true) in
-    subst (λ account. IsPlaceOf account c.args.place c.loop-x.accounts) (sym own) (c.loop-x.invariant.there c.requires.own.0 c.requires.own.1.1)
+    let own : c.x-item.result.account ≡ c.requires.own.0 = rw c.x-item.is (c.requires.own.1 c.loop-x.x-index c.x-item.result c.loop-x-test.true) in
+    subst (λ account. IsPlaceOf account c.args.place c.loop-x.accounts) (sym own) (c.loop-x.invariant.there c.requires.own.0 c.requires.own.2)

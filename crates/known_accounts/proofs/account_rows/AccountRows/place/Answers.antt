@@ -1,8 +1,10 @@
 -- Its row is found, or made behind the others.
 use Rattle.std.proofs.Common.{◌≡◌, ◌++◌, ◌∷◌, [], map, ap, ◌∙◌, sym, subst, false, arith}
 use Rattle.std.specs.Prelude.{is_some}
-use Rattle.known_accounts.specs.Rows.{RowsValue, StandsAt, blank, has_row, row_at}
-use Rattle.known_accounts.proofs.Numbered.{has_is, stands_found, stands_last, made_none, made_last, lacks_one}
+use Rattle.centre_rules.specs.Marks.{has_row}
+use Rattle.known_accounts.specs.Rows.{RowsValue, StandsAt, blank, row_at}
+use Rattle.known_accounts.proofs.Found.{has_is}
+use Rattle.known_accounts.proofs.Numbered.{stands_found, stands_last, made_none, made_last, lacks_one}
 use Rattle.known_accounts.proofs.account_rows.AccountRows.place.Goals as goal
 
 pub returns-in-Some-clause-there : goal.returns-in-Some-clause-there

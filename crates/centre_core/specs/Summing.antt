@@ -1,0 +1,11 @@
+-- What a centre's summary is written of.
+use Rattle.std.specs.Prelude.{ℕ}
+use Rattle.centre_rules.specs.Summary.{Summary}
+use Rattle.summary_rules.specs.Fields.{HasFields}
+use Rattle.summary_rules.specs.Conditions.{IsSummary}
+
+-- it has a spelling, of some generation; so has the empty one
+pub record IsSpelled (s : Summary) : Type 0 where
+  pub generation : ℕ
+  pub fields : HasFields generation s
+  pub besides : IsSummary generation s
