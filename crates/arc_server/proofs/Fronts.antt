@@ -4,7 +4,7 @@ use Rattle.std.proofs.lemmas.List.{at_drop_more, append_assoc}
 use Rattle.std.specs.List.{flat_map}
 use Rattle.std.specs.Option.{option_or, unwrap_or, option_to_list}
 use Rattle.arc_serving.specs.Seen.{CameSeen}
-use Rattle.arc_workers.specs.declared.working.Worked.{Worked}
+use Rattle.arc_serving.specs.declared.working.Worked.{Worked}
 use Rattle.centre_core.specs.declared.hall.Stop.{Stop}
 use Rattle.arc_server.specs.Servings.{front_of, first_of, stop_in, stops_in, met_by, full_in, worn_in, door_faults_in, where_so, was_refused}
 use Rattle.arc_server.specs.declared.status.Status.{Status}

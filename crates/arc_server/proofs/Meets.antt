@@ -4,10 +4,10 @@ use Rattle.std.specs.List.{flat_map, All}
 use Rattle.std.proofs.lemmas.List.Elements.{All-nil, All-cons, All-head, All-append}
 use Rattle.arc_data.specs.declared.blob.Memory.{Memory}
 use Rattle.arc_serving.specs.Seen.{CameSeen}
-use Rattle.arc_sessions.specs.declared.side.Side.{Side}
-use Rattle.arc_sessions.specs.declared.side.Side.TheVariants.{Lines, Desks}
-use Rattle.arc_workers.specs.declared.working.WorkerEnd.{WorkerEnd}
-use Rattle.arc_workers.specs.declared.working.WorkerEnd.TheVariants.{DoorEnded, Quota, DoorFault as WorkerFault, Stopped}
+use Rattle.arc_serving.specs.declared.side.Side.{Side}
+use Rattle.arc_serving.specs.declared.side.Side.TheVariants.{Lines, Desks}
+use Rattle.arc_serving.specs.declared.working.WorkerEnd.{WorkerEnd}
+use Rattle.arc_serving.specs.declared.working.WorkerEnd.TheVariants.{DoorEnded, Quota, DoorFault as WorkerFault, Stopped}
 use Rattle.centre_core.specs.declared.hall.Stop.{Stop}
 use Rattle.centre_core.specs.declared.hall.Stop.TheVariants.{Memory as MemoryWanted, Down, Full as HallFull, Worn as HallWorn}
 use Rattle.arc_server.specs.Servings.{first_of, stops_in, met_by, full_in, worn_in, door_fault_in, door_faults_in, where_so, was_refused}

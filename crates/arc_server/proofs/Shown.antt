@@ -17,16 +17,16 @@ use Rattle.arc_serving.specs.Ran.{WorkerRan, IsWorkerRan, IsSideServed, ended_in
 use Rattle.arc_serving.specs.Seen.{StationSeen, CameSeen}
 use Rattle.arc_serving.specs.Serving.{ServesStore}
 use Rattle.arc_serving.specs.declared.station.Crew.{Crew}
-use Rattle.arc_sessions.specs.declared.session.SessionEnd.{SessionEnd}
-use Rattle.arc_sessions.specs.declared.session.SessionEnd.TheVariants as Session
-use Rattle.arc_sessions.specs.declared.side.Side.{Side}
-use Rattle.arc_sessions.specs.declared.side.Side.TheVariants.{Lines, Desks}
-use Rattle.arc_workers.specs.Served.{Served}
-use Rattle.arc_workers.specs.Ticks.{Ticking, EndsTicking}
-use Rattle.arc_workers.specs.Works.{EndsWork, IsStoppedBy, IsShown, is_memory, stop_of, other_than_memory}
-use Rattle.arc_workers.specs.declared.working.Worked.{Worked}
-use Rattle.arc_workers.specs.declared.working.WorkerEnd.{WorkerEnd}
-use Rattle.arc_workers.specs.declared.working.WorkerEnd.TheVariants.{DoorEnded, Quota, DoorFault as WorkerFault, Stopped}
+use Rattle.arc_serving.specs.declared.session.SessionEnd.{SessionEnd}
+use Rattle.arc_serving.specs.declared.session.SessionEnd.TheVariants as Session
+use Rattle.arc_serving.specs.declared.side.Side.{Side}
+use Rattle.arc_serving.specs.declared.side.Side.TheVariants.{Lines, Desks}
+use Rattle.arc_serving.specs.Served.{Served}
+use Rattle.arc_serving.specs.Ticks.{Ticking, EndsTicking}
+use Rattle.arc_serving.specs.Works.{EndsWork, IsStoppedBy, IsShown, is_memory, stop_of, other_than_memory}
+use Rattle.arc_serving.specs.declared.working.Worked.{Worked}
+use Rattle.arc_serving.specs.declared.working.WorkerEnd.{WorkerEnd}
+use Rattle.arc_serving.specs.declared.working.WorkerEnd.TheVariants.{DoorEnded, Quota, DoorFault as WorkerFault, Stopped}
 use Rattle.centre_core.specs.declared.hall.Stop.{Stop}
 use Rattle.centre_core.specs.declared.hall.Stop.TheVariants.{Memory as MemoryWanted, Down, Full as HallFull, Worn as HallWorn}
 use Rattle.centre_store.specs.Stores.{Stored}

@@ -3,7 +3,7 @@ use Rattle.std.specs.Prelude.{ℕ, if◌then◌else◌, List, [], ◌∷◌, Opt
 use Rattle.std.specs.Str.{bytes_eq}
 use Rattle.alarm_rules.specs.SetupWords.{number_between}
 use Rattle.arc_data.specs.Digits.{is_capital_hex, is_run}
-use Rattle.arc_sessions.specs.declared.side.Side.TheVariants.{Lines, Desks}
+use Rattle.arc_serving.specs.declared.side.Side.TheVariants.{Lines, Desks}
 use Rattle.arc_server.specs.declared.form.Form.{Form}
 use Rattle.arc_server.specs.declared.form.Form.TheVariants.{Session, Script, Report, Drill, Serve, Panel}
 

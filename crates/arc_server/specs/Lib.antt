@@ -3,7 +3,7 @@ pub use Rattle.arc_io.specs.Crashes
 pub use Rattle.centre_store.specs.Begins
 pub use Rattle.centre_store.specs.Openings
 pub use Rattle.centre_store.specs.StoreHalls
-pub use Rattle.arc_sessions.specs.Served
+pub use Rattle.arc_serving.specs.Sessions
 pub use Rattle.centre_rules.specs.Sums
 pub use Rattle.arc_serving.specs.Serving
 pub use Rattle.arc_script.specs.Ends

@@ -7,8 +7,8 @@ use Rattle.arc_panel.specs.declared.play.PanelEnd.{PanelEnd}
 use Rattle.arc_panel.specs.declared.play.PanelEnd.TheVariants as Panel
 use Rattle.arc_script.specs.declared.script_end.ScriptEnd.{ScriptEnd}
 use Rattle.arc_script.specs.declared.script_end.ScriptEnd.TheVariants as Script
-use Rattle.arc_sessions.specs.declared.session.SessionEnd.{SessionEnd}
-use Rattle.arc_sessions.specs.declared.session.SessionEnd.TheVariants as Session
+use Rattle.arc_serving.specs.declared.session.SessionEnd.{SessionEnd}
+use Rattle.arc_serving.specs.declared.session.SessionEnd.TheVariants as Session
 use Rattle.centre_core.specs.declared.hall.Stop.{Stop}
 use Rattle.centre_core.specs.declared.hall.Stop.TheVariants as Hall
 use Rattle.disk_journal.specs.declared.fault.OpenFault.{OpenFault}

@@ -7,11 +7,11 @@ use Rattle.arc_data.specs.declared.blob.Memory.{Memory}
 use Rattle.arc_io.specs.Causes.{Rose}
 use Rattle.arc_io.specs.Seen.{PortSeen}
 use Rattle.arc_serving.specs.Seen.{CameSeen}
-use Rattle.arc_sessions.specs.declared.side.Side.{Side}
-use Rattle.arc_sessions.specs.declared.side.Side.TheVariants.{Lines, Desks}
-use Rattle.arc_workers.specs.declared.working.Worked.{Worked}
-use Rattle.arc_workers.specs.declared.working.WorkerEnd.{WorkerEnd}
-use Rattle.arc_workers.specs.declared.working.WorkerEnd.TheVariants.{DoorEnded, Quota, DoorFault as WorkerFault, Stopped}
+use Rattle.arc_serving.specs.declared.side.Side.{Side}
+use Rattle.arc_serving.specs.declared.side.Side.TheVariants.{Lines, Desks}
+use Rattle.arc_serving.specs.declared.working.Worked.{Worked}
+use Rattle.arc_serving.specs.declared.working.WorkerEnd.{WorkerEnd}
+use Rattle.arc_serving.specs.declared.working.WorkerEnd.TheVariants.{DoorEnded, Quota, DoorFault as WorkerFault, Stopped}
 use Rattle.centre_core.specs.declared.hall.Stop.{Stop}
 use Rattle.centre_core.specs.declared.hall.Stop.TheVariants.{Full as HallFull, Worn as HallWorn}
 use Rattle.arc_server.specs.declared.status.Status.{Status}

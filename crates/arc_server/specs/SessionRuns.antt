@@ -5,9 +5,9 @@ use Rattle.arc_io.specs.Seen.{PortSeen}
 use Rattle.centre_rules.specs.History.{Entry}
 use Rattle.centre_store.specs.StoreHalls.{store_seen}
 use Rattle.centre_store.specs.Stores.{Stored}
-use Rattle.arc_sessions.specs.Served.{Reads, Serves, ShowsEnd}
-use Rattle.arc_sessions.specs.declared.session.SessionEnd.{SessionEnd}
-use Rattle.arc_sessions.specs.declared.side.Side.{Side}
+use Rattle.arc_serving.specs.Sessions.{Reads, Serves, ShowsEnd}
+use Rattle.arc_serving.specs.declared.session.SessionEnd.{SessionEnd}
+use Rattle.arc_serving.specs.declared.side.Side.{Side}
 use Rattle.arc_server.specs.Areas.{EndsWith, shipped}
 use Rattle.arc_server.specs.Beginnings.{HasBegun, StopsBefore}
 use Rattle.arc_server.specs.Handed.{Handed}

@@ -5,8 +5,8 @@ use Rattle.arc_data.specs.declared.setup_fault.SetupFault.{SetupFault}
 use Rattle.arc_data.specs.declared.setup_fault.SetupFault.TheVariants.{TooLarge, BadLine, TwoSame, TooMany, Memory as NoMemory}
 use Rattle.disk_journal.specs.declared.fault.OpenFault.{OpenFault}
 use Rattle.disk_journal.specs.declared.fault.OpenFault.TheVariants as Open
-use Rattle.arc_sessions.specs.declared.side.Side.{Side}
-use Rattle.arc_sessions.specs.declared.side.Side.TheVariants.{Lines, Desks}
+use Rattle.arc_serving.specs.declared.side.Side.{Side}
+use Rattle.arc_serving.specs.declared.side.Side.TheVariants.{Lines, Desks}
 use Rattle.arc_server.specs.declared.status.Status.{Status}
 use Rattle.arc_server.specs.declared.status.Status.TheVariants.{Done, Usage, SetupBad, ReadFault, WriteFault, DiskFault, Journal, Full}
 use Rattle.arc_server.specs.declared.status.Status.TheVariants.{BadScript, DoorFault, Memory, Spent, Worn}

@@ -8,9 +8,7 @@ ghost use Rattle.arc_server.specs.declared.status.Status.TheVariants.{WriteFault
 use crate::status::Status;
 use arc_data::Memory;
 use arc_io::Failed;
-use arc_serving::Came;
-use arc_sessions::Side;
-use arc_workers::{Worked, WorkerEnd};
+use arc_serving::{Came, Side, Worked, WorkerEnd};
 use centre_core::Stop;
 
 /// The status where the disk has not failed: by what came of all callers, and by whether the summary was written, before which and after

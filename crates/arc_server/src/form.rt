@@ -6,8 +6,7 @@ ghost use Rattle.arc_server.specs.WholeRuns.{HasDoors, IsInRange};
 use accounts::number_between;
 use arc_data::Txt;
 use arc_panel::is_panel_account;
-use arc_serving::Crew;
-use arc_sessions::Side;
+use arc_serving::{Crew, Side};
 
 /// What the words ask for.
 #[derive(Clone, Copy)]

@@ -8,7 +8,7 @@ ghost use Rattle.arc_server.specs.declared.status.Which.TheVariants.{Input};
 
 use crate::status::{Status, Which};
 use arc_io::{Disk, Failed, Port};
-use arc_sessions::SessionEnd;
+use arc_serving::SessionEnd;
 use centre_core::Stop;
 use disk_journal::{OpenFault, OpenRefused};
 

@@ -12,7 +12,7 @@ use crate::begin::begin_run;
 use crate::made::{StoppedRun, status_of_session, status_over};
 use crate::status::Status;
 use arc_io::{Disk, Port, Source};
-use arc_sessions::{Side, serve};
+use arc_serving::{Side, serve};
 use centre_store::Store;
 use std::alloc::Global;
 

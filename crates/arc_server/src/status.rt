@@ -6,7 +6,7 @@ ghost use Rattle.arc_server.specs.Statuses.{number_of, text_of_status, setup_tex
 
 use arc_data::{LineKind, SetupFault};
 use arc_io::{Failed, Sink, put};
-use arc_sessions::Side;
+use arc_serving::Side;
 use disk_journal::OpenFault;
 use itoa::Buffer;
 

@@ -1,3 +1,10 @@
+pub mod After
+pub mod LineTurns
+pub mod DeskTurns
+pub mod AtGates
+pub mod Links
+pub mod SoFar
+pub mod Moments
 pub mod Lists
 pub mod Seats
 pub mod Sides

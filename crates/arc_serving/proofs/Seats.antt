@@ -6,7 +6,7 @@ use Rattle.std.proofs.lemmas.List.Elements.{All-nil, All-cons, All-push, All-wea
 use Rattle.std.specs.Option.{option_to_list}
 use Rattle.std.specs.Prelude.{All, MatchOption, map, reverse}
 use Rattle.arc_doors.specs.Doors.{DoorSeen}
-use Rattle.arc_workers.specs.declared.working.Worked.{Worked}
+use Rattle.arc_serving.specs.declared.working.Worked.{Worked}
 use Rattle.line_gate.proofs.Carried.{later_self, later_further}
 use Rattle.line_gate.proofs.Histories.{extends_further}
 use Rattle.line_gate.specs.Passes.{PassSeen, IsPass, IsLater}

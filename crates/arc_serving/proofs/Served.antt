@@ -6,11 +6,11 @@ use Rattle.std.specs.Prelude.{All, Result, Ok, Err, IfOk, map, reverse}
 use Rattle.alarm_rules.specs.Setups.{meaning}
 use Rattle.arc_doors.specs.Doors.{DoorSeen}
 use Rattle.arc_io.specs.Disks.{DiskSeen}
-use Rattle.arc_sessions.specs.declared.side.Side.{Side}
-use Rattle.arc_sessions.specs.declared.side.Side.TheVariants.{Lines, Desks}
-use Rattle.arc_workers.specs.Ticks.{WorksTicks}
+use Rattle.arc_serving.specs.declared.side.Side.{Side}
+use Rattle.arc_serving.specs.declared.side.Side.TheVariants.{Lines, Desks}
+use Rattle.arc_serving.specs.Ticks.{WorksTicks}
 use Rattle.arc_doors.specs.Pulses.{Moments}
-use Rattle.arc_workers.specs.declared.working.Worked.{Worked}
+use Rattle.arc_serving.specs.declared.working.Worked.{Worked}
 use Rattle.centre_rules.specs.History.{marks}
 use Rattle.centre_rules.specs.Marks.{force}
 use Rattle.centre_rules.specs.Summary.{Summary}

@@ -4,10 +4,10 @@ use Rattle.std.proofs.lemmas.List.Elements.{All-nil, All-cons, All-head, All-tai
 use Rattle.std.specs.List.{AllZip}
 use Rattle.std.specs.Option.{option_to_list}
 use Rattle.std.specs.Prelude.{All, MatchOption, map}
-use Rattle.arc_sessions.specs.declared.side.Side.{Side}
+use Rattle.arc_serving.specs.declared.side.Side.{Side}
 use Rattle.line_gate.specs.Passes.{PassSeen}
 use Rattle.line_gate.specs.Terms.{Terms}
-use Rattle.arc_workers.specs.declared.working.Worked.{Worked}
+use Rattle.arc_serving.specs.declared.working.Worked.{Worked}
 use Rattle.arc_doors.specs.Doors.{DoorSeen}
 use Rattle.arc_serving.specs.Jobs.{JobSeen, IsReady, IsJobDone, WorksJob, HasTaken, IsTaken, doors_in, passes_in, worked_in}
 use Rattle.arc_serving.specs.Ran.{WorkerRan, IsWorkerRan, began_in, ended_in}

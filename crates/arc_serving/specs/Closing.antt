@@ -3,8 +3,8 @@ use Rattle.std.specs.Prelude.{◌≡◌, ◌≤◌, ℕ, List, ◌++◌, Some}
 use Rattle.std.specs.List.{AllZip}
 use Rattle.arc_doors.specs.Doors.{DoorSeen}
 use Rattle.arc_io.specs.Disks.{DiskSeen}
-use Rattle.arc_sessions.specs.declared.side.Side.TheVariants.{Lines, Desks}
-use Rattle.arc_workers.specs.Ticks.{WorksTicks}
+use Rattle.arc_serving.specs.declared.side.Side.TheVariants.{Lines, Desks}
+use Rattle.arc_serving.specs.Ticks.{WorksTicks}
 use Rattle.centre_rules.specs.Summary.{Summary}
 use Rattle.centre_store.specs.Stores.{Stored, StoreStands}
 use Rattle.line_gate.specs.Entries.{Entry, Extends}

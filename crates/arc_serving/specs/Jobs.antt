@@ -2,9 +2,9 @@
 use Rattle.std.specs.Prelude.{◌≡◌, ◌≤◌, ◌<◌, ℕ, List, [], ◌∷◌, ◌++◌, Option, Some, None, MatchOption, All, map, reverse, flat_map}
 use Rattle.std.specs.Option.{option_to_list}
 use Rattle.arc_doors.specs.Doors.{DoorSeen}
-use Rattle.arc_sessions.specs.declared.side.Side.{Side}
-use Rattle.arc_workers.specs.Works.{Works}
-use Rattle.arc_workers.specs.declared.working.Worked.{Worked}
+use Rattle.arc_serving.specs.declared.side.Side.{Side}
+use Rattle.arc_serving.specs.Works.{Works}
+use Rattle.arc_serving.specs.declared.working.Worked.{Worked}
 use Rattle.line_gate.specs.Entries.{Extends}
 use Rattle.line_gate.specs.Passes.{PassSeen, IsPass}
 use Rattle.line_gate.specs.Terms.{Terms}

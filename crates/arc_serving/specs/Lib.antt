@@ -1,5 +1,11 @@
-pub use Rattle.arc_workers.specs.Works
-pub use Rattle.arc_workers.specs.Ticks
+pub use Rattle.line_session.specs.Lines
+pub use Rattle.desk_session.specs.Desks
+pub use Rattle.line_gate.specs.AtGates
+pub mod Sessions
+pub mod Served
+pub mod Next
+pub mod Works
+pub mod Ticks
 pub mod Rising
 pub mod Ran
 pub mod Jobs

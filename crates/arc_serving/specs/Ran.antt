@@ -2,11 +2,11 @@
 use Rattle.std.specs.Prelude.{◌≡◌, ℕ, List, [], ◌++◌, Option, All, map, length}
 use Rattle.arc_doors.specs.Doors.{DoorSeen}
 use Rattle.arc_doors.specs.Pulses.{Moments}
-use Rattle.arc_sessions.specs.declared.side.Side.{Side}
-use Rattle.arc_workers.specs.Ticks.{WorksTicks}
-use Rattle.arc_workers.specs.Works.{Works}
-use Rattle.arc_workers.specs.declared.ticking.Ticked.{Ticked}
-use Rattle.arc_workers.specs.declared.working.Worked.{Worked}
+use Rattle.arc_serving.specs.declared.side.Side.{Side}
+use Rattle.arc_serving.specs.Ticks.{WorksTicks}
+use Rattle.arc_serving.specs.Works.{Works}
+use Rattle.arc_serving.specs.declared.ticking.Ticked.{Ticked}
+use Rattle.arc_serving.specs.declared.working.Worked.{Worked}
 use Rattle.line_gate.specs.Passes.{PassSeen, IsPass}
 use Rattle.line_gate.specs.Terms.{Terms}
 

@@ -2,8 +2,8 @@
 use Rattle.std.specs.Prelude.{List, Option}
 use Rattle.arc_doors.specs.Doors.{DoorSeen}
 use Rattle.arc_doors.specs.Pulses.{Moments}
-use Rattle.arc_workers.specs.declared.ticking.Ticked.{Ticked}
-use Rattle.arc_workers.specs.declared.working.Worked.{Worked}
+use Rattle.arc_serving.specs.declared.ticking.Ticked.{Ticked}
+use Rattle.arc_serving.specs.declared.working.Worked.{Worked}
 
 -- what stands around a store: what the doors of either side tell, and the pulse
 pub record StationSeen : Type 0 where

@@ -2,7 +2,7 @@
 use Rattle.std.specs.Prelude.{◌≡◌, ◌≤◌, ℕ, List, [], ◌∷◌, ◌++◌, Some, All, map}
 use Rattle.alarm_rules.specs.Setups.{meaning}
 use Rattle.arc_io.specs.Disks.{DiskSeen}
-use Rattle.arc_sessions.specs.declared.side.Side.TheVariants.{Lines, Desks}
+use Rattle.arc_serving.specs.declared.side.Side.TheVariants.{Lines, Desks}
 use Rattle.centre_rules.specs.History.{marks}
 use Rattle.centre_rules.specs.Marks.{force}
 use Rattle.centre_rules.specs.Summary.{Summary}

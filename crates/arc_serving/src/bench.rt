@@ -8,7 +8,7 @@ use crate::job::Job;
 use arc_data::Memory;
 use arc_doors::Door;
 use arc_io::Disk;
-use arc_workers::Worked;
+use crate::working::Worked;
 use line_gate::{Gate, GateName, Pass};
 use std::alloc::Global;
 use std::sync::Wait;

@@ -2,15 +2,17 @@
 ghost use Rattle.std.specs.Prelude.{◌≡◌, ◌<◌, ℕ, length, slice_index_or};
 ghost use Rattle.std.specs.List.{AllZip};
 ghost use Rattle.std.specs.Thread.{IsSync};
-ghost use Rattle.arc_sessions.specs.declared.side.Side.TheVariants.{Lines, Desks};
-ghost use Rattle.arc_workers.specs.Ticks.{WorksTicks};
+ghost use Rattle.arc_serving.specs.declared.side.Side.TheVariants.{Lines, Desks};
+ghost use Rattle.arc_serving.specs.Ticks.{WorksTicks};
 ghost use Rattle.line_gate.specs.Passes.{IsPass};
 ghost use Rattle.arc_serving.specs.Jobs.{IsJobDone};
 
 use crate::job::Job;
 use arc_doors::{Door, Pulse};
 use arc_io::Disk;
-use arc_workers::{Side, Ticked, ticker, worker};
+use crate::side::Side;
+use crate::ticking::{Ticked, ticker};
+use crate::working::worker;
 use line_gate::{Gate, GateName, Pass};
 use std::alloc::Global;
 use std::sync::Wait;

@@ -2,7 +2,8 @@
 use arc_data::Memory;
 use arc_doors::{Door, Pulse};
 use arc_io::Disk;
-use arc_workers::{Ticked, Worked};
+use crate::ticking::Ticked;
+use crate::working::Worked;
 use centre_store::Store;
 use std::marker::Model;
 

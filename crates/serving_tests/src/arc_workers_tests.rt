@@ -8,7 +8,7 @@ use crate::same::same;
 use crate::stores::blank_of;
 use arc_doors::{ListPulse, MemDoor, Pulse};
 use arc_io::{Disk, MemDisk, MemPort, Port};
-use arc_workers::{Side, Ticked, Worked, WorkerEnd, desk_worker, line_worker, ticker};
+use arc_serving::{Side, Ticked, Worked, WorkerEnd, desk_worker, line_worker, ticker};
 use centre_core::Stop;
 use disk_journal::Limits;
 use line_gate::{Blank, Gate, GateName};

@@ -1,6 +1,6 @@
 // What no clause says: that a session of each kind succeeds, byte for byte.
 use crate::same::same;
-use arc_sessions::{SessionEnd, Side, serve};
+use arc_serving::{SessionEnd, Side, serve};
 use std::alloc::Global;
 use std::process::Abort;
 use test_stations::halls::ram_hall;

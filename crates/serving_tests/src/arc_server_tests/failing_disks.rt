@@ -6,7 +6,7 @@ use super::SETUP;
 use crate::same::{holds, same};
 use arc_io::{Area, Disk, ListClock, ListNoise, MemDisk, MemPort, MemSink, MemSource, Port};
 use arc_script::{ScriptEnd, ScriptEnded, run_script};
-use arc_sessions::{SessionEnd, Side, serve};
+use arc_serving::{SessionEnd, Side, serve};
 use centre_core::{Setup, Stop};
 use centre_store::Store;
 use disk_journal::{Bodies, Journal, SHIPPED};

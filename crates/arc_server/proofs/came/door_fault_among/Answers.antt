@@ -1,5 +1,5 @@
 use Rattle.std.specs.List.{flat_map}
-use Rattle.arc_sessions.specs.declared.side.Side.TheVariants.{Lines, Desks}
+use Rattle.arc_serving.specs.declared.side.Side.TheVariants.{Lines, Desks}
 use Rattle.arc_server.specs.Servings.{door_fault_in}
 use Rattle.arc_server.proofs.Fronts.{front_both}
 use Rattle.arc_server.proofs.came.door_fault_among.Goals as goal

@@ -1,0 +1,37 @@
+-- What is so of a session of either kind.
+use Rattle.std.proofs.Common.{◌≡◌, ◌++◌, ℕ, List, Option, Some, None, sym, ap, ◌∙◌, subst}
+use Rattle.std.specs.Prelude.{reverse}
+use Rattle.arc_io.specs.Seen.{PortSeen}
+use Rattle.centre_core.specs.Halls.{HallSeen}
+use Rattle.centre_rules.specs.Answers.{IsLegal}
+use Rattle.centre_rules.specs.History.{Entry}
+use Rattle.centre_rules.specs.Summary.{Summary}
+use Rattle.line_session.specs.declared.line_end.LineEnd.{LineEnd}
+use Rattle.session_rules.specs.Sessions.{Way}
+use Rattle.arc_serving.specs.Sessions.{Serves, ServesOneLine, line_end, IsHistoryAfter}
+use Rattle.arc_serving.specs.declared.session.SessionEnd.{SessionEnd}
+use Rattle.arc_serving.specs.declared.side.Side.{Side}
+use Rattle.arc_serving.specs.declared.side.Side.TheVariants.{Lines, Desks}
+
+-- a session that went so, said of its way
+after_way : (b : Summary) (w : Way) (hall hall' : HallSeen) (to made : List Entry) → w.to ≡ to → w.made ≡ made → hall'.stands b to → IsLegal b to
+    → hall'.own to ≡ reverse made ++ hall.own w.from → IsHistoryAfter b w hall hall'
+after_way b w hall hall' to made goes makes holds legal own = record {
+  holds = subst (hall'.stands b) (sym goes) holds;
+  legal = subst (IsLegal b) (sym goes) legal;
+  own = ap hall'.own goes ∙ own ∙ ap (λ (es : List Entry). reverse es ++ hall.own w.from) (sym makes);
+}
+
+line_after : (end : Option LineEnd) (read : List ℕ) (b : Summary) (w : Way) (hall hall' : HallSeen) (p p' : PortSeen)
+    → ServesOneLine end read b w hall hall' p p' → IsHistoryAfter b w hall hall'
+line_after None read b w hall hall' p p' serves = absurd serves
+line_after (Some end) read b w hall hall' p p' serves =
+    after_way b w hall hall' serves.session.history _ serves.to serves.made serves.session.holds serves.session.legal serves.session.own
+
+-- the hall stands for the history that it ended with, which is legal, and the caller's own part grew by its entries
+pub is_after : (side : Side) (end : SessionEnd) (read : List ℕ) (b : Summary) (w : Way) (hall hall' : HallSeen) (p p' : PortSeen)
+    → Serves side end read b w hall hall' p p' → IsHistoryAfter b w hall hall'
+is_after Lines end read b w hall hall' p p' serves = line_after (line_end end) read b w hall hall' p p' serves
+is_after Desks end read b w hall hall' p p' serves =
+    after_way b w hall hall' serves.desk.session.history _ serves.to serves.made serves.desk.session.holds serves.desk.session.legal
+    serves.desk.session.own

@@ -1,0 +1,137 @@
+-- What a session over a gate tells of its pass.
+use Rattle.std.proofs.Common.{◌≡◌, ◌-◌, ℕ, List, [], ◌∷◌, ◌++◌, Option, Some, None, length, take, refl, sym, ap, ◌∙◌, subst, arith, length-append, append_assoc}
+use Rattle.std.proofs.lemmas.List.{reverse-reverse, reverse-append, append_cancel_right}
+use Rattle.std.proofs.lemmas.List.Elements.{All-append, All-nil}
+use Rattle.std.specs.Prelude.{All, reverse}
+use Rattle.alarm_rules.specs.Setups.{meaning}
+use Rattle.arc_io.specs.Seen.{PortSeen}
+use Rattle.arc_serving.proofs.After.{is_after}
+use Rattle.arc_serving.specs.Sessions.{Serves, ServesOneLine, line_end}
+use Rattle.arc_serving.specs.declared.session.SessionEnd.{SessionEnd}
+use Rattle.arc_serving.specs.declared.side.Side.{Side}
+use Rattle.arc_serving.specs.declared.side.Side.TheVariants.{Lines, Desks}
+use Rattle.centre_core.specs.Halls.{HallSeen}
+use Rattle.centre_rules.specs.Summary.{Summary}
+use Rattle.line_gate.proofs.AtHalls.{same_base}
+use Rattle.line_gate.proofs.Histories.{extends_self, extends_further}
+use Rattle.line_gate.specs.AtGates.{AtSeen, own_of, gate_seen}
+use Rattle.line_gate.specs.Entries.{Entry, Extends, made_by}
+use Rattle.line_gate.specs.Passes.{PassSeen, IsPass}
+use Rattle.line_gate.specs.Terms.{Terms}
+use Rattle.line_session.specs.declared.line_end.LineEnd.{LineEnd}
+use Rattle.session_rules.specs.Sessions.{Goes, Way}
+use Rattle.arc_serving.proofs.DeskTurns as Desk
+use Rattle.arc_serving.proofs.LineTurns as Line
+use Rattle.arc_serving.specs.Served.{Served, ServesAtGate, way_at, AreServed, IsSubmittedBy, MakesEntries, entries_in, made_between}
+
+-- A session's history begins with the one before it.
+
+line_extends : (end : Option LineEnd) (read : List ℕ) (b : Summary) (w : Way) (hall hall' : HallSeen) (p p' : PortSeen) → ServesOneLine end read b w hall hall' p p' → Extends w.from w.to
+line_extends None read b w hall hall' p p' s = absurd s
+line_extends (Some end) read b w hall hall' p p' s =
+    subst (Extends w.from) (sym s.to) (Line.turns_extend b (meaning hall.text) hall.caller w.from s.session.history s.session.turns s.session.each)
+
+goes_extends : (side : Side) (end : SessionEnd) (read : List ℕ) (b : Summary) (w : Way) (hall hall' : HallSeen) (p p' : PortSeen) → Serves side end read b w hall hall' p p' → Extends w.from w.to
+goes_extends Lines end read b w hall hall' p p' s = line_extends (line_end end) read b w hall hall' p p' s
+goes_extends Desks end read b w hall hall' p p' s =
+    subst (Extends w.from) (sym s.to) (Desk.turns_extend b (meaning hall.text) hall.caller None w.from s.desk.session.history s.desk.session.turns s.desk.session.each.0)
+
+-- Its entries are of events of its kind.
+
+abbrev OnlyOf : Side → List Entry → Type 0
+OnlyOf side es = All (λ (e : Entry). IsSubmittedBy side e.event) es
+
+line_only : (end : Option LineEnd) (read : List ℕ) (b : Summary) (w : Way) (hall hall' : HallSeen) (p p' : PortSeen) → ServesOneLine end read b w hall hall' p p' → OnlyOf Lines w.made
+line_only None read b w hall hall' p p' s = absurd s
+line_only (Some end) read b w hall hall' p p' s =
+    subst (OnlyOf Lines) (sym s.made) (Line.turns_report b (meaning hall.text) hall.caller w.from s.session.history s.session.turns s.session.each)
+
+entries_only : (side : Side) (end : SessionEnd) (read : List ℕ) (b : Summary) (w : Way) (hall hall' : HallSeen) (p p' : PortSeen) → Serves side end read b w hall hall' p p' → OnlyOf side w.made
+entries_only Lines end read b w hall hall' p p' s = line_only (line_end end) read b w hall hall' p p' s
+entries_only Desks end read b w hall hall' p p' s =
+    subst (OnlyOf Desks) (sym s.made) (Desk.turns_request b (meaning hall.text) hall.caller None w.from s.desk.session.history s.desk.session.turns s.desk.session.each.0)
+
+-- What the pass made.
+
+take_front : (a b : List Entry) → take (length a) (a ++ b) ≡ a
+take_front [] b = refl
+take_front (x ∷ a) b = ap (λ (y : List Entry). x ∷ y) (take_front a b)
+
+-- what was made since is what was put before what was made then
+between : (es m n : List Entry) → n ≡ reverse es ++ m → reverse (take (length n - length m) n) ≡ es
+between es m n same =
+    let long : length n - length m ≡ length (reverse es) = omega (arith, ap length same, length-append (reverse es) m) in
+    ap reverse (ap (λ (k : ℕ). take k n) long ∙ ap (take (length (reverse es))) same ∙ take_front (reverse es) m) ∙ reverse-reverse es
+
+-- the own part of a history for which the hall stands is what the pass made
+own_at : (t : Terms) (p : PassSeen) (b : Summary) (h : List Entry) → AtSeen t p b h → own_of p h ≡ p.made
+own_at t p b h w = ap (λ (l : List Entry). made_by p.number (take (length p.since) l)) w.seen ∙ ap (made_by p.number) (take_front p.since w.base) ∙ w.pass.own
+
+-- the base of a history that goes on from one over a base is that base
+base_at : (t : Terms) (p q : PassSeen) (b : Summary) (base h : List Entry) → IsPass t p → t.stood b base → Extends (p.since ++ base) h → (w : AtSeen t q b h) → base ≡ w.base
+base_at t p q b base h pass from extends w =
+    let x = extends.0 in
+    same_base b t.entries base w.base (x ++ p.since) q.since (pass.of_gate.long b base from) (pass.of_gate.long b w.base w.from) (append_assoc x p.since base ∙ sym extends.1 ∙ w.seen)
+
+-- what a session of the pass made, over a base
+made_at : (side : Side) (t : Terms) (p q : PassSeen) (read : List ℕ) (given back : PortSeen) (end : SessionEnd) (b : Summary) (base to made : List Entry) → IsPass t p → t.stood b base
+    → Serves side end read b (record { from = p.since ++ base; to = to; made = made }) (gate_seen t p) (gate_seen t q) given back → q.made ≡ reverse made ++ p.made
+made_at side t p q read given back end b base to made pass from w =
+    let h = p.since ++ base in
+    let after = is_after side end read b (record { from = h; to = to; made = made }) (gate_seen t p) (gate_seen t q) given back w in
+    let before : own_of p h ≡ p.made = own_at t p b h (record { base = base; from = from; seen = refl; pass = pass }) in
+    sym (own_at t q b to after.holds) ∙ after.own ∙ ap (λ (m : List Entry). reverse made ++ m) before
+
+-- a session over the gate as a hall, in terms of what the pass had seen before and after
+serves_at_gate : (side : Side) (t : Terms) (p q : PassSeen) (read : List ℕ) (given back : PortSeen) (end : SessionEnd) → IsPass t p → (b : Summary) (base : List Entry) → t.stood b base
+    → Goes (p.since ++ base) (λ w. Serves side end read b w (gate_seen t p) (gate_seen t q) given back)
+    → ServesAtGate side t b base p q read (record { given = given; back = back; end = end; entries = made_between p q })
+serves_at_gate side t p q read given back end pass b base from goes =
+    let h = p.since ++ base in
+    let to = goes.0 in
+    let made = goes.1 in
+    let way : Way = record { from = h; to = to; made = made } in
+    let at : AtSeen t q b to = (is_after side end read b way (gate_seen t p) (gate_seen t q) given back goes.2).holds in
+    let same : base ≡ at.base = base_at t p q b base to pass from (goes_extends side end read b way (gate_seen t p) (gate_seen t q) given back goes.2) at in
+    let ended : to ≡ q.since ++ base = at.seen ∙ ap (λ (l : List Entry). q.since ++ l) (sym same) in
+    let entries : made ≡ made_between p q = sym (between made p.made q.made (made_at side t p q read given back end b base to made pass from goes.2)) in
+    subst (λ (x : List Entry). Serves side end read b (record { from = h; to = x; made = made_between p q }) (gate_seen t p) (gate_seen t q) given back) ended
+    (subst (λ (es : List Entry). Serves side end read b (record { from = h; to = to; made = es }) (gate_seen t p) (gate_seen t q) given back) entries goes.2)
+
+-- the same, where the pass was taken out of the hall
+pub serves_left : (side : Side) (t : Terms) (p q m : PassSeen) (read : List ℕ) (given back : PortSeen) (end : SessionEnd) → IsPass t p → q ≡ m
+    → ((b : Summary) (h : List Entry) → AtSeen t p b h → Goes h (λ w. Serves side end read b w (gate_seen t p) (gate_seen t m) given back))
+    → (b : Summary) (base : List Entry) → t.stood b base → ServesAtGate side t b base p q read (record { given = given; back = back; end = end; entries = made_between p q })
+serves_left side t p q m read given back end pass left w b base from = serves_at_gate side t p q read given back end pass b base from
+    (subst (λ (k : PassSeen). Goes (p.since ++ base) (λ v. Serves side end read b v (gate_seen t p) (gate_seen t k) given back))
+    (sym left) (w b (p.since ++ base) (record { base = base; from = from; seen = refl; pass = pass })))
+
+-- what a pass made in a session
+makes_in_session : (side : Side) (t : Terms) (p q : PassSeen) (read : List ℕ) (s : Served) (b : Summary) (base : List Entry) → IsPass t p → t.stood b base
+    → ServesAtGate side t b base p q read s → MakesEntries side p q s.entries
+makes_in_session side t p q read s b base pass from w =
+    let way = way_at base p q s.entries in
+    let extends = goes_extends side s.end read b way (gate_seen t p) (gate_seen t q) s.given s.back w in
+    let whole : q.since ++ base ≡ (extends.0 ++ p.since) ++ base = extends.1 ∙ sym (append_assoc extends.0 p.since base) in record {
+      made = made_at side t p q read s.given s.back s.end b base (q.since ++ base) s.entries pass from w;
+      only = entries_only side s.end read b way (gate_seen t p) (gate_seen t q) s.given s.back w;
+      seen = (extends.0, append_cancel_right q.since (extends.0 ++ p.since) base whole);
+    }
+
+-- what a pass made in many
+pub makes_in_order : (side : Side) (t : Terms) (p q : PassSeen) (ss : List Served) → IsPass t p → AreServed side t p q ss → (b : Summary) (base : List Entry) → t.stood b base
+    → MakesEntries side p q (entries_in ss)
+makes_in_order side t p q [] pass w b base from = record {
+  made = ap (λ (k : PassSeen). k.made) w;
+  only = All-nil (λ (e : Entry). IsSubmittedBy side e.event);
+  seen = subst (λ (k : PassSeen). Extends p.since k.since) (sym w) (extends_self p.since);
+}
+makes_in_order side t p q (s ∷ ss) pass w b base from =
+    let mid = w.0 in
+    let one = makes_in_session side t p mid w.1.read s b base pass from (w.1.serves b base from) in
+    let more = makes_in_order side t mid q ss w.1.pass w.2 b base from in record {
+      made = more.made ∙ ap (λ (m : List Entry). reverse (entries_in ss) ++ m) one.made ∙ sym (append_assoc (reverse (entries_in ss)) (reverse s.entries) p.made)
+          ∙ ap (λ (l : List Entry). l ++ p.made) (sym (reverse-append s.entries (entries_in ss)));
+      only = All-append (λ (e : Entry). IsSubmittedBy side e.event) s.entries (entries_in ss) one.only more.only;
+      seen = extends_further p.since mid.since q.since one.seen more.seen;
+    }

@@ -1,0 +1,89 @@
+-- What a ticker did with the moments of its pulse, and what its pass made of them.
+use Rattle.std.specs.Prelude.{◌≡◌, ◌-◌, ◌^◌, ◌++◌, ℕ, min, List, [], ◌∷◌, false}
+use Rattle.std.specs.Prelude.{Option, Some, None, MatchOption, is_none, count_by, map, reverse, flat_map}
+use Rattle.std.specs.Option.{option_to_list}
+use Rattle.arc_data.specs.declared.event.Event.TheVariants.{Tick}
+use Rattle.arc_doors.specs.Pulses.{Moments, HasNoMoment}
+use Rattle.centre_core.specs.declared.hall.Stop.{Stop}
+use Rattle.line_gate.specs.Entries.{Entry}
+use Rattle.line_gate.specs.Passes.{PassSeen, IsPass, IsLater, Makes, PassShows}
+use Rattle.line_gate.specs.Terms.{Terms}
+use Rattle.arc_serving.specs.Works.{is_memory}
+use Rattle.arc_serving.specs.declared.ticking.Ticked.{Ticked}
+
+-- one moment that the pulse gave, and the entry of its Tick, where it has one
+pub record Ticking : Type 0 where
+  pub moment : ℕ
+  pub entry : Option Entry
+
+-- the entry that was made at this moment is a Tick's; or nothing was made
+abbrev pub MakesTick : Terms → PassSeen → PassSeen → ℕ → Option Entry → Type 0
+MakesTick t p q moment (Some e) = Makes t p q moment e × (e.caller ≡ p.number) × (e.event ≡ Tick)
+MakesTick t p q moment None = q.made ≡ p.made
+
+-- a Tick was submitted by the pass, which was p before it and q after it
+pub record IsTicked (t : Terms) (p q : PassSeen) (s : Ticking) : Type 0 where
+  pub later : IsLater p q
+  pub pass : IsPass t q
+  pub makes : MakesTick t p q s.moment s.entry
+
+-- the Ticks were submitted one after another
+abbrev pub AreTicked : Terms → PassSeen → PassSeen → List Ticking → Type 0
+AreTicked t p q [] = q ≡ p
+AreTicked t p q (s ∷ ss) = (mid : PassSeen) × IsTicked t p mid s × AreTicked t mid q ss
+
+-- all entries of these Ticks, in order
+abbrev pub ticks_in : List Ticking → List Entry
+ticks_in ticks = flat_map (λ s. option_to_list s.entry) ticks
+
+abbrev pub moments_in : List Ticking → List ℕ
+moments_in ticks = map (λ s. s.moment) ticks
+
+-- how many have no entry, as a u64 counts them
+abbrev pub missed_in : List Ticking → ℕ
+missed_in ticks = min (count_by (λ s. is_none s.entry) ticks) (2 ^ 64 - 1)
+
+-- of a pulse that tells its moments: these were given, in order
+pub record MovesMoments (ticks : List Ticking) (old new : Moments) : Type 0 where
+  pub left : old.left ≡ moments_in ticks ++ new.left
+  pub given : new.given ≡ old.given ++ moments_in ticks
+
+-- and of any pulse
+abbrev pub HasTicked : List Ticking → Option Moments → Option Moments → Type 0
+HasTicked ticks None None = Unit {0}
+HasTicked ticks (Some old) (Some new) = MovesMoments ticks old new
+HasTicked ticks None (Some new) = ⊥
+HasTicked ticks (Some old) None = ⊥
+
+-- The last of these Ticks was stopped, not by want of memory, as the pass shows. Each earlier one that has no entry was refused
+-- memory.
+pub record IsTickStopped (t : Terms) (q : PassSeen) (stop : Stop) (refused : ℕ) (ticks : List Ticking) : Type 0 where
+  pub front : List Ticking
+  pub last : Ticking
+  pub parts : ticks ≡ front ++ last ∷ []
+  pub none : last.entry ≡ None
+  pub other : is_memory stop ≡ false
+  pub shown : PassShows t q stop Tick last.moment
+  pub missed : refused ≡ missed_in front
+
+-- the cause of a ticker's end: no moment came, or there was a stop
+abbrev pub EndsTicking : Option Stop → Terms → PassSeen → Option Moments → ℕ → List Ticking → Type 0
+EndsTicking None t q pulse refused ticks = HasNoMoment pulse × (refused ≡ missed_in ticks)
+EndsTicking (Some stop) t q pulse refused ticks = IsTickStopped t q stop refused ticks
+
+-- What a ticker did, from the pass p and the pulse as they were handed in, to the pass q and the pulse as they then are. What the pass
+-- made are Ticks alone, in order, one for each moment but those that were refused memory and the one that was stopped.
+pub record WorksTicks (t : Terms) (p q : PassSeen) (pulse pulse' : Option Moments) (ticked : Ticked) : Type 0 where
+  pub ticks : List Ticking
+  pub each : AreTicked t p q ticks
+  pub moments : HasTicked ticks pulse pulse'
+  pub made : q.made ≡ reverse (ticks_in ticks) ++ p.made
+  pub later : IsLater p q
+  pub ended : EndsTicking ticked.stop t q pulse' ticked.refused ticks
+
+-- what one call made of a moment
+abbrev pub TicksOnce : Terms → PassSeen → PassSeen → ℕ → Option Stop → Type 0
+TicksOnce t p q moment r =
+    MatchOption r
+    ((e : Entry) × IsTicked t p q (record { moment = moment; entry = Some e }))
+    (λ stop. IsTicked t p q (record { moment = moment; entry = None }) × PassShows t q stop Tick moment)

@@ -1,6 +1,0 @@
-pub mod LineTurns
-pub mod DeskTurns
-pub mod Sessions
-pub mod Links
-pub mod SoFar
-pub mod Moments

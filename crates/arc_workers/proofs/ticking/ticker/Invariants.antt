@@ -1,5 +1,0 @@
-use Rattle.arc_workers.proofs.Moments.{TickedSoFar}
-use Rattle.arc_workers.proofs.ticking.ticker.Given as goal
-
-abbrev pub invariant-loop : goal.invariant-loop
-invariant-loop g l = TickedSoFar g.N.GateName.terms l.initial.pass l.pass (g.T.Pulse.moments l.initial.pulse) (g.T.Pulse.moments l.pulse) l.refused
