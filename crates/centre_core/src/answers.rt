@@ -56,7 +56,7 @@ impl Centre {
             return Ok(alone(alloc, Reply::Unknown));
         }
         let content = message.content.bytes();
-        let Some(signals) = alarm_data::signals(message.token, content) else {
+        let Some(signals) = content_signals::signals(message.token, content) else {
             return Ok(alone(alloc, Reply::Unknown));
         };
         if let Some(first) = self.accounts.rows().repeat(message, at) {

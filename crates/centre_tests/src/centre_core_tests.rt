@@ -17,8 +17,8 @@ use arc_data::Txt;
 use centre_core::{Centre, Done, Event, Hall, Memory, RamHall, Ready, Reply, Stop};
 use std::alloc::Global;
 use std::process::Abort;
-use test_stations::halls::ram_hall;
-use test_stations::moments::BEGIN;
+use test_fixtures::halls::ram_hall;
+use test_fixtures::moments::BEGIN;
 use words::{answer_of, event_of};
 
 const SETUP: &[u8] = b"account 1234\noperator ann 1234\n";

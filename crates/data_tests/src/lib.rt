@@ -10,8 +10,6 @@ mod action_plans_tests;
 #[cfg(test)]
 mod aes_chain_tests;
 #[cfg(test)]
-mod alarm_data_tests;
-#[cfg(test)]
 mod alarm_signal_tests;
 #[cfg(test)]
 mod arc_data_tests;
@@ -23,6 +21,8 @@ mod checks;
 mod civil_time_tests;
 #[cfg(test)]
 mod contact_id_tests;
+#[cfg(test)]
+mod content_signals_tests;
 #[cfg(test)]
 mod event_codec_tests;
 #[cfg(test)]

@@ -8,8 +8,8 @@ ghost use Rattle.dc09_message.specs.Reading.{data_in};
 
 use crate::blocks::Blocks;
 use crate::kind::MessageKind;
-use alarm_data::signals;
 use arc_data::{Token, Txt};
+use content_signals::signals;
 use dc09_frame::{Alphabet, Header, after_byte, run_at};
 
 // How many bytes a tail has behind its `_`.

@@ -3,8 +3,8 @@ ghost use Rattle.std.specs.Prelude.{◌≡◌};
 ghost use Rattle.std.specs.List.{list_any};
 ghost use Rattle.panel_rules.specs.Panels.{is_bad, is_barred};
 
-use alarm_data::signals;
 use arc_data::Token;
+use content_signals::signals;
 
 // The most bytes of the data: with the longest header a body has fewer than 4,095.
 const CONTENT_LIMIT: usize = 3900;

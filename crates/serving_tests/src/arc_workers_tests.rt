@@ -17,8 +17,8 @@ use std::marker::Brand;
 use std::process::Abort;
 use std::sync::Wait;
 use std::sync::atomic::AtomicBool;
-use test_stations::moments::BEGIN;
-use test_stations::ports::port_of;
+use test_fixtures::moments::BEGIN;
+use test_fixtures::ports::port_of;
 
 // Its Adopt takes 57 bytes of a journal, and a Start takes 14.
 const SETUP: &[u8] = b"account 8080 beat 60\noperator ann 1234\n";

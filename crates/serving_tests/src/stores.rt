@@ -9,8 +9,8 @@ use disk_journal::Limits;
 use line_gate::Blank;
 use std::alloc::Global;
 use std::process::Abort;
-use test_stations::moments::BEGIN;
-use test_stations::stores::opened;
+use test_fixtures::moments::BEGIN;
+use test_fixtures::stores::opened;
 
 /// The store that a disk is opened as, on which a run has begun.
 pub(crate) fn begun(

@@ -4,7 +4,7 @@ use arc_data::{Token, Txt};
 use arc_panel::{PanelEnd, PanelLine, is_panel_account, run_panel};
 use std::alloc::Global;
 use std::process::Abort;
-use test_stations::ports::failing_port;
+use test_fixtures::ports::failing_port;
 
 // How the input ends, played over a panel of the account 1234, and what it writes.
 fn plays(

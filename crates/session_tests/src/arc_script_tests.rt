@@ -9,8 +9,8 @@ use centre_core::Stop;
 use disk_journal::{Limits, OpenFault};
 use std::alloc::Global;
 use std::process::Abort;
-use test_stations::ports::failing_port;
-use test_stations::stores::recorded;
+use test_fixtures::ports::failing_port;
+use test_fixtures::stores::recorded;
 
 const SETUP: &[u8] = b"\
 account 1234

@@ -3,8 +3,8 @@ use crate::same::same;
 use arc_serving::{SessionEnd, Side, serve};
 use std::alloc::Global;
 use std::process::Abort;
-use test_stations::halls::ram_hall;
-use test_stations::ports::port_of;
+use test_fixtures::halls::ram_hall;
+use test_fixtures::ports::port_of;
 
 // What a session of this kind with this input answers, over a hall of a run that has begun, and how it ends.
 fn check_session(

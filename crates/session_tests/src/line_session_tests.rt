@@ -12,7 +12,7 @@ use centre_core::RamHall;
 use line_session::{LineEnd, serve_line};
 use std::alloc::Global;
 use std::process::Abort;
-use test_stations::halls::ram_hall;
+use test_fixtures::halls::ram_hall;
 
 const SETUP: &[u8] = b"account 7777\n";
 

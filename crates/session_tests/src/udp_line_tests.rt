@@ -7,8 +7,8 @@ use arc_io::{ListClock, ListNoise};
 use centre_core::{RamHall, Stop};
 use std::alloc::Global;
 use std::process::Abort;
-use test_stations::halls::ram_hall;
-use test_stations::moments::BEGIN;
+use test_fixtures::halls::ram_hall;
+use test_fixtures::moments::BEGIN;
 use udp_line::{MailEnd, serve_mail};
 
 const SETUP: &[u8] = b"account 1234\n";

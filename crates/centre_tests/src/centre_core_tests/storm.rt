@@ -11,8 +11,8 @@ use arc_data::{Blob, Token, Txt};
 use centre_core::{Centre, Event, Hall, RamHall, Reply, Setup};
 use std::alloc::Global;
 use std::process::Abort;
-use test_stations::messages::{account, burglary, message};
-use test_stations::moments::BEGIN;
+use test_fixtures::messages::{account, burglary, message};
+use test_fixtures::moments::BEGIN;
 
 // Submits a burglary of the account, which must be taken.
 fn alarm(rt: &impl Abort, alloc: Global, hall: &mut RamHall, account: Txt, seq: u16, at: u64)

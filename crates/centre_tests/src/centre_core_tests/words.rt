@@ -6,7 +6,7 @@ ghost use Rattle.arc_data.specs.WellFormed.{IsWellFormed};
 use arc_data::{Blob, CloseCode, Event, Outcome, Reply, Step, Token, Txt};
 use std::alloc::Global;
 use std::process::Abort;
-use test_stations::messages::{account, burglary, message};
+use test_fixtures::messages::{account, burglary, message};
 
 /// The event of a word: `adopt` of a setup whose account 1234 has no interval, one of 60 seconds, or is lacking, of one without operators,
 /// or of one with the account 9999 before it; a message, an opening or a heartbeat of that account, a message of that other one; an order of the operator ann on incident 1; `start`, `tick` and `list`.

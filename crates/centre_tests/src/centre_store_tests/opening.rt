@@ -7,7 +7,7 @@ use centre_store::Store;
 use disk_journal::{OpenFault, SHIPPED};
 use std::alloc::Global;
 use std::process::Abort;
-use test_stations::stores::{opened, recorded};
+use test_fixtures::stores::{opened, recorded};
 
 fn disk_of(rt: &impl Abort, alloc: Global, bytes: &[u8]) -> MemDisk {
     let bytes = bytes.to_vec(alloc).expect(rt, "memory");

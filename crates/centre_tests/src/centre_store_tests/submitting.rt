@@ -14,9 +14,9 @@ use disk_journal::{Limits, SHIPPED};
 use std::alloc::Global;
 use std::fmt::Display;
 use std::process::Abort;
-use test_stations::messages::{account, message};
-use test_stations::moments::BEGIN;
-use test_stations::stores::{opened, recorded};
+use test_fixtures::messages::{account, message};
+use test_fixtures::moments::BEGIN;
+use test_fixtures::stores::{opened, recorded};
 
 // What is told to each part `words=answer` of a row, over the store of a disk. The disk at the end.
 fn play(rt: &impl Abort, alloc: Global, disk: MemDisk, limits: Limits, row: &str) -> MemDisk

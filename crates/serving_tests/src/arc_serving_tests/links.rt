@@ -10,7 +10,7 @@ use std::sync::atomic::{AtomicBool, Ordering};
 use std::sync::{Arc, Wait};
 use std::time::Duration;
 use std::{thread, time};
-use test_stations::moments::BEGIN;
+use test_fixtures::moments::BEGIN;
 
 // How many turns of a millisecond a link or a pulse waits.
 const TURNS: usize = 10_000;

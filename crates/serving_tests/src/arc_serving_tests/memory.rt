@@ -9,8 +9,8 @@ use arc_io::MemPort;
 use arc_serving::{Came, Crew, Station, Ticked, Worked, WorkerEnd};
 use std::alloc::Global;
 use std::process::Abort;
-use test_stations::moments::BEGIN;
-use test_stations::ports::port_of;
+use test_fixtures::moments::BEGIN;
+use test_fixtures::ports::port_of;
 
 // What two doors with a link each have written, and one without.
 const LINES: &[u8] = b"\n13940012\"ACK\"0000L0#5150[]\r|\n\n13940012\"ACK\"0000L0#5150[]\r|\n\n";

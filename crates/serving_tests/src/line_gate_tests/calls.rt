@@ -13,8 +13,8 @@ use std::alloc::Global;
 use std::marker::Brand;
 use std::process::Abort;
 use std::sync::Wait;
-use test_stations::messages::{account, burglary};
-use test_stations::moments::BEGIN;
+use test_fixtures::messages::{account, burglary};
+use test_fixtures::moments::BEGIN;
 
 const SETUP: &[u8] = b"account 1234\noperator ann 1234\noperator bob 5678\n";
 

@@ -8,8 +8,8 @@ ghost use Rattle.event_codec.specs.Spelling.{IsKept};
 
 use arc_data::{CloseCode, Event, Memory, Outcome, Reply, Step, Txt};
 use std::alloc::Global;
-use test_stations::messages::burglary;
-use test_stations::moments::BEGIN;
+use test_fixtures::messages::burglary;
+use test_fixtures::moments::BEGIN;
 
 /// Their setup.
 pub(super) const SETUP: &[u8] = b"account 1000

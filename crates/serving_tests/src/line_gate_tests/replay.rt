@@ -13,7 +13,7 @@ use disk_journal::{Bodies, Journal, SHIPPED};
 use event_codec::encode;
 use std::alloc::Global;
 use std::process::Abort;
-use test_stations::halls::ram_hall;
+use test_fixtures::halls::ram_hall;
 
 /// What a caller was told of its events, in order, and how many of them the history has accounted for.
 #[derive(Drop)]

@@ -7,7 +7,7 @@ use centre_core::Stop;
 use desk_session::{DeskEnd, DeskState, law_sessions_join, serve_desk};
 use std::alloc::Global;
 use std::process::Abort;
-use test_stations::ports::{failing_port, port_of};
+use test_fixtures::ports::{failing_port, port_of};
 
 const INPUT: &[u8] = b"login ann 1234\nlist\nnext\nclaim 1";
 

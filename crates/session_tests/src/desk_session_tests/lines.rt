@@ -6,7 +6,7 @@ use arc_io::MemPort;
 use desk_session::{DeskEnd, DeskState, serve_desk};
 use std::alloc::Global;
 use std::process::Abort;
-use test_stations::ports::port_of;
+use test_fixtures::ports::port_of;
 
 // What is typed, what is printed, how it ends, and how often the hall is asked. A bar is a line feed.
 const ROWS: &str = "\

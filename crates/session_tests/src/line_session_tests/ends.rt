@@ -8,7 +8,7 @@ use centre_core::{RamHall, Stop};
 use line_session::{LineEnd, LineState, law_sessions_join, serve_line};
 use std::alloc::Global;
 use std::process::Abort;
-use test_stations::ports::{failing_port, port_of};
+use test_fixtures::ports::{failing_port, port_of};
 
 // Three frames, and the replies to them.
 fn input(rt: &impl Abort, alloc: Global) -> Vec<u8> {

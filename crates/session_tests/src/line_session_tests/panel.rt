@@ -2,7 +2,7 @@
 ghost use Rattle.std.specs.Prelude.{◌≡◌, false};
 
 use arc_io::{Clock, Ends, Failed, Noise, Port, Sink, Source};
-use test_stations::moments::BEGIN;
+use test_fixtures::moments::BEGIN;
 
 /// A panel that sends a few bytes at a time, awaits replies, and takes one byte of a reply in each call. A read that comes
 /// before the replies that it awaits fails, and so does one behind the end of the input.

@@ -9,8 +9,8 @@ use centre_core::RamHall;
 use line_session::{LineEnd, LineState};
 use std::alloc::Global;
 use std::process::Abort;
-use test_stations::halls::ram_hall;
-use test_stations::ports::port_of;
+use test_fixtures::halls::ram_hall;
+use test_fixtures::ports::port_of;
 
 // Whole, damaged, cut-off and too long frames.
 fn stream(rt: &impl Abort, alloc: Global) -> Vec<u8> {

@@ -4,7 +4,7 @@ use crate::same::same;
 use line_session::LineEnd;
 use std::alloc::Global;
 use std::process::Abort;
-use test_stations::ports::port_of;
+use test_fixtures::ports::port_of;
 
 // A row is an account, how many entries are recorded at the end, the frames that a panel sends, without their line feeds and
 // carriage returns, and those that it is due, with a `;` between these and a `~` between frames. A line without a `;` is a remark.

@@ -7,7 +7,7 @@ use arc_io::{ListClock, ListNoise};
 use line_session::LineEnd;
 use std::alloc::Global;
 use std::process::Abort;
-use test_stations::ports::port_of;
+use test_fixtures::ports::port_of;
 
 const SETUP: &[u8] =
     b"account 1234 key 000102030405060708090A0B0C0D0E0F\naccount 5678 key 101112131415161718191A1B1C1D1E1F\n";

@@ -3,7 +3,7 @@ ghost use Rattle.std.specs.Prelude.{IfSome};
 ghost use Rattle.centre_rules.specs.Summary.{nothing};
 ghost use Rattle.centre_core.specs.Runs.{begun};
 ghost use Rattle.centre_core.specs.Setting.{IsSetFor};
-ghost use Rattle.test_stations.specs.declared.moments.TheConstants.{BEGIN};
+ghost use Rattle.test_fixtures.specs.declared.moments.TheConstants.{BEGIN};
 
 use crate::moments::BEGIN;
 use centre_core::{RamHall, Setup};

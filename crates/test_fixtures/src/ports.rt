@@ -1,7 +1,7 @@
 // Ports in memory, whose clocks stand where runs begin.
 ghost use Rattle.std.specs.Prelude.{◌≡◌, [], ◌∷◌, false, IfSome};
 ghost use Rattle.arc_io.specs.Memory.{port_seen, source_left, source_failing, sink_bytes, sink_failing, clock_list, noise_list};
-ghost use Rattle.test_stations.specs.declared.moments.TheConstants.{BEGIN};
+ghost use Rattle.test_fixtures.specs.declared.moments.TheConstants.{BEGIN};
 
 use crate::moments::BEGIN;
 use arc_io::{ListClock, ListNoise, MemPort, MemSink, MemSource};

@@ -1,7 +1,7 @@
 // The signals of a content under each token.
 use crate::checks::{holds, is_named, same, same_bytes};
-use alarm_data::signals;
 use arc_data::Token;
+use content_signals::signals;
 use std::process::Abort;
 
 #[test]
