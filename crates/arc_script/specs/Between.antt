@@ -95,7 +95,8 @@ pub record SoFar {D : Type 0} (seen : D → DiskSeen) (b : Begun D) (lines : Lis
   pub writes : b.port.write_faults ≤ p.write_faults
 
 -- A line that asks for this was carried out: its step, and its output on a page.
-pub record CarriedOut {D : Type 0} (seen : D → DiskSeen) (b : Begun D) (before : List Asked) (count number : ℕ) (h : List Entry) (asked : Asked)
+pub record CarriedOut {D : Type 0} (seen : D → DiskSeen) (b : Begun D) (before : List Asked) (count number : ℕ) (h : List Entry)
+    (asked : Asked)
     (t : Tally) (script : Script) (s : Stored D) (p p' : PortSeen) : Type 0 where
   pub step : Step
   pub history : List Entry

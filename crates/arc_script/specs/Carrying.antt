@@ -68,7 +68,8 @@ pub record CountsStep (s : Step) (t t' : Tally) : Type 0 where
 
 -- The line has its step: its output was put, it is counted, and the store stands for the history behind it.
 pub record Carried {D : Type 0} (seen : D → DiskSeen)
-    (base : Summary) (IsStep : List Entry → Step → Type 0) (number : ℕ) (asked : Asked) (t t' : Tally) (p p' : PortSeen) (s : Stored D) : Type 0 where
+    (base : Summary) (IsStep : List Entry → Step → Type 0) (number : ℕ) (asked : Asked) (t t' : Tally) (p p' : PortSeen)
+    (s : Stored D) : Type 0 where
   pub step : Step
   pub history : List Entry
   pub number_is : step.number ≡ number
@@ -80,7 +81,8 @@ pub record Carried {D : Type 0} (seen : D → DiskSeen)
   pub counts : CountsStep step t t'
 
 -- The line was stopped: it came so far, that is counted, and the store stands for it.
-pub record Halted {D : Type 0} (seen : D → DiskSeen) (base : Summary) (CameTo : List Entry → Step → Type 0) (t t' : Tally) (s : Stored D) : Type 0 where
+pub record Halted {D : Type 0} (seen : D → DiskSeen) (base : Summary) (CameTo : List Entry → Step → Type 0) (t t' : Tally)
+    (s : Stored D) : Type 0 where
   pub partial : Step
   pub history : List Entry
   pub came : CameTo history partial

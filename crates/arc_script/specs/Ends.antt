@@ -117,7 +117,8 @@ abbrev pub BegunAgain : Stop → Summary → List ℕ → ℕ → List Entry →
 BegunAgain stop base setup moment h x =
     (x ≡ h) ⊎ (x ≡ adopted_after base h setup moment) ⊎ ((stop ≡ Memory) × (x ≡ begun_after base h setup moment))
 
-pub record ReopenedUntil (stop : Stop) (Told : Type 0) (base : Summary) (setup : List ℕ) (before : List Asked) (h x : List Entry) (s : Step) : Type 0 where
+pub record ReopenedUntil (stop : Stop) (Told : Type 0) (base : Summary) (setup : List ℕ) (before : List Asked) (h x : List Entry)
+    (s : Step) : Type 0 where
   pub kept : List Entry
   pub keeps : Keeps Told base h kept
   pub clock : ℕ
@@ -127,7 +128,8 @@ pub record ReopenedUntil (stop : Stop) (Told : Type 0) (base : Summary) (setup :
 
 abbrev pub CameTo : Stop → Type 0 → Summary → List ℕ → List Asked → List (List ℕ) → List Entry → List Entry → Step → Asked → Type 0
 CameTo stop Told base setup before waiting h x s (Time moment) = BegunUntil (clock_of before) base setup moment h x × AddedBy h x s
-CameTo stop Told base setup before waiting h x s (Feed line digits) = FedUntil stop base setup before line (bytes_spelled digits) waiting h x s
+CameTo stop Told base setup before waiting h x s (Feed line digits) =
+    FedUntil stop base setup before line (bytes_spelled digits) waiting h x s
 CameTo stop Told base setup before waiting h x s (Message line body) = FedUntil stop base setup before line (frame_of body) waiting h x s
 CameTo stop Told base setup before waiting h x s (Command desk text) = (x ≡ h) × AddedBy h x s
 CameTo stop Told base setup before waiting h x s Reopen = ReopenedUntil stop Told base setup before h x s
@@ -166,7 +168,8 @@ pub record IsHalted {D : Type 0} {lines : List (ℕ × List ℕ)} (seen : D → 
   pub counts : IsTally b.base b.past (played.steps ++ partial ∷ []) history tally
 
 -- Memory was wanted before the script was read: nothing was done.
-pub record IsUnread {D : Type 0} (seen : D → DiskSeen) (base : Summary) (past : List Entry) (p p' : PortSeen) (disk' : D) (tally : Tally) : Type 0 where
+pub record IsUnread {D : Type 0} (seen : D → DiskSeen) (base : Summary) (past : List Entry) (p p' : PortSeen) (disk' : D)
+    (tally : Tally) : Type 0 where
   pub untouched : p' ≡ p
   pub area : HasRecorded (seen disk') base past
   pub counts : IsTally base past [] past tally
@@ -187,7 +190,8 @@ pub record IsShut {D : Type 0} {lines : List (ℕ × List ℕ)} (seen : D → Di
   pub counts : IsTally b.base b.past played.steps played.history tally
 
 -- What a script's end says of what was played, of the bytes that were read.
-abbrev pub EndsAs : {D : Type 0} {lines : List (ℕ × List ℕ)} (seen : D → DiskSeen) (b : Begun D) → List ℕ → Played seen b lines → ScriptEnd → PortSeen
+abbrev pub EndsAs : {D : Type 0} {lines : List (ℕ × List ℕ)} (seen : D → DiskSeen) (b : Begun D) → List ℕ → Played seen b lines
+    → ScriptEnd → PortSeen
     → D → Tally → Type 0
 EndsAs seen b read played Done p' disk' tally = IsReadOut p' × (length read < input_limit) × IsWhole seen b played p' disk' tally
 EndsAs seen b read played ReadFault p' disk' tally =
@@ -216,7 +220,8 @@ ReadsNoFurther end read carried = IsNotAhead read carried
 
 -- The transcript of a script over a past, of the bytes that were read of the port: their lines and what was played of them. Where a read
 -- has met the input's end, that is all of it. All but what is about reading and writing stayed.
-pub record IsTranscript {D : Type 0} (seen : D → DiskSeen) (b : Begun D) (end : ScriptEnd) (p' : PortSeen) (disk' : D) (tally : Tally) : Type 0 where
+pub record IsTranscript {D : Type 0} (seen : D → DiskSeen) (b : Begun D) (end : ScriptEnd) (p' : PortSeen) (disk' : D)
+    (tally : Tally) : Type 0 where
   pub read : List ℕ
   pub taken : b.port.left ≡ prepend_known read p'.left
   pub out : p'.ended ≡ true → IsAtEnd p'.left
@@ -236,7 +241,9 @@ pub record IsTranscript {D : Type 0} (seen : D → DiskSeen) (b : Begun D) (end 
 -- script is a transcript over it, or memory was wanted before it was read.
 abbrev pub IsScript : {D : Type 0} → (D → DiskSeen) → List ℕ → Limits → PortSeen → PortSeen → D → ScriptEnded D → Type 0
 IsScript seen setup limits p p' disk ended =
-    ((fault : OpenFault) × (ended.end ≡ Refused fault) × IsUnopened fault (seen disk) (seen ended.disk) × (p' ≡ p) × (ended.tally ≡ no_tally))
+    ((fault : OpenFault) × (ended.end ≡ Refused fault) × IsUnopened fault (seen disk) (seen ended.disk) × (p' ≡ p)
+    × (ended.tally ≡ no_tally))
     ⊎ ((base : Summary) × (past : List Entry) × BeginsWith (seen disk) base past
-    × (IsTranscript seen (record { disk = disk; setup = setup; limits = limits; base = base; past = past; port = p }) ended.end p' ended.disk ended.tally
+    × (IsTranscript seen (record { disk = disk; setup = setup; limits = limits; base = base; past = past; port = p }) ended.end p'
+    ended.disk ended.tally
     ⊎ ((ended.end ≡ Stopped Memory) × IsUnread seen base past p p' ended.disk ended.tally)))

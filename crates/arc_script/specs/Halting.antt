@@ -37,7 +37,8 @@ pub record Halts {D : Type 0} (seen : D → DiskSeen) (b : Begun D) (before all 
   pub front : played.front ≡ counted before ++ more
 
 -- all these lines were carried out
-pub record Whole {D : Type 0} (seen : D → DiskSeen) (b : Begun D) (all : List (List ℕ)) (p : PortSeen) (disk : D) (tally : Tally) : Type 0 where
+pub record Whole {D : Type 0} (seen : D → DiskSeen) (b : Begun D) (all : List (List ℕ)) (p : PortSeen) (disk : D)
+    (tally : Tally) : Type 0 where
   pub played : Played seen b (counted all)
   pub whole : IsWhole seen b played p disk tally
 

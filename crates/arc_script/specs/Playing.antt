@@ -42,9 +42,11 @@ pub record TickStops {D : Type 0} (seen : D → DiskSeen)
   pub history : List Entry
   pub stands : StoreStands seen base s history
   pub came : BegunUntil clock base setup moment h history
-      ⊎ ((stop ≡ Memory) × (history ≡ entry_after base (before_tick clock base setup moment h) Tick moment ∷ before_tick clock base setup moment h))
+      ⊎ ((stop ≡ Memory)
+      × (history ≡ entry_after base (before_tick clock base setup moment h) Tick moment ∷ before_tick clock base setup moment h))
 
 -- the store stands for the history with the Tick, whose reply was put behind the letter
-pub record Ticked {D : Type 0} (seen : D → DiskSeen) (base : Summary) (before : List Entry) (moment : ℕ) (s : Stored D) (p p' : PortSeen) : Type 0 where
+pub record Ticked {D : Type 0} (seen : D → DiskSeen) (base : Summary) (before : List Entry) (moment : ℕ) (s : Stored D)
+    (p p' : PortSeen) : Type 0 where
   pub stands : StoreStands seen base s (entry_after base before Tick moment ∷ before)
   pub text : p'.written ≡ append_known p.written (codes "T " ++ line_of (entry_after base before Tick moment).reply)

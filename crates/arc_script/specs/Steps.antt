@@ -48,7 +48,8 @@ before_tick None base setup moment h = begun_after base h setup moment
 before_tick (Some last) base setup moment h = h
 
 pub record Ticks (base : Summary) (setup : List ℕ) (before : List Asked) (moment : ℕ) (h x : List Entry) (s : Step) : Type 0 where
-  pub is : x ≡ entry_after base (before_tick (clock_of before) base setup moment h) Tick moment ∷ before_tick (clock_of before) base setup moment h
+  pub is : x ≡ entry_after base (before_tick (clock_of before) base setup moment h) Tick moment
+      ∷ before_tick (clock_of before) base setup moment h
   pub added : x ≡ reverse s.entries ++ h
   pub sent : s.sent ≡ 0
   pub text : s.text ≡ codes "T " ++ line_of (entry_after base (before_tick (clock_of before) base setup moment h) Tick moment).reply
@@ -65,7 +66,8 @@ pub record FeedsBehind (base : Summary) (setup : List ℕ) (clock : ℕ) (stream
   pub own : x ≡ reverse (entries_of line_turns turns) ++ h
 
 -- the same of a line that took what it was fed before, at the moment that was set last
-pub record FeedsLine (base : Summary) (setup : List ℕ) (before : List Asked) (line : ℕ) (bytes : List ℕ) (h x : List Entry) (turns : List Turn)
+pub record FeedsLine (base : Summary) (setup : List ℕ) (before : List Asked) (line : ℕ) (bytes : List ℕ) (h x : List Entry)
+    (turns : List Turn)
     (more : List (List ℕ)) : Type 0 where
   pub clock : ℕ
   pub set : clock_of before ≡ Some clock
@@ -85,7 +87,8 @@ listed [] = codes " -"
 listed (reply ∷ replies) = flat_map (λ r. 32 ∷ bare r) (reply ∷ replies)
 
 -- `L` and `M`, with this letter: bytes are fed to a line, and its replies are the output.
-pub record Feeds (base : Summary) (setup : List ℕ) (before : List Asked) (letter line : ℕ) (bytes : List ℕ) (h x : List Entry) (s : Step) : Type 0 where
+pub record Feeds (base : Summary) (setup : List ℕ) (before : List Asked) (letter line : ℕ) (bytes : List ℕ) (h x : List Entry)
+    (s : Step) : Type 0 where
   pub turns : List Turn
   pub fed : FeedsLine base setup before line bytes h x turns []
   pub entries : s.entries ≡ entries_of line_turns turns
@@ -94,7 +97,8 @@ pub record Feeds (base : Summary) (setup : List ℕ) (before : List Asked) (lett
 
 -- `D`: a desk reads the text as one line, all of it, for the operator who logged in last since the desk was made anew, and its
 -- answer is the output.
-pub record Commands (base : Summary) (setup : List ℕ) (before : List Asked) (desk : ℕ) (given : List ℕ) (h x : List Entry) (s : Step) : Type 0 where
+pub record Commands (base : Summary) (setup : List ℕ) (before : List Asked) (desk : ℕ) (given : List ℕ) (h x : List Entry)
+    (s : Step) : Type 0 where
   pub turn : Desk.Turn
   pub clock : ℕ
   pub set : clock_of before ≡ Some clock

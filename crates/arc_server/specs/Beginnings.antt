@@ -19,8 +19,8 @@ use Rattle.arc_server.specs.Made.{status_over, status_of_fault, status_of_stop}
 use Rattle.arc_server.specs.SetupReads.{HasSetup, IsNoSetup}
 use Rattle.arc_server.specs.declared.status.Status.{Status}
 
--- The setup was read of its source, which tells q' then. The areas stood for a past over a summary. One reading of the clock was taken of the port,
--- which tells p' then.
+-- The setup was read of its source, which tells q' then. The areas stood for a past over a summary. One reading of the clock was
+-- taken of the port, which tells p' then.
 pub record HasAsked {D : Type 0} (seen : D → DiskSeen) (r : Handed D) (q' p' : PortSeen) : Type 0 where
   pub setup : HasSetup r.setup q'
   pub base : Summary

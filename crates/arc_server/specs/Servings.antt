@@ -96,8 +96,8 @@ abbrev pub HasDoorFault : Side → ℕ → ℕ → CameSeen → Type 0
 HasDoorFault Lines before now came = (w : Worked) × Contains came.lines w × (w.end ≡ WorkerFault before now)
 HasDoorFault Desks before now came = (w : Worked) × Contains came.desks w × (w.end ≡ WorkerFault before now)
 
--- What a status shows of what occurred, by the counts of the disk's faults at entry and at the end, by what the port told before the summary
--- and after it, and by what came of all callers. Want of memory shows nothing.
+-- What a status shows of what occurred, by the counts of the disk's faults at entry and at the end, by what the port told before
+-- the summary and after it, and by what came of all callers. Want of memory shows nothing.
 abbrev pub IsShownBy : Status → ℕ → ℕ → PortSeen → PortSeen → Result CameSeen Memory → Type 0
 IsShownBy Done entry end p p' came = HasCome HaveEnded came
 IsShownBy (DiskFault before now) entry end p p' came = (before ≡ entry) × (now ≡ end) × Rose entry end

@@ -5,10 +5,10 @@ ghost use Rattle.line_gate.specs.Passes.{IsPass, IsLater};
 ghost use Rattle.arc_serving.specs.Jobs.{AreSeated, AreUnseated, SeatsOne, IsTaken, worked_in};
 
 use crate::job::Job;
+use crate::working::Worked;
 use arc_data::Memory;
 use arc_doors::Door;
 use arc_io::Disk;
-use crate::working::Worked;
 use line_gate::{Gate, GateName, Pass};
 use std::alloc::Global;
 use std::sync::Wait;

@@ -8,11 +8,11 @@ ghost use Rattle.line_gate.specs.Passes.{IsPass};
 ghost use Rattle.arc_serving.specs.Jobs.{IsJobDone};
 
 use crate::job::Job;
-use arc_doors::{Door, Pulse};
-use arc_io::Disk;
 use crate::side::Side;
 use crate::ticking::{Ticked, ticker};
 use crate::working::worker;
+use arc_doors::{Door, Pulse};
+use arc_io::Disk;
 use line_gate::{Gate, GateName, Pass};
 use std::alloc::Global;
 use std::sync::Wait;

@@ -6,10 +6,10 @@ ghost use Rattle.arc_serving.specs.Closing.{ClosesBoth, ServesSeated};
 
 use crate::bench::{Bench, unseat};
 use crate::beside::{Ticking, Workers, serve_beside};
-use arc_doors::{Door, Pulse};
-use arc_io::Disk;
 use crate::ticking::Ticked;
 use crate::working::Worked;
+use arc_doors::{Door, Pulse};
+use arc_io::Disk;
 use centre_store::Store;
 use line_gate::{Gate, GateName, Pass};
 use std::alloc::Global;

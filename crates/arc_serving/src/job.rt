@@ -1,6 +1,6 @@
 // A job: what one worker is given, and what is left of it.
-use arc_doors::Door;
 use crate::working::Worked;
+use arc_doors::Door;
 use line_gate::{GateName, Pass};
 use std::marker::Model;
 

@@ -6,10 +6,10 @@ ghost use Rattle.line_gate.specs.Passes.{IsPass};
 ghost use Rattle.arc_serving.specs.Served.{IsServed, made_between};
 ghost use Rattle.arc_serving.specs.Next.{ServesNext};
 
-use arc_doors::Door;
-use arc_io::{Disk, Failed, Port};
 use crate::session::{SessionEnd, serve};
 use crate::side::Side;
+use arc_doors::Door;
+use arc_io::{Disk, Failed, Port};
 use line_gate::{AtGate, Gate, GateName, Pass};
 use std::alloc::Global;
 use std::sync::Wait;

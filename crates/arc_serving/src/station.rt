@@ -1,9 +1,9 @@
 // What serving is given, and what it gives back.
+use crate::ticking::Ticked;
+use crate::working::Worked;
 use arc_data::Memory;
 use arc_doors::{Door, Pulse};
 use arc_io::Disk;
-use crate::ticking::Ticked;
-use crate::working::Worked;
 use centre_store::Store;
 use std::marker::Model;
 

@@ -5,10 +5,10 @@ ghost use Rattle.line_gate.specs.Passes.{IsPass};
 ghost use Rattle.arc_serving.specs.Works.{Works, is_refused, stop_of};
 
 use crate::link::serve_next;
-use arc_doors::Door;
-use arc_io::Disk;
 use crate::session::SessionEnd;
 use crate::side::Side;
+use arc_doors::Door;
+use arc_io::Disk;
 use centre_core::Stop;
 use line_gate::{Gate, GateName, Pass};
 use std::alloc::Global;

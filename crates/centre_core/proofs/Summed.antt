@@ -1,5 +1,5 @@
 -- What a centre keeps is the summary of each history for which it stands.
-use Rattle.std.proofs.Common.{◌≡◌, ℕ, List, [], ◌∷◌, map, Bool, true, refl, sym, ap, ◌∙◌}
+use Rattle.std.proofs.Common.{◌≡◌, ℕ, List, [], ◌∷◌, map, Bool, true, refl, sym, ap, ◌∙◌, subst}
 use Rattle.std.specs.Cmp.Lexicographic.{slice_cmp}
 use Rattle.std.specs.List.{list_any}
 use Rattle.std.specs.Ordering.{nat_cmp, is_lt}
@@ -58,7 +58,7 @@ steps_all is w = every_weaker IsPlain (λ (i : Incident). Every (λ s. is_step s
 pub steps_good : (b s : Summary) (h : List Entry) → IsSpelled b → Same s [] b (marks b h) → IsLegal b h → HaveGoodSteps s.incidents
 steps_good b s h spelled same legal =
     let formed = formed_all spelled.generation b h spelled.fields spelled.besides.steps legal in
-    rw (← incidents_begin s, same.incidents) (steps_all (incidents b (marks b h)) formed.table)
+    subst HaveGoodSteps (sym same.incidents ∙ incidents_begin s) (steps_all (incidents b (marks b h)) formed.table)
 
 -- The whole.
 

@@ -17,7 +17,7 @@ use Rattle.disk_journal.specs.Standing.{StandsForEither}
 use Rattle.disk_journal.specs.declared.journal.Journal.{Journal}
 use Rattle.event_codec.specs.Spelling.{HasSpelling, spelling}
 use Rattle.centre_store.specs.Bodies.{bodies_of}
-use Rattle.centre_store.specs.Given.{StandForEither, Leaves}
+use Rattle.centre_store.specs.Given.{StandForEither, Leaves, HasEither}
 use Rattle.centre_store.specs.Stores.{Stored, HasFailed, IsTorn, StoreStands, Takes}
 use Rattle.centre_store.specs.Writes.{IsUnwritten}
 use Rattle.centre_store.proofs.Bodies.{bodies_more, bodies_same}
@@ -94,6 +94,15 @@ module _ {D : Type 0} (seen : D → DiskSeen) where
         subst (λ (d : D). LeavesOnly (seen d) (seen new) (StandForEither b h (spelling event (moment_after b h clock))))
         (ap (λ (x : Stored D). x.journal.disk) is)
         (subst (λ (bs : List ℕ). LeavesOnly (seen j.disk) (seen new) (StandForEither b h bs)) body (run holds))
+
+    -- after the writing the areas have the record or not
+    pub written_either : (new : D) (clock : ℕ) (event : Event) (p : Plan) → p.event ≡ event
+        → (StandsFor b r h → p.at ≡ moment_after b h clock)
+        → (Holds seen j (bodies_of h) → Leaves (seen new) (bodies_of h) (spelling p.event p.at))
+        → HasEither (seen new) b h (spelling event (moment_after b h clock))
+    written_either new clock event p event_is at met =
+        let body : spelling p.event p.at ≡ spelling event (moment_after b h clock) = ap (λ (x : Event). spelling x p.at) event_is ∙ ap (spelling event) (at kept) in
+        subst (λ (bs : List ℕ). Leaves (seen new) (bodies_of h) bs) body (met holds)
 
     -- the disk failed when the record was written
     torn : (k : Journal D) (clock : ℕ) (event : Event) (p : Plan) → p.event ≡ event → IsWellFormed event

@@ -35,7 +35,8 @@ IsOfBodies fault base bodies = ⊥
 -- what a refusal says of the areas: that they stand for no bodies, or give some that have no past over their summary
 abbrev pub IsRefused : OpenFault → Areas → Type 0
 IsRefused (Damaged place) areas =
-    IsDamaged (chosen_part areas) place ⊎ ((base : Summary) × (bodies : List (List ℕ)) × AreasGive areas base bodies × IsBadAt base bodies place)
+    IsDamaged (chosen_part areas) place
+    ⊎ ((base : Summary) × (bodies : List (List ℕ)) × AreasGive areas base bodies × IsBadAt base bodies place)
 IsRefused fault areas = IsShown fault (chosen_part areas)
 
 -- the disk after an opening, which the store has or the refusal gives back

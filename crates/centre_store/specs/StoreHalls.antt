@@ -37,8 +37,8 @@ fixed_of seen s = record {
   tells = is_told (seen s.journal.disk).told;
 }
 
--- What it tells: calls may be made once a setup is in force; its caller has the number 0, and made all of each history. As long as its disk has not failed, an event that is stopped is all that the disk may have beside the
--- recorded entries.
+-- What it tells: calls may be made once a setup is in force; its caller has the number 0, and made all of each history. As long as
+-- its disk has not failed, an event that is stopped is all that the disk may have beside the recorded entries.
 abbrev pub store_seen : {D : Type 0} → (D → DiskSeen) → Stored D → HallSeen
 store_seen seen s = record {
   ready = IsSetting s.state.sum.text;

@@ -115,6 +115,12 @@ fn sign(rt: &impl Abort, word: &str, account: Txt, at: u64) -> Carried
 }
 
 // What a word says of an account happens to it.
+fn reserve(rt: &impl Abort, alloc: Global, accounts: &mut SupervisedAccounts)
+    ensures { 1 ≤ accounts.new.rows.room }
+{
+    accounts.reserve(alloc, 1).expect(rt, "memory");
+}
+
 fn mark(
     rt: &impl Abort,
     alloc: Global,
@@ -126,7 +132,7 @@ fn mark(
     requires { IsMoment at }
 {
     let account = text(rt, account.as_bytes());
-    accounts.reserve(alloc, 1).expect(rt, "memory");
+    reserve(rt, alloc, accounts);
     let place = accounts.place(&account);
     match word {
         "hear" => accounts.hear(place, at),

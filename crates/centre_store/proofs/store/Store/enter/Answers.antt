@@ -6,7 +6,7 @@ use Rattle.centre_core.proofs.Applied.{is_quiet, not_quiet}
 use Rattle.event_codec.specs.Spelling.{IsKept}
 use Rattle.centre_store.specs.Stores.{Stored, HasFailed}
 use Rattle.centre_store.proofs.Bodies.{kept_event}
-use Rattle.centre_store.proofs.Entered.{takes_quiet, takes_written, written_moment, stands_stopped}
+use Rattle.centre_store.proofs.Entered.{takes_quiet, takes_written, written_moment, written_either, stands_stopped}
 use Rattle.centre_store.proofs.Written.{behind_still, behind_event}
 use Rattle.centre_store.proofs.store.Store.enter.Goals as goal
 
@@ -71,6 +71,18 @@ returns-in-Err-clause-any_moment g c b h w up =
     written_moment g.D.Disk.seen b c.args.self.now c.self.inside.centre c.prepare.new.self c.self.inside.journal c.self.inside.at_open h
     c.self.view_is up w (c.in-Ok.ensures.stays b h) c.write.new.journal.disk c.args.clock c.args.event c.in-Ok.ready c.in-Ok.ensures.event
     (c.in-Ok.ensures.at b h) (c.write.ensures.any_moment _)
+
+pub returns-in-Ok-write-clause-met : goal.returns-in-Ok-write-clause-met
+returns-in-Ok-write-clause-met g c b h w up =
+    written_either g.D.Disk.seen b c.args.self.now c.self.inside.centre c.prepare.new.self c.self.inside.journal c.self.inside.at_open h
+    c.self.view_is up w (c.in-Ok.ensures.stays b h) c.write.new.journal.disk c.args.clock c.args.event c.in-Ok.ready c.in-Ok.ensures.event
+    (c.in-Ok.ensures.at b h) (c.write.ensures.met _)
+
+pub returns-in-Err-clause-met : goal.returns-in-Err-clause-met
+returns-in-Err-clause-met g c b h w up =
+    written_either g.D.Disk.seen b c.args.self.now c.self.inside.centre c.prepare.new.self c.self.inside.journal c.self.inside.at_open h
+    c.self.view_is up w (c.in-Ok.ensures.stays b h) c.write.new.journal.disk c.args.clock c.args.event c.in-Ok.ready c.in-Ok.ensures.event
+    (c.in-Ok.ensures.at b h) (c.write.ensures.met _)
 
 pub write-requires-clause-kept : goal.write-requires-clause-kept
 write-requires-clause-kept g c =
