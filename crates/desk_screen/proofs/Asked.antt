@@ -41,7 +41,7 @@ nothing : {A : Type 0} {P : Type 0} (a : A) → None ≡ Some a → P
 nothing a is = absurd cc
 
 -- the own incident has this number
-own_is : (own : Option Own) (number : ℕ) → own_number own ≡ Some number → IsOwn own number
+pub own_is : (own : Option Own) (number : ℕ) → own_number own ≡ Some number → IsOwn own number
 own_is None number is = absurd cc
 own_is (Some o) number is = (o, refl, cc)
 

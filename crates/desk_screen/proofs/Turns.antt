@@ -1,12 +1,13 @@
 -- One turn more of a sitting.
 use Rattle.std.proofs.Common.{◌≡◌, ℕ, ◌∷◌, Bool, true, false, cond, Option, Some, None, refl, sym, ap, ◌∙◌}
 use Rattle.desk_wire.specs.declared.command.Command.{Command}
+use Rattle.desk_wire.specs.declared.command.Command.TheVariants.{Act, Close}
 use Rattle.desk_screen.specs.Asking.{may_ask, key_asks}
 use Rattle.desk_screen.specs.Bell.{rings, quiet, quiet_after, muted, muted_after}
 use Rattle.desk_screen.specs.Inputs.{Input, Key, Answer, Second, Made, Lost, Sitting, news}
 use Rattle.desk_screen.specs.Orders.{way, way_left, way_sent, wish, wish_asked, wish_left, is_connected, connected_after, user, user_after}
 use Rattle.desk_screen.specs.Orders.{undone, undone_asked, undone_lost, list_owed, list_paid, owed_after, show_owed, show_paid, typed_of}
-use Rattle.desk_screen.specs.Owning.{own, own_after}
+use Rattle.desk_screen.specs.Owning.{own, own_after, own_number, same_number, worked_on}
 use Rattle.desk_screen.specs.Plain.{answered, answered_after}
 use Rattle.desk_screen.specs.Proper.{IsAllowed, IsFor}
 use Rattle.desk_screen.specs.Stands.{IsTurn, StandsFor, asked_at, turn}
@@ -15,6 +16,9 @@ use Rattle.desk_screen.specs.Watching.{clock, clock_after, queue, queue_told, si
 use Rattle.desk_screen.specs.declared.reaction.Reaction.{Reaction}
 use Rattle.desk_screen.specs.declared.screen.Screen.{Screen}
 use Rattle.desk_screen.proofs.Asked.{asks_is}
+use Rattle.desk_screen.proofs.Confirmed.{asked_confirmed}
+use Rattle.desk_screen.proofs.Owns.{owns_after}
+use Rattle.desk_screen.proofs.Told.{asked_told}
 use Rattle.desk_screen.proofs.Sends.{due_connected, due_alone, due_typed, wished, free_is}
 
 two : {A B C : Type 0} {a a' : A} {b b' : B} (f : A → B → C) → a ≡ a' → b ≡ b' → f a b ≡ f a' b'
@@ -63,14 +67,21 @@ allowed i r old new s t h = record {
   alone = λ order is. ap (way_left i) (sym h.way) ∙ due_alone _ _ _ _ _ _ order (sym t.session.sent ∙ is);
   wished = λ c is. wished i r.asked (wish s) c (ap (wish_asked i r.asked) (sym h.wish) ∙ due_typed _ _ _ _ _ _ c (sym t.session.sent ∙ is));
   keyed = λ c is. (asked_is i old s c h (sym t.asked ∙ is)).keyed;
+  told = λ number step outcome is. asked_told s i number step outcome (asked_is i old s (Act number step outcome) h (sym t.asked ∙ is)).keyed;
+  confirmed = λ number code is. asked_confirmed s i number code (asked_is i old s (Close number code) h (sym t.asked ∙ is)).keyed;
   one = λ c is. (asked_is i old s c h (sym t.asked ∙ is)).free;
   bell = t.watch.rung ∙ four (λ w q n m. rings i (news i w) q n m) h.way h.queue h.quiet h.muted;
 }
 
+-- the own incident behind a turn
+owned_is : (i : Input) (r : Reaction) (old new : Screen) (s : Sitting) → IsTurn i r old new → StandsFor old s
+    → new.own ≡ own_after i (news i (way s)) (worked_on (way s)) (user s) (own s)
+owned_is i r old new s t h = t.own ∙ three (λ w u o. own_after i (news i w) (worked_on w) u o) h.way h.user h.own
+
 -- A screen that stands for a sitting stands for it with one turn more.
 pub goes_on : (i : Input) (r : Reaction) (old new : Screen) (s : Sitting) → IsTurn i r old new → StandsFor old s → StandsFor new (turn i r ∷ s)
 unfolding is_connected user way wish undone show_owed list_owed silence own queue total clock quiet muted last_key typed name answered
-goes_on i r old new s t h = record {
+goes_on i r old new s t h = let owned = owned_is i r old new s t h in record {
   proper = (allowed i r old new s t h, h.proper);
   connected = t.session.connected ∙ ap (connected_after i) h.connected;
   user = t.session.user ∙ two (λ w u. user_after i (news i w) u) h.way h.user;
@@ -80,14 +91,15 @@ goes_on i r old new s t h = record {
   show = t.session.show ∙ two (λ w o. show_paid r.sent (owed_after i w o)) h.way h.show;
   list = t.session.list ∙ two (λ w o. list_paid r.sent (owed_after i w o)) h.way h.list;
   silence = t.session.silence ∙ ap (silence_after i) h.silence;
-  own = t.own ∙ three (λ w u o. own_after i (news i w) u o) h.way h.user h.own;
+  own = owned;
+  owns = owns_after i (news i (way s)) (worked_on (way s)) (user s) (own s) h.owns;
   queue = t.watch.queue ∙ three (λ w c q. queue_told (news i w) c q) h.way h.clock h.queue;
   total = t.watch.total ∙ two (λ w n. total_told (news i w) n) h.way h.total;
   clock = t.watch.clock ∙ ap (clock_after i) h.clock;
   quiet = t.watch.quiet ∙ ap (λ q. cond (r.rung) 0 (quiet_after i q)) h.quiet;
   muted = t.watch.muted ∙ two (muted_after i) h.user h.muted;
-  last = t.typed.last ∙ ap (last_after i) h.last;
-  typed = t.typed.typed ∙ two (typed_after i) h.user h.typed;
-  name = t.typed.name ∙ three (name_after i) h.user h.typed h.name;
+  last = t.typed.last ∙ four (λ w o p l. last_after i (news i w) (same_number (own_number o) (own_number p)) l) h.way h.own owned h.last;
+  typed = t.typed.typed ∙ three (λ w u x. typed_after i (news i w) u x) h.way h.user h.typed;
+  name = t.typed.name ∙ four (λ w u x n. name_after i (news i w) u x n) h.way h.user h.typed h.name;
   answered = t.answered ∙ two (answered_after i) h.way h.answered;
 }

@@ -7,5 +7,6 @@ pub mod Plain
 pub mod Proper
 pub mod Stands
 pub mod Steps
+pub mod Told
 pub mod Typing
 pub mod Watching

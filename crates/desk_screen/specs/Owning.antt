@@ -1,16 +1,20 @@
 -- Which incident is the operator's own, and which step is expected, as the desk told it last.
-use Rattle.std.specs.Prelude.{ℕ, ◌==◌, List, [], ◌∷◌, Bool, false, Option, Some, None, if◌then◌else◌}
+use Rattle.std.specs.Prelude.{ℕ, ◌==◌, List, [], ◌∷◌, Bool, true, false, Option, Some, None, if◌then◌else◌}
 use Rattle.std.specs.List.{find, list_any}
 use Rattle.std.specs.Option.{option_map}
 use Rattle.std.specs.Str.{bytes_eq}
+use Rattle.alarm_rules.specs.SetupLines.{after}
 use Rattle.arc_data.specs.declared.listing.Row.{Row}
 use Rattle.arc_data.specs.declared.listing.View.{View}
 use Rattle.arc_data.specs.declared.step.Step.{Step}
+use Rattle.desk_wire.specs.declared.command.Command.{Command}
+use Rattle.desk_wire.specs.declared.command.Command.TheVariants.{Act, Close}
 use Rattle.desk_said.specs.declared.said.Said.{Said}
-use Rattle.desk_said.specs.declared.said.Said.TheVariants.{Claimed, BusyWith, NotOpen}
+use Rattle.desk_said.specs.declared.said.Said.TheVariants.{Welcome, Claimed, BusyWith, NotOpen}
 use Rattle.desk_said.specs.declared.said.Said.TheVariants.{NotYours, Expected, Missing, Recorded, Released, Closed, Listed, Shown}
 use Rattle.desk_screen.specs.Inputs.{Input, Sitting, is_break, news}
-use Rattle.desk_screen.specs.Orders.{way, user}
+use Rattle.desk_screen.specs.Orders.{way, typed_of, user}
+use Rattle.desk_screen.specs.declared.order.Order.{Order}
 use Rattle.desk_screen.specs.declared.own.Due.{Due}
 use Rattle.desk_screen.specs.declared.own.Due.TheVariants.{Untold, AllMet, Ahead}
 use Rattle.desk_screen.specs.declared.own.Own.{Own}
@@ -73,24 +77,56 @@ abbrev pub held_in : List Row → Option Row → Option Own → Option Own
 held_in rows None before = lost_in rows before
 held_in rows (Some row) before = kept row.number before
 
-abbrev pub own_told : Said → Option (List ℕ) → Option Own → Option Own
-own_told (Claimed number class account) user before = Some (mere number)
-own_told (BusyWith number) user before = Some (mere number)
-own_told (Recorded number left) user before = with_due Untold before
-own_told (Expected step) user before = with_due (due_of step) before
-own_told (Missing step) user before = with_due (Ahead step) before
-own_told (Released number) user before = dropped number before
-own_told (Closed number) user before = dropped number before
-own_told (NotOpen number) user before = dropped number before
-own_told (NotYours number) user before = dropped number before
-own_told (Shown view) user before = seen user view before
-own_told (Listed total rows) user before = held_in rows (find (λ r. is_held_by user r.holder) rows) before
-own_told other user before = before
+abbrev pub same_number : Option ℕ → Option ℕ → Bool
+same_number None None = true
+same_number None (Some other) = false
+same_number (Some number) None = false
+same_number (Some number) (Some other) = number == other
 
-abbrev pub own_after : Input → Said → Option (List ℕ) → Option Own → Option Own
-own_after input said user before = if is_break input then with_due Untold before else own_told said user before
+-- the incident that a command on the way works on, of whose steps its answer may tell
+abbrev pub number_of : Command → Option ℕ
+number_of (Act number step outcome) = Some number
+number_of (Close number code) = Some number
+number_of other = None
+
+abbrev pub worked_on : Option Order → Option ℕ
+worked_on way = after (typed_of way) number_of
+
+-- what is told of the steps of the incident with this number, where that is the own one
+abbrev pub told_at : Option ℕ → Due → Option Own → Option Own
+told_at number due own = if same_number number (own_number own) then with_due due own else own
+
+-- the incident was shown as this operator's
+abbrev pub is_shown_by : List ℕ → Option View → Bool
+is_shown_by name None = false
+is_shown_by name (Some view) = is_held_by (Some name) view.holder
+
+-- Whoever logs in goes on with the own incident only where it was shown last as his, and its step has to be told again.
+abbrev pub owned_by : List ℕ → Option Own → Option Own
+owned_by name None = None
+owned_by name (Some own) =
+    if is_shown_by name own.view then Some (record { number = own.number; due = Untold; view = own.view }) else None
+
+-- what an answer makes of it, to a command that works on an incident, or on none
+abbrev pub own_told : Said → Option ℕ → Option (List ℕ) → Option Own → Option Own
+own_told (Welcome name) about user before = owned_by name before
+own_told (Claimed number class account) about user before = Some (mere number)
+own_told (BusyWith number) about user before = Some (mere number)
+own_told (Recorded number left) about user before = told_at (Some number) Untold before
+own_told (Expected step) about user before = told_at about (due_of step) before
+own_told (Missing step) about user before = told_at about (Ahead step) before
+own_told (Released number) about user before = dropped number before
+own_told (Closed number) about user before = dropped number before
+own_told (NotOpen number) about user before = dropped number before
+own_told (NotYours number) about user before = dropped number before
+own_told (Shown view) about user before = seen user view before
+own_told (Listed total rows) about user before = held_in rows (find (λ r. is_held_by user r.holder) rows) before
+own_told other about user before = before
+
+abbrev pub own_after : Input → Said → Option ℕ → Option (List ℕ) → Option Own → Option Own
+own_after input said about user before = if is_break input then with_due Untold before else own_told said about user before
 
 -- The operator's own incident as the screen shows it. Where a connection is lost or made, its step has to be told again.
 unfoldable pub own : Sitting → Option Own
 own [] = None
-own (t ∷ s) = own_after t.input (news t.input (way s)) (user s) (own s)
+own (t ∷ s) = own_after t.input (news t.input (way s)) (worked_on (way s)) (user s) (own s)

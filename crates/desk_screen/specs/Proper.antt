@@ -12,9 +12,10 @@ use Rattle.desk_wire.specs.declared.command.Command.{Command}
 use Rattle.desk_wire.specs.declared.command.Command.TheVariants.{Login, Quit, Next, Claim, Act, Release, Close, Show, List as Rows}
 use Rattle.desk_screen.specs.Asking.{number_meant}
 use Rattle.desk_screen.specs.Bell.{rings, quiet, muted}
-use Rattle.desk_screen.specs.Inputs.{Key, Turn, Sitting, news}
+use Rattle.desk_screen.specs.Inputs.{Input, Key, Answer, Second, Made, Lost, Turn, Sitting, news}
 use Rattle.desk_screen.specs.Orders.{way, way_left, wish, is_connected, connected_after, typed_of}
 use Rattle.desk_screen.specs.Owning.{own}
+use Rattle.desk_screen.specs.Told.{IsTold}
 use Rattle.desk_screen.specs.Typing.{is_enter, last_key, name, typed}
 use Rattle.desk_screen.specs.Watching.{queue}
 use Rattle.desk_screen.specs.declared.order.Order.{Order}
@@ -56,6 +57,21 @@ IsFor own last typed name key (Close number code) = (key ≡ 121) × (last ≡ S
 IsFor own last typed name key (Show number) = (key ≡ 115) × (number_meant typed own ≡ Some number)
 IsFor own last typed name key Rows = ⊥
 
+-- an input that is this key, where this is so; one that leaves what was so before; or the end of a connection
+abbrev pub Confirms : Input → ℕ → Type 0 → Type 0 → Type 0
+Confirms (Key key) wanted here before = (key ≡ wanted) × here
+Confirms (Answer line) wanted here before = before
+Confirms Second wanted here before = before
+Confirms Made wanted here before = ⊥
+Confirms Lost wanted here before = ⊥
+
+-- The newest key is that of this code, it was pressed where this incident stood as the operator's own, and so that incident has stood ever
+-- since.
+abbrev pub IsConfirmed : Sitting → ℕ → CloseCode → Type 0
+IsConfirmed [] number code = ⊥
+IsConfirmed (t ∷ s) number code =
+    IsOwn (own (t ∷ s)) number × Confirms t.input (code_key code) (IsOwn (own s) number) (IsConfirmed s number code)
+
 -- What is so of a turn behind a sitting.
 pub record IsAllowed (s : Sitting) (t : Turn) : Type 0 where
   -- a command is sent only over a connection, and only where none is without an answer
@@ -66,6 +82,10 @@ pub record IsAllowed (s : Sitting) (t : Turn) : Type 0 where
   -- he asks by a key, where none of his commands waits for its turn or its answer
   pub keyed : (c : Command) → t.asked ≡ Some c → (key : ℕ) × (t.input ≡ Key key) × IsFor (own s) (last_key s) (typed s) (name s) key c
   pub one : (c : Command) → t.asked ≡ Some c → (typed_of (way s) ≡ None) × (wish s ≡ None)
+  -- the step of an act is the one that the desk told to expect, in this connection
+  pub told : (number : ℕ) (step : Step) (outcome : Outcome) → t.asked ≡ Some (Act number step outcome) → IsTold s number step
+  -- a closing is confirmed: the key before was that of its code, for this very incident
+  pub confirmed : (number : ℕ) (code : CloseCode) → t.asked ≡ Some (Close number code) → IsConfirmed s number code
   -- the bell rings as it has to
   pub bell : t.rung ≡ rings t.input (news t.input (way s)) (queue s) (quiet s) (muted s)
 

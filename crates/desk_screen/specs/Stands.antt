@@ -1,11 +1,13 @@
 -- What a screen knows of its sitting, and one turn of it.
-use Rattle.std.specs.Prelude.{◌≡◌, Option, None, if◌then◌else◌}
+use Rattle.std.specs.Prelude.{◌≡◌, ℕ, List, true, Option, Some, None, if◌then◌else◌}
+use Rattle.arc_data.specs.declared.listing.View.{View}
 use Rattle.desk_wire.specs.declared.command.Command.{Command}
 use Rattle.desk_screen.specs.Asking.{may_ask, key_asks}
 use Rattle.desk_screen.specs.Bell.{quiet, muted}
 use Rattle.desk_screen.specs.Inputs.{Input, Key, Answer, Second, Made, Lost, Turn, Sitting, news}
 use Rattle.desk_screen.specs.Orders.{way, wish, is_connected, user, undone, list_owed, show_owed}
-use Rattle.desk_screen.specs.Owning.{own, own_after, untold_number}
+use Rattle.desk_screen.specs.Owning.{is_held_by, own, own_after, own_number, same_number, untold_number, worked_on}
+use Rattle.desk_screen.specs.declared.own.Own.{Own}
 use Rattle.desk_screen.specs.Plain.{answered, answered_after}
 use Rattle.desk_screen.specs.Proper.{IsProper}
 use Rattle.desk_screen.specs.Steps.{IsSession, IsTyped, IsWatch}
@@ -33,14 +35,22 @@ asked_at Lost old = None
 pub record IsTurn (i : Input) (r : Reaction) (old new : Screen) : Type 0 where
   pub asked : r.asked ≡ asked_at i old
   pub session : IsSession i (news i old.session.way) r (untold_number new.own) old.session new.session
-  pub own : new.own ≡ own_after i (news i old.session.way) old.session.user old.own
+  pub own : new.own ≡ own_after i (news i old.session.way) (worked_on old.session.way) old.session.user old.own
   pub watch : IsWatch i (news i old.session.way) r old.session.user old.watch new.watch
-  pub typed : IsTyped i old.session.user old.keyboard new.keyboard
+  pub typed :
+      IsTyped i (news i old.session.way) (same_number (own_number old.own) (own_number new.own)) old.session.user
+      old.keyboard new.keyboard
   pub answered : new.answered ≡ answered_after i old.session.way old.answered
+
+-- What stands as the own incident of somebody who is logged in, as the desk showed it, was shown as held by him.
+abbrev pub Owns : Option (List ℕ) → Option Own → Type 0
+Owns user own =
+    (name : List ℕ) (o : Own) (view : View) → user ≡ Some name → own ≡ Some o → o.view ≡ Some view → is_held_by (Some name) view.holder ≡ true
 
 -- The screen shows what is so of the sitting, and each turn of the sitting was as it has to be.
 pub record StandsFor (screen : Screen) (s : Sitting) : Type 0 where
   pub proper : IsProper s
+  pub owns : Owns (user s) (own s)
   pub connected : screen.session.connected ≡ is_connected s
   pub user : screen.session.user ≡ user s
   pub way : screen.session.way ≡ way s

@@ -1,5 +1,5 @@
 -- What becomes of the parts of a screen in one turn.
-use Rattle.std.specs.Prelude.{◌≡◌, ℕ, List, Option, None, if◌then◌else◌}
+use Rattle.std.specs.Prelude.{◌≡◌, ℕ, List, Bool, Option, None, if◌then◌else◌}
 use Rattle.desk_screen.specs.Bell.{rings, quiet_after, muted_after}
 use Rattle.desk_said.specs.declared.said.Said.{Said}
 use Rattle.desk_screen.specs.Inputs.{Input}
@@ -35,8 +35,8 @@ pub record IsWatch (i : Input) (said : Said) (r : Reaction) (user : Option (List
   pub quiet : new.quiet ≡ (if r.rung then 0 else quiet_after i old.quiet)
   pub muted : new.muted ≡ muted_after i user old.muted
 
--- what was typed behind a turn
-pub record IsTyped (i : Input) (user : Option (List ℕ)) (old new : Keyboard) : Type 0 where
-  pub last : new.last ≡ last_after i old.last
-  pub typed : new.typed ≡ typed_after i user old.typed
-  pub name : new.name ≡ name_after i user old.typed old.name
+-- what was typed behind a turn, after which the same incident is the operator's own, or another one
+pub record IsTyped (i : Input) (said : Said) (same : Bool) (user : Option (List ℕ)) (old new : Keyboard) : Type 0 where
+  pub last : new.last ≡ last_after i said same old.last
+  pub typed : new.typed ≡ typed_after i said user old.typed
+  pub name : new.name ≡ name_after i said user old.typed old.name

@@ -12,6 +12,7 @@ ghost use Rattle.desk_screen.specs.Typing.{is_enter};
 use crate::keyboard::Keyboard;
 use crate::masking::typed_of;
 use crate::own::{Due, Own};
+use crate::owning::own_number;
 use crate::session::Session;
 use action_plans::fits;
 use alarm_rules::is_pin;
@@ -103,15 +104,6 @@ fn code_of(key: u8) -> Option<CloseCode>
         b'F' => Some(CloseCode::False),
         b'T' => Some(CloseCode::Test),
         _ => None,
-    }
-}
-
-fn own_number(own: &Option<Own>) -> Option<u64>
-    ensures { result ≡ own_number own.now }
-{
-    match own {
-        Some(own) => Some(own.number),
-        None => None,
     }
 }
 

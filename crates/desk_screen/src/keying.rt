@@ -1,14 +1,16 @@
 // What becomes of what was typed.
-ghost use Rattle.std.specs.Prelude.{◌≡◌, [], None, if◌then◌else◌};
+ghost use Rattle.std.specs.Prelude.{◌≡◌, ℕ, List, [], Bool, Option, None, if◌then◌else◌};
 ghost use Rattle.arc_data.specs.Digits.{is_name_byte};
-ghost use Rattle.desk_screen.specs.Inputs.{Key};
+ghost use Rattle.desk_said.specs.declared.said.Said.{Said};
+ghost use Rattle.desk_screen.specs.Inputs.{Key, Answer};
 ghost use Rattle.desk_screen.specs.Steps.{IsTyped};
-ghost use Rattle.desk_screen.specs.Typing.{is_text, longer, name_key, named};
+ghost use Rattle.desk_screen.specs.Typing.{is_text, longer, name_key, named, tells_login};
 
 use crate::asking::is_enter;
 use crate::keyboard::Keyboard;
-use alarm_rules::is_name;
+use alarm_rules::{is_name, is_pin};
 use arc_data::Txt;
+use desk_said::Said;
 
 fn is_name_byte(key: u8) -> bool
     ensures { result ≡ is_name_byte key }
@@ -56,6 +58,7 @@ fn named(typed: &Txt, name: &Option<Txt>) -> Option<Txt>
 {
     match name {
         None if is_name(typed.bytes()) => Some(*typed),
+        Some(name) if !is_pin(typed.bytes()) => Some(*name),
         _ => None,
     }
 }
@@ -74,6 +77,13 @@ fn name_key(user: &Option<Txt>, key: u8, typed: &Txt, name: &Option<Txt>) -> Opt
     }
 }
 
+// Whether a login is answered, or a command of somebody who is not logged in.
+fn tells_login(said: &Said) -> bool
+    ensures { result ≡ tells_login said.now }
+{
+    matches!(said, Said::Welcome { .. } | Said::Denied)
+}
+
 impl Keyboard {
     /// Nothing typed.
     pub(crate) fn new() -> Keyboard
@@ -88,12 +98,26 @@ impl Keyboard {
 
     /// What was typed behind a key.
     pub(crate) fn pressed(&self, key: u8, user: &Option<Txt>) -> Keyboard
-        ensures { IsTyped (Key key) user.now self.now result }
+        ensures { (said : Said) (same : Bool) → IsTyped (Key key) said same user.now self.now result }
     {
         Keyboard {
             last: Some(key),
             typed: typed_after(user, &self.typed, key),
             name: name_key(user, key, &self.typed, &self.name),
+        }
+    }
+
+    /// What was typed behind an answer, after which the same incident is the operator's own, or another one.
+    pub(crate) fn behind(&self, said: &Said, same: bool) -> Keyboard
+        ensures { (line : List ℕ) (user : Option (List ℕ)) → IsTyped (Answer line) said.now same user self.now result }
+    {
+        if tells_login(said) {
+            return Keyboard::new();
+        }
+        Keyboard {
+            last: if same { self.last } else { None },
+            typed: self.typed,
+            name: self.name,
         }
     }
 }

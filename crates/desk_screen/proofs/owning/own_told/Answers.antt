@@ -9,5 +9,6 @@ pub returns-in-Listed : goal.returns-in-Listed
 returns-in-Listed c =
     let u = c.args.user.now in
     let o = c.args.own.now in
+    let n = c.args.about in
     c.held_in.ensures ∙ ap (λ (rs : List Row). held_in rs (find (λ r. is_held_by u r.holder) rs) o) c.items.ensures.value
-    ∙ ap (λ (w : Said). own_told w u o) (sym c.in-Listed.is)
+    ∙ ap (λ (w : Said). own_told w n u o) (sym c.in-Listed.is)

@@ -6,6 +6,7 @@ use Rattle.desk_screen.specs.Plain.{answered}
 use Rattle.desk_screen.specs.Typing.{last_key, typed, name}
 use Rattle.desk_screen.specs.Watching.{silence, queue, total, clock}
 use Rattle.desk_screen.specs.declared.keyboard.Keyboard.{Keyboard}
+use Rattle.desk_screen.proofs.Owns.{nobody}
 use Rattle.desk_screen.proofs.screen.Screen.new.Goals as goal
 
 pub returns : goal.returns
@@ -21,6 +22,7 @@ returns c = record {
   list = refl;
   silence = refl;
   own = refl;
+  owns = nobody _;
   queue = c.new.ensures;
   total = refl;
   clock = refl;

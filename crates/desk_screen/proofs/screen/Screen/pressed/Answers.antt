@@ -14,6 +14,6 @@ returns c =
       session = subst (λ (n : Option ℕ). IsSession (Key c.args.key) Strange r n old.session c.keyed-session.result.0) c.untold_number.ensures (c.keyed-session.ensures c.args.key r refl refl);
       own = refl;
       watch = c.pressed.ensures r old.session.user refl (sym c.is_some.ensures);
-      typed = c.pressed-self.ensures;
+      typed = c.pressed-self.ensures Strange _;
       answered = refl;
     }
