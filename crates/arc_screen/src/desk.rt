@@ -2,9 +2,9 @@
 use crate::terminal::{ask_size, draw, ring};
 use crate::words::Words;
 use arc_text::{LineCut, LineCutter};
-use desk_screen::{Command, Order, Poll, Reaction, Screen};
+use desk_screen::{Order, Reaction, Screen};
 use screen_page::{
-    KeyReader, Page, Past, Pressed, Shown, Sites, Size, leaves, shown_after, spelled,
+    KeyReader, Page, Past, Pressed, Shown, Sites, Size, leaves, order_line, shown_after,
 };
 use std::io::{BufWriter, ErrorKind, Read, Write};
 use std::net::{OpenStream, TcpStream};
@@ -45,7 +45,7 @@ impl Drop for Desk {
             stream,
             screen,
             cutter,
-            keys: _,
+            keys,
             past,
             sites,
             shown: _,
@@ -58,6 +58,7 @@ impl Drop for Desk {
         drop(stream);
         drop(screen);
         drop(cutter);
+        drop(keys);
         drop(past);
         drop(sites);
     }
@@ -65,12 +66,7 @@ impl Drop for Desk {
 
 // Writes an order as a line.
 fn write_order(stream: &mut TcpStream, order: &Order) -> io::Result<()> {
-    let line = match order {
-        Order::Typed(command) => spelled(command),
-        Order::Polled(Poll::Whole) => spelled(&Command::List),
-        Order::Polled(Poll::One { number }) => spelled(&Command::Show { number: *number }),
-    };
-    stream.write_all(line.bytes())?;
+    stream.write_all(order_line(order).bytes())?;
     stream.write_all(b"\n")
 }
 
@@ -265,7 +261,7 @@ impl Desk {
         if self.is_drawn {
             return Ok(());
         }
-        let now = match SystemTime::now(rt)?.duration_since(SystemTime::UNIX_EPOCH) {
+        let moment = match SystemTime::now(rt)?.duration_since(SystemTime::UNIX_EPOCH) {
             Ok(passed) => passed.as_secs(),
             Err(_) => 0,
         };
@@ -275,7 +271,7 @@ impl Desk {
             past: &self.past,
             shown: self.shown,
             size: self.size,
-            now,
+            moment,
         };
         let mut out = BufWriter::new(rt.alloc(), io::writer(rt))?;
         draw(&mut out, &page)?;

@@ -1,5 +1,7 @@
 // The terminal.
-use screen_page::{Page, Strip, Tone, frame, row};
+ghost use Rattle.std.specs.Prelude.{◌<◌};
+
+use screen_page::{Page, row_bytes};
 use std::io;
 use std::io::Write;
 
@@ -18,15 +20,10 @@ pub fn ask_size<W: Write>(out: &mut W) -> io::Result<()> {
     out.flush()
 }
 
-fn draw_row<W: Write>(out: &mut W, page: &Page, index: u16) -> io::Result<()> {
-    let (tone, strip): (Tone, Strip) = row(page, usize::from(index));
-    let bytes = frame(
-        index.saturating_add(1),
-        tone,
-        &strip,
-        usize::from(page.size.columns),
-    );
-    out.write_all(bytes.bytes())
+fn draw_row<W: Write>(out: &mut W, page: &Page, index: u16) -> io::Result<()>
+    requires { index < 65_535 }
+{
+    out.write_all(row_bytes(page, index).bytes())
 }
 
 /// Draws a page.

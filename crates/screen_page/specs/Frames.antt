@@ -1,5 +1,5 @@
 -- What a terminal is sent.
-use Rattle.std.specs.Prelude.{ℕ, List, [], ◌∷◌, ◌++◌, codes, decimal}
+use Rattle.std.specs.Prelude.{ℕ, ◌+◌, List, [], ◌∷◌, ◌++◌, take, codes, decimal}
 use Rattle.screen_page.specs.declared.tone.Tone.{Tone}
 use Rattle.screen_page.specs.declared.tone.Tone.TheVariants.{Plainly, Heading, Grave, Urgent, Lesser, Mine, Faint}
 
@@ -19,3 +19,7 @@ abbrev pub frame_of : ℕ → Tone → List ℕ → List ℕ
 frame_of row tone text =
     ((((((27 ∷ codes "[") ++ decimal row) ++ codes ";1H") ++ ((27 ∷ codes "[") ++ tone_codes tone ++ codes "m")) ++ text)
     ++ ((27 ∷ codes "[0m") ++ (27 ∷ codes "[K")))
+
+-- what draws a row, at an index from 0 on, on a terminal of so many columns
+abbrev pub bytes_of_row : Tone × List ℕ → ℕ → ℕ → List ℕ
+bytes_of_row row index columns = frame_of (index + 1) row.0 (take columns row.1)

@@ -1,2 +1,9 @@
 pub mod Frames
+pub mod Keys
+pub mod Mine
+pub mod Pages
+pub mod Pasts
+pub mod Prompts
+pub mod Sent
+pub mod Sites
 pub mod Texts

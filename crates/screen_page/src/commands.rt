@@ -1,10 +1,13 @@
 // Commands as a desk reads them.
 ghost use Rattle.std.specs.Prelude.{◌≡◌, ◌≤◌, ◌++◌, length, decimal};
 ghost use Rattle.desk_wire.specs.Laws.{spelling};
+ghost use Rattle.desk_wire.specs.Names.{step_name};
 ghost use Rattle.desk_wire.specs.declared.command.Command.TheVariants.{Act, Close, Login};
+ghost use Rattle.screen_page.specs.Sent.{order_line};
 
 use crate::line::Line;
 use arc_data::{CloseCode, Outcome, Step, Txt};
+use desk_screen::{Order, Poll};
 use desk_wire::Command;
 
 fn alone(word: &[u8]) -> Line
@@ -58,6 +61,15 @@ fn close(number: u64, code: CloseCode) -> Line
     line
 }
 
+/// The name of a step.
+pub(crate) fn step_line(step: Step) -> Line
+    ensures { result ≡ step_name step }
+{
+    let mut line = Line::new();
+    line.put_step(step);
+    line
+}
+
 /// The line that a command is at a desk, without its end.
 pub fn spelled(command: &Command) -> Line
     ensures { result ≡ spelling command.now }
@@ -76,5 +88,16 @@ pub fn spelled(command: &Command) -> Line
         Command::Close { number, code } => close(*number, *code),
         Command::Show { number } => numbered(b"show ", *number),
         Command::List => alone(b"list"),
+    }
+}
+
+/// The line that the desk is sent for an order, without its end.
+pub fn order_line(order: &Order) -> Line
+    ensures { result ≡ order_line order.now }
+{
+    match order {
+        Order::Typed(command) => spelled(command),
+        Order::Polled(Poll::Whole) => spelled(&Command::List),
+        Order::Polled(Poll::One { number }) => spelled(&Command::Show { number: *number }),
     }
 }

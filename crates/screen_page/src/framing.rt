@@ -1,7 +1,9 @@
 // What a terminal is sent for a row.
-ghost use Rattle.std.specs.Prelude.{◌≡◌, ◌≤◌, ◌++◌, ◌∷◌, length, take, codes};
-ghost use Rattle.screen_page.specs.Frames.{frame_of, tone_codes};
+ghost use Rattle.std.specs.Prelude.{◌≡◌, ◌<◌, ◌≤◌, ◌++◌, ◌∷◌, length, take, codes};
+ghost use Rattle.screen_page.specs.Frames.{bytes_of_row, frame_of, tone_codes};
+ghost use Rattle.screen_page.specs.Pages.{page_row};
 
+use crate::layout::{Page, row};
 use crate::line::Line;
 use crate::strip::Strip;
 use crate::tone::Tone;
@@ -39,4 +41,13 @@ pub fn frame(row: u16, tone: Tone, strip: &Strip, columns: usize) -> Line
     line.put(b"\x1b[0m");
     line.put(b"\x1b[K");
     line
+}
+
+/// The bytes that draw a row of a page, at an index from 0 on, cut to the terminal's columns.
+pub fn row_bytes(page: &Page, index: u16) -> Line
+    requires { index < 65_535 }
+    ensures { result ≡ bytes_of_row (page_row page.now.screen.now page.now.sites.now page.now.past.now page.now.shown page.now.size.rows page.now.moment index) index page.now.size.columns }
+{
+    let (tone, strip) = row(page, usize::from(index));
+    frame(index + 1, tone, &strip, usize::from(page.size.columns))
 }

@@ -1,8 +1,9 @@
 // The text of a row.
 ghost use Rattle.std.specs.Prelude.{◌≡◌, ◌<◌, ◌≤◌, ◌++◌, ◌∷◌, [], true, length, take, decimal};
 ghost use Rattle.desk_screen.specs.Plain.{is_plain, plain_byte};
-ghost use Rattle.screen_page.specs.Texts.{are_plain, with_age, with_text};
+ghost use Rattle.screen_page.specs.Texts.{age, are_plain, with_column, with_text};
 
+use crate::line::Line;
 use crate::tone::Tone;
 use itoa::Buffer;
 use std::marker::Model;
@@ -88,27 +89,48 @@ impl Strip {
     }
 
     /// Puts seconds in words: up to a minute, up to an hour, and more.
-    #[tactic(auto, unfolding(crate::specs::Texts::with_age))]
     pub fn put_age(&mut self, seconds: u64)
-        ensures { self.new ≡ with_age self.old seconds }
+        ensures { self.new ≡ with_text self.old (age seconds) }
     {
-        if seconds < 60 {
-            self.put_number(seconds);
-            self.put(b" s");
-        } else if seconds < 3600 {
-            self.put_number(seconds / 60);
-            self.put(b" min");
-        } else {
-            self.put_number(seconds / 3600);
-            self.put(b" h");
-        }
+        self.put(age(seconds).bytes());
     }
 
     /// Puts spaces up to a column, where it lies ahead.
-    pub fn put_to(&mut self, column: usize) {
-        let len = self.bytes().len();
-        self.put(&SPACES[..column.saturating_sub(len).min(160)]);
+    #[tactic(auto, unfolding(crate::specs::Texts::with_column))]
+    pub fn put_to(&mut self, column: usize)
+        ensures { self.new ≡ with_column self.old column }
+    {
+        let ahead = column.saturating_sub(self.bytes().len());
+        self.put(front_of(&SPACES, ahead));
     }
+}
+
+/// A row of one text.
+pub(crate) fn strip_of(text: &[u8]) -> Strip
+    ensures { result ≡ with_text [] text.now }
+{
+    let mut strip = Strip::new();
+    strip.put(text);
+    strip
+}
+
+// Seconds in words.
+#[tactic(auto, unfolding(crate::specs::Texts::age))]
+fn age(seconds: u64) -> Line
+    ensures { result ≡ age seconds }
+{
+    let mut line = Line::new();
+    if seconds < 60 {
+        line.put_number(seconds);
+        line.put(b" s");
+    } else if seconds < 3600 {
+        line.put_number(seconds / 60);
+        line.put(b" min");
+    } else {
+        line.put_number(seconds / 3600);
+        line.put(b" h");
+    }
+    line
 }
 
 const SPACES: [u8; 160] = [b' '; 160];
