@@ -43,16 +43,19 @@ fn main(rt: HostRuntime) -> ExitCode {
 // Works the desk until the operator leaves, or the keyboard ends.
 fn run(rt: &HostRuntime, words: &Words) -> io::Result<()> {
     let mut desk = Desk::new(rt, words)?;
-    let mut since = Instant::now(rt)?;
+    let begun = Instant::now(rt)?;
+    let mut seconds = 0;
     for _ in 0..u64::MAX {
         desk.connect(rt);
         if !desk.take_keys(rt)? {
             return Ok(());
         }
         desk.take_answers(rt);
-        if since.elapsed(rt)?.as_millis() >= 1000 {
-            since = Instant::now(rt)?;
+        let passed = begun.elapsed(rt)?.as_secs();
+        if passed > seconds {
+            seconds = passed;
             desk.second(rt);
+            desk.take_answers(rt);
         }
         desk.draw(rt)?;
     }
