@@ -13,4 +13,3 @@ pub mod Runs
 pub mod Setting
 pub mod InForce
 pub mod Summing
-pub mod Decoding

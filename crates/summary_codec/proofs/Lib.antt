@@ -3,4 +3,3 @@ pub mod RowReading
 pub mod IncidentReading
 pub mod Whole
 pub mod Flat
-pub mod Times
