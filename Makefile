@@ -33,8 +33,8 @@ demo: build
 	@tools/demo $(PROGRAM)
 	@example/day $(PROGRAM) minute
 
-# the gate: proves and tests everything, but for what an earlier run on this machine passed, and checks the built program; what this
-# machine lacks for that is named, and not installed
+# the gate: proves and tests everything, but for what an earlier run on this machine passed where the kit keeps that, and checks the built
+# program; what this machine lacks for that is named, and not installed
 test:
 	@.ci/run
 
