@@ -1,5 +1,5 @@
 //! Tests by their public calls of the plain data and its texts, of what messages report, of plans, setups and event spellings, of civil
-//! time and opening hours, and of the cipher, each library in a module of its own. Only the tests are proved here, over the proved
+//! time, opening hours and zones, and of the cipher, each library in a module of its own. Only the tests are proved here, over the proved
 //! libraries.
 #![tactic(auto)]
 
@@ -29,3 +29,5 @@ mod event_codec_tests;
 mod open_schedules_tests;
 #[cfg(test)]
 mod sia_codes_tests;
+#[cfg(test)]
+mod zoned_weeks_tests;

@@ -1,0 +1,4 @@
+pub mod WeekLemmas
+pub mod ZoneLemmas
+pub mod HourLemmas
+pub mod SpanLemmas
