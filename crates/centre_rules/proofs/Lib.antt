@@ -5,4 +5,3 @@ pub mod Quiet
 pub mod Marked
 pub mod Tables
 pub mod Standing
-pub mod Stood
