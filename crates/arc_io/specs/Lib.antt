@@ -11,4 +11,5 @@ pub mod Crashes
 pub mod KeptCalls
 pub mod MemoryDisk
 pub mod DiskClock
+pub mod Wild
 pub mod Replays

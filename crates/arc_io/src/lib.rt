@@ -12,6 +12,6 @@ mod whole;
 pub use adapters::{FileDisk, FileSource, RealClock, RealNoise, StdPort};
 pub use disk::{Area, Disk};
 pub use disk_synced::write_synced;
-pub use memory::{Fill, ListClock, ListNoise, MemDisk, MemPort, MemSink, MemSource};
+pub use memory::{Fill, ListClock, ListNoise, MemDisk, MemPort, MemSink, MemSource, WildDisk};
 pub use traits::{Clock, Ends, Failed, Noise, Port, Sink, Source};
 pub use whole::{ReadEnd, put, read_all};

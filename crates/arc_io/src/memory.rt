@@ -9,6 +9,7 @@ mod noise;
 mod port;
 mod sink;
 mod source;
+mod wild;
 
 pub use clock::ListClock;
 pub use disk::MemDisk;
@@ -17,6 +18,7 @@ pub use noise::ListNoise;
 pub use port::MemPort;
 pub use sink::MemSink;
 pub use source::MemSource;
+pub use wild::WildDisk;
 
 // The call of this number is one of those that are to fail.
 fn is_listed(failing: &[u64], number: u64) -> bool
