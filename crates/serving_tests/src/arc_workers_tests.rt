@@ -18,7 +18,7 @@ use std::process::Abort;
 use std::sync::Wait;
 use std::sync::atomic::AtomicBool;
 use test_fixtures::moments::BEGIN;
-use test_fixtures::ports::port_of;
+use test_fixtures::ports::{failing_port, port_of};
 
 // Its Adopt takes 57 bytes of a journal, and a Start takes 14.
 const SETUP: &[u8] = b"account 8080 beat 60\noperator ann 1234\n";
@@ -135,6 +135,48 @@ fn a_line_worker_serves_as_many_as_are_asked(rt: HostRuntime) {
     };
     let wanted = (WorkerEnd::Quota, 4, 2);
     check(&rt, rt.alloc(), &case, wanted, ACKNOWLEDGEMENT);
+}
+
+// A link whose first read or write of these numbers fails, and a sound one behind it: the worker goes on, and the store has so many entries
+// then. What was written to the first one is nothing.
+fn compare_behind<R: Abort + Wait>(rt: &R, alloc: Global, failing: (&[u64], &[u64]), entries: u64) {
+    let (reads, writes) = failing;
+    let case = Case {
+        side: Side::Lines,
+        input: BEAT,
+        failing: &[],
+        sessions: 2,
+        records: 9,
+    };
+    let first = failing_port(alloc, BEAT, reads, writes).expect(rt, "memory");
+    let second = port(rt, alloc, &case);
+    let ports = Vec::from_array(alloc, [first, second]).expect(rt, "memory");
+    let mut door = doors::door_of(rt, alloc, ports, Vec::new(alloc));
+    let blank = blank(rt, alloc, case.records);
+    let told = work(rt, alloc, blank, &mut door, &case);
+    let worked = Worked {
+        end: WorkerEnd::Quota,
+        refused: 0,
+    };
+    same(rt, told, (worked, entries), "the end");
+    compare_two(rt, door);
+}
+
+// Nothing was written to the first link, and an acknowledgement to the second.
+fn compare_two(rt: &impl Abort, door: MemDoor<MemPort>) {
+    let links = door.into_back();
+    same(rt, links.len(), 2, "links");
+    for (link, answer) in links.iter().zip([b"", ACKNOWLEDGEMENT]) {
+        same(rt, link.sink.bytes(), answer, "written");
+    }
+    drop(links);
+}
+
+#[test]
+fn a_worker_goes_on_behind_a_link_that_fails(rt: HostRuntime) {
+    compare_behind(&rt, rt.alloc(), (&[1], &[]), 3);
+    // The heartbeat whose acknowledgement could not be written stands.
+    compare_behind(&rt, rt.alloc(), (&[], &[1]), 4);
 }
 
 #[test]

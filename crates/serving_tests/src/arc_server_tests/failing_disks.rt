@@ -1,10 +1,10 @@
-// A line and a script over disks of which one call fails, whichever it is.
+// A line and a script over disks of which one call fails, whichever it is, and a line over what a stop within any call leaves.
 ghost use Rattle.std.specs.Prelude.{◌≡◌, ◌<◌, false, IfOk};
 ghost use Rattle.arc_io.specs.Memory.{port_seen};
 
 use super::SETUP;
 use crate::same::{holds, same};
-use arc_io::{Area, Disk, ListClock, ListNoise, MemDisk, MemPort, MemSink, MemSource, Port};
+use arc_io::{Disk, Fill, ListClock, ListNoise, MemDisk, MemPort, MemSink, MemSource, Port};
 use arc_script::{ScriptEnd, ScriptEnded, run_script};
 use arc_serving::{SessionEnd, Side, serve};
 use centre_core::{Setup, Stop};
@@ -105,13 +105,44 @@ fn compare_line(rt: &impl Abort, alloc: Global, call: u64) -> Result<(), Fail> {
     }
 }
 
+// The next run over the disk, at the same clock, acknowledges the alarm and has it once.
 fn compare_again(rt: &impl Abort, alloc: Global, disk: MemDisk) -> Result<(), Fail> {
-    let mut port = port_at(alloc, ALARM, 1_000_000_010)?;
+    let mut port = port_at(alloc, ALARM, 1_000_000_000)?;
     let (end, disk) = run_line(alloc, disk, &mut port);
     same(rt, end, Some(SessionEnd::InputEnded), "the end");
     same(rt, port.sink.bytes(), ACKNOWLEDGEMENT, "the answer");
     drop(port);
     same(rt, messages(alloc, disk)?, 1, "messages");
+    Ok(())
+}
+
+// The run that no call fails is stopped within each of its calls, and what was not synced then is as each filling has it.
+#[test]
+fn an_alarm_over_what_a_stop_leaves(rt: HostRuntime) -> Result<(), Fail> {
+    let alloc = rt.alloc();
+    let disk = line_disk(&rt, alloc)?;
+    same(&rt, disk.calls(), 16, "calls");
+    for call in 1..17u64 {
+        compare_stops(&rt, alloc, &disk, call)?;
+    }
+    Ok(())
+}
+
+// The disk of such a run.
+fn line_disk(rt: &impl Abort, alloc: Global) -> Result<MemDisk, Fail> {
+    let mut port = port_at(alloc, ALARM, 1_000_000_000)?;
+    let disk = MemDisk::new(alloc, Vec::new(alloc));
+    let (end, disk) = run_line(alloc, disk, &mut port);
+    same(rt, end, Some(SessionEnd::InputEnded), "the end");
+    drop(port);
+    Ok(disk)
+}
+
+fn compare_stops(rt: &impl Abort, alloc: Global, disk: &MemDisk, call: u64) -> Result<(), Fail> {
+    for fill in [Fill::Old, Fill::New, Fill::Torn(1), Fill::Torn(0xff)] {
+        assert!(rt; call > 0 && call <= disk.calls());
+        compare_again(rt, alloc, disk.stopped(alloc, call, fill)?)?;
+    }
     Ok(())
 }
 

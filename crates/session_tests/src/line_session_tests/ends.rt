@@ -81,6 +81,33 @@ fn try_panel(rt: &impl Abort, alloc: Global, fails_at: u64, want: Came) {
     drop(panel);
 }
 
+// The reply to a repeat is cut off behind its first byte: the alarm stands once.
+#[test]
+fn a_repeat_whose_reply_is_cut_off(rt: HostRuntime) {
+    let alloc = rt.alloc();
+    let input = joined(&rt, alloc, &[ALARM, ALARM]);
+    let output = joined(&rt, alloc, &[ALARM_REPLY, b"\n"]);
+    let mut panel = Panel::new(input, 4_096, Vec::new(alloc));
+    panel.fails_at = 30;
+    let came = session(&rt, alloc, SETUP, &mut panel);
+    same(&rt, came, (LineEnd::WriteFault, 3), "the end");
+    same(&rt, panel.written.as_slice(), output.as_slice(), "written");
+    drop(panel);
+}
+
+// The first twenty bytes of an alarm.
+const PART: &[u8] = b"\nDEFF0027\"ADM-CID\"00";
+
+#[test]
+fn a_frame_that_breaks_off(rt: HostRuntime) {
+    let alloc = rt.alloc();
+    let mut port = failing_port(alloc, PART, &[2], &[]).expect(&rt, "memory");
+    let came = session(&rt, alloc, SETUP, &mut port);
+    same(&rt, came, (LineEnd::ReadFault, 2), "the end");
+    same(&rt, port.sink.bytes(), b"", "nothing is written");
+    drop(port);
+}
+
 #[test]
 fn a_panel_sends_its_next_alarm_when_it_has_the_whole_reply(rt: HostRuntime) {
     let alloc = rt.alloc();
