@@ -31,14 +31,17 @@ fn opened(alloc: Global, disk: WildDisk) -> Result<Store<WildDisk>, OpenFault>
     }
 }
 
-// Begins a run over it. The disk is never down.
-fn begun(alloc: Global, store: &mut Store<WildDisk>, setup: Setup) -> Result<(), Stop>
+// Begins a run over it, or answers that there is no memory for its setup. The disk is never down.
+fn begun(alloc: Global, store: &mut Store<WildDisk>) -> Result<(), Stop>
     requires { store.old.at_open ≡ 0 }
     ensures setting { OnOk result (IsSetting store.new.state.sum.text) }
     ensures at_open { store.new.at_open ≡ 0 }
     ensures up { IfErr result (λ stop. (at_open now : ℕ) → stop ≡ Stop.Down at_open now → ⊥) }
 {
-    store.begin(alloc, setup, BEGIN)
+    match Setup::read(alloc, b"account 1234\n") {
+        Ok(setup) => store.begin(alloc, setup, BEGIN),
+        Err(_) => Err(Stop::Memory),
+    }
 }
 
 // Submits an alarm, or answers that there is no memory for it. The disk is never down.
@@ -57,10 +60,7 @@ fn submitted(alloc: Global, store: &mut Store<WildDisk>) -> Result<Done, Stop>
 fn worked(alloc: Global, store: &mut Store<WildDisk>) -> &'static str
     requires { store.old.at_open ≡ 0 }
 {
-    let Ok(setup) = Setup::read(alloc, b"account 1234\n") else {
-        return "no setup";
-    };
-    let Ok(()) = begun(alloc, store, setup) else {
+    let Ok(()) = begun(alloc, store) else {
         return "not begun";
     };
     match submitted(alloc, store) {

@@ -44,6 +44,20 @@ fn failed_reads_and_writes_end_a_session(rt: HostRuntime) {
     try_faults(&rt, alloc, &[], &[3], ("ok ann\nlist 7\n", "write", 2));
 }
 
+// Of a desk that is fed, the second write fails: what was answered by it was carried out.
+#[test]
+fn a_failed_write_ends_a_desk_that_is_fed(rt: HostRuntime) {
+    let alloc = rt.alloc();
+    let mut hall = Told::new(&rt, alloc, SETUP, None);
+    let mut port = failing_port(alloc, b"", &[], &[2]).expect(&rt, "memory");
+    let ended = DeskState::new().take(alloc, &mut hall, &mut port, INPUT);
+    same(&rt, ended, Err(DeskEnd::WriteFault), "fed");
+    compare_written(&rt, &port, b"ok ann\n", "fed");
+    same(&rt, hall.calls, 1, "fed");
+    drop(port);
+    drop(hall);
+}
+
 #[test]
 fn the_law_is_of_any_hall_and_port() {
     law_sessions_join::<Told, MemPort>();

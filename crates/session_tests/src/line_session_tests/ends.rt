@@ -1,6 +1,6 @@
 // How sessions end.
 use super::panel::Panel;
-use super::{ALARM, ALARM_REPLY, BEAT, BEAT_REPLY, Came, SETUP, joined, session};
+use super::{ALARM, ALARM_REPLY, BEAT, BEAT_REPLY, Came, SETUP, joined, recorded_of, session};
 use crate::same::same;
 use crate::told::Told;
 use arc_io::{MemPort, Source};
@@ -8,6 +8,7 @@ use centre_core::{RamHall, Stop};
 use line_session::{LineEnd, LineState, law_sessions_join, serve_line};
 use std::alloc::Global;
 use std::process::Abort;
+use test_fixtures::halls::ram_hall;
 use test_fixtures::ports::{failing_port, port_of};
 
 // Three frames, and the replies to them.
@@ -51,6 +52,20 @@ fn try_faults(
     let came = session(rt, alloc, SETUP, &mut port);
     same(rt, came, want, "the end");
     compare_written(rt, alloc, port.sink.bytes(), written);
+    drop(port);
+}
+
+// Of a line that is fed, the second write fails.
+#[test]
+fn a_failed_write_ends_a_line_that_is_fed(rt: HostRuntime) {
+    let alloc = rt.alloc();
+    let input = input(&rt, alloc);
+    let mut hall = ram_hall(alloc, SETUP).expect(&rt, "a hall");
+    let mut port = failing_port(alloc, b"", &[], &[2]).expect(&rt, "memory");
+    let end = LineState::new().take(alloc, &mut hall, &mut port, &input);
+    same(&rt, end, Err(LineEnd::WriteFault), "fed");
+    compare_written(&rt, alloc, port.sink.bytes(), 28);
+    same(&rt, recorded_of(hall), 4, "entries");
     drop(port);
 }
 
