@@ -45,7 +45,8 @@ pub record IsTurn (i : Input) (r : Reaction) (old new : Screen) : Type 0 where
 -- What stands as the own incident of somebody who is logged in, as the desk showed it, was shown as held by him.
 abbrev pub Owns : Option (List ℕ) → Option Own → Type 0
 Owns user own =
-    (name : List ℕ) (o : Own) (view : View) → user ≡ Some name → own ≡ Some o → o.view ≡ Some view → is_held_by (Some name) view.holder ≡ true
+    (name : List ℕ) (o : Own) (view : View)
+    → user ≡ Some name → own ≡ Some o → o.view ≡ Some view → is_held_by (Some name) view.holder ≡ true
 
 -- The screen shows what is so of the sitting, and each turn of the sitting was as it has to be.
 pub record StandsFor (screen : Screen) (s : Sitting) : Type 0 where

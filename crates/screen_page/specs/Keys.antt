@@ -8,8 +8,8 @@ use Rattle.desk_wire.specs.Names.{number_spelled}
 use Rattle.screen_page.specs.declared.keys.Pressed.{Pressed}
 use Rattle.screen_page.specs.declared.keys.Pressed.TheVariants.{Nothing, Key, Corner}
 
--- Whether a byte goes on with a sequence of which these bytes came. An escape begins one; `[` behind it goes on up to a byte from 64 to 126,
--- `O` to the next byte, and any other byte ends it.
+-- Whether a byte goes on with a sequence of which these bytes came. An escape begins one; `[` behind it goes on up to a byte from 64 to
+-- 126, `O` to the next byte, and any other byte ends it.
 abbrev pub goes_on : List ℕ → ℕ → Bool
 goes_on [] byte = byte == 27
 goes_on (escape ∷ []) byte = (byte == 91) || (byte == 79)

@@ -36,7 +36,8 @@ holder_text (Some name) = name
 unfoldable pub listed_row : Waiting → ℕ → List ℕ
 listed_row waiting clock =
     with_cells (with_texts [] (letter_of (priority_of waiting.row.class) ∷ mark_of waiting.row.holder ∷ decimal waiting.row.number ∷ []))
-    ((12, name_of waiting.row.class) ∷ (25, waiting.row.account) ∷ (43, age (clock - waiting.since)) ∷ (52, holder_text waiting.row.holder) ∷ [])
+    ((12, name_of waiting.row.class) ∷ (25, waiting.row.account) ∷ (43, age (clock - waiting.since))
+    ∷ (52, holder_text waiting.row.holder) ∷ [])
 
 abbrev pub listed : Waiting → ℕ → Tone × List ℕ
 listed waiting clock =
@@ -94,8 +95,8 @@ body_row Work screen sites past moment place = work_row screen sites past moment
 body_row Help screen sites past moment place = help_row place
 body_row History screen sites past moment place = past_row past.rows.items place
 
--- The row of a page at an index, of a terminal with so many rows: the connection first, then what is typed or awaited, then the last answer;
--- the keys stand in the last row.
+-- The row of a page at an index, of a terminal with so many rows: the connection first, then what is typed or awaited, then the last
+-- answer; the keys stand in the last row.
 abbrev pub page_row : Screen → Option (List ℕ) → Past → Shown → ℕ → ℕ → ℕ → Tone × List ℕ
 page_row screen sites past shown rows moment index =
     if index == 0 then status screen.session screen.watch.total
