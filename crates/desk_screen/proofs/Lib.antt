@@ -4,3 +4,4 @@ pub mod Owns
 pub mod Sends
 pub mod Told
 pub mod Turns
+pub mod Whole

@@ -45,6 +45,14 @@ wished_by : (broken : Bool) (asked before : Option Command) (c : Command) → co
 wished_by true asked before c is = absurd cc
 wished_by false asked before c is = or_is asked before c is
 
+unbroken : (broken : Bool) (wish : Option Command) (c : Command) → cond broken None wish ≡ Some c → broken ≡ false
+unbroken true wish c is = absurd cc
+unbroken false wish c is = refl
+
+-- and nothing where a connection begins or ends
+pub fresh : (i : Input) (asked before : Option Command) (c : Command) → wish_asked i asked before ≡ Some c → is_break i ≡ false
+fresh i asked before c is = unbroken (is_break i) (option_or asked before) c is
+
 -- what he wished is what a key asks for now, or asked for before
 pub wished : (i : Input) (asked before : Option Command) (c : Command) → wish_asked i asked before ≡ Some c
     → (asked ≡ Some c) ⊎ ((asked ≡ None) × (before ≡ Some c))
@@ -60,6 +68,14 @@ three true true true is = (refl, refl)
 three true true false is = absurd cc
 three true false d is = absurd cc
 three false b d is = absurd cc
+
+first : (a b : Bool) → (a && b) ≡ true → a ≡ true
+first true b is = refl
+first false b is = absurd cc
+
+-- a key may ask over a connection
+pub connected_is : (connected : Bool) (way : Option Order) (wish : Option Command) → may_ask connected way wish ≡ true → connected ≡ true
+connected_is connected way wish may = first connected (is_none (typed_of way) && is_none wish) may
 
 -- a key may ask where no command of the operator's is on the way or waits
 pub free_is : (connected : Bool) (way : Option Order) (wish : Option Command) → may_ask connected way wish ≡ true → (typed_of way ≡ None) × (wish ≡ None)

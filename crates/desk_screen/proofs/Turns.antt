@@ -19,7 +19,8 @@ use Rattle.desk_screen.proofs.Asked.{asks_is}
 use Rattle.desk_screen.proofs.Confirmed.{asked_confirmed}
 use Rattle.desk_screen.proofs.Owns.{owns_after}
 use Rattle.desk_screen.proofs.Told.{asked_told}
-use Rattle.desk_screen.proofs.Sends.{due_connected, due_alone, due_typed, wished, free_is}
+use Rattle.desk_screen.proofs.Whole.{has_no_pin, sent_once}
+use Rattle.desk_screen.proofs.Sends.{connected_is, due_connected, due_alone, due_typed, fresh, wished, free_is}
 
 two : {A B C : Type 0} {a a' : A} {b b' : B} (f : A → B → C) → a ≡ a' → b ≡ b' → f a b ≡ f a' b'
 two {A} {B} {C} {a} {a'} {b} {b'} f p q = ap (λ x. f x b) p ∙ ap (f a') q
@@ -46,6 +47,7 @@ asked_may false asks c is = absurd cc
 record Asked (s : Sitting) (i : Input) (c : Command) : Type 0 where
   keyed : (key : ℕ) × (i ≡ Key key) × IsFor (own s) (last_key s) (typed s) (name s) key c
   free : (typed_of (way s) ≡ None) × (wish s ≡ None)
+  joined : is_connected s ≡ true
 
 asked_is : (i : Input) (old : Screen) (s : Sitting) (c : Command) → StandsFor old s → asked_at i old ≡ Some c → Asked s i c
 asked_is (Key key) old s c h is =
@@ -55,6 +57,7 @@ asked_is (Key key) old s c h is =
     record {
       keyed = (key, refl, asks_is (user s) (own s) (last_key s) (typed s) (name s) key c (sym (asks_of old s key h) ∙ m.1));
       free = (ap typed_of (sym h.way) ∙ f.0, sym h.wish ∙ f.1);
+      joined = sym h.connected ∙ connected_is old.session.connected old.session.way old.session.wish m.0;
     }
 asked_is (Answer line) old s c h is = absurd cc
 asked_is Second old s c h is = absurd cc
@@ -69,6 +72,8 @@ allowed i r old new s t h = record {
   keyed = λ c is. (asked_is i old s c h (sym t.asked ∙ is)).keyed;
   told = λ number step outcome is. asked_told s i number step outcome (asked_is i old s (Act number step outcome) h (sym t.asked ∙ is)).keyed;
   confirmed = λ number code is. asked_confirmed s i number code (asked_is i old s (Close number code) h (sym t.asked ∙ is)).keyed;
+  fresh = λ c is. fresh i r.asked old.session.wish c (due_typed _ _ _ _ _ _ c (sym t.session.sent ∙ is));
+  joined = λ c is. (asked_is i old s c h (sym t.asked ∙ is)).joined;
   one = λ c is. (asked_is i old s c h (sym t.asked ∙ is)).free;
   bell = t.watch.rung ∙ four (λ w q n m. rings i (news i w) q n m) h.way h.queue h.quiet h.muted;
 }
@@ -83,6 +88,8 @@ pub goes_on : (i : Input) (r : Reaction) (old new : Screen) (s : Sitting) → Is
 unfolding is_connected user way wish undone show_owed list_owed silence own queue total clock quiet muted last_key typed name answered
 goes_on i r old new s t h = let owned = owned_is i r old new s t h in record {
   proper = (allowed i r old new s t h, h.proper);
+  once = sent_once (turn i r ∷ s) (allowed i r old new s t h, h.proper);
+  pin = has_no_pin (turn i r ∷ s);
   connected = t.session.connected ∙ ap (connected_after i) h.connected;
   user = t.session.user ∙ two (λ w u. user_after i (news i w) u) h.way h.user;
   way = t.session.way ∙ ap (λ w. way_sent r.sent (way_left i w)) h.way;
@@ -99,7 +106,7 @@ goes_on i r old new s t h = let owned = owned_is i r old new s t h in record {
   quiet = t.watch.quiet ∙ ap (λ q. cond (r.rung) 0 (quiet_after i q)) h.quiet;
   muted = t.watch.muted ∙ two (muted_after i) h.user h.muted;
   last = t.typed.last ∙ four (λ w o p l. last_after i (news i w) (same_number (own_number o) (own_number p)) l) h.way h.own owned h.last;
-  typed = t.typed.typed ∙ three (λ w u x. typed_after i (news i w) u x) h.way h.user h.typed;
-  name = t.typed.name ∙ four (λ w u x n. name_after i (news i w) u x n) h.way h.user h.typed h.name;
+  typed = t.typed.typed ∙ four (λ w u n x. typed_after i (news i w) u n x) h.way h.user h.name h.typed;
+  name = t.typed.name ∙ three (name_after i) h.user h.typed h.name;
   answered = t.answered ∙ two (answered_after i) h.way h.answered;
 }

@@ -10,3 +10,4 @@ pub mod Steps
 pub mod Told
 pub mod Typing
 pub mod Watching
+pub mod Whole

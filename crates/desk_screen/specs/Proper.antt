@@ -1,5 +1,5 @@
 -- What is so of each turn of a sitting, whatever comes.
-use Rattle.std.specs.Prelude.{◌≡◌, ◌⊎◌, ℕ, List, [], ◌∷◌, true, Option, Some, None}
+use Rattle.std.specs.Prelude.{◌≡◌, ◌⊎◌, ℕ, List, [], ◌∷◌, true, false, Option, Some, None}
 use Rattle.alarm_rules.specs.SetupWords.{is_pin, word_that}
 use Rattle.arc_data.specs.Steps.{fits}
 use Rattle.arc_data.specs.declared.step.Step.{Step}
@@ -12,7 +12,7 @@ use Rattle.desk_wire.specs.declared.command.Command.{Command}
 use Rattle.desk_wire.specs.declared.command.Command.TheVariants.{Login, Quit, Next, Claim, Act, Release, Close, Show, List as Rows}
 use Rattle.desk_screen.specs.Asking.{number_meant}
 use Rattle.desk_screen.specs.Bell.{rings, quiet, muted}
-use Rattle.desk_screen.specs.Inputs.{Input, Key, Answer, Second, Made, Lost, Turn, Sitting, news}
+use Rattle.desk_screen.specs.Inputs.{Input, Key, Answer, Second, Made, Lost, Turn, Sitting, is_break, news}
 use Rattle.desk_screen.specs.Orders.{way, way_left, wish, is_connected, connected_after, typed_of}
 use Rattle.desk_screen.specs.Owning.{own}
 use Rattle.desk_screen.specs.Told.{IsTold}
@@ -79,8 +79,11 @@ pub record IsAllowed (s : Sitting) (t : Turn) : Type 0 where
   pub alone : (order : Order) → t.sent ≡ Some order → way_left t.input (way s) ≡ None
   -- what is sent for the operator is what his key asks for now, or asked for before and was not sent; it is never sent twice
   pub wished : (c : Command) → t.sent ≡ Some (Typed c) → (t.asked ≡ Some c) ⊎ ((t.asked ≡ None) × (wish s ≡ Some c))
-  -- he asks by a key, where none of his commands waits for its turn or its answer
+  -- where a connection begins or ends nothing is sent for him
+  pub fresh : (c : Command) → t.sent ≡ Some (Typed c) → is_break t.input ≡ false
+  -- he asks by a key, over a connection, where none of his commands waits for its turn or its answer
   pub keyed : (c : Command) → t.asked ≡ Some c → (key : ℕ) × (t.input ≡ Key key) × IsFor (own s) (last_key s) (typed s) (name s) key c
+  pub joined : (c : Command) → t.asked ≡ Some c → is_connected s ≡ true
   pub one : (c : Command) → t.asked ≡ Some c → (typed_of (way s) ≡ None) × (wish s ≡ None)
   -- the step of an act is the one that the desk told to expect, in this connection
   pub told : (number : ℕ) (step : Step) (outcome : Outcome) → t.asked ≡ Some (Act number step outcome) → IsTold s number step

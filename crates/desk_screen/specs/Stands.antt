@@ -13,6 +13,7 @@ use Rattle.desk_screen.specs.Proper.{IsProper}
 use Rattle.desk_screen.specs.Steps.{IsSession, IsTyped, IsWatch}
 use Rattle.desk_screen.specs.Typing.{last_key, name, typed}
 use Rattle.desk_screen.specs.Watching.{clock, queue, silence, total}
+use Rattle.desk_screen.specs.Whole.{HasNoPin, IsSentOnce}
 use Rattle.desk_screen.specs.declared.reaction.Reaction.{Reaction}
 use Rattle.desk_screen.specs.declared.screen.Screen.{Screen}
 
@@ -51,6 +52,8 @@ Owns user own =
 -- The screen shows what is so of the sitting, and each turn of the sitting was as it has to be.
 pub record StandsFor (screen : Screen) (s : Sitting) : Type 0 where
   pub proper : IsProper s
+  pub once : IsSentOnce s
+  pub pin : HasNoPin s
   pub owns : Owns (user s) (own s)
   pub connected : screen.session.connected ≡ is_connected s
   pub user : screen.session.user ≡ user s

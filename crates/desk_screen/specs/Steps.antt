@@ -38,5 +38,5 @@ pub record IsWatch (i : Input) (said : Said) (r : Reaction) (user : Option (List
 -- what was typed behind a turn, after which the same incident is the operator's own, or another one
 pub record IsTyped (i : Input) (said : Said) (same : Bool) (user : Option (List ℕ)) (old new : Keyboard) : Type 0 where
   pub last : new.last ≡ last_after i said same old.last
-  pub typed : new.typed ≡ typed_after i said user old.typed
-  pub name : new.name ≡ name_after i said user old.typed old.name
+  pub typed : new.typed ≡ typed_after i said user old.name old.typed
+  pub name : new.name ≡ name_after i user old.typed old.name

@@ -1,10 +1,10 @@
 // What becomes of what was typed.
-ghost use Rattle.std.specs.Prelude.{◌≡◌, ℕ, List, [], Bool, Option, None, if◌then◌else◌};
+ghost use Rattle.std.specs.Prelude.{◌≡◌, ◌≤◌, ℕ, List, [], Bool, Option, None, if◌then◌else◌};
 ghost use Rattle.arc_data.specs.Digits.{is_name_byte};
 ghost use Rattle.desk_said.specs.declared.said.Said.{Said};
 ghost use Rattle.desk_screen.specs.Inputs.{Key, Answer};
 ghost use Rattle.desk_screen.specs.Steps.{IsTyped};
-ghost use Rattle.desk_screen.specs.Typing.{is_text, longer, name_key, named, tells_login};
+ghost use Rattle.desk_screen.specs.Typing.{is_text, longer, name_key, named, room, tells_login};
 
 use crate::asking::is_enter;
 use crate::keyboard::Keyboard;
@@ -18,21 +18,33 @@ fn is_name_byte(key: u8) -> bool
     key.is_ascii_alphanumeric() || key == b'.' || key == b'_' || key == b'-'
 }
 
-fn is_text(user: &Option<Txt>, key: u8) -> bool
-    ensures { result ≡ is_text user.now key }
+fn is_text(user: &Option<Txt>, name: &Option<Txt>, key: u8) -> bool
+    ensures { result ≡ is_text user.now name.now key }
 {
     match user {
-        Some(_) => key.is_ascii_digit(),
+        Some(_) => name.is_none() && key.is_ascii_digit(),
         None => is_name_byte(key),
     }
 }
 
-// The text with a byte more, of at most 20.
-fn longer(text: &Txt, key: u8) -> Txt
-    ensures { result ≡ longer text.now key }
+// How many bytes may be typed.
+fn room(user: &Option<Txt>) -> usize
+    ensures value { result ≡ room user.now }
+    ensures most { result ≤ 20 }
+{
+    match user {
+        Some(_) => 20,
+        None => 16,
+    }
+}
+
+// The text with a byte more, of at most so many.
+fn longer(most: usize, text: &Txt, key: u8) -> Txt
+    requires { most ≤ 20 }
+    ensures { result ≡ longer most text.now key }
 {
     let len = text.bytes().len();
-    if len >= 20 {
+    if len >= most {
         return *text;
     }
     let mut bytes = [key; 21];
@@ -43,11 +55,11 @@ fn longer(text: &Txt, key: u8) -> Txt
     }
 }
 
-fn typed_after(user: &Option<Txt>, typed: &Txt, key: u8) -> Txt
-    ensures { result ≡ (if is_text user.now key then longer typed.now key else []) }
+fn typed_after(user: &Option<Txt>, name: &Option<Txt>, typed: &Txt, key: u8) -> Txt
+    ensures { result ≡ (if is_text user.now name.now key then longer (room user.now) typed.now key else []) }
 {
-    if is_text(user, key) {
-        longer(typed, key)
+    if is_text(user, name, key) {
+        longer(room(user), typed, key)
     } else {
         Txt::empty()
     }
@@ -67,7 +79,7 @@ fn name_key(user: &Option<Txt>, key: u8, typed: &Txt, name: &Option<Txt>) -> Opt
     ensures { result ≡ name_key user.now key typed.now name.now }
 {
     if user.is_some() {
-        None
+        if key.is_ascii_digit() { *name } else { None }
     } else if is_enter(key) {
         named(typed, name)
     } else if key == 27 {
@@ -96,13 +108,24 @@ impl Keyboard {
         }
     }
 
+    /// What is left of what was typed, where what it was meant for is over: a name whose PIN is awaited.
+    pub(crate) fn begun_anew(&self) -> Keyboard
+        ensures { result ≡ record { last = None; typed = []; name = self.now.name } }
+    {
+        Keyboard {
+            last: None,
+            typed: Txt::empty(),
+            name: self.name,
+        }
+    }
+
     /// What was typed behind a key.
     pub(crate) fn pressed(&self, key: u8, user: &Option<Txt>) -> Keyboard
         ensures { (said : Said) (same : Bool) → IsTyped (Key key) said same user.now self.now result }
     {
         Keyboard {
             last: Some(key),
-            typed: typed_after(user, &self.typed, key),
+            typed: typed_after(user, &self.name, &self.typed, key),
             name: name_key(user, key, &self.typed, &self.name),
         }
     }
@@ -112,7 +135,7 @@ impl Keyboard {
         ensures { (line : List ℕ) (user : Option (List ℕ)) → IsTyped (Answer line) said.now same user self.now result }
     {
         if tells_login(said) {
-            return Keyboard::new();
+            return self.begun_anew();
         }
         Keyboard {
             last: if same { self.last } else { None },

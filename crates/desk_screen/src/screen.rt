@@ -143,7 +143,7 @@ impl Screen {
         ensures { IsTurn Made result self.old self.new }
     {
         self.own = with_due(Due::Untold, &self.own);
-        self.keyboard = Keyboard::new();
+        self.keyboard = self.keyboard.begun_anew();
         let (session, sent) = sending::made(&self.session, untold_number(&self.own));
         self.session = session;
         Reaction {
@@ -158,7 +158,7 @@ impl Screen {
         ensures { IsTurn Lost result self.old self.new }
     {
         self.own = with_due(Due::Untold, &self.own);
-        self.keyboard = Keyboard::new();
+        self.keyboard = self.keyboard.begun_anew();
         let (session, sent) = sending::lost(&self.session, untold_number(&self.own));
         self.session = session;
         Reaction {

@@ -134,6 +134,22 @@ fn a_lost_connection(rt: HostRuntime) {
 }
 
 #[test]
+fn nothing_but_a_key_ends_the_typing_of_a_pin(rt: HostRuntime) {
+    let mut screen = Screen::new();
+    let _ = screen.made();
+    for byte in b"ann\r98".iter() {
+        key(&rt, &mut screen, *byte, "-");
+    }
+    let _ = screen.lost();
+    let _ = screen.made();
+    // the rest of it is no PIN, and no name
+    for byte in b"76\r1234".iter() {
+        key(&rt, &mut screen, *byte, "-");
+    }
+    key(&rt, &mut screen, b'\r', "login");
+}
+
+#[test]
 fn the_bell(rt: HostRuntime) {
     let mut screen = at_work(&rt);
     second(&rt, &mut screen, "(list)");

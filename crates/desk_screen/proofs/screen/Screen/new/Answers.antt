@@ -1,4 +1,4 @@
-use Rattle.std.proofs.Common.{refl, ap}
+use Rattle.std.proofs.Common.{[], refl, ap}
 use Rattle.desk_screen.specs.Bell.{quiet, muted}
 use Rattle.desk_screen.specs.Orders.{is_connected, user, way, wish, undone, show_owed, list_owed}
 use Rattle.desk_screen.specs.Owning.{own}
@@ -7,12 +7,15 @@ use Rattle.desk_screen.specs.Typing.{last_key, typed, name}
 use Rattle.desk_screen.specs.Watching.{silence, queue, total, clock}
 use Rattle.desk_screen.specs.declared.keyboard.Keyboard.{Keyboard}
 use Rattle.desk_screen.proofs.Owns.{nobody}
+use Rattle.desk_screen.proofs.Whole.{has_no_pin}
 use Rattle.desk_screen.proofs.screen.Screen.new.Goals as goal
 
 pub returns : goal.returns
 unfolding is_connected user way wish undone show_owed list_owed silence own queue total clock quiet muted last_key typed name answered
 returns c = record {
   proper = tt;
+  once = tt;
+  pin = has_no_pin [];
   connected = refl;
   user = refl;
   way = refl;

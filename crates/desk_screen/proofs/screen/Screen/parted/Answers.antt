@@ -16,9 +16,9 @@ returns c =
       own = c.with_due-self.ensures;
       watch = record { queue = refl; total = refl; clock = refl; rung = refl; quiet = refl; muted = refl };
       typed = record {
-        last = ap (λ (k : Keyboard). k.last) c.new-self.ensures;
-        typed = ap (λ (k : Keyboard). k.typed) c.new-self.ensures;
-        name = ap (λ (k : Keyboard). k.name) c.new-self.ensures;
+        last = ap (λ (k : Keyboard). k.last) c.begun_anew-self.ensures;
+        typed = ap (λ (k : Keyboard). k.typed) c.begun_anew-self.ensures;
+        name = ap (λ (k : Keyboard). k.name) c.begun_anew-self.ensures;
       };
       answered = refl;
     }
