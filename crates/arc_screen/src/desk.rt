@@ -4,7 +4,7 @@ use crate::words::Words;
 use arc_text::{LineCut, LineCutter};
 use desk_screen::{Order, Reaction, Screen};
 use screen_page::{
-    KeyReader, Page, Past, Pressed, Shown, Sites, Size, leaves, order_line, shown_after,
+    KeyReader, Page, Past, Pressed, Shown, Sites, Size, is_at_work, leaves, order_line, shown_after,
 };
 use std::io::{BufWriter, ErrorKind, Read, Write};
 use std::net::{OpenStream, TcpStream};
@@ -187,13 +187,22 @@ impl Desk {
                 if leaves(&self.screen, key) {
                     return Ok(false);
                 }
-                self.shown = shown_after(key, self.screen.session().user.is_some());
-                let reaction = self.screen.key(key);
-                self.react(rt, &reaction);
+                self.press(rt, key);
                 self.draw(rt)?;
             }
         }
         Ok(true)
+    }
+
+    // A key at work is for the screen; another one goes back to work.
+    fn press(&mut self, rt: &HostRuntime, key: u8) {
+        let was_at_work = is_at_work(self.shown);
+        self.shown = shown_after(self.shown, key, self.screen.session().user.is_some());
+        self.is_drawn = false;
+        if was_at_work {
+            let reaction = self.screen.key(key);
+            self.react(rt, &reaction);
+        }
     }
 
     fn resize(&mut self, rows: u16, columns: u16) {

@@ -1,5 +1,5 @@
 -- What a terminal is sent.
-use Rattle.std.specs.Prelude.{ℕ, ◌+◌, List, [], ◌∷◌, ◌++◌, take, codes, decimal}
+use Rattle.std.specs.Prelude.{ℕ, ◌+◌, List, ◌∷◌, ◌++◌, take, codes, decimal}
 use Rattle.screen_page.specs.declared.tone.Tone.{Tone}
 use Rattle.screen_page.specs.declared.tone.Tone.TheVariants.{Plainly, Heading, Grave, Urgent, Lesser, Mine, Faint}
 

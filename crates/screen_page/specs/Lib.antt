@@ -6,4 +6,5 @@ pub mod Pasts
 pub mod Prompts
 pub mod Sent
 pub mod Sites
+pub mod Stars
 pub mod Texts

@@ -1,6 +1,6 @@
 -- The rows of a page.
-use Rattle.std.specs.Prelude.{ℕ, ◌-◌, ◌==◌, ◌&&◌, List, [], ◌∷◌, Bool, Option, Some, None, is_none, nat_lt, slice_get, slice_index_or}
-use Rattle.std.specs.Prelude.{codes, decimal, if◌then◌else◌}
+use Rattle.std.specs.Prelude.{ℕ, ◌-◌, ◌==◌, ◌&&◌, List, [], ◌∷◌, Bool, true, false, Option, Some, None, is_none, nat_lt}
+use Rattle.std.specs.Prelude.{codes, decimal, slice_get, slice_index_or, if◌then◌else◌}
 use Rattle.arc_data.specs.Classes.{name_of, priority_of}
 use Rattle.desk_screen.specs.declared.queue.Waiting.{Waiting}
 use Rattle.desk_screen.specs.declared.screen.Screen.{Screen}
@@ -105,6 +105,14 @@ page_row screen sites past shown rows moment index =
     else if index == rows - 1 then keys_row
     else body_row shown screen sites past moment (index - 3)
 
--- What a key has the page show: help, what was done, or else the incidents.
-abbrev pub shown_by : ℕ → Bool → Shown
-shown_by key is_logged = if key == 63 then Help else if (key == 104) && is_logged then History else Work
+-- Where help or the past is shown, the own incident is not: a key then goes back to the incidents, and is for nothing else.
+abbrev pub is_at_work : Shown → Bool
+is_at_work Work = true
+is_at_work Help = false
+is_at_work History = false
+
+-- What a key has the page show: at work help, what was done, or else the incidents.
+abbrev pub shown_by : Shown → ℕ → Bool → Shown
+shown_by Work key is_logged = if key == 63 then Help else if (key == 104) && is_logged then History else Work
+shown_by Help key is_logged = Work
+shown_by History key is_logged = Work

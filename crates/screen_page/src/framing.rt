@@ -1,7 +1,9 @@
 // What a terminal is sent for a row.
-ghost use Rattle.std.specs.Prelude.{◌≡◌, ◌<◌, ◌≤◌, ◌++◌, ◌∷◌, length, take, codes};
+ghost use Rattle.std.specs.Prelude.{◌≡◌, ◌<◌, ◌≤◌, ◌++◌, ◌∷◌, true, length, take, codes};
 ghost use Rattle.screen_page.specs.Frames.{bytes_of_row, frame_of, tone_codes};
 ghost use Rattle.screen_page.specs.Pages.{page_row};
+ghost use Rattle.screen_page.specs.Stars.{without_pin};
+ghost use Rattle.screen_page.specs.Texts.{are_plain};
 
 use crate::layout::{Page, row};
 use crate::line::Line;
@@ -26,7 +28,8 @@ fn tone_codes(tone: Tone) -> &'static [u8]
 /// The bytes that draw a row at its place, from 1 on, cut to so many columns: control sequences of its place and its colour, and else
 /// the printable bytes of the strip alone.
 pub fn frame(row: u16, tone: Tone, strip: &Strip, columns: usize) -> Line
-    ensures { result ≡ frame_of row tone (take columns strip.now) }
+    ensures bytes { result ≡ frame_of row tone (take columns strip.now) }
+    ensures plain { are_plain strip.now ≡ true }
 {
     let text = strip.bytes();
     let text = &text[..columns.min(text.len())];
@@ -43,10 +46,14 @@ pub fn frame(row: u16, tone: Tone, strip: &Strip, columns: usize) -> Line
     line
 }
 
-/// The bytes that draw a row of a page, at an index from 0 on, cut to the terminal's columns.
+/// The bytes that draw a row of a page, at an index from 0 on, cut to the terminal's columns. Its text is printable, whatever the desk has
+/// sent, and has no digits of a PIN.
+#[tactic(auto, using(crate::proofs::Stars::page_same))]
 pub fn row_bytes(page: &Page, index: u16) -> Line
     requires { index < 65_535 }
-    ensures { result ≡ bytes_of_row (page_row page.now.screen.now page.now.sites.now page.now.past.now page.now.shown page.now.size.rows page.now.moment index) index page.now.size.columns }
+    ensures plain { are_plain (page_row page.now.screen.now page.now.sites.now page.now.past.now page.now.shown page.now.size.rows page.now.moment index).1 ≡ true }
+    ensures pin { page_row page.now.screen.now page.now.sites.now page.now.past.now page.now.shown page.now.size.rows page.now.moment index ≡ page_row (without_pin page.now.screen.now) page.now.sites.now page.now.past.now page.now.shown page.now.size.rows page.now.moment index }
+    ensures bytes { result ≡ bytes_of_row (page_row page.now.screen.now page.now.sites.now page.now.past.now page.now.shown page.now.size.rows page.now.moment index) index page.now.size.columns }
 {
     let (tone, strip) = row(page, usize::from(index));
     frame(index + 1, tone, &strip, usize::from(page.size.columns))

@@ -1,6 +1,6 @@
 // The rows of a page.
 ghost use Rattle.std.specs.Prelude.{◌≡◌, slice_index_or, []};
-ghost use Rattle.screen_page.specs.Pages.{body_row, heading_row, help_row, help_texts, holder_text, keys_row, letter_of, listed, listed_row};
+ghost use Rattle.screen_page.specs.Pages.{body_row, heading_row, help_row, help_texts, holder_text, is_at_work, keys_row, letter_of, listed, listed_row};
 ghost use Rattle.screen_page.specs.Pages.{mark_of, page_row, past_row, queue_row, shown_by, tone_of, work_row};
 ghost use Rattle.screen_page.specs.Pasts.{newest};
 
@@ -228,13 +228,24 @@ pub fn row(page: &Page, index: usize) -> (Tone, Strip)
     }
 }
 
-/// What is shown behind a key: help, what was done, or else the incidents.
-pub fn shown_after(key: u8, is_logged: bool) -> Shown
-    ensures { result ≡ shown_by key is_logged }
+/// Whether a key is for the screen: where help or the past is shown, it goes back to the incidents and does nothing else.
+pub fn is_at_work(shown: Shown) -> bool
+    ensures { result ≡ is_at_work shown }
 {
-    match key {
-        b'?' => Shown::Help,
-        b'h' if is_logged => Shown::History,
+    match shown {
+        Shown::Work => true,
+        Shown::Help => false,
+        Shown::History => false,
+    }
+}
+
+/// What is shown behind a key: at work help, what was done, or else the incidents.
+pub fn shown_after(shown: Shown, key: u8, is_logged: bool) -> Shown
+    ensures { result ≡ shown_by shown key is_logged }
+{
+    match (shown, key) {
+        (Shown::Work, b'?') => Shown::Help,
+        (Shown::Work, b'h') if is_logged => Shown::History,
         _ => Shown::Work,
     }
 }

@@ -17,7 +17,7 @@ mod tone;
 pub use commands::{order_line, spelled};
 pub use framing::{frame, row_bytes};
 pub use keys::{KeyReader, Pressed};
-pub use layout::{Page, Shown, Size, row, shown_after};
+pub use layout::{Page, Shown, Size, is_at_work, row, shown_after};
 pub use line::Line;
 pub use past::Past;
 pub use prompts::leaves;

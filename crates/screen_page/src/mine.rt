@@ -1,7 +1,8 @@
 // The rows of the operator's own incident.
-ghost use Rattle.std.specs.Prelude.{◌≡◌};
+ghost use Rattle.std.specs.Prelude.{◌≡◌, ◌-◌, ◌∷◌, [], codes, decimal};
 ghost use Rattle.screen_page.specs.Mine.{ahead_row, called_text, due_row, keys_text, mine_rows, outcome_words, own_rows, recorded_row};
 ghost use Rattle.screen_page.specs.Mine.{restored_text, site_of_view, site_row, site_text, viewed_row, with_act, with_called};
+ghost use Rattle.screen_page.specs.Texts.{age, with_texts};
 
 use crate::commands::step_line;
 use crate::sites::Sites;
@@ -14,6 +15,17 @@ fn restored_text(restored: bool) -> &'static [u8]
     ensures { result.now ≡ restored_text restored }
 {
     if restored { b" restored" } else { b"" }
+}
+
+// Since when an incident is open, and what came of it.
+fn put_since(strip: &mut Strip, view: &View, moment: u64)
+    ensures { strip.new ≡ with_texts strip.old (codes " since " ∷ age (moment - view.now.at) ∷ codes " signals " ∷ decimal view.now.signals ∷ restored_text view.now.restored ∷ []) }
+{
+    strip.put(b" since ");
+    strip.put_age(moment.saturating_sub(view.at));
+    strip.put(b" signals ");
+    strip.put_number(view.signals);
+    strip.put(restored_text(view.restored));
 }
 
 // What is known of the own incident.
@@ -30,11 +42,7 @@ fn viewed_row(number: u64, view: &Option<View>, moment: u64) -> Strip
         strip.put(view.account.bytes());
         strip.put(b" code ");
         strip.put(view.code.bytes());
-        strip.put(b" since ");
-        strip.put_age(moment.saturating_sub(view.at));
-        strip.put(b" signals ");
-        strip.put_number(view.signals);
-        strip.put(restored_text(view.restored));
+        put_since(&mut strip, view, moment);
     }
     strip
 }
