@@ -8,6 +8,8 @@ use Rattle.arc_io.specs.Told.{OnlyReads, OnlyWrites}
 use Rattle.arc_io.proofs.Frames.{writes_more}
 use Rattle.arc_io.proofs.KnownMore.{known_none}
 use Rattle.book_lines.specs.Books.{book_of}
+use Rattle.book_lines.proofs.BookLemmas.{book_none}
+use Rattle.book_lines.specs.declared.options.Options.{Options}
 use Rattle.centre_store.proofs.PastSteps.{no_past}
 use Rattle.disk_journal.specs.Faults.{IsShown, IsOfFront}
 use Rattle.disk_journal.specs.declared.fault.OpenFault.{OpenFault}
@@ -16,29 +18,29 @@ use Rattle.arc_book.specs.Compiled.{IsCompiled, IsEnd, EndsRefused, BeginsWith, 
 use Rattle.arc_book.specs.Statuses.{IsTold, IsOfArea, IsWritten, last_line}
 use Rattle.arc_book.specs.declared.status.Status.{Status}
 use Rattle.arc_book.specs.declared.status.Status.TheVariants.{Done, Usage, ReadFault, WriteFault, Journal, Memory, Spent}
-use Rattle.arc_book.proofs.Pages.{book_none, unwritten, put_out, failed_on}
+use Rattle.arc_book.proofs.Pages.{unwritten, put_out, failed_on}
 
 begins_none : (all : Option (List ℕ)) → IfSome all (BeginsWith [])
 begins_none None = tt
 begins_none (Some bytes) = inl refl
 
 -- nothing was touched
-pub nothing_told : (all : Option (List ℕ)) (s k : PortSeen) → IsTold Memory all s s k k
-nothing_told all s k = record {
+pub nothing_told : (o : Options) (all : Option (List ℕ)) (s k : PortSeen) → IsTold o Memory all s s k k
+nothing_told o all s k = record {
   bodies = [];
   past = [];
   is_past = no_past;
   area = begins_none all;
-  written = sym (known_none k.written) ∙ ap (append_known k.written) (sym book_none ∙ sym (append-nil (book_of [])));
+  written = sym (known_none k.written) ∙ ap (append_known k.written) (sym (book_none o) ∙ sym (append-nil (book_of o [])));
   causes = tt;
   reads = record { rest = refl };
   writes = record { rest = refl };
 }
 
 -- an area of which no record was told
-pub none_compiled : (status : Status) (all : Option (List ℕ)) (s s' k : PortSeen) → IfSome all (IsEnd status [] []) → HasText status k.written k.written [] (book_of [])
-    → HasCauses status s s' k k → OnlyReads s s' → IsCompiled status all s s' k k []
-none_compiled status all s s' k ended text causes reads = record {
+pub none_compiled : (o : Options) (status : Status) (all : Option (List ℕ)) (s s' k : PortSeen) → IfSome all (IsEnd status [] []) → HasText status k.written k.written [] (book_of o [])
+    → HasCauses status s s' k k → OnlyReads s s' → IsCompiled o status all s s' k k []
+none_compiled o status all s s' k ended text causes reads = record {
   bodies = [];
   past = [];
   is_past = no_past;
@@ -50,8 +52,8 @@ none_compiled status all s s' k ended text causes reads = record {
   writes = record { rest = refl };
 }
 
-pub fresh_compiled : (all : Option (List ℕ)) (s s' k : PortSeen) → IfSome all (λ bytes. length bytes ≤ 17) → OnlyReads s s' → IsCompiled Done all s s' k k []
-fresh_compiled all s s' k short reads = none_compiled Done all s s' k (stands all short) (unwritten k.written) tt reads
+pub fresh_compiled : (o : Options) (all : Option (List ℕ)) (s s' k : PortSeen) → IfSome all (λ bytes. length bytes ≤ 17) → OnlyReads s s' → IsCompiled o Done all s s' k k []
+fresh_compiled o all s s' k short reads = none_compiled o Done all s s' k (stands all short) (unwritten o k.written) tt reads
   where
     stands : (all : Option (List ℕ)) → IfSome all (λ bytes. length bytes ≤ 17) → IfSome all (IsEnd Done [] [])
     stands None short = tt
@@ -65,23 +67,23 @@ refused (Some bytes) (Open.WrongVersion found) front shown = (shown, refl)
 refused (Some bytes) (Open.Damaged place) front shown = absurd front
 refused (Some bytes) Open.Memory front shown = absurd front
 
-pub refused_compiled : (all : Option (List ℕ)) (s s' k : PortSeen) (fault : OpenFault) → IsOfFront fault → IfSome all (IsShown fault) → OnlyReads s s'
-    → IsCompiled (Journal fault) all s s' k k []
-refused_compiled all s s' k fault front shown reads = none_compiled (Journal fault) all s s' k (refused all fault front shown) (unwritten k.written) tt reads
+pub refused_compiled : (o : Options) (all : Option (List ℕ)) (s s' k : PortSeen) (fault : OpenFault) → IsOfFront fault → IfSome all (IsShown fault) → OnlyReads s s'
+    → IsCompiled o (Journal fault) all s s' k k []
+refused_compiled o all s s' k fault front shown reads = none_compiled o (Journal fault) all s s' k (refused all fault front shown) (unwritten o k.written) tt reads
 
-pub unread_compiled : (all : Option (List ℕ)) (s s' k : PortSeen) → Rose s.read_faults s'.read_faults → OnlyReads s s' → IsCompiled ReadFault all s s' k k []
-unread_compiled all s s' k rose reads = none_compiled ReadFault all s s' k (begins_none all) (unwritten k.written) rose reads
+pub unread_compiled : (o : Options) (all : Option (List ℕ)) (s s' k : PortSeen) → Rose s.read_faults s'.read_faults → OnlyReads s s' → IsCompiled o ReadFault all s s' k k []
+unread_compiled o all s s' k rose reads = none_compiled o ReadFault all s s' k (begins_none all) (unwritten o k.written) rose reads
 
-pub unkept_compiled : (all : Option (List ℕ)) (s s' k : PortSeen) → OnlyReads s s' → IsCompiled Memory all s s' k k []
-unkept_compiled all s s' k reads = none_compiled Memory all s s' k (begins_none all) (unwritten k.written) tt reads
+pub unkept_compiled : (o : Options) (all : Option (List ℕ)) (s s' k : PortSeen) → OnlyReads s s' → IsCompiled o Memory all s s' k k []
+unkept_compiled o all s s' k reads = none_compiled o Memory all s s' k (begins_none all) (unwritten o k.written) tt reads
 
 if_some : {P Q : List ℕ → Type 0} (all : Option (List ℕ)) → ((bytes : List ℕ) → P bytes → Q bytes) → IfSome all P → IfSome all Q
 if_some None so p = tt
 if_some (Some bytes) so p = so bytes p
 
-module _ (all : Option (List ℕ)) (s s' k0 k k' : PortSeen) (page : List ℕ) (writes : OnlyWrites k k') where
-  told_as : (status : Status) (c : IsCompiled status all s s' k0 k page) → IfSome all (IsOfArea status c.bodies c.past)
-      → IsWritten status k0.written k'.written (book_of c.past) → HasCauses status s s' k0 k' → IsTold status all s s' k0 k'
+module _ (o : Options) (all : Option (List ℕ)) (s s' k0 k k' : PortSeen) (page : List ℕ) (writes : OnlyWrites k k') where
+  told_as : (status : Status) (c : IsCompiled o status all s s' k0 k page) → IfSome all (IsOfArea status c.bodies c.past)
+      → IsWritten status k0.written k'.written (book_of o c.past) → HasCauses status s s' k0 k' → IsTold o status all s s' k0 k'
   told_as status c area written causes = record {
     bodies = c.bodies;
     past = c.past;
@@ -94,16 +96,16 @@ module _ (all : Option (List ℕ)) (s s' k0 k k' : PortSeen) (page : List ℕ) (
   }
 
   -- the page and the last line were put
-  pub told_whole : (status : Status) → IsCompiled status all s s' k0 k page → (status ≡ WriteFault → ⊥) → k'.written ≡ append_known k.written (page ++ last_line status)
-      → IsTold status all s s' k0 k'
-  told_whole Done c other put = told_as Done c c.ended (put_out k0.written k.written k'.written page [] (book_of c.past) c.text put) tt
-  told_whole Usage c other put = told_as Usage c c.ended (put_out k0.written k.written k'.written page [] (book_of c.past) c.text put) tt
-  told_whole ReadFault c other put = told_as ReadFault c c.ended (put_out k0.written k.written k'.written page [] (book_of c.past) c.text put) c.causes
+  pub told_whole : (status : Status) → IsCompiled o status all s s' k0 k page → (status ≡ WriteFault → ⊥) → k'.written ≡ append_known k.written (page ++ last_line status)
+      → IsTold o status all s s' k0 k'
+  told_whole Done c other put = told_as Done c c.ended (put_out k0.written k.written k'.written page [] (book_of o c.past) c.text put) tt
+  told_whole Usage c other put = told_as Usage c c.ended (put_out k0.written k.written k'.written page [] (book_of o c.past) c.text put) tt
+  told_whole ReadFault c other put = told_as ReadFault c c.ended (put_out k0.written k.written k'.written page [] (book_of o c.past) c.text put) c.causes
   told_whole WriteFault c other put = absurd (other refl)
   told_whole (Journal fault) c other put =
-      told_as (Journal fault) c c.ended (put_out k0.written k.written k'.written page (last_line (Journal fault)) (book_of c.past) c.text put) tt
-  told_whole Memory c other put = told_as Memory c c.ended (put_out k0.written k.written k'.written page [] (book_of c.past) c.text put) tt
-  told_whole Spent c other put = told_as Spent c c.ended (put_out k0.written k.written k'.written page [] (book_of c.past) c.text put) tt
+      told_as (Journal fault) c c.ended (put_out k0.written k.written k'.written page (last_line (Journal fault)) (book_of o c.past) c.text put) tt
+  told_whole Memory c other put = told_as Memory c c.ended (put_out k0.written k.written k'.written page [] (book_of o c.past) c.text put) tt
+  told_whole Spent c other put = told_as Spent c c.ended (put_out k0.written k.written k'.written page [] (book_of o c.past) c.text put) tt
 
   text_but : (status : Status) → (status ≡ WriteFault → ⊥) → (text : List ℕ) → HasText status k0.written k.written page text → IsWrittenBut k0.written k.written page text
   text_but Done other text has = has
@@ -115,10 +117,10 @@ module _ (all : Option (List ℕ)) (s s' k0 k k' : PortSeen) (page : List ℕ) (
   text_but Spent other text has = has
 
   -- they could not be put whole
-  pub told_front : (status : Status) → IsCompiled status all s s' k0 k page → (status ≡ WriteFault → ⊥) → IsFrontWritten k.written k'.written (page ++ last_line status)
-      → Rose k.write_faults k'.write_faults → IsTold WriteFault all s s' k0 k'
+  pub told_front : (status : Status) → IsCompiled o status all s s' k0 k page → (status ≡ WriteFault → ⊥) → IsFrontWritten k.written k'.written (page ++ last_line status)
+      → Rose k.write_faults k'.write_faults → IsTold o WriteFault all s s' k0 k'
   told_front status c other front rose =
-      let f = failed_on k0.written k.written k'.written page (last_line status) (book_of c.past) (text_but status other (book_of c.past) c.text) front in
+      let f = failed_on k0.written k.written k'.written page (last_line status) (book_of o c.past) (text_but status other (book_of o c.past) c.text) front in
       record {
         bodies = c.bodies;
         past = c.past;
@@ -131,19 +133,19 @@ module _ (all : Option (List ℕ)) (s s' k0 k k' : PortSeen) (page : List ℕ) (
       }
 
 -- a write had failed before
-pub told_short : (all : Option (List ℕ)) (s s' k0 k : PortSeen) (page : List ℕ) → IsCompiled WriteFault all s s' k0 k page → IsTold WriteFault all s s' k0 k
-told_short all s s' k0 k page c = record {
+pub told_short : (o : Options) (all : Option (List ℕ)) (s s' k0 k : PortSeen) (page : List ℕ) → IsCompiled o WriteFault all s s' k0 k page → IsTold o WriteFault all s s' k0 k
+told_short o all s s' k0 k page c = record {
   bodies = c.bodies;
   past = c.past;
   is_past = c.is_past;
   area = if_some {P = IsEnd WriteFault c.bodies c.past} all (λ bytes is. tt) c.ended;
-  written = (Done, subst (IsFrontWritten k0.written k.written) (sym (append-nil (book_of c.past))) c.text);
+  written = (Done, subst (IsFrontWritten k0.written k.written) (sym (append-nil (book_of o c.past))) c.text);
   causes = c.causes;
   reads = c.reads;
   writes = c.writes;
 }
 
-pub short_as : (status : Status) (all : Option (List ℕ)) (s s' k0 k : PortSeen) (page : List ℕ) → status ≡ WriteFault → IsCompiled status all s s' k0 k page
-    → IsTold status all s s' k0 k
-short_as status all s s' k0 k page is c =
-    subst (λ (x : Status). IsCompiled x all s s' k0 k page → IsTold x all s s' k0 k) (sym is) (told_short all s s' k0 k page) c
+pub short_as : (o : Options) (status : Status) (all : Option (List ℕ)) (s s' k0 k : PortSeen) (page : List ℕ) → status ≡ WriteFault → IsCompiled o status all s s' k0 k page
+    → IsTold o status all s s' k0 k
+short_as o status all s s' k0 k page is c =
+    subst (λ (x : Status). IsCompiled o x all s s' k0 k page → IsTold o x all s s' k0 k) (sym is) (told_short o all s s' k0 k page) c

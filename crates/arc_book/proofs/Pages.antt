@@ -1,23 +1,16 @@
 -- What is written of a book, and what stands on the page.
-use Rattle.std.proofs.Common.{◌≡◌, ◌+◌, ℕ, List, [], ◌∷◌, ◌++◌, length, take, Option, refl, sym, ap, ◌∙◌, arith, append_assoc, length-append}
+use Rattle.std.proofs.Common.{◌≡◌, ◌+◌, ℕ, List, [], ◌∷◌, ◌++◌, length, take, Option, sym, ap, ◌∙◌, arith, append_assoc, length-append}
 use Rattle.std.proofs.Math.Seq.{take-append-add}
 use Rattle.std.specs.Io.KnownBytes.{append_known}
 use Rattle.arc_io.proofs.KnownMore.{known_both, known_none}
-use Rattle.book_lines.specs.Books.{book_of, entry_line}
-use Rattle.centre_rules.specs.History.{Entry}
+use Rattle.book_lines.specs.Books.{book_of}
+use Rattle.book_lines.specs.declared.options.Options.{Options}
 use Rattle.arc_book.specs.Compiled.{IsFrontWritten, IsWrittenBut, IsTurned}
-
-pub book_none : book_of [] ≡ []
-unfolding book_of
-book_none = refl
-
-pub book_more : (h : List Entry) (e : Entry) → book_of (e ∷ h) ≡ book_of h ++ entry_line h e
-unfolding book_of
-book_more h e = refl
+use Rattle.book_lines.proofs.BookLemmas.{book_none}
 
 -- nothing is written, and nothing is to be
-pub unwritten : (known : Option (List ℕ)) → IsWrittenBut known known [] (book_of [])
-unwritten known = ([], sym (known_none known), sym book_none)
+pub unwritten : (o : Options) (known : Option (List ℕ)) → IsWrittenBut known known [] (book_of o [])
+unwritten o known = ([], sym (known_none known), sym (book_none o))
 
 -- a line more on the page, and then the page is turned
 pub turned_on : (before now after : Option (List ℕ)) (page line page' text : List ℕ) → IsWrittenBut before now page text → IsTurned now after (page ++ line) page'

@@ -6,6 +6,7 @@ use Rattle.arc_io.specs.Causes.{Rose}
 use Rattle.arc_io.specs.Seen.{PortSeen}
 use Rattle.arc_io.specs.Told.{OnlyReads, OnlyWrites}
 use Rattle.book_lines.specs.Books.{book_of}
+use Rattle.book_lines.specs.declared.options.Options.{Options}
 use Rattle.centre_rules.specs.History.{Entry}
 use Rattle.centre_rules.specs.Summary.{nothing}
 use Rattle.centre_store.specs.Openings.{IsRefused}
@@ -64,13 +65,14 @@ HasCauses ReadFault s s' k k' = Rose s.read_faults s'.read_faults
 HasCauses WriteFault s s' k k' = Rose k.write_faults k'.write_faults
 HasCauses status s s' k k' = Unit {0}
 
--- The area is told up to this end: of the first bodies, which have a past, the book is written, but for what stands on the page.
-pub record IsCompiled (status : Status) (all : Option (List ℕ)) (s s' k k' : PortSeen) (page : List ℕ) : Type 0 where
+-- The area is told up to this end: of the first bodies, which have a past, the book is written that the options ask for, but for what
+-- stands on the page.
+pub record IsCompiled (options : Options) (status : Status) (all : Option (List ℕ)) (s s' k k' : PortSeen) (page : List ℕ) : Type 0 where
   pub bodies : List (List ℕ)
   pub past : List Entry
   pub is_past : IsPast nothing bodies past
   pub ended : IfSome all (IsEnd status bodies past)
-  pub text : HasText status k.written k'.written page (book_of past)
+  pub text : HasText status k.written k'.written page (book_of options past)
   pub causes : HasCauses status s s' k k'
   pub later : k.write_faults ≤ k'.write_faults
   pub reads : OnlyReads s s'

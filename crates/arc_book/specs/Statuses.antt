@@ -4,6 +4,7 @@ use Rattle.std.specs.Io.KnownBytes.{append_known}
 use Rattle.arc_io.specs.Seen.{PortSeen}
 use Rattle.arc_io.specs.Told.{OnlyReads, OnlyWrites}
 use Rattle.book_lines.specs.Books.{book_of}
+use Rattle.book_lines.specs.declared.options.Options.{Options}
 use Rattle.centre_rules.specs.History.{Entry}
 use Rattle.centre_rules.specs.Summary.{nothing}
 use Rattle.centre_store.specs.Pasts.{IsPast}
@@ -24,7 +25,8 @@ fault_text Open.Memory = []
 -- the line of a status on standard error
 unfoldable pub text_of_status : Status → List ℕ
 text_of_status Done = []
-text_of_status Usage = codes "usage: arc-book\n"
+text_of_status Usage =
+    codes "usage: arc-book [since PLACE] [until PLACE] [account NUMBER] [incident NUMBER] [operator NAME] [offset MINUTES] [tabs]\n"
 text_of_status ReadFault = codes "read fault on input\n"
 text_of_status WriteFault = codes "write fault\n"
 text_of_status (Journal fault) = fault_text fault
@@ -57,13 +59,13 @@ IsWritten WriteFault before after book = (other : Status) × IsFrontWritten befo
 IsWritten status before after book = after ≡ append_known before (book ++ last_line status)
 
 -- The book of an area, from a source to a sink. The first bodies have a past, the one history for which they stand; what is written is its
--- book. Done is answered where the area stands for just these bodies, and a refusal where it stands for none.
-pub record IsTold (status : Status) (all : Option (List ℕ)) (s s' k k' : PortSeen) : Type 0 where
+-- book, as the options ask for it. Done is answered where the area stands for just these bodies, and a refusal where it stands for none.
+pub record IsTold (options : Options) (status : Status) (all : Option (List ℕ)) (s s' k k' : PortSeen) : Type 0 where
   pub bodies : List (List ℕ)
   pub past : List Entry
   pub is_past : IsPast nothing bodies past
   pub area : IfSome all (λ bytes. IsOfArea status bodies past bytes)
-  pub written : IsWritten status k.written k'.written (book_of past)
+  pub written : IsWritten status k.written k'.written (book_of options past)
   pub causes : HasCauses status s s' k k'
   pub reads : OnlyReads s s'
   pub writes : OnlyWrites k k'

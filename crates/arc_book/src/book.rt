@@ -1,6 +1,8 @@
 // The book of an area.
 ghost use Rattle.std.specs.Prelude.{◌≡◌, ◌≤◌, ◌++◌, ℕ, List, Option, false, length};
 ghost use Rattle.arc_io.specs.Seen.{PortSeen};
+ghost use Rattle.book_lines.specs.Asked.{AreInRange};
+ghost use Rattle.book_lines.specs.declared.options.Options.{Options};
 ghost use Rattle.arc_book.specs.Compiled.{IsCompiled};
 ghost use Rattle.arc_book.specs.Statuses.{IsTold, last_line};
 
@@ -8,29 +10,35 @@ use crate::compile::compile;
 use crate::status::{Status, put_fault};
 use crate::tape::Tape;
 use arc_io::{Sink, Source, put};
-use book_lines::Page;
+use book_lines::{Options, Page};
 use std::alloc::Global;
 
-/// Writes the book of an area, the bytes of which the source gives: a line of each record, the oldest first. The records are those for which
-/// the bytes stand. Where they stand for none, the records are those before the first that lacks, and a last line says why the area is
+/// Writes the book of an area, the bytes of which the source gives: a line of each record that the options ask for, the oldest first. The
+/// records are those for which the bytes stand. Where they stand for none, the records are those before the first that lacks, and a last line says why the area is
 /// refused, as the status does. Memory is taken for the accounts and the open incidents, for the longest record, and for some pages, and not
 /// for the records.
-pub fn book<S: Source, K: Sink>(alloc: Global, source: &mut S, sink: &mut K) -> Status
-    requires { (S.seen source.old).ended ≡ false }
-    ensures { IsTold result (S.seen source.old).left (S.seen source.old) (S.seen source.new) (K.seen sink.old) (K.seen sink.new) }
+pub fn book<S: Source, K: Sink>(
+    alloc: Global,
+    options: &Options,
+    source: &mut S,
+    sink: &mut K,
+) -> Status
+    requires ended { (S.seen source.old).ended ≡ false }
+    requires range { AreInRange options.now }
+    ensures { IsTold options.now result (S.seen source.old).left (S.seen source.old) (S.seen source.new) (K.seen sink.old) (K.seen sink.new) }
 {
     let (Ok(mut page), Ok(mut tape)) = (Page::new(alloc), Tape::new(alloc)) else {
         return Status::Memory;
     };
-    let status = compile(alloc, source, sink, &mut tape, &mut page);
+    let status = compile(alloc, options, source, sink, &mut tape, &mut page);
     finish(status, &mut page, sink)
 }
 
 // Writes what is left on the page, and the line of a refusal.
 fn finish<K: Sink>(status: Status, page: &mut Page, sink: &mut K) -> Status
     requires short { length page.old ≤ 65536 }
-    ensures { (all : Option (List ℕ)) (s s' k : PortSeen) → IsCompiled status all s s' k (K.seen sink.old) page.old
-        → IsTold result all s s' k (K.seen sink.new) }
+    ensures { (options : Options) (all : Option (List ℕ)) (s s' k : PortSeen) → IsCompiled options status all s s' k (K.seen sink.old) page.old
+        → IsTold options result all s s' k (K.seen sink.new) }
 {
     if let Status::WriteFault = status {
         return status;

@@ -1,23 +1,31 @@
 // Telling an area: its records are read one after the other, each is taken in by a centre, and its line is put on a page.
-ghost use Rattle.std.specs.Prelude.{◌≡◌, ◌≤◌, ◌<◌, ◌+◌, ◌^◌, ◌++◌, [], ◌∷◌, ℕ, List, Option, true, false, length, take, IfOk, MatchResult, OnOk, OnErr};
+ghost use Rattle.std.specs.Prelude.{◌≡◌, ◌≤◌, ◌<◌, ◌+◌, ◌^◌, ◌++◌, [], ◌∷◌, ℕ, List, Option, true, false, length, take, is_some, IfOk, MatchResult, OnOk, OnErr};
 ghost use Rattle.std.specs.Io.KnownBytes.{append_known};
 ghost use Rattle.arc_io.specs.Causes.{HasCause, Rose};
 ghost use Rattle.arc_io.specs.Told.{OnlyReads, OnlyWrites};
-ghost use Rattle.book_lines.specs.Books.{entry_line};
-ghost use Rattle.centre_rules.specs.History.{Entry};
+ghost use Rattle.std.specs.List.{find};
+ghost use Rattle.arc_data.specs.Incidents.{has_number};
+ghost use Rattle.arc_data.specs.WellFormed.{IsWellFormed};
+ghost use Rattle.arc_data.specs.declared.incident.Incident.{Incident};
+ghost use Rattle.book_lines.specs.Asked.{AreInRange};
+ghost use Rattle.book_lines.specs.Books.{line_if};
+ghost use Rattle.book_lines.specs.Choices.{chosen, decided};
+ghost use Rattle.book_lines.specs.Telling.{told};
+ghost use Rattle.centre_rules.specs.Carrying.{carried_by};
+ghost use Rattle.centre_rules.specs.History.{Entry, is_recorded};
 ghost use Rattle.centre_rules.specs.State.{StandsFor};
 ghost use Rattle.centre_rules.specs.Summary.{nothing};
 ghost use Rattle.centre_store.specs.Pasts.{IsPast, HasNoNext};
 ghost use Rattle.arc_book.specs.Compiled.{IsCompiled, IsScanned, IsTurned, IsFrontWritten};
 ghost use Rattle.arc_book.specs.Tapes.{ahead, IsReadTo};
-ghost use Rattle.arc_book.specs.Taken.{IsTakenUp};
+ghost use Rattle.arc_book.specs.Taken.{IsTakenUp, put_by};
 
 use crate::status::Status;
 use crate::tape::{Front, Next, Tape};
 use arc_data::Memory;
 use arc_io::{Failed, ReadEnd, Sink, Source, put};
-use book_lines::{Page, put_line};
-use centre_core::Centre;
+use book_lines::{Options, Page, Verdict, choose, put_line};
+use centre_core::{Centre, Ready};
 use centre_store::entry_in;
 use disk_journal::OpenFault;
 use std::alloc::Global;
@@ -28,21 +36,23 @@ const FULL: usize = 65_536;
 /// Tells an area of which nothing was read: writes the line of each record up to the end, but for those that are left on the page.
 pub(crate) fn compile<S: Source, K: Sink>(
     alloc: Global,
+    options: &Options,
     source: &mut S,
     sink: &mut K,
     tape: &mut Tape,
     page: &mut Page,
 ) -> Status
     requires ended { (S.seen source.old).ended ≡ false }
+    requires range { AreInRange options.now }
     requires fresh { tape.old.intake ≡ [] }
     requires empty { page.old ≡ [] }
-    ensures compiled { IsCompiled result (S.seen source.old).left (S.seen source.old) (S.seen source.new) (K.seen sink.old) (K.seen sink.new) page.new }
+    ensures compiled { IsCompiled options.now result (S.seen source.old).left (S.seen source.old) (S.seen source.new) (K.seen sink.old) (K.seen sink.new) page.new }
     ensures short { length page.new ≤ 65536 }
 {
     match tape.open(source) {
         Ok(Front::Journal) => {
             let mut centre = Centre::empty(alloc);
-            walk(alloc, source, sink, tape, page, &mut centre)
+            walk(alloc, options, source, sink, tape, page, &mut centre)
         }
         Ok(Front::Fresh) => Status::Done,
         Ok(Front::Refused(fault)) => Status::Journal(fault),
@@ -54,6 +64,7 @@ pub(crate) fn compile<S: Source, K: Sink>(
 // Tells the records from the first one on.
 fn walk<S: Source, K: Sink>(
     alloc: Global,
+    options: &Options,
     source: &mut S,
     sink: &mut K,
     tape: &mut Tape,
@@ -61,10 +72,11 @@ fn walk<S: Source, K: Sink>(
     centre: &mut Centre,
 ) -> Status
     requires ended { (S.seen source.old).ended ≡ false }
+    requires range { AreInRange options.now }
     requires empty { page.old ≡ [] }
     requires begun { StandsFor nothing centre.old [] }
     ensures compiled { (all : Option (List ℕ)) → IsReadTo all [] tape.old.gate tape.old.at (ahead tape.old.intake (S.seen source.old).left)
-        → IsCompiled result all (S.seen source.old) (S.seen source.new) (K.seen sink.old) (K.seen sink.new) page.new }
+        → IsCompiled options.now result all (S.seen source.old) (S.seen source.new) (K.seen sink.old) (K.seen sink.new) page.new }
     ensures short { length page.new ≤ 65536 }
     ensures later { (S.seen source.old).read_faults ≤ (S.seen source.new).read_faults }
 {
@@ -78,7 +90,7 @@ fn walk<S: Source, K: Sink>(
             Err(ReadEnd::Failed) => return Status::ReadFault,
             Err(ReadEnd::Memory) => return Status::Memory,
         }
-        match take_up(alloc, centre, page, &tape.body) {
+        match take_up(alloc, options, centre, page, &tape.body) {
             Ok(true) => {}
             Ok(false) => return scan(source, tape, place),
             Err(Memory) => return Status::Memory,
@@ -89,11 +101,19 @@ fn walk<S: Source, K: Sink>(
     }
 }
 
-// Takes the event of a body in, and puts the line of its record on the page. False where no entry goes on with it.
-fn take_up(alloc: Global, centre: &mut Centre, page: &mut Page, body: &[u8]) -> Result<bool, Memory>
+// Takes the event of a body in, and puts the line of its record on the page where the options ask for it. False where no entry goes on with
+// it.
+fn take_up(
+    alloc: Global,
+    options: &Options,
+    centre: &mut Centre,
+    page: &mut Page,
+    body: &[u8],
+) -> Result<bool, Memory>
+    requires range { AreInRange options.now }
     requires room { length page.old ≤ 65536 }
     ensures taken { IfOk result (λ taken. taken ≡ true → (bodies : List (List ℕ)) (past : List Entry) → IsPast nothing bodies past
-        → StandsFor nothing centre.old past → IsTakenUp bodies past body.now centre.new page.old page.new) }
+        → StandsFor nothing centre.old past → IsTakenUp options.now bodies past body.now centre.new page.old page.new) }
     ensures bad { IfOk result (λ taken. taken ≡ false → (bodies : List (List ℕ)) (past : List Entry) → IsPast nothing bodies past
         → StandsFor nothing centre.old past → HasNoNext nothing bodies past body.now) }
     ensures kept { IfOk result (λ taken. taken ≡ false → page.new ≡ page.old) }
@@ -102,19 +122,59 @@ fn take_up(alloc: Global, centre: &mut Centre, page: &mut Page, body: &[u8]) -> 
     let Some(ready) = entry_in(centre, alloc, body)? else {
         return Ok(false);
     };
-    let number = centre.entries() + 1;
-    let (event, reply) = (ready.event(), ready.reply());
-    put_line(
-        page,
-        number,
-        ready.at(),
-        event,
-        reply,
-        ready.carried(),
-        centre.table(),
-    );
+    let start = page.count();
+    let verdict = put_chosen(options, centre, &ready, page);
     let _ = centre.apply(ready);
+    settle(page, verdict, centre, start);
     Ok(true)
+}
+
+// Puts the line of the record that an entry makes, but where the options do not ask for it in any case.
+fn put_chosen(options: &Options, centre: &Centre, ready: &Ready, page: &mut Page) -> Verdict
+    requires range { AreInRange options.now }
+    requires made { ready.now.of ≡ centre.now }
+    requires few { centre.now.entries < 2 ^ 48 }
+    requires recorded { is_recorded ready.now.reply ≡ true }
+    requires formed { IsWellFormed ready.now.event }
+    requires room { length page.old ≤ 65536 }
+    ensures verdict { (behind : List Incident) → chosen options.now centre.now.sum.incidents behind (carried_by centre.now.sum [] ready.now.event ready.now.at)
+        (centre.now.entries + 1) ready.now.at ready.now.event ready.now.reply ≡ decided result behind }
+    ensures line { page.new ≡ put_by result page.old (told options.now (centre.now.entries + 1) ready.now.at centre.now.sum.incidents
+        (carried_by centre.now.sum [] ready.now.event ready.now.at) ready.now.event ready.now.reply) }
+{
+    let number = centre.entries() + 1;
+    let (at, event, reply) = (ready.at(), ready.event(), ready.reply());
+    let (carried, table) = (ready.carried(), centre.table());
+    let verdict = choose(options, number, at, event, reply, carried, table);
+    if let Verdict::LeftOut = verdict {
+        return verdict;
+    }
+    put_line(page, options, number, at, event, reply, carried, table);
+    verdict
+}
+
+// Takes the line away that stands from a place on, where the verdict hangs on an incident that is not open.
+fn settle(page: &mut Page, verdict: Verdict, centre: &Centre, start: usize)
+    requires { start ≤ length page.old }
+    ensures { (before line : List ℕ) → start ≡ length before → page.old ≡ put_by verdict before line
+        → page.new ≡ before ++ line_if (decided verdict centre.now.sum.incidents) line }
+{
+    match verdict {
+        Verdict::Told | Verdict::LeftOut => {}
+        Verdict::Opens(number) => cut_unless_open(page, centre, number, start),
+    }
+}
+
+// Takes the line away that stands from a place on, where no incident of the number is open.
+fn cut_unless_open(page: &mut Page, centre: &Centre, number: u64, start: usize)
+    requires { start ≤ length page.old }
+    ensures { (before line : List ℕ) → start ≡ length before → page.old ≡ before ++ line
+        → page.new ≡ before ++ line_if (is_some (find (has_number number) centre.now.sum.incidents)) line }
+{
+    match centre.table().get(number) {
+        Some(_) => {}
+        None => page.cut(start),
+    }
 }
 
 // Reads on behind a bad body, whose gate stands at this place, to the end of the journal or to where it is damaged.

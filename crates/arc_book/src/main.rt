@@ -1,9 +1,11 @@
-//! The station's book. `arc-book` reads the bytes of a journal's area on its standard input, and writes a line for each of its records. It
-//! opens no file, so it takes a copy of a journal, or one that is in use, and can't harm it.
+//! The station's book. `arc-book` reads the bytes of a journal's area on its standard input, and writes a line for each of its records, or
+//! for those that its words ask for. It opens no file, so it takes a copy of a journal, or one that is in use, and can't harm it.
 #![tactic(auto)]
 
+use arc_data::Txt;
 use arc_io::{RealClock, RealNoise, StdPort};
 use book::book;
+use book_lines::Options;
 use status::Status;
 use std::process::ExitCode;
 use std::{env, fs, io};
@@ -14,18 +16,27 @@ mod intake;
 mod status;
 mod tape;
 
-// Whether there are no words behind the program's name.
-fn has_no_words<R: env::Env + AllocGlobal>(rt: &R) -> io::Result<bool> {
-    Ok(env::args(rt)?.skip(1).next().is_none())
+// The words behind the program's name as short texts. One that is longer than 32 bytes stands as `?`, which nothing is asked for by.
+fn words<R: env::Env + AllocGlobal>(rt: &R) -> io::Result<Vec<Txt>> {
+    let mut words = Vec::new(rt.alloc());
+    for argument in env::args(rt)?.skip(1) {
+        let word = match Txt::of(argument.as_bytes()) {
+            Some(word) => word,
+            None => Txt::question(),
+        };
+        words.push(word)?;
+    }
+    Ok(words)
 }
 
-// Writes the book of the standard input on the standard output.
+// Writes the book of the standard input on the standard output, as the words ask for it.
 fn run(rt: &HostRuntime) -> Status {
-    match has_no_words(rt) {
-        Ok(true) => {}
-        Ok(false) => return Status::Usage,
-        Err(_) => return Status::Memory,
-    }
+    let Ok(words) = words(rt) else {
+        return Status::Memory;
+    };
+    let Some(options) = Options::read(&words) else {
+        return Status::Usage;
+    };
     let mut input = StdPort::new(
         rt.reader(),
         io::sink(),
@@ -38,7 +49,7 @@ fn run(rt: &HostRuntime) -> Status {
         RealClock::new(rt),
         RealNoise::new(rt),
     );
-    book(rt.alloc(), &mut input, &mut output)
+    book(rt.alloc(), &options, &mut input, &mut output)
 }
 
 fn main(rt: HostRuntime) -> ExitCode {

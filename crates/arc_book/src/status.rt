@@ -53,7 +53,10 @@ impl Status {
     {
         match self {
             Status::Done => Ok(()),
-            Status::Usage => put(out, b"usage: arc-book\n"),
+            Status::Usage => put(
+                out,
+                b"usage: arc-book [since PLACE] [until PLACE] [account NUMBER] [incident NUMBER] [operator NAME] [offset MINUTES] [tabs]\n",
+            ),
             Status::ReadFault => put(out, b"read fault on input\n"),
             Status::WriteFault => put(out, b"write fault\n"),
             Status::Journal(fault) => tell_fault(out, *fault),

@@ -1,5 +1,12 @@
 pub use Rattle.centre_rules.specs.History
 pub use Rattle.desk_wire.specs.Names
 pub mod Dates
+pub mod Clocks
 pub mod Lines
+pub mod Fields
+pub mod Telling
+pub mod Asked
+pub mod Choices
 pub mod Books
+pub mod Laws
+pub mod GoOn

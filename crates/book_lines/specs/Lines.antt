@@ -1,4 +1,4 @@
--- The line of a record: its number, its date and time, and what it was in words.
+-- What a record was, in words.
 use Rattle.std.specs.Prelude.{ℕ, ◌++◌, List, [], ◌∷◌, if◌then◌else◌, map, take, drop, length, codes, decimal}
 use Rattle.std.specs.Prelude.{Option, Some, None}
 use Rattle.std.specs.List.{flat_map, find}
@@ -19,7 +19,6 @@ use Rattle.arc_data.specs.declared.signal.Class.{Class}
 use Rattle.arc_data.specs.declared.signal.Kind.{Kind}
 use Rattle.arc_data.specs.declared.signal.Kind.TheVariants.{New, Again, Restore, Opening, Closing, LogOnly}
 use Rattle.desk_wire.specs.Names.{step_name, outcome_name, code_name}
-use Rattle.book_lines.specs.Dates.{date_time}
 
 abbrev pub kind_name : Kind → List ℕ
 kind_name New = codes "new"
@@ -84,7 +83,3 @@ words_of open_before carried (Close operator number code) reply =
     order_text operator (codes " closes ") number ++ codes " as " ++ code_name code ++ about (find (has_number number) open_before)
 words_of open_before carried (Show number) reply = []
 words_of open_before carried Rows reply = []
-
--- the line of the record of a number, made at a moment
-abbrev pub line_of : ℕ → ℕ → List ℕ → List ℕ
-line_of number at words = decimal number ++ codes " " ++ date_time at ++ codes " " ++ words ++ codes "\n"

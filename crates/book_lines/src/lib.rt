@@ -1,10 +1,18 @@
-//! The line that a station's book has for each record of a journal.
+//! The lines of a station's book: what a record was, in words or in fields, and which records a book is asked for.
 #![tactic(auto)]
 
+mod choice;
+mod clock;
+mod fields;
+pub mod laws;
 mod names;
+mod options;
 mod page;
 mod words;
 mod writing;
 
+pub use choice::{Verdict, choose};
+pub use clock::Clock;
+pub use options::{Options, Place};
 pub use page::Page;
 pub use writing::put_line;

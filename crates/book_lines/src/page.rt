@@ -1,5 +1,5 @@
 // A page, on which lines are put until they are written.
-ghost use Rattle.std.specs.Prelude.{◌≡◌, ◌+◌, ◌≤◌, [], ◌++◌, IfOk, length, decimal};
+ghost use Rattle.std.specs.Prelude.{◌≡◌, ◌+◌, ◌≤◌, [], ◌++◌, IfOk, length, take, decimal};
 ghost use Rattle.desk_wire.specs.Names.{step_name};
 
 use arc_data::{Memory, Step};
@@ -56,6 +56,14 @@ impl Page {
         ensures { self.new ≡ [] }
     {
         self.len = 0;
+    }
+
+    /// Takes all away but the first so many bytes.
+    pub fn cut(&mut self, count: usize)
+        requires { count ≤ length self.old }
+        ensures { self.new ≡ take count self.old }
+    {
+        self.len = count;
     }
 
     /// Puts bytes behind those that stand there.

@@ -68,8 +68,8 @@ fn put_content(page: &mut Page, token: Token, content: &[u8])
     }
 }
 
-// So many bytes from a place on, or as many as stand there.
-fn part(bytes: &[u8], from: usize, count: usize) -> &[u8]
+/// So many bytes from a place on, or as many as stand there.
+pub(crate) fn part(bytes: &[u8], from: usize, count: usize) -> &[u8]
     ensures part { result.now ≡ take count (drop from bytes.now) }
     ensures short { length result.now ≤ count }
 {
@@ -77,8 +77,8 @@ fn part(bytes: &[u8], from: usize, count: usize) -> &[u8]
     &behind[..count.min(behind.len())]
 }
 
-// Puts the bytes, with a question mark for each that no printer shows.
-fn put_printed(page: &mut Page, bytes: &[u8])
+/// Puts the bytes, with a question mark for each that no printer shows.
+pub(crate) fn put_printed(page: &mut Page, bytes: &[u8])
     requires { length page.old + length bytes.now ≤ 524288 }
     ensures text { page.new ≡ page.old ++ map printed bytes.now }
     ensures size { length page.new ≡ length page.old + length bytes.now }

@@ -2,20 +2,27 @@
 ghost use Rattle.std.specs.Prelude.{◌≡◌, ◌+◌, ◌≤◌, ◌++◌, codes, decimal, length};
 ghost use Rattle.arc_data.specs.Moments.{IsMoment};
 ghost use Rattle.arc_data.specs.WellFormed.{IsWellFormed};
+ghost use Rattle.book_lines.specs.Clocks.{IsNear, hours_text, moment_text, suffix};
 ghost use Rattle.book_lines.specs.Dates.{date_time};
-ghost use Rattle.book_lines.specs.Lines.{line_of, words_of};
+ghost use Rattle.book_lines.specs.Lines.{words_of};
+ghost use Rattle.book_lines.specs.Telling.{told};
 
+use crate::clock::Clock;
+use crate::fields::put_fields;
 use crate::names::{code_name, outcome_name};
+use crate::options::Options;
 use crate::page::Page;
 use crate::words::{put_about, put_got, put_message, put_order, put_raised};
 use arc_data::{Carried, Event, Reply};
 use civil_time::stamp_of;
 use incidents::Table;
 
-/// Puts the line of the record of this number, made at a moment (seconds since 1970): its event, its reply, the signals that it carries,
-/// and the incidents that were open before it. At most 65,536 bytes stand on the page, and the line has at most 440,000.
+/// Puts the line of the record of this number, made at a moment (seconds since 1970), as the options ask for it: its event, its reply, the
+/// signals that it carries, and the incidents that were open before it. At most 65,536 bytes stand on the page, and the line has at most
+/// 440,000.
 pub fn put_line(
     page: &mut Page,
+    options: &Options,
     number: u64,
     at: u64,
     event: &Event,
@@ -23,18 +30,86 @@ pub fn put_line(
     carried: &[Carried],
     table: &Table,
 )
+    requires near { IsNear options.now.clock }
     requires moment { IsMoment at }
     requires formed { IsWellFormed event.now }
     requires few { length carried.now ≤ 8000 }
     requires room { length page.old ≤ 65536 }
-    ensures { page.new ≡ page.old ++ line_of number at (words_of table.now.incidents carried.now event.now reply.now) }
+    ensures { page.new ≡ page.old ++ told options.now number at table.now.incidents carried.now event.now reply.now }
 {
     page.put_number(number);
-    page.put(b" ");
-    put_date_time(page, at);
-    page.put(b" ");
-    put_words(page, event, reply, carried, table);
+    if options.tabs {
+        page.put(b"\t");
+        page.put_number(at);
+        page.put(b"\t");
+        put_moment(page, &options.clock, at);
+        page.put(b"\t");
+        put_fields(page, event, reply, carried, table);
+    } else {
+        page.put(b" ");
+        put_moment(page, &options.clock, at);
+        page.put(b" ");
+        put_words(page, event, reply, carried, table);
+    }
     page.put(b"\n");
+}
+
+// Puts the date and the time of a moment by a clock.
+#[tactic(auto, unfolding(crate::specs::Clocks::moment_text))]
+fn put_moment(page: &mut Page, clock: &Clock, at: u64)
+    requires near { IsNear clock.now }
+    requires moment { IsMoment at }
+    requires room { length page.old ≤ 66000 }
+    ensures text { page.new ≡ page.old ++ moment_text clock.now at }
+    ensures size { length page.new ≤ length page.old + 40 }
+{
+    match clock.shown(at) {
+        Some(seconds) => {
+            put_date_time(page, seconds);
+            put_suffix(page, clock);
+        }
+        None => {
+            put_date_time(page, at);
+            page.put(b"+00:00");
+        }
+    }
+}
+
+// Puts how far a clock is from GMT.
+fn put_suffix(page: &mut Page, clock: &Clock)
+    requires near { IsNear clock.now }
+    requires room { length page.old ≤ 66100 }
+    ensures text { page.new ≡ page.old ++ suffix clock.now }
+    ensures size { length page.new ≤ length page.old + 6 }
+{
+    match clock {
+        Clock::Gmt => {}
+        Clock::Ahead(minutes) => {
+            page.put(b"+");
+            put_hours(page, *minutes);
+        }
+        Clock::Behind(minutes) => {
+            page.put(b"-");
+            put_hours(page, *minutes);
+        }
+    }
+}
+
+// Puts hours and minutes.
+fn put_hours(page: &mut Page, minutes: u16)
+    requires near { minutes ≤ 840 }
+    requires room { length page.old ≤ 66200 }
+    ensures text { page.new ≡ page.old ++ hours_text minutes }
+    ensures size { length page.new ≤ length page.old + 5 }
+{
+    let (hours, minutes) = ((minutes / 60) as u8, (minutes % 60) as u8);
+    page.put(&[
+        b'0' + hours / 10,
+        b'0' + hours % 10,
+        b':',
+        b'0' + minutes / 10,
+        b'0' + minutes % 10,
+    ]);
 }
 
 // Puts the date and the time of a moment in GMT.

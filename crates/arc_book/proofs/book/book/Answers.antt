@@ -2,4 +2,4 @@ use Rattle.arc_book.proofs.Books.{nothing_told}
 use Rattle.arc_book.proofs.book.book.Goals as goal
 
 pub returns-in_default : goal.returns-in_default
-returns-in_default g c = nothing_told (g.S.Ends.seen c.args.source.now).left (g.S.Ends.seen c.args.source.now) (g.K.Ends.seen c.args.sink.now)
+returns-in_default g c = nothing_told c.args.options.now (g.S.Ends.seen c.args.source.now).left (g.S.Ends.seen c.args.source.now) (g.K.Ends.seen c.args.sink.now)

@@ -4,11 +4,11 @@ use Rattle.arc_book.proofs.Books.{short_as, told_front}
 use Rattle.arc_book.proofs.book.finish.Goals as goal
 
 pub returns-in-WriteFault : goal.returns-in-WriteFault
-returns-in-WriteFault g c all s s' k compiled = short_as c.args.status all s s' k (g.K.Ends.seen c.args.sink.now) c.args.page.now c.in-WriteFault.is compiled
+returns-in-WriteFault g c o all s s' k compiled = short_as o c.args.status all s s' k (g.K.Ends.seen c.args.sink.now) c.args.page.now c.in-WriteFault.is compiled
 
 pub returns-in-Err : goal.returns-in-Err
-returns-in-Err g c all s s' k compiled =
+returns-in-Err g c o all s s' k compiled =
     let before = g.K.Ends.seen c.args.sink.now in
     let after = g.K.Ends.seen c.put.new.sink in
-    told_front all s s' k before after c.args.page.now c.put.ensures.others c.args.status compiled c.in_default.not-WriteFault
+    told_front o all s s' k before after c.args.page.now c.put.ensures.others c.args.status compiled c.in_default.not-WriteFault
     (subst (IsFrontWritten before.written after.written) (c.bytes.ensures ∙ c.put_last.ensures) c.in-Err.ensures.taken) c.in-Err.ensures.cause.failed

@@ -14,8 +14,8 @@ returns-in-Ok-Fresh-clause-compiled g c =
     let s' = g.S.Ends.seen c.open.new.source in
     let k = g.K.Ends.seen c.args.sink.now in
     let all = ap (λ (u : List ℕ). prepend_known u s.left) c.requires.fresh ∙ sym (prepend_none s.left) in
-    subst (IsCompiled Done s.left s s' k k) (sym c.requires.empty)
-    (fresh_compiled s.left s s' k (subst (λ (o : Option (List ℕ)). IfSome o (λ bytes. length bytes ≤ 17)) all (c.in-Ok-Fresh.ensures.fresh c.in-Ok-Fresh.field-0-is)) c.open.ensures.others)
+    subst (IsCompiled c.args.options.now Done s.left s s' k k) (sym c.requires.empty)
+    (fresh_compiled c.args.options.now s.left s s' k (subst (λ (o : Option (List ℕ)). IfSome o (λ bytes. length bytes ≤ 17)) all (c.in-Ok-Fresh.ensures.fresh c.in-Ok-Fresh.field-0-is)) c.open.ensures.others)
 
 pub returns-in-Ok-Refused-clause-compiled : goal.returns-in-Ok-Refused-clause-compiled
 returns-in-Ok-Refused-clause-compiled g c =
@@ -25,20 +25,20 @@ returns-in-Ok-Refused-clause-compiled g c =
     let all = ap (λ (u : List ℕ). prepend_known u s.left) c.requires.fresh ∙ sym (prepend_none s.left) in
     let fault = c.in-Ok-Refused.fault in
     let shown = c.in-Ok-Refused.ensures.refused fault (ap Ok c.in-Ok-Refused.field-0-is) in
-    subst (IsCompiled (Journal fault) s.left s s' k k) (sym c.requires.empty)
-    (refused_compiled s.left s s' k fault shown.0 (subst (λ (o : Option (List ℕ)). IfSome o (IsShown fault)) all shown.1) c.open.ensures.others)
+    subst (IsCompiled c.args.options.now (Journal fault) s.left s s' k k) (sym c.requires.empty)
+    (refused_compiled c.args.options.now s.left s s' k fault shown.0 (subst (λ (o : Option (List ℕ)). IfSome o (IsShown fault)) all shown.1) c.open.ensures.others)
 
 pub returns-in-Err-Failed-clause-compiled : goal.returns-in-Err-Failed-clause-compiled
 returns-in-Err-Failed-clause-compiled g c =
     let s = g.S.Ends.seen c.args.source.now in
     let s' = g.S.Ends.seen c.open.new.source in
     let k = g.K.Ends.seen c.args.sink.now in
-    subst (IsCompiled ReadFault s.left s s' k k) (sym c.requires.empty)
-    (unread_compiled s.left s s' k (c.in-Err-Failed.ensures.failed (ap Err c.in-Err-Failed.field-0-is)) c.open.ensures.others)
+    subst (IsCompiled c.args.options.now ReadFault s.left s s' k k) (sym c.requires.empty)
+    (unread_compiled c.args.options.now s.left s s' k (c.in-Err-Failed.ensures.failed (ap Err c.in-Err-Failed.field-0-is)) c.open.ensures.others)
 
 pub returns-in-Err-Memory-clause-compiled : goal.returns-in-Err-Memory-clause-compiled
 returns-in-Err-Memory-clause-compiled g c =
     let s = g.S.Ends.seen c.args.source.now in
     let s' = g.S.Ends.seen c.open.new.source in
     let k = g.K.Ends.seen c.args.sink.now in
-    subst (IsCompiled Memory s.left s s' k k) (sym c.requires.empty) (unkept_compiled s.left s s' k c.open.ensures.others)
+    subst (IsCompiled c.args.options.now Memory s.left s s' k k) (sym c.requires.empty) (unkept_compiled c.args.options.now s.left s s' k c.open.ensures.others)

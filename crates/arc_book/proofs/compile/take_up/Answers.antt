@@ -1,9 +1,19 @@
-use Rattle.std.proofs.Common.{◌+◌, ◌++◌, ap, ◌∙◌, List, ℕ}
+use Rattle.std.proofs.Common.{◌∙◌, ◌+◌, ◌++◌, [], ap, arith, length, List, ℕ}
+use Rattle.book_lines.specs.Choices.{decided}
+use Rattle.book_lines.specs.Telling.{told}
+use Rattle.centre_rules.specs.Carrying.{carried_by}
 use Rattle.centre_rules.specs.State.{entry_of}
 use Rattle.centre_rules.specs.Summary.{nothing}
 use Rattle.centre_store.proofs.OpeningSteps.{found_so}
-use Rattle.arc_book.proofs.Entries.{line_told}
+use Rattle.arc_book.proofs.Entries.{entry_told, put_longer}
 use Rattle.arc_book.proofs.compile.take_up.Goals as goal
+
+pub settle-requires : goal.settle-requires
+settle-requires c =
+    let ready = c.in-Some.ready in
+    let line = told c.args.options.now (c.entry_in.new.centre.entries + 1) ready.at c.entry_in.new.centre.sum.incidents
+    (carried_by c.entry_in.new.centre.sum [] ready.event ready.at) ready.event ready.reply in
+    omega (arith, c.count-start.ensures, ap length c.put_chosen-verdict.ensures.line, put_longer c.put_chosen-verdict.result c.args.page.now line)
 
 pub returns-clause-taken : goal.returns-clause-taken
 returns-clause-taken c same bodies past p stands =
@@ -11,12 +21,17 @@ returns-clause-taken c same bodies past p stands =
     let found = c.in_ok-ready.field-0 in
     let is = c.in-Some.is in
     let stays = c.entry_in.ensures.stays nothing past stands in
+    let behind = c.apply.ensures.entry nothing past 0 stays in
     record {
       entry = entry_of 0 ready;
       is_past = found_so _ found ready is c.in_ok-ready.ensures.next nothing bodies past p stays;
-      stands = c.apply.ensures.entry nothing past 0 stays;
-      line = c.put_line.ensures ∙ ap (λ (l : List ℕ). c.args.page.now ++ l)
-          (line_told c.entry_in.new.centre past ready (c.entries-number.result + 1) c.at.result c.table.result.now.incidents c.carried.result.now c.event-event.result.now c.reply-reply.result.now
-          stays (found_so _ found ready is c.in_ok-ready.ensures.made) (ap (λ n. n + 1) c.entries-number.ensures) c.at.ensures.at c.table.ensures.incidents
-          (c.carried.ensures.carried (found_so _ found ready is c.in_ok-ready.ensures.recorded)) c.event-event.ensures c.reply-reply.ensures);
+      stands = behind;
+      line = c.settle.ensures c.args.page.now
+          (told c.args.options.now (c.entry_in.new.centre.entries + 1) ready.at c.entry_in.new.centre.sum.incidents
+          (carried_by c.entry_in.new.centre.sum [] ready.event ready.at) ready.event ready.reply)
+          c.count-start.ensures c.put_chosen-verdict.ensures.line
+          ∙ ap (λ (l : List ℕ). c.args.page.now ++ l)
+          (entry_told c.args.options.now c.entry_in.new.centre c.apply.new.self past ready stays (found_so _ found ready is c.in_ok-ready.ensures.made) behind
+          (decided c.put_chosen-verdict.result c.apply.new.self.sum.incidents)
+          (c.put_chosen-verdict.ensures.verdict c.apply.new.self.sum.incidents));
     }

@@ -1,0 +1,20 @@
+-- What words for moments add up to.
+use Rattle.std.specs.Prelude.{◌≡◌, ℕ, ◌+◌, ◌*◌, ◌/◌, ◌++◌, List, Bool, true, false, if◌then◌else◌, Some, codes}
+use Rattle.arc_data.specs.Moments.{IsMoment}
+use Rattle.civil_time.specs.Calendar.{date_of}
+use Rattle.book_lines.specs.Asked.{moment_named}
+use Rattle.book_lines.specs.Dates.{date_text, time_text}
+
+-- `2026-11-28T18:19:00`
+abbrev pub moment_word : ℕ → List ℕ
+moment_word t = date_text (date_of (t / 86_400)) ++ codes "T" ++ time_text t
+
+-- each moment is read from its own word
+abbrev pub MomentsAreRead : Type 0
+MomentsAreRead = (last : Bool) (t : ℕ) → IsMoment t → moment_named last (moment_word t) ≡ Some t
+
+-- the date of a day alone is read as its first second, or as its last
+abbrev pub DatesAreRead : Type 0
+DatesAreRead =
+    (last : Bool) (n : ℕ) → IsMoment (n * 86_400)
+    → moment_named last (date_text (date_of n)) ≡ Some (if last then n * 86_400 + 86_399 else n * 86_400)

@@ -1,0 +1,18 @@
+// The laws of words for moments, and of books.
+ghost use Rattle.book_lines.specs.GoOn.{BooksGoOn};
+ghost use Rattle.book_lines.specs.Laws.{DatesAreRead, MomentsAreRead};
+
+/// Each moment is read from its own word.
+pub fn law_moments_are_read()
+    ensures { MomentsAreRead }
+{}
+
+/// A date alone is read as the first second of its day, or as the last.
+pub fn law_dates_are_read()
+    ensures { DatesAreRead }
+{}
+
+/// A book up to a record, and behind it the book from the next one on, are the whole book.
+pub fn law_books_go_on()
+    ensures { BooksGoOn }
+{}
