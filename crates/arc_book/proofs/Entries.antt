@@ -15,7 +15,6 @@ use Rattle.arc_book.specs.Taken.{put_by}
 use Rattle.book_lines.specs.declared.choice.Verdict.{Verdict}
 use Rattle.book_lines.specs.declared.choice.Verdict.TheVariants.{Told, LeftOut, Opens}
 use Rattle.centre_rules.specs.Carrying.{carried_by}
-use Rattle.centre_rules.specs.Cases.{incidents}
 use Rattle.centre_rules.specs.History.{Entry, marks}
 use Rattle.centre_rules.specs.Marks.{Mark}
 use Rattle.centre_rules.specs.State.{State, StandsFor, Same, Plan, entry_of}

@@ -1,12 +1,12 @@
 -- A book with one record more, and books that go on from one another.
-use Rattle.std.proofs.Common.{◌≡◌, ◌≤◌, ◌<◌, ◌+◌, ℕ, List, [], ◌∷◌, ◌++◌, length, Bool, true, false, cond, Some, None, ◌&&◌, refl, sym, ap, ◌∙◌, arith, append_assoc, append-nil}
+use Rattle.std.proofs.Common.{◌≡◌, ◌≤◌, ◌<◌, ◌+◌, ℕ, List, [], ◌∷◌, ◌++◌, length, Bool, true, false, cond, ◌&&◌, refl, sym, ap, ◌∙◌, arith, append_assoc, append-nil}
 use Rattle.std.specs.List.{filter, flat_map}
 use Rattle.std.proofs.lemmas.Bool.{le-leb, lt-leb, leb-true, leb-false}
 use Rattle.std.specs.Prelude.{nat_le}
 use Rattle.std.proofs.lemmas.Grind.{flat_map-append}
 use Rattle.std.proofs.lemmas.List.Elements.{filter-append}
 use Rattle.centre_rules.specs.History.{Entry}
-use Rattle.book_lines.specs.Books.{Record, book_of, carried_of, entry_line, is_chosen, line_if, line_told, number_of, open_after, records}
+use Rattle.book_lines.specs.Books.{Record, book_of, carried_of, entry_line, is_chosen, line_if, line_told, open_after, records}
 use Rattle.book_lines.specs.Choices.{is_of_account, is_of_incident, is_of_operator}
 use Rattle.book_lines.specs.GoOn.{whole, ending, beginning}
 use Rattle.book_lines.specs.declared.options.Options.{Options}

@@ -1,12 +1,11 @@
 -- What a book is asked for, in words.
-use Rattle.std.specs.Prelude.{◌≡◌, ℕ, ◌<◌, ◌==◌, ◌&&◌, List, [], ◌∷◌, ◌++◌, Bool, true, false, if◌then◌else◌, take, drop}
+use Rattle.std.specs.Prelude.{ℕ, ◌==◌, ◌&&◌, List, [], ◌∷◌, Bool, true, false, if◌then◌else◌, take, drop}
 use Rattle.std.specs.Prelude.{Option, Some, None, IfSome, length, codes, slice_index}
 use Rattle.std.specs.Option.{option_map, option_or}
 use Rattle.std.specs.Str.{bytes_eq}
 use Rattle.arc_data.specs.Digits.{is_name}
 use Rattle.arc_data.specs.Moments.{IsMoment}
 use Rattle.alarm_rules.specs.SetupWords.{account_named, number_between, word_that}
-use Rattle.civil_time.specs.Calendar.{date_of}
 use Rattle.civil_time.specs.Stamp.{stamp_time}
 use Rattle.book_lines.specs.Clocks.{IsNear}
 use Rattle.book_lines.specs.declared.clock.Clock.{Clock}

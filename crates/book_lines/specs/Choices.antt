@@ -1,12 +1,11 @@
 -- Which records a book is asked for: by the incidents that were open before a record, and those behind it.
-use Rattle.std.specs.Prelude.{ℕ, ◌+◌, ◌==◌, ◌&&◌, ◌||◌, List, Bool, true, false, nat_le, is_some, Option, Some, None}
+use Rattle.std.specs.Prelude.{ℕ, ◌==◌, ◌&&◌, ◌||◌, List, Bool, true, false, nat_le, is_some, Option, Some, None}
 use Rattle.std.specs.List.{find, list_any}
 use Rattle.std.specs.Str.{bytes_eq}
 use Rattle.arc_data.specs.Incidents.{has_number, is_of}
 use Rattle.arc_data.specs.declared.event.Event.{Event}
 use Rattle.arc_data.specs.declared.event.Event.TheVariants.{Adopt, Start, Message as Sent, Beat, Tick, Claim, Next, Act}
 use Rattle.arc_data.specs.declared.event.Event.TheVariants.{Release, Close, Show, List as Rows}
-use Rattle.arc_data.specs.declared.event.Message.{Message}
 use Rattle.arc_data.specs.declared.incident.Carried.{Carried}
 use Rattle.arc_data.specs.declared.incident.Incident.{Incident}
 use Rattle.arc_data.specs.declared.reply.Reply.{Reply}

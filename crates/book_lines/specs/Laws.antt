@@ -1,5 +1,5 @@
 -- What words for moments add up to.
-use Rattle.std.specs.Prelude.{◌≡◌, ℕ, ◌+◌, ◌*◌, ◌/◌, ◌++◌, List, Bool, true, false, if◌then◌else◌, Some, codes}
+use Rattle.std.specs.Prelude.{◌≡◌, ℕ, ◌+◌, ◌*◌, ◌/◌, ◌++◌, List, Bool, if◌then◌else◌, Some, codes}
 use Rattle.arc_data.specs.Moments.{IsMoment}
 use Rattle.civil_time.specs.Calendar.{date_of}
 use Rattle.book_lines.specs.Asked.{moment_named}

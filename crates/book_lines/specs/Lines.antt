@@ -1,5 +1,5 @@
 -- What a record was, in words.
-use Rattle.std.specs.Prelude.{ℕ, ◌++◌, List, [], ◌∷◌, if◌then◌else◌, map, take, drop, length, codes, decimal}
+use Rattle.std.specs.Prelude.{ℕ, ◌++◌, List, [], if◌then◌else◌, map, take, drop, length, codes, decimal}
 use Rattle.std.specs.Prelude.{Option, Some, None}
 use Rattle.std.specs.List.{flat_map, find}
 use Rattle.arc_data.specs.Classes.{name_of}
