@@ -10,3 +10,4 @@ pub mod Choices
 pub mod Books
 pub mod Laws
 pub mod GoOn
+pub mod WordsFor

@@ -1,6 +1,7 @@
 // The laws of words for moments, and of books.
 ghost use Rattle.book_lines.specs.GoOn.{BooksGoOn};
 ghost use Rattle.book_lines.specs.Laws.{DatesAreRead, MomentsAreRead};
+ghost use Rattle.book_lines.specs.WordsFor.{WordsAsk};
 
 /// Each moment is read from its own word.
 pub fn law_moments_are_read()
@@ -10,6 +11,11 @@ pub fn law_moments_are_read()
 /// A date alone is read as the first second of its day, or as the last.
 pub fn law_dates_are_read()
     ensures { DatesAreRead }
+{}
+
+/// Words ask for options exactly where they are those of each option, one behind the other.
+pub fn law_words_ask()
+    ensures { WordsAsk }
 {}
 
 /// A book up to a record, and behind it the book from the next one on, are the whole book.
