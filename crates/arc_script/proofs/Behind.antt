@@ -4,7 +4,7 @@ use Rattle.std.proofs.lemmas.Grind.{flat_map-append}
 use Rattle.centre_rules.specs.History.{Entry}
 use Rattle.centre_rules.specs.Summary.{Summary}
 use Rattle.script_lines.specs.Lines.{Asked}
-use Rattle.arc_script.specs.Steps.{Step, IsStepOf, AreSteps, asked_after, output_of}
+use Rattle.arc_script.specs.Steps.{placed, Step, IsStepOf, AreSteps, asked_after, output_of}
 use Rattle.arc_script.specs.Tallies.{entries_of, sent_by}
 use Rattle.arc_script.specs.Texts.{AreOf, IsPlayable}
 
@@ -21,9 +21,9 @@ of_last before (l ∷ lines) (first ∷ steps) line s of number asks =
     (of.0, of.1, of_last (first.asked ∷ before) lines steps line s of.2 number asks)
 
 pub are_last : (Told : Type 0) (base : Summary) (setup : List ℕ) (before : List Asked) (h mid x : List Entry) (steps : List Step) (s : Step)
-    → AreSteps Told base setup before h mid steps → IsStepOf Told base setup (asked_after before steps) mid x s s.asked
-    → AreSteps Told base setup before h x (steps ++ s ∷ [])
-are_last Told base setup before h mid x [] s are is = (x, subst (λ (k : List Entry). IsStepOf Told base setup before k x s s.asked) are is, refl)
+    → AreSteps Told (placed base setup before) h mid steps → IsStepOf Told (placed base setup (asked_after before steps)) mid x s s.asked
+    → AreSteps Told (placed base setup before) h x (steps ++ s ∷ [])
+are_last Told base setup before h mid x [] s are is = (x, subst (λ (k : List Entry). IsStepOf Told (placed base setup before) k x s s.asked) are is, refl)
 are_last Told base setup before h mid x (first ∷ steps) s are is =
     (are.0, are.1, are_last Told base setup (first.asked ∷ before) are.0 mid x steps s are.2 is)
 

@@ -1,6 +1,6 @@
 -- The step of a line of a script that feeds bytes or a frame.
-use Rattle.std.proofs.Common.{◌≡◌, ◌≢◌, ◌⊎◌, ◌<◌, ◌≤◌, ◌-◌, ◌+◌, ◌++◌, ℕ, zero, suc, List, [], ◌∷◌, Some, inl, inr, length, set, refl, ap, sym, subst, ◌∙◌, arith}
-use Rattle.std.specs.Prelude.{IfSome, decimal}
+use Rattle.std.proofs.Common.{◌≡◌, ◌≢◌, ◌⊎◌, ◌<◌, ◌≤◌, ◌-◌, ◌+◌, ◌++◌, ℕ, zero, suc, List, [], ◌∷◌, Option, Some, inl, inr, length, set, refl, ap, sym, subst, ◌∙◌, arith}
+use Rattle.std.specs.Prelude.{IfSome, decimal, unwrap_or}
 use Rattle.std.specs.Io.KnownBytes.{append_known}
 use Rattle.std.specs.List.{slice_get}
 use Rattle.std.proofs.lemmas.List.{length-append}
@@ -28,7 +28,7 @@ use Rattle.arc_script.specs.Ends.{FedUntil}
 use Rattle.arc_script.specs.Fed.{clock_of, line_fed}
 use Rattle.arc_script.specs.Feeding.{CountsFed, FeedStops, HasFed, TookAt}
 use Rattle.arc_script.specs.Pages.{head_of, replied}
-use Rattle.arc_script.specs.Steps.{listed, replies_of, Feeds, FeedsBehind, Step}
+use Rattle.arc_script.specs.Steps.{Place, placed, listed, replies_of, Feeds, FeedsLine, Step}
 use Rattle.arc_script.specs.Tallies.{count_of, is_closed, is_repeat}
 use Rattle.arc_script.specs.declared.script_end.Tally.{Tally}
 use Rattle.arc_script.proofs.Answered.{are_replies, turns_lined}
@@ -47,12 +47,12 @@ step_of number asked letter line sent turns = record {
   text = head_of letter line ++ listed (replies_of turns) ++ 10 ∷ [];
 }
 
-counts_step : (base : Summary) (setup : List ℕ) (moment : ℕ) (stream bytes : List ℕ) (h x : List Entry) (turns : List Turn) (more : List (List ℕ))
-    (sent : ℕ) (t t' : Tally) (s : Step) → FeedsBehind base setup moment stream bytes h x turns more → CountsFed sent turns t t' → s.sent ≡ sent
+counts_step : (place : Place) (line : ℕ) (bytes : List ℕ) (h x : List Entry) (turns : List Turn) (more : List (List ℕ))
+    (sent : ℕ) (t t' : Tally) (s : Step) → FeedsLine place line bytes h x turns more → CountsFed sent turns t t' → s.sent ≡ sent
     → s.entries ≡ entries_of line_turns turns → CountsStep s t t'
-counts_step base setup moment stream bytes h x turns more sent t t' s fed counts sent_is entries_is =
+counts_step place line bytes h x turns more sent t t' s fed counts sent_is entries_is =
     let same : t'.closed ≡ t.closed = ap (λ (k : Tally). k.closed) counts.rest in
-    let none = closes_none base h x (entries_of line_turns turns) fed.legal fed.own (turns_lined base (meaning setup) h x turns fed.are) in
+    let none = closes_none place.base h x (entries_of line_turns turns) fed.legal fed.own (turns_lined place.base (meaning place.setup) h x turns fed.are) in
     record {
       more = record {
         sent = subst (λ (n : ℕ). GrowsBy n t.sent t'.sent) (sym sent_is) counts.frames;
@@ -64,50 +64,52 @@ counts_step base setup moment stream bytes h x turns more sent t t' s fed counts
       rest = counts.rest ∙ ap (λ (n : ℕ). record t { sent = t'.sent; repeats = t'.repeats; closed = n }) (sym same);
     }
 
-feeds_of : (base : Summary) (setup : List ℕ) (moment number letter line : ℕ) (asked : Asked) (before : List Asked) (bytes : List ℕ) (h x : List Entry)
-    (turns : List Turn) → clock_of before ≡ Some moment → FeedsBehind base setup moment (line_fed line before) bytes h x turns []
-    → Feeds base setup before letter line bytes h x (step_of number asked letter line (length turns) turns)
+feeds_of : (place : Place) (number letter line : ℕ) (asked : Asked) (bytes : List ℕ) (h x : List Entry)
+    (turns : List Turn) → FeedsLine place line bytes h x turns []
+    → Feeds place letter line bytes h x (step_of number asked letter line (length turns) turns)
 unfolding step_of
-feeds_of base setup moment number letter line asked before bytes h x turns set fed =
-    record { turns = turns; fed = record { clock = moment; set = set; fed = fed }; entries = refl; sent = refl; text = refl }
+feeds_of place number letter line asked bytes h x turns fed =
+    record { turns = turns; fed = fed; entries = refl; sent = refl; text = refl }
 
 pub carried : {D : Type 0} (seen : D → DiskSeen) (s' : Stored D) (base : Summary) (setup : List ℕ)
     (moment number letter line : ℕ) (asked : Asked) (before : List Asked) (bytes : List ℕ) (h : List Entry) (t t' : Tally) (p p' : PortSeen)
     (written : List ℕ) → IsMoment moment → clock_of before ≡ Some moment
-    → HasFed seen base setup moment (line_fed line before) bytes h t t' written s'
+    → HasFed seen (placed base setup before) line bytes h t t' written s'
     → p'.written ≡ append_known p.written (head_of letter line ++ replied written ++ 10 ∷ [])
-    → Carried seen base (λ x s. Feeds base setup before letter line bytes h x s) number asked t t' p p' s'
+    → Carried seen base (λ x s. Feeds (placed base setup before) letter line bytes h x s) number asked t t' p p' s'
 unfolding step_of
 carried seen s' base setup moment number letter line asked before bytes h t t' p p' written at set w put =
     let turns = w.turns in
     let s = step_of number asked letter line (length turns) turns in
+    let same : w.fed.clock ≡ moment = ap (λ (o : Option ℕ). unwrap_or o 0) (sym w.fed.set ∙ set) in
+    let fits : IsMoment w.fed.clock = subst IsMoment (sym same) at in
     let listed_is : replied written ≡ listed (replies_of turns) =
-    ap replied w.written_is ∙ replied_listed turns (are_replies base (meaning setup) moment h w.history turns at w.fed.are w.fed.readings) in
+    ap replied w.written_is ∙ replied_listed turns (are_replies base (meaning setup) w.fed.clock h w.history turns fits w.fed.are w.fed.readings) in
     record {
       step = s;
       history = w.history;
       number_is = refl;
       asked_is = refl;
-      is = feeds_of base setup moment number letter line asked before bytes h w.history turns set w.fed;
+      is = feeds_of (placed base setup before) number letter line asked bytes h w.history turns w.fed;
       stands = w.stands;
       readable = w.readable;
       text = put ∙ ap (λ (l : List ℕ). append_known p.written (head_of letter line ++ l ++ 10 ∷ [])) listed_is;
-      counts = counts_step base setup moment (line_fed line before) bytes h w.history turns [] (length turns) t t' s w.fed w.counts refl refl;
+      counts = counts_step (placed base setup before) line bytes h w.history turns [] (length turns) t t' s w.fed w.counts refl refl;
     }
 
 -- how far it came, in the words of its contract
 abbrev CameSoFar : {D : Type 0} → Summary → (D → DiskSeen) → Stored D → List ℕ → ℕ → ℕ → ℕ → List Asked → List ℕ → List Entry
     → Stop → List Entry → Step → Type 0
 CameSoFar base seen s' setup moment letter line before bytes h stop x s =
-    ((waiting : List (List ℕ)) × FedUntil stop base setup before line bytes waiting h x s
+    ((waiting : List (List ℕ)) × FedUntil stop (placed base setup before) line bytes waiting h x s
     × HasShown seen s' stop moment (IsOfFrame setup moment waiting))
-    ⊎ ((stop ≡ Memory) × Feeds base setup before letter line bytes h x s)
+    ⊎ ((stop ≡ Memory) × Feeds (placed base setup before) letter line bytes h x s)
 
 -- all was fed, and memory was wanted for the output
 pub finished : {D : Type 0} (seen : D → DiskSeen) (s' : Stored D) (base : Summary) (setup : List ℕ)
     (moment letter line : ℕ) (asked : Asked) (before : List Asked) (bytes : List ℕ) (h : List Entry) (t t' : Tally) (written : List ℕ)
     (stop : Stop) → stop ≡ Memory → clock_of before ≡ Some moment
-    → HasFed seen base setup moment (line_fed line before) bytes h t t' written s'
+    → HasFed seen (placed base setup before) line bytes h t t' written s'
     → Halted seen base (λ x s. CameSoFar base seen s' setup moment letter line before bytes h stop x s) t t' s'
 unfolding step_of
 finished seen s' base setup moment letter line asked before bytes h t t' written stop is set w =
@@ -115,16 +117,16 @@ finished seen s' base setup moment letter line asked before bytes h t t' written
     record {
       partial = s;
       history = w.history;
-      came = inr (is, feeds_of base setup moment 0 letter line asked before bytes h w.history w.turns set w.fed);
+      came = inr (is, feeds_of (placed base setup before) 0 letter line asked bytes h w.history w.turns w.fed);
       stands = w.stands;
       readable = w.readable;
-      counts = counts_step base setup moment (line_fed line before) bytes h w.history w.turns [] (length w.turns) t t' s w.fed w.counts refl refl;
+      counts = counts_step (placed base setup before) line bytes h w.history w.turns [] (length w.turns) t t' s w.fed w.counts refl refl;
     }
 
 -- a frame was stopped
 pub halted_at : {D : Type 0} (seen : D → DiskSeen) (s' : Stored D) (base : Summary) (setup : List ℕ)
     (moment letter line : ℕ) (asked : Asked) (before : List Asked) (bytes : List ℕ) (h : List Entry) (t t' : Tally) (stop : Stop)
-    → clock_of before ≡ Some moment → FeedStops seen base setup moment (line_fed line before) bytes h t t' stop s'
+    → clock_of before ≡ Some moment → FeedStops seen (placed base setup before) moment line bytes h t t' stop s'
     → Halted seen base (λ x s. CameSoFar base seen s' setup moment letter line before bytes h stop x s) t t' s'
 unfolding step_of
 halted_at seen s' base setup moment letter line asked before bytes h t t' stop set w =
@@ -134,12 +136,12 @@ halted_at seen s' base setup moment letter line asked before bytes h t t' stop s
       history = w.history;
       came = inl (
         w.more,
-        record { turns = w.turns; fed = record { clock = moment; set = set; fed = w.fed }; entries = refl; sent = w.sent_is },
+        record { turns = w.turns; fed = w.fed; entries = refl; sent = w.sent_is },
         w.cause,
       );
       stands = w.stands;
       readable = w.readable;
-      counts = counts_step base setup moment (line_fed line before) bytes h w.history w.turns w.more w.sent t t' s w.fed w.counts refl refl;
+      counts = counts_step (placed base setup before) line bytes h w.history w.turns w.more w.sent t t' s w.fed w.counts refl refl;
     }
 
 -- How many bytes are fed.

@@ -16,7 +16,7 @@ use Rattle.arc_script.specs.Ends.{Tells, CameTo}
 use Rattle.arc_script.specs.Fed.{clock_of}
 use Rattle.arc_script.specs.Playing.{moment_at}
 use Rattle.centre_store.specs.StoreHalls.{is_told}
-use Rattle.arc_script.specs.Steps.{IsStepOf}
+use Rattle.arc_script.specs.Steps.{placed, IsStepOf}
 use Rattle.arc_script.specs.declared.script.Script.{Script}
 use Rattle.arc_script.proofs.Wanting.{clock_with}
 
@@ -42,7 +42,7 @@ module _ {D : Type 0} (seen : D → DiskSeen) (b : Begun D) (before : List Asked
     (script script' : Script) (s s' : Stored D) (between : Between seen b before count h script s) (stays : Stays seen script script' s s')
     (fits : IsMoment moment) (set : moment_at (clock_of before) asked ≡ Some moment) where
   pub carried_out : (number : ℕ) (p p' : PortSeen)
-      → Carried seen b.base (λ x st. IsStepOf (Tells (seen b.disk)) b.base b.setup before h x st asked) number asked script.tally script'.tally p p' s'
+      → Carried seen b.base (λ x st. IsStepOf (Tells (seen b.disk)) (placed b.base b.setup before) h x st asked) number asked script.tally script'.tally p p' s'
       → HaveTakenWith (meaning b.setup) count before asked script'.lines.items script'.desks.items
       → script'.clock ≡ Some moment → s'.state.sum.text ≡ Some b.setup
       → CarriedOut seen b before count number h asked script.tally script' s' p p'
@@ -73,8 +73,8 @@ module _ {D : Type 0} (seen : D → DiskSeen) (b : Begun D) (before : List Asked
 
   pub stopped_at : (stop : Stop) (waiting : List (List ℕ))
       → Halted seen b.base (λ x st.
-      (CameTo stop (Tells (seen b.disk)) b.base b.setup before waiting h x st asked × HasShown seen s' stop moment (Submits b.setup before moment waiting asked))
-      ⊎ ((stop ≡ Memory) × IsStepOf (Tells (seen b.disk)) b.base b.setup before h x st asked)) script.tally script'.tally s'
+      (CameTo stop (Tells (seen b.disk)) (placed b.base b.setup before) waiting h x st asked × HasShown seen s' stop moment (Submits b.setup before moment waiting asked))
+      ⊎ ((stop ≡ Memory) × IsStepOf (Tells (seen b.disk)) (placed b.base b.setup before) h x st asked)) script.tally script'.tally s'
       → StoppedAt seen b before h asked stop script.tally script'.tally s'
   stopped_at stop waiting out =
       elim out.came as (λ came. StoppedAt seen b before h asked stop script.tally script'.tally s') [

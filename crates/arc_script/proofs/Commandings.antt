@@ -31,7 +31,7 @@ use Rattle.arc_script.specs.Causes.{HasShown}
 use Rattle.arc_script.specs.Fed.{desk_read}
 use Rattle.arc_script.specs.PageWords.{page_seen}
 use Rattle.arc_script.specs.Pages.{blank, head_of}
-use Rattle.arc_script.specs.Steps.{Commands}
+use Rattle.arc_script.specs.Steps.{placed, Commands}
 use Rattle.arc_script.specs.declared.page.Page.{Page}
 use Rattle.arc_script.specs.declared.script_end.Tally.{Tally}
 use Rattle.arc_script.proofs.Commanded.{ends_as, is_quit_as, says, says_quit, stops, unsaid, EndsAs}
@@ -122,7 +122,7 @@ pub goes_on : {D : Type 0} (seen : D → DiskSeen) (s s' : Stored D) (base : Sum
     → Closings s.state s'.state t t'
     → (before : List Asked) (clock count number : ℕ) (h : List Entry) → IsNext (meaning setup) clock count before (Command desk text) lines desks
     → p ≡ blank clock → StoreStands seen base s h → IsReadable base h
-    → Carried seen base (λ x k. Commands base setup before desk text h x k) number (Command desk text) t t' p (page_seen page') s'
+    → Carried seen base (λ x k. Commands (placed base setup before) desk text h x k) number (Command desk text) t t' p (page_seen page') s'
 goes_on seen s s' base setup desk text lines desks was now t t' p page page' given g closings before clock count number h next empty stands readable =
     let w = has_served seen s s' base setup clock count desk before text h lines desks was now p page page' given (Ok tt) g next empty stands readable in
     let said = says seen s s' base setup clock w.has.stream text h (page_seen page) (page_seen page') (text_is s setup g.set) readable w.page w.ends w.none w.serves in
@@ -135,7 +135,7 @@ pub quits_on : {D : Type 0} (seen : D → DiskSeen) (s s' : Stored D) (base : Su
     → Closings s.state s'.state t t'
     → (before : List Asked) (clock count number : ℕ) (h : List Entry) → IsNext (meaning setup) clock count before (Command desk text) lines desks
     → p ≡ blank clock → StoreStands seen base s h → IsReadable base h
-    → Carried seen base (λ x k. Commands base setup before desk text h x k) number (Command desk text) t t' p (page_seen page') s'
+    → Carried seen base (λ x k. Commands (placed base setup before) desk text h x k) number (Command desk text) t t' p (page_seen page') s'
 quits_on seen s s' base setup desk text lines desks was now t t' p page page' given g closings before clock count number h next empty stands readable =
     let w = has_served seen s s' base setup clock count desk before text h lines desks was now p page page' given (Err Quit) g next empty stands readable in
     let said = says_quit seen s s' base setup clock w.has.stream text h (page_seen page) (page_seen page') (text_is s setup g.set) readable w.page w.ends w.none w.serves in

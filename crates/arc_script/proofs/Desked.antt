@@ -32,7 +32,7 @@ use Rattle.arc_script.specs.Ends.{AddedBy}
 use Rattle.arc_script.specs.Fed.{clock_of, desk_read}
 use Rattle.arc_script.specs.Pages.{head_of}
 use Rattle.arc_script.specs.Standing.{IsReadable}
-use Rattle.arc_script.specs.Steps.{Commands, Step}
+use Rattle.arc_script.specs.Steps.{placed, Commands, Step}
 use Rattle.arc_script.specs.Tallies.{count_of, is_closed, is_repeat, told}
 use Rattle.arc_script.specs.declared.script_end.Tally.{Tally}
 use Rattle.arc_script.proofs.Closing.{counted_turn, IsCounted}
@@ -86,7 +86,7 @@ step_of number desk text reply entries = record {
 
 commands_of : (base : Summary) (setup : List ℕ) (clock number desk : ℕ) (before : List Asked) (text : List ℕ) (lines : List (List ℕ)) (h x : List Entry) (turn : Turn)
     → clock_of before ≡ Some clock → lines ≡ desk_read desk before → Turned base setup (acts_over (meaning setup) None lines) clock text h x turn
-    → Commands base setup before desk text h x (step_of number desk text turn.reply (option_to_list turn.entry))
+    → Commands (placed base setup before) desk text h x (step_of number desk text turn.reply (option_to_list turn.entry))
 unfolding step_of
 commands_of base setup clock number desk before text lines h x turn set same w =
     let here = subst (λ (ls : List (List ℕ)). Turned base setup (acts_over (meaning setup) None ls) clock text h x turn) same w in
@@ -109,7 +109,7 @@ pub commanded : {D : Type 0} (seen : D → DiskSeen) (s s' : Stored D) (base : S
     → clock_of before ≡ Some clock → lines ≡ desk_read desk before → StoreStands seen base s h
     → Said seen s' base setup (acts_over (meaning setup) None lines) clock text h q p'
     → q.written ≡ append_known p.written (head_of 68 desk ++ 32 ∷ []) → Closings s.state s'.state t t'
-    → Carried seen base (λ x s. Commands base setup before desk text h x s) number (Command desk text) t t' p p' s'
+    → Carried seen base (λ x s. Commands (placed base setup before) desk text h x s) number (Command desk text) t t' p p' s'
 unfolding step_of
 commanded seen s s' base setup clock number desk before text lines h t t' p q p' set same stands w head closings =
     let a = w.answers in
@@ -135,7 +135,7 @@ abbrev pub CameSoFar : {D : Type 0} → Summary → (D → DiskSeen) → Stored 
     → Stop → List Entry → Step → Type 0
 CameSoFar base seen s' setup clock desk before text h stop x s =
     ((x ≡ h) × AddedBy h x s × HasShown seen s' stop clock (IsOfCommand setup before desk text))
-    ⊎ ((stop ≡ Memory) × Commands base setup before desk text h x s)
+    ⊎ ((stop ≡ Memory) × Commands (placed base setup before) desk text h x s)
 
 -- the desk had answered, and memory was wanted for it
 pub unsaid_all : {D : Type 0} (seen : D → DiskSeen) (s s' : Stored D) (base : Summary) (setup : List ℕ)

@@ -15,9 +15,12 @@ use Rattle.line_session.specs.Lines as Line
 use Rattle.line_session.specs.Sessions.{ReadsNothing}
 use Rattle.line_session.specs.declared.line_end.LineEnd.{LineEnd}
 use Rattle.line_session.specs.declared.line_end.LineEnd.TheVariants.{InputEnded, ReadFault, Spent, Stopped, WriteFault}
+use Rattle.script_lines.specs.Lines.{Asked}
 use Rattle.session_rules.specs.Inputs.{input_limit}
+use Rattle.arc_script.specs.Fed.{clock_of, line_fed}
 use Rattle.arc_script.specs.Feeding.{FeedStops, HasFed, TookAt}
 use Rattle.arc_script.specs.Standing.{IsReadable}
+use Rattle.arc_script.specs.Steps.{placed}
 use Rattle.arc_script.specs.declared.page.Page.{Page}
 use Rattle.arc_script.specs.declared.script_end.Tally.{Tally}
 use Rattle.arc_script.proofs.Carries.{set_there}
@@ -48,26 +51,26 @@ still_set None setup ready same = absurd ready
 still_set (Some text) setup ready same = ap Some same
 
 module _ {D : Type 0} (seen : D → DiskSeen) (s s' : Stored D) (setup : List ℕ)
-    (moment place : ℕ) (lines : List Line.LineValue) (was : Line.LineValue) (page page' : Page) (given : List ℕ) (t t' : Tally)
+    (moment line place : ℕ) (lines : List Line.LineValue) (was : Line.LineValue) (page page' : Page) (given : List ℕ) (t t' : Tally)
     (sums : Tallied (clock_calls page'.port.clock) s.state s'.state t t') (r : Result (Unit {0}) LineEnd)
     (taking : IsTaking seen s s' setup moment place lines was page page' given r) where
   taking_as : (q : Result (Unit {0}) LineEnd) → r ≡ q → IsTaking seen s s' setup moment place lines was page page' given q
   taking_as q is = subst (λ (q : Result (Unit {0}) LineEnd). IsTaking seen s s' setup moment place lines was page page' given q) is taking
 
-  pub ended_fed : r ≡ Ok tt → (base : Summary) (stream : List ℕ) (h : List Entry) → TookAt stream lines place → length (stream ++ given) < input_limit
-      → StoreStands seen base s h → IsReadable base h
-      → HasFed seen base setup moment stream given h t t' (sink_bytes page'.port.sink) s'
-  ended_fed is = all_fed seen s s' setup moment place lines was page page' given t t' sums (taking_as (Ok tt) is)
+  pub ended_fed : r ≡ Ok tt → (base : Summary) (before : List Asked) (h : List Entry) → clock_of before ≡ Some moment → TookAt (line_fed line before) lines place
+      → length (line_fed line before ++ given) < input_limit → StoreStands seen base s h → IsReadable base h
+      → HasFed seen (placed base setup before) line given h t t' (sink_bytes page'.port.sink) s'
+  ended_fed is = all_fed seen s s' setup moment line place lines was page page' given t t' sums (taking_as (Ok tt) is)
 
-  pub ended_stopped : (stop : Stop) → r ≡ Err (Stopped stop) → (base : Summary) (stream : List ℕ) (h : List Entry) → TookAt stream lines place
-      → length (stream ++ given) < input_limit → StoreStands seen base s h → IsReadable base h
-      → FeedStops seen base setup moment stream given h t t' stop s'
+  pub ended_stopped : (stop : Stop) → r ≡ Err (Stopped stop) → (base : Summary) (before : List Asked) (h : List Entry) → clock_of before ≡ Some moment → TookAt (line_fed line before) lines place
+      → length (line_fed line before ++ given) < input_limit → StoreStands seen base s h → IsReadable base h
+      → FeedStops seen (placed base setup before) moment line given h t t' stop s'
   ended_stopped stop is =
-      fed_stopped seen s s' setup moment place lines was page page' given t t' sums stop (taking_as (Err (Stopped stop)) is)
+      fed_stopped seen s s' setup moment line place lines was page page' given t t' sums stop (taking_as (Err (Stopped stop)) is)
 
-  wanting : (base : Summary) (stream : List ℕ) (h : List Entry) (stop : Stop) → FeedStops seen base setup moment stream given h t t' stop s'
-      → FeedStops seen base setup moment stream given h t t' Memory s'
-  wanting base stream h stop w = record {
+  wanting : (base : Summary) (before : List Asked) (h : List Entry) (stop : Stop) → FeedStops seen (placed base setup before) moment line given h t t' stop s'
+      → FeedStops seen (placed base setup before) moment line given h t t' Memory s'
+  wanting base before h stop w = record {
     turns = w.turns;
     more = w.more;
     history = w.history;
@@ -83,25 +86,25 @@ module _ {D : Type 0} (seen : D → DiskSeen) (s s' : Stored D) (setup : List �
   -- Of the other ends a failed write alone can come: memory was wanted for it.
   otherwise : (end : LineEnd) (now : Line.LineValue) → ReadsNothing (Err end)
       → ((stream : List ℕ) → Line.TookStream stream was → Line.IsTaken (Err end) stream given now) → r ≡ Err end
-      → (base : Summary) (stream : List ℕ) (h : List Entry) → TookAt stream lines place → length (stream ++ given) < input_limit
-      → StoreStands seen base s h → IsReadable base h
-      → FeedStops seen base setup moment stream given h t t' Memory s'
-  otherwise InputEnded now reads taken is base stream h took short stands readable = absurd reads
-  otherwise ReadFault now reads taken is base stream h took short stands readable = absurd reads
-  otherwise WriteFault now reads taken is base stream h took short stands readable =
-      fed_failed seen s s' setup moment place lines was page page' given t t' sums (taking_as (Err WriteFault) is) base stream h took short
+      → (base : Summary) (before : List Asked) (h : List Entry) → clock_of before ≡ Some moment → TookAt (line_fed line before) lines place
+      → length (line_fed line before ++ given) < input_limit → StoreStands seen base s h → IsReadable base h
+      → FeedStops seen (placed base setup before) moment line given h t t' Memory s'
+  otherwise InputEnded now reads taken is base before h set took short stands readable = absurd reads
+  otherwise ReadFault now reads taken is base before h set took short stands readable = absurd reads
+  otherwise WriteFault now reads taken is base before h set took short stands readable =
+      fed_failed seen s s' setup moment line place lines was page page' given t t' sums (taking_as (Err WriteFault) is) base before h set took short
       stands readable
-  otherwise Spent now reads taken is base stream h took short stands readable =
-      let over = taken stream (took_was stream lines place was taking.there took) in
+  otherwise Spent now reads taken is base before h set took short stands readable =
+      let over = taken (line_fed line before) (took_was (line_fed line before) lines place was taking.there took) in
       absurd (omega (arith, short, over))
-  otherwise (Stopped stop) now reads taken is base stream h took short stands readable =
-      wanting base stream h stop (ended_stopped stop is base stream h took short stands readable)
+  otherwise (Stopped stop) now reads taken is base before h set took short stands readable =
+      wanting base before h stop (ended_stopped stop is base before h set took short stands readable)
 
   pub ended_otherwise : (end : LineEnd) (now : Line.LineValue) → r ≡ Err end → ReadsNothing r
       → ((stream : List ℕ) → Line.TookStream stream was → Line.IsTaken r stream given now)
-      → (base : Summary) (stream : List ℕ) (h : List Entry) → TookAt stream lines place → length (stream ++ given) < input_limit
-      → StoreStands seen base s h → IsReadable base h
-      → FeedStops seen base setup moment stream given h t t' Memory s'
+      → (base : Summary) (before : List Asked) (h : List Entry) → clock_of before ≡ Some moment → TookAt (line_fed line before) lines place
+      → length (line_fed line before ++ given) < input_limit → StoreStands seen base s h → IsReadable base h
+      → FeedStops seen (placed base setup before) moment line given h t t' Memory s'
   ended_otherwise end now is reads taken =
       otherwise end now (subst ReadsNothing is reads)
       (λ stream took. subst (λ (q : Result (Unit {0}) LineEnd). Line.IsTaken q stream given now) is (taken stream took)) is

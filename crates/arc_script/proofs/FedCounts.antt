@@ -15,11 +15,14 @@ use Rattle.centre_store.specs.Stores.{Stored, StoreStands}
 use Rattle.dc09_frame.specs.Frames.{bodies}
 use Rattle.line_session.proofs.Fed.{bodies_more}
 use Rattle.line_session.specs.Turns.{Turn, line_turns, AreTurns}
+use Rattle.script_lines.specs.Lines.{Asked}
 use Rattle.session_rules.specs.Turns.{entries_of, text_of}
 use Rattle.arc_script.specs.Causes.{IsSentFor}
+use Rattle.arc_script.specs.Fed.{clock_of, line_fed}
 use Rattle.arc_script.specs.Feeding.{CountsFed, FeedStops, HasFed}
 use Rattle.arc_script.specs.PageWords.{page_seen}
 use Rattle.arc_script.specs.Standing.{IsReadable}
+use Rattle.arc_script.specs.Steps.{placed}
 use Rattle.arc_script.specs.Tallies.{count_of, is_repeat, told}
 use Rattle.arc_script.specs.declared.page.Page.{Page}
 use Rattle.arc_script.specs.declared.script_end.Tally.{Tally}
@@ -60,27 +63,27 @@ counts_fed base setup calls sent s s' t t' h x turns before behind are own count
 }
 
 pub has_fed : {D : Type 0} (seen : D → DiskSeen) (s s' : Stored D)
-    (base : Summary) (setup : List ℕ) (clock : ℕ) (stream bytes : List ℕ) (h : List Entry) (t t' : Tally) (page page' : Page) (calls : ℕ)
+    (base : Summary) (setup : List ℕ) (clock line : ℕ) (before : List Asked) (bytes : List ℕ) (h : List Entry) (t t' : Tally) (page page' : Page) (calls : ℕ)
     → StoreStands seen base s h → (page_seen page).written ≡ Some []
-    → FedBy seen s' base setup clock stream bytes h (page_seen page) (page_seen page') calls
+    → FedBy seen s' base setup clock line before bytes h (page_seen page) (page_seen page') calls
     → Tallied calls s.state s'.state t t'
-    → HasFed seen base setup clock stream bytes h t t' (sink_bytes page'.port.sink) s'
-has_fed seen s s' base setup clock stream bytes h t t' page page' calls before empty w tallied = record {
+    → HasFed seen (placed base setup before) line bytes h t t' (sink_bytes page'.port.sink) s'
+has_fed seen s s' base setup clock line before bytes h t t' page page' calls stood empty w tallied = record {
   turns = w.turns;
   history = w.history;
   fed = w.fed;
   stands = w.stands;
   readable = w.readable;
   written_is = ap (λ (k : Option (List ℕ)). unwrap_or k []) (w.written ∙ ap (λ (k : Option (List ℕ)). append_known k (text_of line_turns w.turns)) empty);
-  counts = counts_fed base setup calls (length w.turns) s.state s'.state t t' h w.history w.turns before.centre w.stands.centre w.fed.are w.fed.own w.count
+  counts = counts_fed base setup calls (length w.turns) s.state s'.state t t' h w.history w.turns stood.centre w.stands.centre w.fed.are w.fed.own w.count
       tallied;
 }
 
 pub feed_stops : {D : Type 0} (seen : D → DiskSeen) (s s' : Stored D)
-    (base : Summary) (setup : List ℕ) (clock : ℕ) (stream bytes : List ℕ) (h : List Entry) (t t' : Tally) (stop : Stop) (calls : ℕ)
-    → StoreStands seen base s h → FedUpTo seen s' base setup clock stream bytes h stop calls
-    → Tallied calls s.state s'.state t t' → FeedStops seen base setup clock stream bytes h t t' stop s'
-feed_stops seen s s' base setup clock stream bytes h t t' stop calls before w tallied = record {
+    (base : Summary) (setup : List ℕ) (clock line : ℕ) (before : List Asked) (bytes : List ℕ) (h : List Entry) (t t' : Tally) (stop : Stop) (calls : ℕ)
+    → StoreStands seen base s h → FedUpTo seen s' base setup clock line before bytes h stop calls
+    → Tallied calls s.state s'.state t t' → FeedStops seen (placed base setup before) clock line bytes h t t' stop s'
+feed_stops seen s s' base setup clock line before bytes h t t' stop calls stood w tallied = record {
   turns = w.turns;
   more = w.more;
   history = w.history;
@@ -90,14 +93,16 @@ feed_stops seen s s' base setup clock stream bytes h t t' stop calls before w ta
   readable = w.readable;
   cause = w.cause;
   sent_is = w.sent_is;
-  counts = counts_fed base setup calls w.sent s.state s'.state t t' h w.history w.turns before.centre w.stands.centre w.fed.are w.fed.own w.count tallied;
+  counts = counts_fed base setup calls w.sent s.state s'.state t t' h w.history w.turns stood.centre w.stands.centre w.fed.are w.fed.own w.count tallied;
 }
 
 -- Memory was wanted before anything was fed.
 pub none_fed : {D : Type 0} (seen : D → DiskSeen) (s : Stored D) (base : Summary) (setup : List ℕ)
-    (clock : ℕ) (stream bytes : List ℕ) (h : List Entry) (t : Tally) → StoreStands seen base s h → IsReadable base h
-    → FeedStops seen base setup clock stream bytes h t t Memory s
-none_fed seen s base setup clock stream bytes h t stands readable =
+    (clock line : ℕ) (before : List Asked) (bytes : List ℕ) (h : List Entry) (t : Tally) → clock_of before ≡ Some clock
+    → StoreStands seen base s h → IsReadable base h
+    → FeedStops seen (placed base setup before) clock line bytes h t t Memory s
+none_fed seen s base setup clock line before bytes h t set stands readable =
+    let stream = line_fed line before in
     let more = bodies_more stream bytes in
     record {
       turns = [];
@@ -105,6 +110,8 @@ none_fed seen s base setup clock stream bytes h t stands readable =
       history = h;
       sent = 0;
       fed = record {
+        clock = clock;
+        set = set;
         ended = more.1 ∙ ap (λ l. l ++ more.0) (sym (append-nil (bodies stream)));
         are = ([], refl);
         legal = stands.centre.legal;

@@ -16,10 +16,13 @@ use Rattle.centre_store.specs.Stores.{Stored, StoreStands}
 use Rattle.line_session.specs.Lines as Line
 use Rattle.line_session.specs.declared.line_end.LineEnd.{LineEnd}
 use Rattle.line_session.specs.declared.line_end.LineEnd.TheVariants.{Stopped, WriteFault}
+use Rattle.script_lines.specs.Lines.{Asked}
 use Rattle.session_rules.specs.Inputs.{in_limit, input_limit}
+use Rattle.arc_script.specs.Fed.{clock_of, line_fed}
 use Rattle.arc_script.specs.Feeding.{FeedStops, HasFed, TookAt}
 use Rattle.arc_script.specs.PageWords.{page_seen}
 use Rattle.arc_script.specs.Pages.{blank}
+use Rattle.arc_script.specs.Steps.{placed}
 use Rattle.arc_script.specs.declared.page.Page.{Page}
 use Rattle.arc_script.specs.declared.script_end.Tally.{Tally}
 use Rattle.arc_script.proofs.FedCounts.{feed_stops, has_fed, page_tells, Tallied}
@@ -44,7 +47,7 @@ pub took_was : (stream : List ℕ) (lines : List Line.LineValue) (place : ℕ) (
 took_was stream lines place was there took = subst (λ (o : Option Line.LineValue). IfSome o (Line.TookStream stream)) there took
 
 module _ {D : Type 0} (seen : D → DiskSeen) (s s' : Stored D) (setup : List ℕ)
-    (moment place : ℕ) (lines : List Line.LineValue) (was : Line.LineValue) (page page' : Page) (given : List ℕ) (t t' : Tally)
+    (moment line place : ℕ) (lines : List Line.LineValue) (was : Line.LineValue) (page page' : Page) (given : List ℕ) (t t' : Tally)
     (tallied : Tallied (clock_calls page'.port.clock) s.state s'.state t t') where
   same_text : (r : Result (Unit {0}) LineEnd) → IsTaking seen s s' setup moment place lines was page page' given r → text_of s.state ≡ setup
   same_text r g = ap (λ (o : Option (List ℕ)). unwrap_or o []) g.set
@@ -54,32 +57,32 @@ module _ {D : Type 0} (seen : D → DiskSeen) (s s' : Stored D) (setup : List �
   tells r g = page_tells moment page page' (ap (λ (q : PortSeen). q.readings) g.empty) (ap (λ (q : PortSeen). q.noise) g.empty) g.one g.silent
 
   pub all_fed : IsTaking seen s s' setup moment place lines was page page' given (Ok tt)
-      → (base : Summary) (stream : List ℕ) (h : List Entry) → TookAt stream lines place → length (stream ++ given) < input_limit
-      → StoreStands seen base s h → IsReadable base h
-      → HasFed seen base setup moment stream given h t t' (sink_bytes page'.port.sink) s'
-  all_fed g base stream h took short stands readable =
-      let serves = g.served base stream h (took_was stream lines place was g.there took) (record { stands = stands; setting = g.setting }) in
-      has_fed seen s s' base setup moment stream given h t t' page page' (clock_calls page'.port.clock) stands
+      → (base : Summary) (before : List Asked) (h : List Entry) → clock_of before ≡ Some moment → TookAt (line_fed line before) lines place
+      → length (line_fed line before ++ given) < input_limit → StoreStands seen base s h → IsReadable base h
+      → HasFed seen (placed base setup before) line given h t t' (sink_bytes page'.port.sink) s'
+  all_fed g base before h set took short stands readable =
+      let serves = g.served base (line_fed line before) h (took_was (line_fed line before) lines place was g.there took) (record { stands = stands; setting = g.setting }) in
+      has_fed seen s s' base setup moment line before given h t t' page page' (clock_calls page'.port.clock) stands
       (ap (λ (q : PortSeen). q.written) g.empty)
-      (feeds seen s s' base setup moment stream given h (page_seen page) (page_seen page') (same_text (Ok tt) g) short readable (tells (Ok tt) g) serves)
+      (feeds seen s s' base setup moment line before given h (page_seen page) (page_seen page') (same_text (Ok tt) g) set short readable (tells (Ok tt) g) serves)
       tallied
 
   pub fed_stopped : (stop : Stop) → IsTaking seen s s' setup moment place lines was page page' given (Err (Stopped stop))
-      → (base : Summary) (stream : List ℕ) (h : List Entry) → TookAt stream lines place → length (stream ++ given) < input_limit
-      → StoreStands seen base s h → IsReadable base h
-      → FeedStops seen base setup moment stream given h t t' stop s'
-  fed_stopped stop g base stream h took short stands readable =
-      let serves = g.served base stream h (took_was stream lines place was g.there took) (record { stands = stands; setting = g.setting }) in
-      feed_stops seen s s' base setup moment stream given h t t' stop (clock_calls page'.port.clock) stands
-      (stopped_at seen s s' base setup moment stream given h (page_seen page) (page_seen page') stop (same_text (Err (Stopped stop)) g) short readable
+      → (base : Summary) (before : List Asked) (h : List Entry) → clock_of before ≡ Some moment → TookAt (line_fed line before) lines place
+      → length (line_fed line before ++ given) < input_limit → StoreStands seen base s h → IsReadable base h
+      → FeedStops seen (placed base setup before) moment line given h t t' stop s'
+  fed_stopped stop g base before h set took short stands readable =
+      let serves = g.served base (line_fed line before) h (took_was (line_fed line before) lines place was g.there took) (record { stands = stands; setting = g.setting }) in
+      feed_stops seen s s' base setup moment line before given h t t' stop (clock_calls page'.port.clock) stands
+      (stopped_at seen s s' base setup moment line before given h (page_seen page) (page_seen page') stop (same_text (Err (Stopped stop)) g) set short readable
       (tells (Err (Stopped stop)) g) serves) tallied
 
   pub fed_failed : IsTaking seen s s' setup moment place lines was page page' given (Err WriteFault)
-      → (base : Summary) (stream : List ℕ) (h : List Entry) → TookAt stream lines place → length (stream ++ given) < input_limit
-      → StoreStands seen base s h → IsReadable base h
-      → FeedStops seen base setup moment stream given h t t' Memory s'
-  fed_failed g base stream h took short stands readable =
-      let serves = g.served base stream h (took_was stream lines place was g.there took) (record { stands = stands; setting = g.setting }) in
-      feed_stops seen s s' base setup moment stream given h t t' Memory (clock_calls page'.port.clock) stands
-      (cut_short seen s s' base setup moment stream given h (page_seen page) (page_seen page') (same_text (Err WriteFault) g) short readable
+      → (base : Summary) (before : List Asked) (h : List Entry) → clock_of before ≡ Some moment → TookAt (line_fed line before) lines place
+      → length (line_fed line before ++ given) < input_limit → StoreStands seen base s h → IsReadable base h
+      → FeedStops seen (placed base setup before) moment line given h t t' Memory s'
+  fed_failed g base before h set took short stands readable =
+      let serves = g.served base (line_fed line before) h (took_was (line_fed line before) lines place was g.there took) (record { stands = stands; setting = g.setting }) in
+      feed_stops seen s s' base setup moment line before given h t t' Memory (clock_calls page'.port.clock) stands
+      (cut_short seen s s' base setup moment line before given h (page_seen page) (page_seen page') (same_text (Err WriteFault) g) set short readable
       (tells (Err WriteFault) g) serves) tallied

@@ -14,12 +14,14 @@ use Rattle.dc09_frame.specs.Frames.{bodies}
 use Rattle.line_session.proofs.Ported.{all_in_limit}
 use Rattle.line_session.specs.Lines.{ServesBytes}
 use Rattle.line_session.specs.Turns.{Turn, line_turns, AreTurns}
+use Rattle.script_lines.specs.Lines.{Asked}
 use Rattle.session_rules.specs.Inputs.{in_limit, input_limit}
 use Rattle.session_rules.specs.Turns.{readings_of, noise_of, text_of}
 use Rattle.arc_script.proofs.Readings.{still, silent}
 use Rattle.centre_store.specs.StoreHalls.{store_seen}
+use Rattle.arc_script.specs.Fed.{clock_of, line_fed}
 use Rattle.arc_script.specs.Standing.{IsReadable}
-use Rattle.arc_script.specs.Steps.{FeedsBehind}
+use Rattle.arc_script.specs.Steps.{placed, FeedsLine}
 
 -- what a page tells of its clock and its noise before a line is fed, and after
 pub record PageTells (clock : ℕ) (p p' : PortSeen) : Type 0 where
@@ -34,10 +36,10 @@ pub record PageTells (clock : ℕ) (p p' : PortSeen) : Type 0 where
 
 -- all frames have their turns
 pub record FedBy {D : Type 0} (seen : D → DiskSeen) (s' : Stored D)
-    (base : Summary) (setup : List ℕ) (clock : ℕ) (stream bytes : List ℕ) (h : List Entry) (p p' : PortSeen) (calls : ℕ) : Type 0 where
+    (base : Summary) (setup : List ℕ) (clock line : ℕ) (before : List Asked) (bytes : List ℕ) (h : List Entry) (p p' : PortSeen) (calls : ℕ) : Type 0 where
   pub turns : List Turn
   pub history : List Entry
-  pub fed : FeedsBehind base setup clock stream bytes h history turns []
+  pub fed : FeedsLine (placed base setup before) line bytes h history turns []
   pub stands : StoreStands seen base s' history
   pub readable : IsReadable base history
   pub written : p'.written ≡ append_known p.written (text_of line_turns turns)
@@ -48,11 +50,12 @@ readings_count [] = refl
 readings_count (t ∷ ts) = ap suc (readings_count ts)
 
 pub feeds : {D : Type 0} (seen : D → DiskSeen) (s s' : Stored D)
-    (base : Summary) (setup : List ℕ) (clock : ℕ) (stream bytes : List ℕ) (h : List Entry) (p p' : PortSeen) → text_in s.state ≡ setup
-    → length (stream ++ bytes) < input_limit → IsReadable base h → (page : PageTells clock p p')
-    → ServesBytes (Ok tt) stream (in_limit stream bytes) base h (store_seen seen s) (store_seen seen s') p p'
-    → FedBy seen s' base setup clock stream bytes h p p' page.calls
-feeds seen s s' base setup clock stream bytes h p p' same short readable page serves =
+    (base : Summary) (setup : List ℕ) (clock line : ℕ) (before : List Asked) (bytes : List ℕ) (h : List Entry) (p p' : PortSeen) → text_in s.state ≡ setup
+    → clock_of before ≡ Some clock → length (line_fed line before ++ bytes) < input_limit → IsReadable base h → (page : PageTells clock p p')
+    → ServesBytes (Ok tt) (line_fed line before) (in_limit (line_fed line before) bytes) base h (store_seen seen s) (store_seen seen s') p p'
+    → FedBy seen s' base setup clock line before bytes h p p' page.calls
+feeds seen s s' base setup clock line before bytes h p p' same set short readable page serves =
+    let stream = line_fed line before in
     let session = serves.session in
     let turns = session.turns in
     let fits : length bytes ≤ input_limit - length stream = (let long = length-append stream bytes in omega (arith, long, short)) in
@@ -70,6 +73,8 @@ feeds seen s s' base setup clock stream bytes h p p' same short readable page se
       turns = turns;
       history = session.history;
       fed = record {
+        clock = clock;
+        set = set;
         ended = ap (λ l. bodies (stream ++ l)) (sym all) ∙ serves.ended ∙ ap (λ l. bodies stream ++ l) session.taken
             ∙ ap (λ l. bodies stream ++ (map (λ (t : Turn). t.body) turns ++ l)) session.ended.none_left
             ∙ sym (append_assoc (bodies stream) (map (λ (t : Turn). t.body) turns) []);

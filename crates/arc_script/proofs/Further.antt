@@ -18,7 +18,7 @@ use Rattle.arc_script.specs.Begun.{Begun}
 use Rattle.arc_script.specs.Between.{Between, CarriedOut, StoppedAt, ShutAt, SoFar, size_of}
 use Rattle.arc_script.specs.Ends.{Tells, Played}
 use Rattle.arc_script.specs.Halting.{Halts, closing}
-use Rattle.arc_script.specs.Steps.{Step, IsStepOf, asked_after, output_of}
+use Rattle.arc_script.specs.Steps.{placed, Step, IsStepOf, asked_after, output_of}
 use Rattle.arc_script.specs.Texts.{AreOf, IsPlayable, counted, is_passed, numbered_from}
 use Rattle.arc_script.specs.declared.script.Script.{Script}
 use Rattle.arc_script.specs.declared.script_end.ScriptEnd.TheVariants.{Refused, Stopped, WriteFault}
@@ -148,7 +148,7 @@ module _ {D : Type 0} (seen : D → DiskSeen) (b : Begun D) (lines : List (List 
       history = out.history;
       of = subst (λ (l : List (ℕ × List ℕ)). AreOf [] l steps) (sym (counted_next lines line [] passed)) of;
       are = are_last (Tells (seen b.disk)) b.base b.setup [] b.past so.history out.history so.steps out.step so.are
-          (subst (λ (a : Asked). IsStepOf (Tells (seen b.disk)) b.base b.setup (asked_after [] so.steps) so.history out.history out.step a) (sym out.asked_is) out.is);
+          (subst (λ (a : Asked). IsStepOf (Tells (seen b.disk)) (placed b.base b.setup (asked_after [] so.steps)) so.history out.history out.step a) (sym out.asked_is) out.is);
       between = subst (λ (n : ℕ). Between seen b (asked_after [] steps) n out.history script' s')
           (ap (λ (l : List ℕ). size_of lines + length l) (sym spelled) ∙ sym (size_last lines line))
           (subst (λ (before : List Asked). Between seen b before (size_of lines + length (spelling asked)) out.history script' s')
@@ -175,7 +175,7 @@ module _ {D : Type 0} (seen : D → DiskSeen) (b : Begun D) (lines : List (List 
         split = counted_next lines line more passed ∙ sym (append_assoc (counted lines) ((number, line) ∷ []) (behind more));
         of = of;
         are = are_last (Tells (seen b.disk)) b.base b.setup [] b.past so.history out.history so.steps out.step so.are
-            (subst (λ (a : Asked). IsStepOf (Tells (seen b.disk)) b.base b.setup (asked_after [] so.steps) so.history out.history out.step a) (sym out.asked_is) out.is);
+            (subst (λ (a : Asked). IsStepOf (Tells (seen b.disk)) (placed b.base b.setup (asked_after [] so.steps)) so.history out.history out.step a) (sym out.asked_is) out.is);
       };
       ends = (
         rose_since b.port.write_faults p.write_faults p'.write_faults so.writes rose,

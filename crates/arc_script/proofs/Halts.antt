@@ -20,23 +20,25 @@ use Rattle.line_session.specs.Lines.{ServesBytes}
 use Rattle.line_session.specs.Sessions.{HasStopped}
 use Rattle.line_session.specs.Turns.{Turn, line_turns, event_of, AreTurns}
 use Rattle.line_session.specs.declared.line_end.LineEnd.TheVariants.{WriteFault, Stopped}
+use Rattle.script_lines.specs.Lines.{Asked}
 use Rattle.session_rules.specs.Inputs.{in_limit, input_limit}
 use Rattle.session_rules.specs.Turns.{readings_of, noise_of}
 use Rattle.arc_script.proofs.Feeds.{PageTells, readings_count}
 use Rattle.arc_script.proofs.Readings.{still, silent}
 use Rattle.arc_script.specs.Causes.{HasShown, IsOfFrame, IsSentFor}
 use Rattle.centre_store.specs.StoreHalls.{store_seen}
+use Rattle.arc_script.specs.Fed.{clock_of, line_fed}
 use Rattle.arc_script.specs.Standing.{IsReadable}
-use Rattle.arc_script.specs.Steps.{FeedsBehind}
+use Rattle.arc_script.specs.Steps.{placed, FeedsLine}
 
 -- the frames before the one that was stopped have their turns; that one may have taken its reading
 pub record FedUpTo {D : Type 0} (seen : D → DiskSeen) (s' : Stored D)
-    (base : Summary) (setup : List ℕ) (clock : ℕ) (stream bytes : List ℕ) (h : List Entry) (stop : Stop) (calls : ℕ) : Type 0 where
+    (base : Summary) (setup : List ℕ) (clock line : ℕ) (before : List Asked) (bytes : List ℕ) (h : List Entry) (stop : Stop) (calls : ℕ) : Type 0 where
   pub turns : List Turn
   pub more : List (List ℕ)
   pub history : List Entry
   pub sent : ℕ
-  pub fed : FeedsBehind base setup clock stream bytes h history turns more
+  pub fed : FeedsLine (placed base setup before) line bytes h history turns more
   pub stands : StoreStands seen base s' history
   pub readable : IsReadable base history
   pub cause : HasShown seen s' stop clock (IsOfFrame setup clock more)
@@ -57,11 +59,12 @@ without_behind turns front behind split none = sym (split ∙ ap (λ l. front ++
 
 -- a write failed within a reply
 pub cut_short : {D : Type 0} (seen : D → DiskSeen) (s s' : Stored D)
-    (base : Summary) (setup : List ℕ) (clock : ℕ) (stream bytes : List ℕ) (h : List Entry) (p p' : PortSeen) → text_in s.state ≡ setup
-    → length (stream ++ bytes) < input_limit → IsReadable base h → (page : PageTells clock p p')
-    → ServesBytes (Err WriteFault) stream (in_limit stream bytes) base h (store_seen seen s) (store_seen seen s') p p'
-    → FedUpTo seen s' base setup clock stream bytes h Memory page.calls
-cut_short seen s s' base setup clock stream bytes h p p' same short readable page serves =
+    (base : Summary) (setup : List ℕ) (clock line : ℕ) (before : List Asked) (bytes : List ℕ) (h : List Entry) (p p' : PortSeen) → text_in s.state ≡ setup
+    → clock_of before ≡ Some clock → length (line_fed line before ++ bytes) < input_limit → IsReadable base h → (page : PageTells clock p p')
+    → ServesBytes (Err WriteFault) (line_fed line before) (in_limit (line_fed line before) bytes) base h (store_seen seen s) (store_seen seen s') p p'
+    → FedUpTo seen s' base setup clock line before bytes h Memory page.calls
+cut_short seen s s' base setup clock line before bytes h p p' same set short readable page serves =
+    let stream = line_fed line before in
     let session = serves.session in
     let turns = session.turns in
     let ended = session.ended in
@@ -80,6 +83,8 @@ cut_short seen s s' base setup clock stream bytes h p p' same short readable pag
       history = session.history;
       sent = length turns;
       fed = record {
+        clock = clock;
+        set = set;
         ended = parted stream bytes serves.whole session.left turns short serves.ended session.taken;
         are = subst (λ (text : List ℕ). AreTurns base (meaning text) 0 h session.history turns) same session.each;
         legal = session.legal;
@@ -121,12 +126,13 @@ caused seen s s' base setup clock reading x stop body more same at (inr w) = inr
 
 -- the store stopped for a frame
 pub stopped_at : {D : Type 0} (seen : D → DiskSeen) (s s' : Stored D)
-    (base : Summary) (setup : List ℕ) (clock : ℕ) (stream bytes : List ℕ) (h : List Entry) (p p' : PortSeen) (stop : Stop) → text_in s.state ≡ setup
-    → length (stream ++ bytes) < input_limit → IsReadable base h → (page : PageTells clock p p')
-    → ServesBytes (Err (Stopped stop)) stream (in_limit stream bytes) base h (store_seen seen s)
+    (base : Summary) (setup : List ℕ) (clock line : ℕ) (before : List Asked) (bytes : List ℕ) (h : List Entry) (p p' : PortSeen) (stop : Stop) → text_in s.state ≡ setup
+    → clock_of before ≡ Some clock → length (line_fed line before ++ bytes) < input_limit → IsReadable base h → (page : PageTells clock p p')
+    → ServesBytes (Err (Stopped stop)) (line_fed line before) (in_limit (line_fed line before) bytes) base h (store_seen seen s)
     (store_seen seen s') p p'
-    → FedUpTo seen s' base setup clock stream bytes h stop page.calls
-stopped_at seen s s' base setup clock stream bytes h p p' stop same short readable page serves =
+    → FedUpTo seen s' base setup clock line before bytes h stop page.calls
+stopped_at seen s s' base setup clock line before bytes h p p' stop same set short readable page serves =
+    let stream = line_fed line before in
     let session = serves.session in
     let turns = session.turns in
     let ended = session.ended in
@@ -149,6 +155,8 @@ stopped_at seen s s' base setup clock stream bytes h p p' stop same short readab
       history = session.history;
       sent = suc (length turns);
       fed = record {
+        clock = clock;
+        set = set;
         ended = parted stream bytes serves.whole (ended.piece ∷ ended.more) turns short serves.ended
             (session.taken ∙ ap (λ l. map (λ (t : Turn). t.body) turns ++ l) ended.next);
         are = subst (λ (text : List ℕ). AreTurns base (meaning text) 0 h session.history turns) same session.each;

@@ -21,7 +21,7 @@ use Rattle.arc_script.specs.Ends.{Tells, AddedBy, CameTo}
 use Rattle.arc_script.specs.Fed.{clock_of}
 use Rattle.arc_script.specs.Playing.{TickStops, Ticked, moment_at}
 use Rattle.arc_script.specs.Standing.{IsReadable}
-use Rattle.arc_script.specs.Steps.{Step, Commands, IsStepOf, before_tick}
+use Rattle.arc_script.specs.Steps.{placed, Step, Commands, IsStepOf, before_tick}
 use Rattle.arc_script.specs.declared.script.Script.{Script}
 use Rattle.arc_script.specs.declared.script_end.Tally.{Tally}
 use Rattle.arc_script.proofs.Carry.{Stays, carried_out, stopped_at}
@@ -78,9 +78,9 @@ module _ {D : Type 0} (seen : D → DiskSeen) (script script' : Script) (s s' : 
 abbrev pub CameSoFar : {D : Type 0} → Summary → (D → DiskSeen) → Type 0 → List ℕ → ℕ → List Asked → Asked → List Entry → Stored D → Stop → List Entry → Step
     → Type 0
 CameSoFar base seen Told setup moment before asked h s' stop x st =
-    ((waiting : List (List ℕ)) × CameTo stop Told base setup before waiting h x st asked
+    ((waiting : List (List ℕ)) × CameTo stop Told (placed base setup before) waiting h x st asked
     × HasShown seen s' stop moment (Submits setup before moment waiting asked))
-    ⊎ ((stop ≡ Memory) × IsStepOf Told base setup before h x st asked)
+    ⊎ ((stop ≡ Memory) × IsStepOf Told (placed base setup before) h x st asked)
 
 module _ {D : Type 0} (seen : D → DiskSeen) (script script' : Script) (s s' : Stored D) (a : Asked) (moment : ℕ) (stays : Stays seen script script' s s')
     (fits : IsMoment moment) where
@@ -94,14 +94,14 @@ module _ {D : Type 0} (seen : D → DiskSeen) (script script' : Script) (s s' : 
       → ((Told : Type 0) → OnOk r ((base : Summary) (before : List Asked) (count number : ℕ) (h : List Entry)
       → IsNext (meaning script.setup) moment count before a script.lines.items script.desks.items
       → StoreStands seen base s h → IsReadable base h
-      → Carried seen base (λ x st. IsStepOf Told base script.setup before h x st a) number a script.tally script'.tally p p' s'))
+      → Carried seen base (λ x st. IsStepOf Told (placed base script.setup before) h x st a) number a script.tally script'.tally p p' s'))
       → OnOk r ((before : List Asked) (count : ℕ) → IsNext (meaning script.setup) moment count before a script.lines.items script.desks.items
       → HaveTakenWith (meaning script.setup) count before a script'.lines.items script'.desks.items)
       → s'.state.sum.text ≡ Some script.setup
       → OnOk r (Carries seen moment a script script' s s' p p')
   line_carries p p' (Ok done) clock fed took text = λ b before count number h between next holds.
       let n = next_with b before count h between next in
-      let out = subst (λ (l : List ℕ). Carried seen b.base (λ x st. IsStepOf (Tells (seen b.disk)) b.base l before h x st a) number a
+      let out = subst (λ (l : List ℕ). Carried seen b.base (λ x st. IsStepOf (Tells (seen b.disk)) (placed b.base l before) h x st a) number a
       script.tally script'.tally p p' s') between.setup (fed (Tells (seen b.disk)) b.base before count number h n between.store.stands between.store.readable) in
       let taken = subst (λ (l : List ℕ). HaveTakenWith (meaning l) count before a script'.lines.items script'.desks.items) between.setup
       (took before count n) in
@@ -182,7 +182,7 @@ pub command_came : {D : Type 0} (seen : D → DiskSeen) (Told : Type 0) (base : 
     (h : List Entry) (s' : Stored D) (stop : Stop) (t t' : Tally)
     → Halted seen base (λ x st. ((x ≡ h) × AddedBy h x st
     × HasShown seen s' stop moment (IsOfCommand setup before desk text))
-    ⊎ ((stop ≡ Memory) × Commands base setup before desk text h x st)) t t' s'
+    ⊎ ((stop ≡ Memory) × Commands (placed base setup before) desk text h x st)) t t' s'
     → Halted seen base (λ x st. CameSoFar base seen Told setup moment before (Command desk text) h s' stop x st) t t' s'
 command_came {D} seen Told base setup moment before desk text h s' stop t t' out =
     let IsIt = λ (x : List Entry) (st : Step). CameSoFar base seen Told setup moment before (Command desk text) h s' stop x st in

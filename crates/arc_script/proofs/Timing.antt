@@ -20,7 +20,7 @@ use Rattle.arc_script.specs.Ends.{Tells, BegunUntil, CameFor}
 use Rattle.arc_script.specs.Fed.{clock_of}
 use Rattle.arc_script.specs.Playing.{TickStops, Ticked}
 use Rattle.arc_script.specs.Standing.{IsReadable}
-use Rattle.arc_script.specs.Steps.{Step, IsStepOf, before_tick, entry_after}
+use Rattle.arc_script.specs.Steps.{placed, Step, IsStepOf, before_tick, entry_after}
 use Rattle.arc_script.specs.Tallies.{count_of, is_closed, is_repeat}
 use Rattle.arc_script.specs.declared.script.Script.{Script}
 use Rattle.arc_script.specs.declared.script_end.Tally.{Tally}
@@ -86,7 +86,7 @@ module _ {D : Type 0} (seen : D → DiskSeen) (b : Begun D) (before : List Asked
 
   pub time_carried : (number : ℕ) (p p' : PortSeen)
       → Ticked seen b.base (before_tick script.clock b.base script.setup moment h) moment s' p p'
-      → Carried seen b.base (λ x st. IsStepOf (Tells (seen b.disk)) b.base b.setup before h x st (Time moment)) number (Time moment)
+      → Carried seen b.base (λ x st. IsStepOf (Tells (seen b.disk)) (placed b.base b.setup before) h x st (Time moment)) number (Time moment)
       script.tally script'.tally p p' s'
   time_carried number p p' ticked =
       let t = subst (λ (x : List Entry). Ticked seen b.base x moment s' p p') first_is ticked in
@@ -106,7 +106,7 @@ module _ {D : Type 0} (seen : D → DiskSeen) (b : Begun D) (before : List Asked
 
   stop_with : (stop : Stop) → Stays seen script script' s s' → HasShown seen s' stop moment (IsOfTime (clock_of before) b.setup)
       → (x : List Entry) → StoreStands seen b.base s' x → (adds : Adds h x)
-      → CameFor stop (Tells (seen b.disk)) b.base b.setup before [] h x (step_of b.base 0 moment (clock_of before) b.setup h adds.entries) (Time moment)
+      → CameFor stop (Tells (seen b.disk)) (placed b.base b.setup before) [] h x (step_of b.base 0 moment (clock_of before) b.setup h adds.entries) (Time moment)
       → StoppedAt seen b before h (Time moment) stop script.tally script'.tally s'
   stop_with stop stays shown x stands adds came =
       let st = step_of b.base 0 moment (clock_of before) b.setup h adds.entries in

@@ -23,7 +23,7 @@ use Rattle.arc_script.specs.Ends.{Tells, IsUnopened, CameFor}
 use Rattle.arc_script.specs.Fed.{clock_of}
 use Rattle.centre_store.specs.StoreHalls.{is_told}
 use Rattle.arc_script.specs.Standing.{IsReadable}
-use Rattle.arc_script.specs.Steps.{Step, IsStepOf, AreSteps, asked_after, output_of}
+use Rattle.arc_script.specs.Steps.{Step, placed, IsStepOf, AreSteps, asked_after, output_of}
 use Rattle.arc_script.specs.Tallies.{count_of, entries_of, is_closed, is_repeat, sent_by, told}
 use Rattle.arc_script.specs.Texts.{AreOf, counted}
 use Rattle.arc_script.specs.declared.script.Script.{Script}
@@ -86,7 +86,7 @@ pub record SoFar {D : Type 0} (seen : D → DiskSeen) (b : Begun D) (lines : Lis
   pub steps : List Step
   pub history : List Entry
   pub of : AreOf [] (counted lines) steps
-  pub are : AreSteps (Tells (seen b.disk)) b.base b.setup [] b.past history steps
+  pub are : AreSteps (Tells (seen b.disk)) (placed b.base b.setup []) b.past history steps
   pub between : Between seen b (asked_after [] steps) (size_of lines) history script s
   pub held : Holds seen s.journal (bodies_of history)
   pub counts : CountsSteps steps script.tally
@@ -102,7 +102,7 @@ pub record CarriedOut {D : Type 0} (seen : D → DiskSeen) (b : Begun D) (before
   pub history : List Entry
   pub number_is : step.number ≡ number
   pub asked_is : step.asked ≡ asked
-  pub is : IsStepOf (Tells (seen b.disk)) b.base b.setup before h history step asked
+  pub is : IsStepOf (Tells (seen b.disk)) (placed b.base b.setup before) h history step asked
   pub text : p'.written ≡ append_known p.written step.text
   pub counts : CountsMore step t script.tally
   pub between : Between seen b (asked ∷ before) (count + length (spelling asked)) history script s
@@ -114,7 +114,7 @@ pub record StoppedAt {D : Type 0} (seen : D → DiskSeen) (b : Begun D) (before 
   pub partial : Step
   pub history : List Entry
   pub clock : ℕ
-  pub came : CameFor stop (Tells (seen b.disk)) b.base b.setup before waiting h history partial asked
+  pub came : CameFor stop (Tells (seen b.disk)) (placed b.base b.setup before) waiting h history partial asked
   pub set : clock_of (asked ∷ before) ≡ Some clock
   pub cause : HasShown seen s stop clock (Submits b.setup before clock waiting asked)
   pub stands : StoreStands seen b.base s history

@@ -30,7 +30,7 @@ use Rattle.session_rules.specs.Turns.{entries_of}
 use Rattle.arc_script.specs.Begun.{Begun}
 use Rattle.arc_script.specs.Causes.{HasShown, Submits, IsSentFor}
 use Rattle.arc_script.specs.Fed.{clock_of}
-use Rattle.arc_script.specs.Steps.{Step, Keeps, FeedsLine, IsStepOf, AreSteps, asked_after, output_of}
+use Rattle.arc_script.specs.Steps.{Place, placed, Step, Keeps, FeedsLine, IsStepOf, AreSteps, asked_after, output_of}
 use Rattle.arc_script.specs.Tallies.{IsTally, no_tally}
 use Rattle.arc_script.specs.Texts.{AreOf, IsPlayable, counted}
 use Rattle.arc_script.specs.declared.script_end.ScriptEnd.{ScriptEnd}
@@ -60,7 +60,7 @@ pub record Played {D : Type 0} (seen : D → DiskSeen) (b : Begun D) (lines : Li
   pub history : List Entry
   pub split : lines ≡ front ++ behind
   pub of : AreOf [] front steps
-  pub are : AreSteps (Tells (seen b.disk)) b.base b.setup [] b.past history steps
+  pub are : AreSteps (Tells (seen b.disk)) (placed b.base b.setup []) b.past history steps
 
 -- all lines have their steps, the output is theirs, and the area stands for the history's recorded entries
 pub record IsWhole {D : Type 0} {lines : List (ℕ × List ℕ)} (seen : D → DiskSeen) (b : Begun D) (played : Played seen b lines)
@@ -96,10 +96,10 @@ pub record IsCutOff {D : Type 0} {lines : List (ℕ × List ℕ)} (seen : D → 
 -- How far a line came that was stopped: the history that it left, from h on. A `T` may have begun the run, or adopted its setup, before; so
 -- may an `X`, but over what the journal keeps, for it has closed the store, and it has begun the run only where memory was wanted; of a
 -- line those frames have their turns that came before the one that was stopped. That one is the first that waits.
-pub record FedUntil (stop : Stop) (base : Summary) (setup : List ℕ) (before : List Asked) (line : ℕ) (bytes : List ℕ)
-    (waiting : List (List ℕ)) (h x : List Entry) (s : Step) : Type 0 where
+pub record FedUntil (stop : Stop) (place : Place) (line : ℕ) (bytes : List ℕ) (waiting : List (List ℕ)) (h x : List Entry) (s : Step)
+    : Type 0 where
   pub turns : List Turn
-  pub fed : FeedsLine base setup before line bytes h x turns waiting
+  pub fed : FeedsLine place line bytes h x turns waiting
   pub entries : s.entries ≡ entries_of line_turns turns
   pub sent : IsSentFor stop (length turns) s.sent
 
@@ -117,29 +117,27 @@ abbrev pub BegunAgain : Stop → Summary → List ℕ → ℕ → List Entry →
 BegunAgain stop base setup moment h x =
     (x ≡ h) ⊎ (x ≡ adopted_after base h setup moment) ⊎ ((stop ≡ Memory) × (x ≡ begun_after base h setup moment))
 
-pub record ReopenedUntil (stop : Stop) (Told : Type 0) (base : Summary) (setup : List ℕ) (before : List Asked) (h x : List Entry)
-    (s : Step) : Type 0 where
+pub record ReopenedUntil (stop : Stop) (Told : Type 0) (place : Place) (h x : List Entry) (s : Step) : Type 0 where
   pub kept : List Entry
-  pub keeps : Keeps Told base h kept
+  pub keeps : Keeps Told place.base h kept
   pub clock : ℕ
-  pub set : clock_of before ≡ Some clock
-  pub until : BegunAgain stop base setup clock kept x
+  pub set : clock_of place.asked ≡ Some clock
+  pub until : BegunAgain stop place.base place.setup clock kept x
   pub by : AddedBy kept x s
 
-abbrev pub CameTo : Stop → Type 0 → Summary → List ℕ → List Asked → List (List ℕ) → List Entry → List Entry → Step → Asked → Type 0
-CameTo stop Told base setup before waiting h x s (Time moment) = BegunUntil (clock_of before) base setup moment h x × AddedBy h x s
-CameTo stop Told base setup before waiting h x s (Feed line digits) =
-    FedUntil stop base setup before line (bytes_spelled digits) waiting h x s
-CameTo stop Told base setup before waiting h x s (Message line body) = FedUntil stop base setup before line (frame_of body) waiting h x s
-CameTo stop Told base setup before waiting h x s (Command desk text) = (x ≡ h) × AddedBy h x s
-CameTo stop Told base setup before waiting h x s Reopen = ReopenedUntil stop Told base setup before h x s
+abbrev pub CameTo : Stop → Type 0 → Place → List (List ℕ) → List Entry → List Entry → Step → Asked → Type 0
+CameTo stop Told place waiting h x s (Time moment) =
+    BegunUntil (clock_of place.asked) place.base place.setup moment h x × AddedBy h x s
+CameTo stop Told place waiting h x s (Feed line digits) = FedUntil stop place line (bytes_spelled digits) waiting h x s
+CameTo stop Told place waiting h x s (Message line body) = FedUntil stop place line (frame_of body) waiting h x s
+CameTo stop Told place waiting h x s (Command desk text) = (x ≡ h) × AddedBy h x s
+CameTo stop Told place waiting h x s Reopen = ReopenedUntil stop Told place h x s
 
 -- How far it came that was stopped for this. Where memory was wanted it may have done nothing yet, as an `X` that has not closed the store,
 -- or all but its output.
-abbrev pub CameFor : Stop → Type 0 → Summary → List ℕ → List Asked → List (List ℕ) → List Entry → List Entry → Step → Asked → Type 0
-CameFor stop Told base setup before waiting h x s asked =
-    CameTo stop Told base setup before waiting h x s asked
-    ⊎ ((stop ≡ Memory) × (((x ≡ h) × AddedBy h x s) ⊎ IsStepOf Told base setup before h x s asked))
+abbrev pub CameFor : Stop → Type 0 → Place → List (List ℕ) → List Entry → List Entry → Step → Asked → Type 0
+CameFor stop Told place waiting h x s asked =
+    CameTo stop Told place waiting h x s asked ⊎ ((stop ≡ Memory) × (((x ≡ h) × AddedBy h x s) ⊎ IsStepOf Told place h x s asked))
 
 -- The next line was stopped. It has no output, and what it recorded before stands: the store that showed the stop, for an event of this
 -- line at the moment that is set, stands for it, and its disk is handed back. So the area stands for it, and after a fault of the disk for
@@ -157,7 +155,8 @@ pub record IsHalted {D : Type 0} {lines : List (ℕ × List ℕ)} (seen : D → 
   pub last : Stored D
   pub next : played.behind ≡ (number, line) ∷ more
   pub asks : IsPlayable (asked_after [] played.steps) line asked
-  pub came : CameFor stop (Tells (seen b.disk)) b.base b.setup (asked_after [] played.steps) waiting played.history history partial asked
+  pub came : CameFor stop (Tells (seen b.disk)) (placed b.base b.setup (asked_after [] played.steps)) waiting played.history history
+      partial asked
   pub set : clock_of (asked ∷ asked_after [] played.steps) ≡ Some clock
   pub cause : HasShown seen last stop clock (Submits b.setup (asked_after [] played.steps) clock waiting asked)
   pub stands : StoreStands seen b.base last history

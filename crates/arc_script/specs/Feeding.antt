@@ -4,14 +4,13 @@ use Rattle.std.specs.List.{slice_get}
 use Rattle.arc_io.specs.Disks.{DiskSeen}
 use Rattle.centre_core.specs.declared.hall.Stop.{Stop}
 use Rattle.centre_rules.specs.History.{Entry}
-use Rattle.centre_rules.specs.Summary.{Summary}
 use Rattle.centre_store.specs.Stores.{Stored, StoreStands}
 use Rattle.line_session.specs.Lines.{LineValue, TookStream}
 use Rattle.line_session.specs.Turns.{Turn, line_turns}
 use Rattle.session_rules.specs.Turns.{entries_of, text_of}
 use Rattle.arc_script.specs.Causes.{HasShown, IsOfFrame, IsSentFor}
 use Rattle.arc_script.specs.Standing.{IsReadable}
-use Rattle.arc_script.specs.Steps.{FeedsBehind}
+use Rattle.arc_script.specs.Steps.{Place, FeedsLine}
 use Rattle.arc_script.specs.Tallies.{is_repeat, count_of, GrowsBy}
 use Rattle.arc_script.specs.declared.script_end.Tally.{Tally}
 
@@ -26,26 +25,26 @@ pub record CountsFed (sent : ℕ) (turns : List Turn) (t t' : Tally) : Type 0 wh
   pub rest : t' ≡ record t { sent = t'.sent; repeats = t'.repeats }
 
 -- each frame has its turn, and the replies were written
-pub record HasFed {D : Type 0} (seen : D → DiskSeen) (base : Summary) (setup : List ℕ) (clock : ℕ)
-    (stream bytes : List ℕ) (h : List Entry) (t t' : Tally) (written : List ℕ) (s : Stored D) : Type 0 where
+pub record HasFed {D : Type 0} (seen : D → DiskSeen) (place : Place) (line : ℕ) (bytes : List ℕ) (h : List Entry) (t t' : Tally)
+    (written : List ℕ) (s : Stored D) : Type 0 where
   pub turns : List Turn
   pub history : List Entry
-  pub fed : FeedsBehind base setup clock stream bytes h history turns []
-  pub stands : StoreStands seen base s history
-  pub readable : IsReadable base history
+  pub fed : FeedsLine place line bytes h history turns []
+  pub stands : StoreStands seen place.base s history
+  pub readable : IsReadable place.base history
   pub written_is : written ≡ text_of line_turns turns
   pub counts : CountsFed (length turns) turns t t'
 
 -- A frame was stopped: those before it have their turns. The store showed the stop for its event.
-pub record FeedStops {D : Type 0} (seen : D → DiskSeen) (base : Summary) (setup : List ℕ) (clock : ℕ)
-    (stream bytes : List ℕ) (h : List Entry) (t t' : Tally) (stop : Stop) (s : Stored D) : Type 0 where
+pub record FeedStops {D : Type 0} (seen : D → DiskSeen) (place : Place) (clock line : ℕ) (bytes : List ℕ) (h : List Entry) (t t' : Tally)
+    (stop : Stop) (s : Stored D) : Type 0 where
   pub turns : List Turn
   pub more : List (List ℕ)
   pub history : List Entry
   pub sent : ℕ
-  pub fed : FeedsBehind base setup clock stream bytes h history turns more
-  pub stands : StoreStands seen base s history
-  pub readable : IsReadable base history
-  pub cause : HasShown seen s stop clock (IsOfFrame setup clock more)
+  pub fed : FeedsLine place line bytes h history turns more
+  pub stands : StoreStands seen place.base s history
+  pub readable : IsReadable place.base history
+  pub cause : HasShown seen s stop clock (IsOfFrame place.setup clock more)
   pub sent_is : IsSentFor stop (length turns) sent
   pub counts : CountsFed sent turns t t'

@@ -24,6 +24,15 @@ use Rattle.session_rules.specs.Turns.{entries_of, readings_of, noise_of}
 use Rattle.arc_script.specs.Fed.{clock_of, line_fed, desk_read}
 use Rattle.arc_script.specs.Pages.{head_of}
 
+-- Where a line of a script stands: behind what was asked before (the newest first), under this setup, over this summary.
+pub record Place : Type 0 where
+  pub base : Summary
+  pub setup : List ℕ
+  pub asked : List Asked
+
+abbrev pub placed : Summary → List ℕ → List Asked → Place
+placed base setup asked = record { base = base; setup = setup; asked = asked }
+
 -- A line that was carried out: its number, what it asks for, the entries that it added to the history (the oldest first), how many whole
 -- frames it fed to a line, and its line of output.
 pub record Step : Type 0 where
@@ -47,31 +56,27 @@ abbrev pub before_tick : Option ℕ → Summary → List ℕ → ℕ → List En
 before_tick None base setup moment h = begun_after base h setup moment
 before_tick (Some last) base setup moment h = h
 
-pub record Ticks (base : Summary) (setup : List ℕ) (before : List Asked) (moment : ℕ) (h x : List Entry) (s : Step) : Type 0 where
-  pub is : x ≡ entry_after base (before_tick (clock_of before) base setup moment h) Tick moment
-      ∷ before_tick (clock_of before) base setup moment h
+pub record Ticks (place : Place) (moment : ℕ) (h x : List Entry) (s : Step) : Type 0 where
+  pub is : x ≡ entry_after place.base (before_tick (clock_of place.asked) place.base place.setup moment h) Tick moment
+      ∷ before_tick (clock_of place.asked) place.base place.setup moment h
   pub added : x ≡ reverse s.entries ++ h
   pub sent : s.sent ≡ 0
-  pub text : s.text ≡ codes "T " ++ line_of (entry_after base (before_tick (clock_of before) base setup moment h) Tick moment).reply
+  pub text : s.text ≡ codes "T "
+      ++ line_of (entry_after place.base (before_tick (clock_of place.asked) place.base place.setup moment h) Tick moment).reply
 
--- The turns of a line that took a stream and was fed bytes: one for each whole frame that ends in them, at this moment, with zeros for
--- noise. They stand behind one another in the history, and nothing else does. More frames may have no turn.
-pub record FeedsBehind (base : Summary) (setup : List ℕ) (clock : ℕ) (stream bytes : List ℕ) (h x : List Entry) (turns : List Turn)
-    (more : List (List ℕ)) : Type 0 where
-  pub ended : bodies (stream ++ bytes) ≡ bodies stream ++ map (λ t. t.body) turns ++ more
-  pub are : AreTurns base (meaning setup) 0 h x turns
-  pub legal : IsLegal base x
+-- The turns of a line that took what it was fed before and is fed these bytes: one for each whole frame that ends in them, at the moment
+-- that was set last, with zeros for noise. They stand behind one another in the history, and nothing else does. More frames may have no
+-- turn.
+pub record FeedsLine (place : Place) (line : ℕ) (bytes : List ℕ) (h x : List Entry) (turns : List Turn) (more : List (List ℕ))
+    : Type 0 where
+  pub clock : ℕ
+  pub set : clock_of place.asked ≡ Some clock
+  pub ended : bodies (line_fed line place.asked ++ bytes) ≡ bodies (line_fed line place.asked) ++ map (λ t. t.body) turns ++ more
+  pub are : AreTurns place.base (meaning place.setup) 0 h x turns
+  pub legal : IsLegal place.base x
   pub readings : readings_of line_turns turns ≡ replicate (length turns) clock
   pub noise : noise_of line_turns turns ≡ replicate (length (noise_of line_turns turns)) 0
   pub own : x ≡ reverse (entries_of line_turns turns) ++ h
-
--- the same of a line that took what it was fed before, at the moment that was set last
-pub record FeedsLine (base : Summary) (setup : List ℕ) (before : List Asked) (line : ℕ) (bytes : List ℕ) (h x : List Entry)
-    (turns : List Turn)
-    (more : List (List ℕ)) : Type 0 where
-  pub clock : ℕ
-  pub set : clock_of before ≡ Some clock
-  pub fed : FeedsBehind base setup clock (line_fed line before) bytes h x turns more
 
 -- a frame without its line feed and its carriage return
 abbrev pub bare : List ℕ → List ℕ
@@ -87,24 +92,22 @@ listed [] = codes " -"
 listed (reply ∷ replies) = flat_map (λ r. 32 ∷ bare r) (reply ∷ replies)
 
 -- `L` and `M`, with this letter: bytes are fed to a line, and its replies are the output.
-pub record Feeds (base : Summary) (setup : List ℕ) (before : List Asked) (letter line : ℕ) (bytes : List ℕ) (h x : List Entry)
-    (s : Step) : Type 0 where
+pub record Feeds (place : Place) (letter line : ℕ) (bytes : List ℕ) (h x : List Entry) (s : Step) : Type 0 where
   pub turns : List Turn
-  pub fed : FeedsLine base setup before line bytes h x turns []
+  pub fed : FeedsLine place line bytes h x turns []
   pub entries : s.entries ≡ entries_of line_turns turns
   pub sent : s.sent ≡ length turns
   pub text : s.text ≡ head_of letter line ++ listed (replies_of turns) ++ 10 ∷ []
 
 -- `D`: a desk reads the text as one line, all of it, for the operator who logged in last since the desk was made anew, and its
 -- answer is the output.
-pub record Commands (base : Summary) (setup : List ℕ) (before : List Asked) (desk : ℕ) (given : List ℕ) (h x : List Entry)
-    (s : Step) : Type 0 where
+pub record Commands (place : Place) (desk : ℕ) (given : List ℕ) (h x : List Entry) (s : Step) : Type 0 where
   pub turn : Desk.Turn
   pub clock : ℕ
-  pub set : clock_of before ≡ Some clock
+  pub set : clock_of place.asked ≡ Some clock
   pub line : turn.line ≡ given
-  pub is : Desk.IsTurn base (meaning setup) 0 (acts_over (meaning setup) None (desk_read desk before)) h x turn
-  pub legal : IsLegal base x
+  pub is : Desk.IsTurn place.base (meaning place.setup) 0 (acts_over (meaning place.setup) None (desk_read desk place.asked)) h x turn
+  pub legal : IsLegal place.base x
   pub reading : IfSome turn.reading (λ r. r ≡ clock)
   pub entries : s.entries ≡ option_to_list turn.entry
   pub added : x ≡ reverse s.entries ++ h
@@ -117,29 +120,29 @@ pub record Keeps (Told : Type 0) (base : Summary) (h kept : List Entry) : Type 0
   pub past : IsPast base (bodies_of kept) kept
   pub same : Told → kept ≡ recorded h
 
-pub record Reopens (Told : Type 0) (base : Summary) (setup : List ℕ) (before : List Asked) (h x : List Entry) (s : Step) : Type 0 where
+pub record Reopens (Told : Type 0) (place : Place) (h x : List Entry) (s : Step) : Type 0 where
   pub kept : List Entry
-  pub keeps : Keeps Told base h kept
+  pub keeps : Keeps Told place.base h kept
   pub clock : ℕ
-  pub set : clock_of before ≡ Some clock
-  pub is : x ≡ begun_after base kept setup clock
+  pub set : clock_of place.asked ≡ Some clock
+  pub is : x ≡ begun_after place.base kept place.setup clock
   pub added : x ≡ reverse s.entries ++ kept
   pub sent : s.sent ≡ 0
-  pub text : s.text ≡ codes "X recorded " ++ decimal (base.recorded + length (recorded x)) ++ 10 ∷ []
+  pub text : s.text ≡ codes "X recorded " ++ decimal (place.base.recorded + length (recorded x)) ++ 10 ∷ []
 
--- the step of a line that asks for this, behind what was asked before, from the history h on, to x
-abbrev pub IsStepOf : Type 0 → Summary → List ℕ → List Asked → List Entry → List Entry → Step → Asked → Type 0
-IsStepOf Told base setup before h x s (Time moment) = Ticks base setup before moment h x s
-IsStepOf Told base setup before h x s (Feed line digits) = Feeds base setup before 76 line (bytes_spelled digits) h x s
-IsStepOf Told base setup before h x s (Message line body) = Feeds base setup before 77 line (frame_of body) h x s
-IsStepOf Told base setup before h x s (Command desk text) = Commands base setup before desk text h x s
-IsStepOf Told base setup before h x s Reopen = Reopens Told base setup before h x s
+-- the step of a line that stands there and asks for this, from the history h on, to x
+abbrev pub IsStepOf : Type 0 → Place → List Entry → List Entry → Step → Asked → Type 0
+IsStepOf Told place h x s (Time moment) = Ticks place moment h x s
+IsStepOf Told place h x s (Feed line digits) = Feeds place 76 line (bytes_spelled digits) h x s
+IsStepOf Told place h x s (Message line body) = Feeds place 77 line (frame_of body) h x s
+IsStepOf Told place h x s (Command desk text) = Commands place desk text h x s
+IsStepOf Told place h x s Reopen = Reopens Told place h x s
 
 -- The steps stand behind one another, from h on, to x.
-abbrev pub AreSteps : Type 0 → Summary → List ℕ → List Asked → List Entry → List Entry → List Step → Type 0
-AreSteps Told base setup before h x [] = x ≡ h
-AreSteps Told base setup before h x (s ∷ steps) =
-    (mid : List Entry) × IsStepOf Told base setup before h mid s s.asked × AreSteps Told base setup (s.asked ∷ before) mid x steps
+abbrev pub AreSteps : Type 0 → Place → List Entry → List Entry → List Step → Type 0
+AreSteps Told place h x [] = x ≡ h
+AreSteps Told place h x (s ∷ steps) =
+    (mid : List Entry) × IsStepOf Told place h mid s s.asked × AreSteps Told (record place { asked = s.asked ∷ place.asked }) mid x steps
 
 -- what was asked in these steps and before them, the newest first
 abbrev pub asked_after : List Asked → List Step → List Asked

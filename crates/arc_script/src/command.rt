@@ -14,7 +14,7 @@ ghost use Rattle.arc_script.specs.PageWords.{page_seen};
 ghost use Rattle.arc_script.specs.Pages.{head_of, blank};
 ghost use Rattle.centre_store.specs.StoreHalls.{is_told};
 ghost use Rattle.arc_script.specs.Standing.{IsReadable};
-ghost use Rattle.arc_script.specs.Steps.{Commands};
+ghost use Rattle.arc_script.specs.Steps.{placed, Commands};
 
 use crate::page::Page;
 use crate::replies::{put_head, said};
@@ -43,7 +43,7 @@ pub(crate) fn command<D: Disk>(
     ensures answered { OnOk result.1 ((base : Summary) (before : List Asked) (clock count number : ℕ) (h : List Entry)
         → IsNext (meaning script.old.setup) clock count before (Command desk text.now) script.old.lines.items script.old.desks.items
         → page_seen page.old ≡ blank clock → StoreStands D.seen base store h → IsReadable base h
-        → Carried D.seen base (λ x s. Commands base script.old.setup before desk text.now h x s)
+        → Carried D.seen base (λ x s. Commands (placed base script.old.setup before) desk text.now h x s)
         number (Command desk text.now) script.old.tally script.new.tally (page_seen page.old) (page_seen page.new) result.0) }
     ensures took { OnOk result.1 ((before : List Asked) (clock count : ℕ)
         → IsNext (meaning script.old.setup) clock count before (Command desk text.now) script.old.lines.items script.old.desks.items
@@ -53,7 +53,7 @@ pub(crate) fn command<D: Disk>(
         → page_seen page.old ≡ blank clock → StoreStands D.seen base store h → IsReadable base h
         → Halted D.seen base (λ x s. ((x ≡ h) × AddedBy h x s
         × HasShown D.seen result.0 stop clock (IsOfCommand script.old.setup before desk text.now))
-        ⊎ ((stop ≡ Stop.Memory) × Commands base script.old.setup before desk text.now h x s))
+        ⊎ ((stop ≡ Stop.Memory) × Commands (placed base script.old.setup before) desk text.now h x s))
         script.old.tally script.new.tally result.0) }
     ensures set { result.0.state.sum.text ≡ Some script.old.setup }
     ensures rest { script.new ≡ record script.old {

@@ -13,12 +13,13 @@ ghost use Rattle.session_rules.specs.Inputs.{input_limit};
 ghost use Rattle.arc_script.specs.Carrying.{IsNext, HaveTakenWith, Carried, Halted};
 ghost use Rattle.arc_script.specs.Causes.{HasShown, IsOfFrame};
 ghost use Rattle.arc_script.specs.Ends.{FedUntil};
+ghost use Rattle.arc_script.specs.Fed.{clock_of, line_fed};
 ghost use Rattle.arc_script.specs.Feeding.{TookAt, HasFed, FeedStops};
 ghost use Rattle.arc_script.specs.PageWords.{page_seen};
 ghost use Rattle.arc_script.specs.Pages.{head_of, replied};
 ghost use Rattle.centre_store.specs.StoreHalls.{is_told};
 ghost use Rattle.arc_script.specs.Standing.{IsReadable};
-ghost use Rattle.arc_script.specs.Steps.{Feeds};
+ghost use Rattle.arc_script.specs.Steps.{placed, Feeds};
 
 use crate::page::Page;
 use crate::replies::{put_replies, said};
@@ -49,7 +50,7 @@ pub(crate) fn feed<D: Disk>(
     ensures fed { OnOk result.1 ((base : Summary) (before : List Asked) (count number : ℕ) (h : List Entry)
         → IsNext (meaning script.old.setup) moment count before (Feed line digits.now) script.old.lines.items script.old.desks.items
         → StoreStands D.seen base store h → IsReadable base h
-        → Carried D.seen base (λ x s. Feeds base script.old.setup before 76 line (bytes_spelled digits.now) h x s)
+        → Carried D.seen base (λ x s. Feeds (placed base script.old.setup before) 76 line (bytes_spelled digits.now) h x s)
         number (Feed line digits.now) script.old.tally script.new.tally (page_seen page.old) (page_seen page.new) result.0) }
     ensures took { OnOk result.1 ((before : List Asked) (count : ℕ)
         → IsNext (meaning script.old.setup) moment count before (Feed line digits.now) script.old.lines.items script.old.desks.items
@@ -58,9 +59,9 @@ pub(crate) fn feed<D: Disk>(
         → IsNext (meaning script.old.setup) moment count before (Feed line digits.now) script.old.lines.items script.old.desks.items
         → StoreStands D.seen base store h → IsReadable base h
         → Halted D.seen base (λ x s.
-        ((waiting : List (List ℕ)) × FedUntil stop base script.old.setup before line (bytes_spelled digits.now) waiting h x s
+        ((waiting : List (List ℕ)) × FedUntil stop (placed base script.old.setup before) line (bytes_spelled digits.now) waiting h x s
         × HasShown D.seen result.0 stop moment (IsOfFrame script.old.setup moment waiting))
-        ⊎ ((stop ≡ Stop.Memory) × Feeds base script.old.setup before 76 line (bytes_spelled digits.now) h x s))
+        ⊎ ((stop ≡ Stop.Memory) × Feeds (placed base script.old.setup before) 76 line (bytes_spelled digits.now) h x s))
         script.old.tally script.new.tally result.0) }
     ensures set { result.0.state.sum.text ≡ Some script.old.setup }
     ensures rest { script.new ≡ record script.old {
@@ -95,7 +96,7 @@ pub(crate) fn message<D: Disk>(
     ensures fed { OnOk result.1 ((base : Summary) (before : List Asked) (count number : ℕ) (h : List Entry)
         → IsNext (meaning script.old.setup) moment count before (Message line body.now) script.old.lines.items script.old.desks.items
         → StoreStands D.seen base store h → IsReadable base h
-        → Carried D.seen base (λ x s. Feeds base script.old.setup before 77 line (frame_of body.now) h x s)
+        → Carried D.seen base (λ x s. Feeds (placed base script.old.setup before) 77 line (frame_of body.now) h x s)
         number (Message line body.now) script.old.tally script.new.tally (page_seen page.old) (page_seen page.new) result.0) }
     ensures took { OnOk result.1 ((before : List Asked) (count : ℕ)
         → IsNext (meaning script.old.setup) moment count before (Message line body.now) script.old.lines.items script.old.desks.items
@@ -104,9 +105,9 @@ pub(crate) fn message<D: Disk>(
         → IsNext (meaning script.old.setup) moment count before (Message line body.now) script.old.lines.items script.old.desks.items
         → StoreStands D.seen base store h → IsReadable base h
         → Halted D.seen base (λ x s.
-        ((waiting : List (List ℕ)) × FedUntil stop base script.old.setup before line (frame_of body.now) waiting h x s
+        ((waiting : List (List ℕ)) × FedUntil stop (placed base script.old.setup before) line (frame_of body.now) waiting h x s
         × HasShown D.seen result.0 stop moment (IsOfFrame script.old.setup moment waiting))
-        ⊎ ((stop ≡ Stop.Memory) × Feeds base script.old.setup before 77 line (frame_of body.now) h x s))
+        ⊎ ((stop ≡ Stop.Memory) × Feeds (placed base script.old.setup before) 77 line (frame_of body.now) h x s))
         script.old.tally script.new.tally result.0) }
     ensures set { result.0.state.sum.text ≡ Some script.old.setup }
     ensures rest { script.new ≡ record script.old {
@@ -148,15 +149,17 @@ fn fed<D: Disk>(
     requires clock { moment < 253_402_300_800 }
     requires line { IsNumber 16 line }
     requires set { store.state.sum.text ≡ Some script.old.setup }
-    ensures fed { IfOk result.1 (λ frames. (base : Summary) (stream : List ℕ) (h : List Entry) → TookAt stream script.old.lines.items (line - 1)
-        → length (stream ++ bytes.now) < input_limit → StoreStands D.seen base store h → IsReadable base h
-        → HasFed D.seen base script.old.setup moment stream bytes.now h script.old.tally script.new.tally
+    ensures fed { IfOk result.1 (λ frames. (base : Summary) (before : List Asked) (h : List Entry) → clock_of before ≡ Some moment
+        → TookAt (line_fed line before) script.old.lines.items (line - 1) → length (line_fed line before ++ bytes.now) < input_limit
+        → StoreStands D.seen base store h → IsReadable base h
+        → HasFed D.seen (placed base script.old.setup before) line bytes.now h script.old.tally script.new.tally
         (sink_bytes frames.port.sink) result.0) }
     ensures took { OnOk result.1 ((stream : List ℕ) → TookAt stream script.old.lines.items (line - 1)
         → length (stream ++ bytes.now) < input_limit → TookAt (stream ++ bytes.now) script.new.lines.items (line - 1)) }
-    ensures stop { IfErr result.1 (λ stop. (base : Summary) (stream : List ℕ) (h : List Entry) → TookAt stream script.old.lines.items (line - 1)
-        → length (stream ++ bytes.now) < input_limit → StoreStands D.seen base store h → IsReadable base h
-        → FeedStops D.seen base script.old.setup moment stream bytes.now h script.old.tally script.new.tally stop result.0) }
+    ensures stop { IfErr result.1 (λ stop. (base : Summary) (before : List Asked) (h : List Entry) → clock_of before ≡ Some moment
+        → TookAt (line_fed line before) script.old.lines.items (line - 1) → length (line_fed line before ++ bytes.now) < input_limit
+        → StoreStands D.seen base store h → IsReadable base h
+        → FeedStops D.seen (placed base script.old.setup before) moment line bytes.now h script.old.tally script.new.tally stop result.0) }
     ensures set { result.0.state.sum.text ≡ Some script.old.setup }
     ensures others { (i : ℕ) → i ≢ line - 1 → slice_get script.new.lines.items i ≡ slice_get script.old.lines.items i }
     ensures rest { script.new ≡ record script.old {

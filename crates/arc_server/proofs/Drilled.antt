@@ -10,7 +10,7 @@ use Rattle.arc_io.specs.Disks.{DiskSeen}
 use Rattle.arc_io.specs.Seen.{PortSeen, untold}
 use Rattle.arc_script.specs.Begun.{Begun}
 use Rattle.arc_script.specs.Ends.{IsScript, IsTranscript, Tells}
-use Rattle.arc_script.specs.Steps.{Step, Keeps, IsStepOf, AreSteps}
+use Rattle.arc_script.specs.Steps.{Place, placed, Step, Keeps, IsStepOf, AreSteps}
 use Rattle.arc_script.specs.Tallies.{IsTally}
 use Rattle.arc_script.specs.Texts.{AreOf, counted}
 use Rattle.arc_script.specs.declared.script_end.ScriptEnd.{ScriptEnd}
@@ -34,13 +34,13 @@ use Rattle.arc_server.specs.DrillRuns.{IsDrilled}
 told_keeps : {Told : Type 0} {base : Summary} {h kept : List Entry} → Told → Keeps Told base h kept → Keeps (Unit {0}) base h kept
 told_keeps known keeps = record { past = keeps.past; same = λ u. keeps.same known }
 
-told_step : {Told : Type 0} (base : Summary) (setup : List ℕ) (before : List Asked) (h x : List Entry) (s : Step) (asked : Asked)
-    → Told → IsStepOf Told base setup before h x s asked → IsStepOf (Unit {0}) base setup before h x s asked
-told_step base setup before h x s (Time moment) known step = step
-told_step base setup before h x s (Feed line digits) known step = step
-told_step base setup before h x s (Message line body) known step = step
-told_step base setup before h x s (Command desk text) known step = step
-told_step base setup before h x s Reopen known step = record {
+told_step : {Told : Type 0} (place : Place) (h x : List Entry) (s : Step) (asked : Asked)
+    → Told → IsStepOf Told place h x s asked → IsStepOf (Unit {0}) place h x s asked
+told_step place h x s (Time moment) known step = step
+told_step place h x s (Feed line digits) known step = step
+told_step place h x s (Message line body) known step = step
+told_step place h x s (Command desk text) known step = step
+told_step place h x s Reopen known step = record {
   kept = step.kept;
   keeps = told_keeps known step.keeps;
   clock = step.clock;
@@ -51,13 +51,13 @@ told_step base setup before h x s Reopen known step = record {
   text = step.text;
 }
 
-told_steps : {Told : Type 0} (base : Summary) (setup : List ℕ) (before : List Asked) (h x : List Entry) (steps : List Step)
-    → Told → AreSteps Told base setup before h x steps → AreSteps (Unit {0}) base setup before h x steps
-told_steps base setup before h x [] known are = are
-told_steps base setup before h x (s ∷ steps) known are = (
+told_steps : {Told : Type 0} (place : Place) (h x : List Entry) (steps : List Step)
+    → Told → AreSteps Told place h x steps → AreSteps (Unit {0}) place h x steps
+told_steps place h x [] known are = are
+told_steps place h x (s ∷ steps) known are = (
   are.0,
-  told_step base setup before h are.0 s s.asked known are.1,
-  told_steps base setup (s.asked ∷ before) are.0 x steps known are.2,
+  told_step place h are.0 s s.asked known are.1,
+  told_steps (record place { asked = s.asked ∷ place.asked }) are.0 x steps known are.2,
 )
 
 -- all of a known input was read
@@ -93,10 +93,10 @@ drilled_by seen n b p' disk' tally under left is begins t =
       steps = steps;
       history = history;
       of = subst (λ (l : List (ℕ × List ℕ)). AreOf [] l steps) front t.played.of;
-      are = told_steps nothing drill_setup [] [] history steps (record { a = []; b = [] }, is)
-          (subst (λ (base : Summary). AreSteps Told base drill_setup [] [] history steps) begins.given
-          (subst (λ (h : List Entry). AreSteps Told b.base drill_setup [] h history steps) none
-          (subst (λ (setup : List ℕ). AreSteps Told b.base setup [] b.past history steps) under t.played.are)));
+      are = told_steps (placed nothing drill_setup []) [] history steps (record { a = []; b = [] }, is)
+          (subst (λ (base : Summary). AreSteps Told (placed base drill_setup []) [] history steps) begins.given
+          (subst (λ (h : List Entry). AreSteps Told (placed b.base drill_setup []) h history steps) none
+          (subst (λ (setup : List ℕ). AreSteps Told (placed b.base setup []) b.past history steps) under t.played.are)));
       counts = subst (λ (base : Summary). IsTally base [] steps history tally) begins.given
           (subst (λ (h : List Entry). IsTally b.base h steps history tally) none whole.counts);
     }

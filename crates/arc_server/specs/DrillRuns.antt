@@ -5,7 +5,7 @@ use Rattle.arc_drill.specs.Texts.{drill_text, drill_setup}
 use Rattle.arc_io.specs.Seen.{PortSeen}
 use Rattle.arc_io.specs.Told.{Puts}
 use Rattle.arc_io.specs.declared.traits.Failed.{Failed}
-use Rattle.arc_script.specs.Steps.{Step, AreSteps}
+use Rattle.arc_script.specs.Steps.{placed, Step, AreSteps}
 use Rattle.arc_script.specs.Tallies.{IsTally}
 use Rattle.arc_script.specs.Texts.{AreOf, counted}
 use Rattle.arc_script.specs.declared.script_end.Tally.{Tally}
@@ -27,7 +27,7 @@ pub record IsDrilled (n : ℕ) (t : Tally) : Type 0 where
   pub steps : List Step
   pub history : List Entry
   pub of : AreOf [] (counted (lines (drill_text n))) steps
-  pub are : AreSteps (Unit {0}) nothing drill_setup [] [] history steps
+  pub are : AreSteps (Unit {0}) (placed nothing drill_setup []) [] history steps
   pub counts : IsTally nothing [] steps history t
 
 -- the line of the drill's tally was written, or a front of it, and nothing else was done to the port

@@ -24,8 +24,8 @@ returns-in-Err-clause-stop g c =
 pub take-end-requires : goal.take-end-requires
 take-end-requires g c = subst IsSetting (sym c.requires.set) c.args.script.now.valid
 
-pub returns-in-Ok-clause-answered : goal.returns-in-Ok-clause-answered
-returns-in-Ok-clause-answered g c =
+pub returns-in-Ok : goal.returns-in-Ok
+returns-in-Ok g c =
     let script = c.args.script.now in
     let desks = script.desks.items in
     let place = c.args.desk - 1 in
@@ -59,96 +59,25 @@ returns-in-Ok-clause-answered g c =
     script.lines.items desks was c.take-end.new.self script.tally counted (page_seen c.args.page.now) c.put_asked.new.page
     c.take-end.new.port c.ended-line.result.now
     c.take-end.result given (Ok tt) c.in-Ok.is in
-    λ base. goes_on g.D.Disk.seen c.args.store c.take-end.new.hall base script.setup c.args.desk c.args.text.now
-    script.lines.items desks was c.take-end.new.self script.tally counted (page_seen c.args.page.now) c.put_asked.new.page
-    c.take-end.new.port c.ended-line.result.now at sums
+    record {
+      answered = λ base. goes_on g.D.Disk.seen c.args.store c.take-end.new.hall base script.setup c.args.desk c.args.text.now
+          script.lines.items desks was c.take-end.new.self script.tally counted (page_seen c.args.page.now) c.put_asked.new.page
+          c.take-end.new.port c.ended-line.result.now at sums;
+      took = took_on g.D.Disk.seen c.args.store c.take-end.new.hall script.setup c.args.desk c.args.text.now
+          script.lines.items desks _ was c.take-end.new.self (page_seen c.args.page.now) c.put_asked.new.page c.take-end.new.port
+          c.ended-line.result.now at
+          (set_at desks place c.take-end.new.self was there) (λ k other. set_other desks place k c.take-end.new.self other);
+      stop = tt;
+      set = still_set c.take-end.new.hall.state.sum.text c.args.script.now.setup c.take-end.ensures.kept.ready
+          (c.take-end.ensures.kept.text ∙ ap (λ (o : Option (List ℕ)). unwrap_or o []) c.requires.set);
+      rest = desks_kept c.args.script.now _ refl refl refl refl refl refl;
+      tells = tells_stays c.take-end.ensures.kept.fixed;
+      at_open = at_open_stays c.take-end.ensures.kept.fixed;
+      limits = limits_stay c.take-end.ensures.kept.fixed;
+    }
 
-pub returns-in-Ok-clause-took : goal.returns-in-Ok-clause-took
-returns-in-Ok-clause-took g c =
-    let script = c.args.script.now in
-    let desks = script.desks.items in
-    let place = c.args.desk - 1 in
-    let was = c.index_mut.result.now in
-    let there : slice_get desks place ≡ Some was =
-    slice_get_read desks 8 place was (omega (arith, script.eight, script.desks.ok.0)) (omega (arith, c.requires.desk.low, c.requires.desk.high))
-    c.index_mut.ensures.value in
-    let counted : Tally = record script.tally { closed = c.saturating_add-script.result } in
-    let sums : Closings c.args.store.state c.take-end.new.hall.state script.tally counted =
-    closings c.args.store.state c.take-end.new.hall.state c.centre.result.now c.centre-2.result.now script.tally counted c.count-open.result
-    c.count.result c.saturating_sub-closed.result c.centre.ensures c.centre-2.ensures (c.count-open.ensures ∙ ap length c.table.ensures.incidents)
-    (c.count.ensures ∙ ap length c.table-2.ensures.incidents) c.saturating_sub-closed.ensures c.saturating_add-script.ensures refl in
-    let given : IsGiven g.D.Disk.seen c.args.store c.take-end.new.hall script.setup c.args.desk
-    c.args.text.now
-    desks was c.take-end.new.self (page_seen c.args.page.now) c.put_asked.new.page c.take-end.new.port c.ended-line.result.now
-    c.take-end.result = record {
-      low = c.requires.desk.low;
-      there = there;
-      set = c.requires.set;
-      setting = subst IsSetting (sym c.requires.set) script.valid;
-      only = c.in_default.ensures.only;
-      head = c.in_default.ensures.put;
-      line = c.ended-line.ensures;
-      one = c.take-end.new.port.still;
-      silent = c.take-end.new.port.silent;
-      taken = c.take-end.ensures.taken;
-      served = (λ base stream h took for. c.take-end.ensures.served stream base h took for);
-    } in
-    let at = given_as g.D.Disk.seen c.args.store c.take-end.new.hall script.setup c.args.desk
-    c.args.text.now
-    script.lines.items desks was c.take-end.new.self script.tally counted (page_seen c.args.page.now) c.put_asked.new.page
-    c.take-end.new.port c.ended-line.result.now
-    c.take-end.result given (Ok tt) c.in-Ok.is in
-    took_on g.D.Disk.seen c.args.store c.take-end.new.hall script.setup c.args.desk c.args.text.now
-    script.lines.items desks _ was c.take-end.new.self (page_seen c.args.page.now) c.put_asked.new.page c.take-end.new.port
-    c.ended-line.result.now at
-    (set_at desks place c.take-end.new.self was there) (λ k other. set_other desks place k c.take-end.new.self other)
-
-pub returns-in-Ok-clause-set : goal.returns-in-Ok-clause-set
-returns-in-Ok-clause-set g c =
-    still_set c.take-end.new.hall.state.sum.text c.args.script.now.setup c.take-end.ensures.kept.ready
-    (c.take-end.ensures.kept.text ∙ ap (λ (o : Option (List ℕ)). unwrap_or o []) c.requires.set)
-
-pub returns-in-Err-Quit-clause-answered : goal.returns-in-Err-Quit-clause-answered
-returns-in-Err-Quit-clause-answered g c =
-    let script = c.args.script.now in
-    let desks = script.desks.items in
-    let place = c.args.desk - 1 in
-    let was = c.index_mut.result.now in
-    let there : slice_get desks place ≡ Some was =
-    slice_get_read desks 8 place was (omega (arith, script.eight, script.desks.ok.0)) (omega (arith, c.requires.desk.low, c.requires.desk.high))
-    c.index_mut.ensures.value in
-    let counted : Tally = record script.tally { closed = c.saturating_add-script.result } in
-    let sums : Closings c.args.store.state c.take-end.new.hall.state script.tally counted =
-    closings c.args.store.state c.take-end.new.hall.state c.centre.result.now c.centre-2.result.now script.tally counted c.count-open.result
-    c.count.result c.saturating_sub-closed.result c.centre.ensures c.centre-2.ensures (c.count-open.ensures ∙ ap length c.table.ensures.incidents)
-    (c.count.ensures ∙ ap length c.table-2.ensures.incidents) c.saturating_sub-closed.ensures c.saturating_add-script.ensures refl in
-    let given : IsGiven g.D.Disk.seen c.args.store c.take-end.new.hall script.setup c.args.desk
-    c.args.text.now
-    desks was c.take-end.new.self (page_seen c.args.page.now) c.put_asked.new.page c.take-end.new.port c.ended-line.result.now
-    c.take-end.result = record {
-      low = c.requires.desk.low;
-      there = there;
-      set = c.requires.set;
-      setting = subst IsSetting (sym c.requires.set) script.valid;
-      only = c.in_default.ensures.only;
-      head = c.in_default.ensures.put;
-      line = c.ended-line.ensures;
-      one = c.take-end.new.port.still;
-      silent = c.take-end.new.port.silent;
-      taken = c.take-end.ensures.taken;
-      served = (λ base stream h took for. c.take-end.ensures.served stream base h took for);
-    } in
-    let at = given_as g.D.Disk.seen c.args.store c.take-end.new.hall script.setup c.args.desk
-    c.args.text.now
-    script.lines.items desks was c.take-end.new.self script.tally counted (page_seen c.args.page.now) c.put_asked.new.page
-    c.take-end.new.port c.ended-line.result.now
-    c.take-end.result given (Err Quit) (c.in-Err-Quit.is ∙ ap Err (rw c.in-Err-Quit.is at c.in-Err-Quit.field-0-is)) in
-    λ base. quits_on g.D.Disk.seen c.args.store c.take-end.new.hall base script.setup c.args.desk c.args.text.now
-    script.lines.items desks was c.take-end.new.self script.tally counted (page_seen c.args.page.now) c.put_asked.new.page
-    c.take-end.new.port c.ended-line.result.now at sums
-
-pub returns-in-Err-Quit-clause-took : goal.returns-in-Err-Quit-clause-took
-returns-in-Err-Quit-clause-took g c =
+pub returns-in-Err-Quit : goal.returns-in-Err-Quit
+returns-in-Err-Quit g c =
     let script = c.args.script.now in
     let desks = script.desks.items in
     let place = c.args.desk - 1 in
@@ -183,16 +112,23 @@ returns-in-Err-Quit-clause-took g c =
     c.take-end.new.port c.ended-line.result.now
     c.take-end.result given (Err Quit) (c.in-Err-Quit.is ∙ ap Err (rw c.in-Err-Quit.is at c.in-Err-Quit.field-0-is)) in
     let now = c.take-end.new.self in
-    took_quit g.D.Disk.seen c.args.store c.take-end.new.hall script.setup c.args.desk c.args.text.now
-    script.lines.items desks _ was now c.new.result (page_seen c.args.page.now) c.put_asked.new.page c.take-end.new.port
-    c.ended-line.result.now at c.new.ensures
-    (set_at (set desks place now) place c.new.result now (set_at desks place now was there))
-    (λ k other. set_other (set desks place now) place k c.new.result other ∙ set_other desks place k now other)
-
-pub returns-in-Err-Quit-clause-set : goal.returns-in-Err-Quit-clause-set
-returns-in-Err-Quit-clause-set g c =
-    still_set c.take-end.new.hall.state.sum.text c.args.script.now.setup c.take-end.ensures.kept.ready
-    (c.take-end.ensures.kept.text ∙ ap (λ (o : Option (List ℕ)). unwrap_or o []) c.requires.set)
+    record {
+      answered = λ base. quits_on g.D.Disk.seen c.args.store c.take-end.new.hall base script.setup c.args.desk c.args.text.now
+          script.lines.items desks was c.take-end.new.self script.tally counted (page_seen c.args.page.now) c.put_asked.new.page
+          c.take-end.new.port c.ended-line.result.now at sums;
+      took = took_quit g.D.Disk.seen c.args.store c.take-end.new.hall script.setup c.args.desk c.args.text.now
+          script.lines.items desks _ was now c.new.result (page_seen c.args.page.now) c.put_asked.new.page c.take-end.new.port
+          c.ended-line.result.now at c.new.ensures
+          (set_at (set desks place now) place c.new.result now (set_at desks place now was there))
+          (λ k other. set_other (set desks place now) place k c.new.result other ∙ set_other desks place k now other);
+      stop = tt;
+      set = still_set c.take-end.new.hall.state.sum.text c.args.script.now.setup c.take-end.ensures.kept.ready
+          (c.take-end.ensures.kept.text ∙ ap (λ (o : Option (List ℕ)). unwrap_or o []) c.requires.set);
+      rest = desks_kept c.args.script.now _ refl refl refl refl refl refl;
+      tells = tells_stays c.take-end.ensures.kept.fixed;
+      at_open = at_open_stays c.take-end.ensures.kept.fixed;
+      limits = limits_stay c.take-end.ensures.kept.fixed;
+    }
 
 pub returns-in-Err-end : goal.returns-in-Err-end
 returns-in-Err-end g c =
@@ -239,27 +175,3 @@ returns-in-Err-end g c =
       at_open = at_open_stays c.take-end.ensures.kept.fixed;
       limits = limits_stay c.take-end.ensures.kept.fixed;
     }
-
-pub returns-in-Ok-clause-rest : goal.returns-in-Ok-clause-rest
-returns-in-Ok-clause-rest g c = desks_kept c.args.script.now _ refl refl refl refl refl refl
-
-pub returns-in-Err-Quit-clause-rest : goal.returns-in-Err-Quit-clause-rest
-returns-in-Err-Quit-clause-rest g c = desks_kept c.args.script.now _ refl refl refl refl refl refl
-
-pub returns-in-Ok-clause-tells : goal.returns-in-Ok-clause-tells
-returns-in-Ok-clause-tells g c = tells_stays c.take-end.ensures.kept.fixed
-
-pub returns-in-Ok-clause-at_open : goal.returns-in-Ok-clause-at_open
-returns-in-Ok-clause-at_open g c = at_open_stays c.take-end.ensures.kept.fixed
-
-pub returns-in-Ok-clause-limits : goal.returns-in-Ok-clause-limits
-returns-in-Ok-clause-limits g c = limits_stay c.take-end.ensures.kept.fixed
-
-pub returns-in-Err-Quit-clause-tells : goal.returns-in-Err-Quit-clause-tells
-returns-in-Err-Quit-clause-tells g c = tells_stays c.take-end.ensures.kept.fixed
-
-pub returns-in-Err-Quit-clause-at_open : goal.returns-in-Err-Quit-clause-at_open
-returns-in-Err-Quit-clause-at_open g c = at_open_stays c.take-end.ensures.kept.fixed
-
-pub returns-in-Err-Quit-clause-limits : goal.returns-in-Err-Quit-clause-limits
-returns-in-Err-Quit-clause-limits g c = limits_stay c.take-end.ensures.kept.fixed

@@ -18,9 +18,9 @@ take-end-requires g c = subst IsSetting (sym c.requires.set) c.args.script.now.v
 
 pub returns-in_default-clause-stop : goal.returns-in_default-clause-stop
 returns-in_default-clause-stop g c =
-    λ base stream h took short stands readable.
-    none_fed g.D.Disk.seen c.args.store base c.args.script.now.setup c.args.moment stream c.args.bytes.now h
-    c.args.script.now.tally stands readable
+    λ base before h set took short stands readable.
+    none_fed g.D.Disk.seen c.args.store base c.args.script.now.setup c.args.moment c.args.line before c.args.bytes.now h
+    c.args.script.now.tally set stands readable
 
 pub returns-in-Ok-end-clause-fed : goal.returns-in-Ok-end-clause-fed
 returns-in-Ok-end-clause-fed g c =
@@ -45,7 +45,7 @@ returns-in-Ok-end-clause-fed g c =
       silent = c.take-end.new.port.silent;
       served = (λ base stream h took for. c.take-end.ensures.served stream base h took for);
     } in
-    ended_fed g.D.Disk.seen c.args.store c.take-end.new.hall script.setup c.args.moment place lines was
+    ended_fed g.D.Disk.seen c.args.store c.take-end.new.hall script.setup c.args.moment c.args.line place lines was
     c.in-Ok.frames c.take-end.new.port c.args.bytes.now script.tally counted sums c.take-end.result taking c.in-Ok-end.is
 
 pub returns-in-Ok-end-clause-took : goal.returns-in-Ok-end-clause-took
@@ -90,7 +90,7 @@ returns-in-Err-Stopped-clause-stop g c =
       silent = c.take-end.new.port.silent;
       served = (λ base stream h took for. c.take-end.ensures.served stream base h took for);
     } in
-    ended_stopped g.D.Disk.seen c.args.store c.take-end.new.hall script.setup c.args.moment place lines was
+    ended_stopped g.D.Disk.seen c.args.store c.take-end.new.hall script.setup c.args.moment c.args.line place lines was
     c.in-Ok.frames c.take-end.new.port c.args.bytes.now script.tally counted sums c.take-end.result taking
     c.in-Err-Stopped.stop (c.in-Err-Stopped.is ∙ ap Err (rw c.in-Err-Stopped.is at c.in-Err-Stopped.field-0-is))
 
@@ -126,7 +126,7 @@ returns-clause-stop g c =
       silent = c.take-end.new.port.silent;
       served = (λ base stream h took for. c.take-end.ensures.served stream base h took for);
     } in
-    ended_otherwise g.D.Disk.seen c.args.store c.take-end.new.hall script.setup c.args.moment place
+    ended_otherwise g.D.Disk.seen c.args.store c.take-end.new.hall script.setup c.args.moment c.args.line place
     lines was c.in-Ok.frames c.take-end.new.port c.args.bytes.now script.tally counted sums c.take-end.result taking c.in-Err.field-0
     c.take-end.new.self c.in-Err.is c.take-end.ensures.ends c.take-end.ensures.taken
 
