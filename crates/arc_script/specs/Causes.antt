@@ -50,9 +50,5 @@ Submits setup before clock waiting Reopen event = IsOfBegin setup event
 
 -- the stop for which a desk ended; the other ends that it has on a page are for want of memory
 abbrev pub stop_in : DeskEnd → Stop
-stop_in Quit = Memory
-stop_in InputEnded = Memory
-stop_in ReadFault = Memory
-stop_in WriteFault = Memory
-stop_in Spent = Memory
 stop_in (Stopped stop) = stop
+stop_in end = Memory

@@ -22,10 +22,7 @@ use Rattle.arc_script.specs.Texts.{line_limit}
 -- the moment of a line, by the one that was set before: its own, or that one
 abbrev pub moment_at : Option ℕ → Asked → Option ℕ
 moment_at clock (Time moment) = Some moment
-moment_at clock (Feed line digits) = clock
-moment_at clock (Message line body) = clock
-moment_at clock (Command desk text) = clock
-moment_at clock Reopen = clock
+moment_at clock asked = clock
 
 -- a line asks for something at a moment, or nothing can be done for it
 abbrev pub IsAskedAt : List ℕ → Option ℕ → Option (ScriptLine × ℕ) → Type 0

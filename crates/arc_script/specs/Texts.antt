@@ -23,10 +23,7 @@ counted lines = filter (λ line. not (is_passed line.1)) (numbered_from 1 lines)
 -- the first line is a `T`
 abbrev pub MayFollow : List Asked → Asked → Type 0
 MayFollow [] (Time moment) = Unit {0}
-MayFollow [] (Feed line digits) = ⊥
-MayFollow [] (Message line body) = ⊥
-MayFollow [] (Command desk text) = ⊥
-MayFollow [] Reopen = ⊥
+MayFollow [] asked = ⊥
 MayFollow (first ∷ before) asked = Unit {0}
 
 -- Behind what was asked before, the line asks for this. It has at most 16,384 bytes.
@@ -38,6 +35,5 @@ pub record IsPlayable (before : List Asked) (line : List ℕ) (asked : Asked) : 
 -- the steps are those of these lines, behind what was asked before
 abbrev pub AreOf : List Asked → List (ℕ × List ℕ) → List Step → Type 0
 AreOf before [] [] = Unit {0}
-AreOf before [] (s ∷ steps) = ⊥
-AreOf before (line ∷ lines) [] = ⊥
 AreOf before (line ∷ lines) (s ∷ steps) = (s.number ≡ line.0) × IsPlayable before line.1 s.asked × AreOf (s.asked ∷ before) lines steps
+AreOf before lines steps = ⊥
