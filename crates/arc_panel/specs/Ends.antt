@@ -88,9 +88,7 @@ abbrev pub ReadsNoFurther : PanelEnd → List ℕ → List (List ℕ) → Type 0
 ReadsNoFurther Done read front = Unit {0}
 ReadsNoFurther ReadFault read front = Unit {0}
 ReadsNoFurther Spent read front = Unit {0}
-ReadsNoFurther WriteFault read front = IsNotAhead read front
-ReadsNoFurther (BadLine number) read front = IsNotAhead read front
-ReadsNoFurther Memory read front = IsNotAhead read front
+ReadsNoFurther end read front = IsNotAhead read front
 
 -- What a panel of this setting did with the bytes that were read of the port: their lines, and what was played of them. Where a read
 -- has met the input's end, the last line may lack its line feed. All but what is about reading and writing stayed.

@@ -12,8 +12,7 @@ spelling (Hear body) = codes "R " ++ body
 -- a moment lies before the year 10000; data and bodies are any bytes
 abbrev pub IsSpoken : Happening → Type 0
 IsSpoken (Step now) = IsMoment now
-IsSpoken (Queue token content) = Unit {0}
-IsSpoken (Hear body) = Unit {0}
+IsSpoken other = Unit {0}
 
 -- the line says this
 pub record Says (line : List ℕ) (x : Happening) : Type 0 where
@@ -40,14 +39,12 @@ moment (x ∷ h) = moment_at x (moment h)
 -- the moment of a step is no less than that of the step before
 abbrev pub MayFollow : List Happening → Happening → Type 0
 MayFollow h (Step now) = moment h ≤ now
-MayFollow h (Queue token content) = Unit {0}
-MayFollow h (Hear body) = Unit {0}
+MayFollow h other = Unit {0}
 
 -- may be done behind a step at a moment
 abbrev pub MayStep : ℕ → Happening → Type 0
 MayStep before (Step now) = IsMoment now × (before ≤ now)
-MayStep before (Queue token content) = Unit {0}
-MayStep before (Hear body) = Unit {0}
+MayStep before other = Unit {0}
 
 -- Behind what happened, the newest first, the line says this. It has at most 16,384 bytes.
 pub record IsPlayable (h : List Happening) (line : List ℕ) (x : Happening) : Type 0 where

@@ -13,6 +13,7 @@ use Rattle.arc_server.specs.Beginnings.{HasBegun, StopsBefore}
 use Rattle.arc_server.specs.Handed.{Handed}
 use Rattle.arc_server.specs.Made.{status_over, status_of_session}
 use Rattle.arc_server.specs.declared.status.Status.{Status}
+use Rattle.session_rules.specs.Sessions.{changed}
 
 -- A run began, with a port that told p then, and from there a session of this kind read some bytes, answered them, and came to its end. The
 -- store stands for the history that the session ended with; its disk is handed back, and has the recorded entries.
@@ -27,8 +28,8 @@ pub record ServesRun {D : Type 0} (seen : D → DiskSeen) (side : Side) (status 
   pub history : List Entry
   pub made : List Entry
   pub last : Stored D
-  pub serves : Serves side end read begun.asked.base (record { from = h; to = history; made = made }) (store_seen seen first)
-      (store_seen seen last) p r'.port
+  pub serves : Serves side end read begun.asked.base (record { from = h; to = history; made = made })
+      (changed (store_seen seen first) (store_seen seen last) p r'.port)
   pub shown : ShowsEnd end (store_seen seen last)
   pub limits : last.journal.limits ≡ shipped
   pub later : (seen r.disk).faults ≤ last.at_open

@@ -7,7 +7,7 @@ use Rattle.centre_rules.specs.Answers.{IsLegal}
 use Rattle.centre_rules.specs.History.{Entry}
 use Rattle.centre_rules.specs.Summary.{Summary}
 use Rattle.line_session.specs.declared.line_end.LineEnd.{LineEnd}
-use Rattle.session_rules.specs.Sessions.{Way}
+use Rattle.session_rules.specs.Sessions.{changed, Way}
 use Rattle.arc_serving.specs.Sessions.{Serves, ServesOneLine, line_end, IsHistoryAfter}
 use Rattle.arc_serving.specs.declared.session.SessionEnd.{SessionEnd}
 use Rattle.arc_serving.specs.declared.side.Side.{Side}
@@ -30,7 +30,7 @@ line_after (Some end) read b w hall hall' p p' serves =
 
 -- the hall stands for the history that it ended with, which is legal, and the caller's own part grew by its entries
 pub is_after : (side : Side) (end : SessionEnd) (read : List ℕ) (b : Summary) (w : Way) (hall hall' : HallSeen) (p p' : PortSeen)
-    → Serves side end read b w hall hall' p p' → IsHistoryAfter b w hall hall'
+    → Serves side end read b w (changed hall hall' p p') → IsHistoryAfter b w hall hall'
 is_after Lines end read b w hall hall' p p' serves = line_after (line_end end) read b w hall hall' p p' serves
 is_after Desks end read b w hall hall' p p' serves =
     after_way b w hall hall' serves.desk.session.history _ serves.to serves.made serves.desk.session.holds serves.desk.session.legal

@@ -19,7 +19,7 @@ use Rattle.line_gate.specs.Entries.{Entry, Extends, made_by}
 use Rattle.line_gate.specs.Passes.{PassSeen, IsPass}
 use Rattle.line_gate.specs.Terms.{Terms}
 use Rattle.line_session.specs.declared.line_end.LineEnd.{LineEnd}
-use Rattle.session_rules.specs.Sessions.{Goes, Way}
+use Rattle.session_rules.specs.Sessions.{changed, Goes, Way}
 use Rattle.arc_serving.proofs.DeskTurns as Desk
 use Rattle.arc_serving.proofs.LineTurns as Line
 use Rattle.arc_serving.specs.Served.{Served, ServesAtGate, way_at, AreServed, IsSubmittedBy, MakesEntries, entries_in, made_between}
@@ -31,7 +31,7 @@ line_extends None read b w hall hall' p p' s = absurd s
 line_extends (Some end) read b w hall hall' p p' s =
     subst (Extends w.from) (sym s.to) (Line.turns_extend b (meaning hall.text) hall.caller w.from s.session.history s.session.turns s.session.each)
 
-goes_extends : (side : Side) (end : SessionEnd) (read : List ℕ) (b : Summary) (w : Way) (hall hall' : HallSeen) (p p' : PortSeen) → Serves side end read b w hall hall' p p' → Extends w.from w.to
+goes_extends : (side : Side) (end : SessionEnd) (read : List ℕ) (b : Summary) (w : Way) (hall hall' : HallSeen) (p p' : PortSeen) → Serves side end read b w (changed hall hall' p p') → Extends w.from w.to
 goes_extends Lines end read b w hall hall' p p' s = line_extends (line_end end) read b w hall hall' p p' s
 goes_extends Desks end read b w hall hall' p p' s =
     subst (Extends w.from) (sym s.to) (Desk.turns_extend b (meaning hall.text) hall.caller None w.from s.desk.session.history s.desk.session.turns s.desk.session.each.0)
@@ -46,7 +46,7 @@ line_only None read b w hall hall' p p' s = absurd s
 line_only (Some end) read b w hall hall' p p' s =
     subst (OnlyOf Lines) (sym s.made) (Line.turns_report b (meaning hall.text) hall.caller w.from s.session.history s.session.turns s.session.each)
 
-entries_only : (side : Side) (end : SessionEnd) (read : List ℕ) (b : Summary) (w : Way) (hall hall' : HallSeen) (p p' : PortSeen) → Serves side end read b w hall hall' p p' → OnlyOf side w.made
+entries_only : (side : Side) (end : SessionEnd) (read : List ℕ) (b : Summary) (w : Way) (hall hall' : HallSeen) (p p' : PortSeen) → Serves side end read b w (changed hall hall' p p') → OnlyOf side w.made
 entries_only Lines end read b w hall hall' p p' s = line_only (line_end end) read b w hall hall' p p' s
 entries_only Desks end read b w hall hall' p p' s =
     subst (OnlyOf Desks) (sym s.made) (Desk.turns_request b (meaning hall.text) hall.caller None w.from s.desk.session.history s.desk.session.turns s.desk.session.each.0)
@@ -75,7 +75,7 @@ base_at t p q b base h pass from extends w =
 
 -- what a session of the pass made, over a base
 made_at : (side : Side) (t : Terms) (p q : PassSeen) (read : List ℕ) (given back : PortSeen) (end : SessionEnd) (b : Summary) (base to made : List Entry) → IsPass t p → t.stood b base
-    → Serves side end read b (record { from = p.since ++ base; to = to; made = made }) (gate_seen t p) (gate_seen t q) given back → q.made ≡ reverse made ++ p.made
+    → Serves side end read b (record { from = p.since ++ base; to = to; made = made }) (changed (gate_seen t p) (gate_seen t q) given back) → q.made ≡ reverse made ++ p.made
 made_at side t p q read given back end b base to made pass from w =
     let h = p.since ++ base in
     let after = is_after side end read b (record { from = h; to = to; made = made }) (gate_seen t p) (gate_seen t q) given back w in
@@ -84,7 +84,7 @@ made_at side t p q read given back end b base to made pass from w =
 
 -- a session over the gate as a hall, in terms of what the pass had seen before and after
 serves_at_gate : (side : Side) (t : Terms) (p q : PassSeen) (read : List ℕ) (given back : PortSeen) (end : SessionEnd) → IsPass t p → (b : Summary) (base : List Entry) → t.stood b base
-    → Goes (p.since ++ base) (λ w. Serves side end read b w (gate_seen t p) (gate_seen t q) given back)
+    → Goes (p.since ++ base) (λ w. Serves side end read b w (changed (gate_seen t p) (gate_seen t q) given back))
     → ServesAtGate side t b base p q read (record { given = given; back = back; end = end; entries = made_between p q })
 serves_at_gate side t p q read given back end pass b base from goes =
     let h = p.since ++ base in
@@ -95,15 +95,15 @@ serves_at_gate side t p q read given back end pass b base from goes =
     let same : base ≡ at.base = base_at t p q b base to pass from (goes_extends side end read b way (gate_seen t p) (gate_seen t q) given back goes.2) at in
     let ended : to ≡ q.since ++ base = at.seen ∙ ap (λ (l : List Entry). q.since ++ l) (sym same) in
     let entries : made ≡ made_between p q = sym (between made p.made q.made (made_at side t p q read given back end b base to made pass from goes.2)) in
-    subst (λ (x : List Entry). Serves side end read b (record { from = h; to = x; made = made_between p q }) (gate_seen t p) (gate_seen t q) given back) ended
-    (subst (λ (es : List Entry). Serves side end read b (record { from = h; to = to; made = es }) (gate_seen t p) (gate_seen t q) given back) entries goes.2)
+    subst (λ (x : List Entry). Serves side end read b (record { from = h; to = x; made = made_between p q }) (changed (gate_seen t p) (gate_seen t q) given back)) ended
+    (subst (λ (es : List Entry). Serves side end read b (record { from = h; to = to; made = es }) (changed (gate_seen t p) (gate_seen t q) given back)) entries goes.2)
 
 -- the same, where the pass was taken out of the hall
 pub serves_left : (side : Side) (t : Terms) (p q m : PassSeen) (read : List ℕ) (given back : PortSeen) (end : SessionEnd) → IsPass t p → q ≡ m
-    → ((b : Summary) (h : List Entry) → AtSeen t p b h → Goes h (λ w. Serves side end read b w (gate_seen t p) (gate_seen t m) given back))
+    → ((b : Summary) (h : List Entry) → AtSeen t p b h → Goes h (λ w. Serves side end read b w (changed (gate_seen t p) (gate_seen t m) given back)))
     → (b : Summary) (base : List Entry) → t.stood b base → ServesAtGate side t b base p q read (record { given = given; back = back; end = end; entries = made_between p q })
 serves_left side t p q m read given back end pass left w b base from = serves_at_gate side t p q read given back end pass b base from
-    (subst (λ (k : PassSeen). Goes (p.since ++ base) (λ v. Serves side end read b v (gate_seen t p) (gate_seen t k) given back))
+    (subst (λ (k : PassSeen). Goes (p.since ++ base) (λ v. Serves side end read b v (changed (gate_seen t p) (gate_seen t k) given back)))
     (sym left) (w b (p.since ++ base) (record { base = base; from = from; seen = refl; pass = pass })))
 
 -- what a pass made in a session

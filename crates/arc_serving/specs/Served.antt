@@ -14,7 +14,7 @@ use Rattle.line_gate.specs.AtGates.{gate_seen}
 use Rattle.line_gate.specs.Entries.{Entry, Extends}
 use Rattle.line_gate.specs.Passes.{PassSeen, IsPass}
 use Rattle.line_gate.specs.Terms.{Terms}
-use Rattle.session_rules.specs.Sessions.{Way}
+use Rattle.session_rules.specs.Sessions.{changed, Way}
 
 -- one link that was served: what it told when the door gave it and when the door got it back, how its session ended, and the
 -- entries that the pass made in the session, the earliest first
@@ -32,7 +32,7 @@ way_at base p q entries = record { from = p.since ++ base; to = q.since ++ base;
 -- after it. The entries are just those of the session.
 abbrev pub ServesAtGate : Side → Terms → Summary → List Entry → PassSeen → PassSeen → List ℕ → Served → Type 0
 ServesAtGate side t b base p q read s =
-    Serves side s.end read b (way_at base p q s.entries) (gate_seen t p) (gate_seen t q) s.given s.back
+    Serves side s.end read b (way_at base p q s.entries) (changed (gate_seen t p) (gate_seen t q) s.given s.back)
 
 -- A link was served by a session of the pass, which was p before it and q after it: it read these bytes, ended for its cause, and
 -- the session's clause holds over each base of the gate. The pass keeps its number, and no count of it falls.
@@ -70,23 +70,13 @@ pub record MovesLinks (served : List Served) (old new : Links) : Type 0 where
 abbrev pub HasServed : List Served → Option Links → Option Links → Type 0
 HasServed served None None = Unit {0}
 HasServed served (Some old) (Some new) = MovesLinks served old new
-HasServed served None (Some new) = ⊥
-HasServed served (Some old) None = ⊥
+HasServed served old new = ⊥
 
 -- what panels report: a message or a heartbeat
 abbrev pub IsReport : Event → Type 0
 IsReport (Message m) = Unit {0}
 IsReport (Beat account) = Unit {0}
-IsReport (Adopt text) = ⊥
-IsReport Start = ⊥
-IsReport Tick = ⊥
-IsReport (Claim operator number) = ⊥
-IsReport (Next operator) = ⊥
-IsReport (Act operator number step outcome) = ⊥
-IsReport (Release operator number) = ⊥
-IsReport (Close operator number code) = ⊥
-IsReport (Show number) = ⊥
-IsReport Rows = ⊥
+IsReport event = ⊥
 
 -- what operators ask for: an order for an incident, or a question
 abbrev pub IsRequest : Event → Type 0
@@ -97,11 +87,7 @@ IsRequest (Release operator number) = Unit {0}
 IsRequest (Close operator number code) = Unit {0}
 IsRequest (Show number) = Unit {0}
 IsRequest Rows = Unit {0}
-IsRequest (Adopt text) = ⊥
-IsRequest Start = ⊥
-IsRequest (Message m) = ⊥
-IsRequest (Beat account) = ⊥
-IsRequest Tick = ⊥
+IsRequest event = ⊥
 
 -- what is submitted in sessions of a kind
 abbrev pub IsSubmittedBy : Side → Event → Type 0

@@ -10,7 +10,7 @@ use Rattle.desk_session.specs.declared.desk_end.DeskEnd.TheVariants as Desk
 use Rattle.line_session.specs.Lines.{ReadsLine, ServesLine}
 use Rattle.line_session.specs.declared.line_end.LineEnd.{LineEnd}
 use Rattle.line_session.specs.declared.line_end.LineEnd.TheVariants as Line
-use Rattle.session_rules.specs.Sessions.{IsShownFor, Way}
+use Rattle.session_rules.specs.Sessions.{Change, IsShownFor, Way}
 use Rattle.arc_serving.specs.declared.session.SessionEnd.{SessionEnd}
 use Rattle.arc_serving.specs.declared.session.SessionEnd.TheVariants.{Quit, InputEnded, ReadFault, WriteFault, Spent, Stopped}
 use Rattle.arc_serving.specs.declared.side.Side.{Side}
@@ -44,18 +44,14 @@ ServesOneLine None read b w hall hall' p p' = ⊥
 ServesOneLine (Some end) read b w hall hall' p p' = ServesLine end read b w hall hall' p p'
 
 -- On its way over b it answered what was read, over a hall and a port as they were and as they are.
-abbrev pub Serves : Side → SessionEnd → List ℕ → Summary → Way → HallSeen → HallSeen → PortSeen → PortSeen → Type 0
-Serves Lines end read b w hall hall' p p' = ServesOneLine (line_end end) read b w hall hall' p p'
-Serves Desks end read b w hall hall' p p' = ServesDesk (desk_end end) read b w hall hall' p p'
+abbrev pub Serves : Side → SessionEnd → List ℕ → Summary → Way → Change → Type 0
+Serves Lines end read b w c = ServesOneLine (line_end end) read b w c.hall c.hall' c.port c.port'
+Serves Desks end read b w c = ServesDesk (desk_end end) read b w c.hall c.hall' c.port c.port'
 
 -- a session that a stop ended: the hall showed it for some event, or memory was wanted, whatever is known of the hall's history
 abbrev pub ShowsEnd : SessionEnd → HallSeen → Type 0
-ShowsEnd Quit hall = Unit {0}
-ShowsEnd InputEnded hall = Unit {0}
-ShowsEnd ReadFault hall = Unit {0}
-ShowsEnd WriteFault hall = Unit {0}
-ShowsEnd Spent hall = Unit {0}
 ShowsEnd (Stopped stop) hall = IsShownFor hall stop
+ShowsEnd end hall = Unit {0}
 
 -- what is so of a session of either kind, on its way
 pub record IsHistoryAfter (b : Summary) (w : Way) (hall hall' : HallSeen) : Type 0 where

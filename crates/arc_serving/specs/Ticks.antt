@@ -52,8 +52,7 @@ pub record MovesMoments (ticks : List Ticking) (old new : Moments) : Type 0 wher
 abbrev pub HasTicked : List Ticking → Option Moments → Option Moments → Type 0
 HasTicked ticks None None = Unit {0}
 HasTicked ticks (Some old) (Some new) = MovesMoments ticks old new
-HasTicked ticks None (Some new) = ⊥
-HasTicked ticks (Some old) None = ⊥
+HasTicked ticks old new = ⊥
 
 -- The last of these Ticks was stopped, not by want of memory, as the pass shows. Each earlier one that has no entry was refused
 -- memory.

@@ -20,34 +20,22 @@ use Rattle.arc_serving.specs.declared.working.WorkerEnd.TheVariants.{DoorEnded, 
 -- want of memory, which ends a session and no worker
 abbrev pub is_memory : Stop → Bool
 is_memory Memory = true
-is_memory (Down at_open now) = false
-is_memory (Full used need records) = false
-is_memory (Worn count) = false
+is_memory stop = false
 
 -- the session ended by want of memory
 abbrev pub is_refused : SessionEnd → Bool
 is_refused (Stopped stop) = is_memory stop
-is_refused Quit = false
-is_refused InputEnded = false
-is_refused ReadFault = false
-is_refused WriteFault = false
-is_refused Spent = false
+is_refused end = false
 
 -- the stop, where it ends a worker
 abbrev pub other_than_memory : Stop → Option Stop
 other_than_memory Memory = None
-other_than_memory (Down at_open now) = Some (Down at_open now)
-other_than_memory (Full used need records) = Some (Full used need records)
-other_than_memory (Worn count) = Some (Worn count)
+other_than_memory stop = Some stop
 
 -- the stop that ended the session and ends the worker too
 abbrev pub stop_of : SessionEnd → Option Stop
 stop_of (Stopped stop) = other_than_memory stop
-stop_of Quit = None
-stop_of InputEnded = None
-stop_of ReadFault = None
-stop_of WriteFault = None
-stop_of Spent = None
+stop_of end = None
 
 -- no session of these ended the worker
 abbrev pub WentOn : List Served → Type 0

@@ -4,7 +4,7 @@ ghost use Rattle.arc_io.specs.Causes.{Rose};
 ghost use Rattle.centre_core.specs.Halls.{IsKept};
 ghost use Rattle.centre_rules.specs.Summary.{Summary};
 ghost use Rattle.centre_rules.specs.History.{Entry};
-ghost use Rattle.session_rules.specs.Sessions.{Goes};
+ghost use Rattle.session_rules.specs.Sessions.{changed, Goes};
 ghost use Rattle.arc_serving.specs.Sessions.{Reads, Serves, ShowsEnd};
 
 use crate::side::Side;
@@ -37,7 +37,7 @@ pub fn serve<H: Hall, P: Port>(side: Side, alloc: Global, hall: &mut H, port: &m
     requires not_ended { (P.seen port.old).ended ≡ false }
     ensures serves { (read : List ℕ) × Reads side result read (P.seen port.old) (P.seen port.new)
         × ((b : Summary) (h : List Entry) → (H.seen hall.old).stands b h →
-        Goes h (λ w. Serves side result read b w (H.seen hall.old) (H.seen hall.new) (P.seen port.old) (P.seen port.new))) }
+        Goes h (λ w. Serves side result read b w (changed (H.seen hall.old) (H.seen hall.new) (P.seen port.old) (P.seen port.new)))) }
     ensures stop { ShowsEnd result (H.seen hall.new) }
     ensures read { result ≡ SessionEnd.ReadFault → Rose (P.seen port.old).read_faults (P.seen port.new).read_faults }
     ensures write { result ≡ SessionEnd.WriteFault → Rose (P.seen port.old).write_faults (P.seen port.new).write_faults }
@@ -55,7 +55,7 @@ fn serve_one_line<H: Hall, P: Port>(alloc: Global, hall: &mut H, port: &mut P) -
     requires not_ended { (P.seen port.old).ended ≡ false }
     ensures serves { (read : List ℕ) × Reads Side.Lines result read (P.seen port.old) (P.seen port.new)
         × ((b : Summary) (h : List Entry) → (H.seen hall.old).stands b h →
-        Goes h (λ w. Serves Side.Lines result read b w (H.seen hall.old) (H.seen hall.new) (P.seen port.old) (P.seen port.new))) }
+        Goes h (λ w. Serves Side.Lines result read b w (changed (H.seen hall.old) (H.seen hall.new) (P.seen port.old) (P.seen port.new)))) }
     ensures stop { ShowsEnd result (H.seen hall.new) }
     ensures read { result ≡ SessionEnd.ReadFault → Rose (P.seen port.old).read_faults (P.seen port.new).read_faults }
     ensures write { result ≡ SessionEnd.WriteFault → Rose (P.seen port.old).write_faults (P.seen port.new).write_faults }
@@ -76,7 +76,7 @@ fn serve_one_desk<H: Hall, P: Port>(alloc: Global, hall: &mut H, port: &mut P) -
     requires not_ended { (P.seen port.old).ended ≡ false }
     ensures serves { (read : List ℕ) × Reads Side.Desks result read (P.seen port.old) (P.seen port.new)
         × ((b : Summary) (h : List Entry) → (H.seen hall.old).stands b h →
-        Goes h (λ w. Serves Side.Desks result read b w (H.seen hall.old) (H.seen hall.new) (P.seen port.old) (P.seen port.new))) }
+        Goes h (λ w. Serves Side.Desks result read b w (changed (H.seen hall.old) (H.seen hall.new) (P.seen port.old) (P.seen port.new)))) }
     ensures stop { ShowsEnd result (H.seen hall.new) }
     ensures read { result ≡ SessionEnd.ReadFault → Rose (P.seen port.old).read_faults (P.seen port.new).read_faults }
     ensures write { result ≡ SessionEnd.WriteFault → Rose (P.seen port.old).write_faults (P.seen port.new).write_faults }

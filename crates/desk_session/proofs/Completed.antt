@@ -6,7 +6,7 @@ use Rattle.centre_core.specs.Halls.{HallSeen}
 use Rattle.centre_rules.specs.Summary.{Summary}
 use Rattle.centre_rules.specs.History.{Entry}
 use Rattle.session_rules.specs.Turns.{Rules, pieces_of, text_of}
-use Rattle.session_rules.specs.Sessions.{Ending, answered, cut_off, stopped, IsEnd}
+use Rattle.session_rules.specs.Sessions.{changed, Ending, answered, cut_off, stopped, IsEnd}
 use Rattle.session_rules.proofs.Appended.{text-append}
 use Rattle.desk_session.specs.Completeness.{AnswersTurns, IsComplete}
 use Rattle.desk_session.specs.Sessions.{IsDesk, desk_rules}
@@ -41,7 +41,7 @@ complete_by cut_off rules x lines rest turns behind a taken e = (e.front, e.last
 complete_by (stopped stop) rules x lines rest turns behind a taken e = (e.front, e.split, answers_just e.front a.text (ap (λ (o : Added). o.text) e.added))
 
 -- a session is complete
-pub completes : {end : Ending} {b : Summary} {first : Option (List ℕ)} {lines : List (List ℕ)} {h : List Entry} {hall hall' : HallSeen} {p p' : PortSeen} (d : IsDesk end b first lines h hall hall' p p')
+pub completes : {end : Ending} {b : Summary} {first : Option (List ℕ)} {lines : List (List ℕ)} {h : List Entry} {hall hall' : HallSeen} {p p' : PortSeen} (d : IsDesk end b first lines h (changed hall hall' p p'))
     → IsComplete end d.session.turns d.session.behind d.session.added.text lines
 completes {end} {b} {first} {lines} {h} {hall} {hall'} {p} {p'} d =
     complete_by end (desk_rules b hall hall' first d.last) d.session.history lines d.session.left d.session.turns d.session.behind d.session.added d.session.taken d.session.ended

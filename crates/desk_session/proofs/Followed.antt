@@ -7,7 +7,7 @@ use Rattle.centre_core.specs.Halls.{HallSeen, IsKept}
 use Rattle.centre_core.specs.declared.hall.Stop.{Stop}
 use Rattle.centre_rules.specs.Summary.{Summary}
 use Rattle.centre_rules.specs.History.{Entry, Extends}
-use Rattle.session_rules.specs.Sessions.{Ending, answered}
+use Rattle.session_rules.specs.Sessions.{changed, Ending, answered}
 use Rattle.session_rules.specs.Turns.{pieces_of}
 use Rattle.session_rules.proofs.Appended.{pieces-append}
 use Rattle.session_rules.proofs.Joined.{Follows, session_then, all_pieces}
@@ -78,14 +78,14 @@ module _ (b : Summary) {hall mid : HallSeen} (kept : IsKept hall mid) where
   }
 
 -- whom a session that answered all acts for at last
-pub acts_at_last : {b : Summary} {first : Option (List ℕ)} {xs : List (List ℕ)} {h : List Entry} {hall mid : HallSeen} {p q : PortSeen} (d : IsDesk answered b first xs h hall mid p q)
+pub acts_at_last : {b : Summary} {first : Option (List ℕ)} {xs : List (List ℕ)} {h : List Entry} {hall mid : HallSeen} {p q : PortSeen} (d : IsDesk answered b first xs h (changed hall mid p q))
     → d.last ≡ acts_over (meaning hall.text) first xs
 acts_at_last {b} {first} {xs} {h} {hall} {mid} {p} {q} d = sym d.session.each.1 ∙ ap (acts_over (meaning hall.text) first) (sym (all_pieces desk_turns d.session))
 
 -- a session that answered all, and then one over what follows
 unfoldable pub desk_then : {end : Ending} {b : Summary} {first next : Option (List ℕ)} {xs ys : List (List ℕ)} {h : List Entry} {hall mid last : HallSeen} {p q r : PortSeen}
-    → IsKept hall mid → next ≡ acts_over (meaning hall.text) first xs → (d : IsDesk answered b first xs h hall mid p q) → IsDesk end b next ys d.session.history mid last q r
-    → IsDesk end b first (xs ++ ys) h hall last p r
+    → IsKept hall mid → next ≡ acts_over (meaning hall.text) first xs → (d : IsDesk answered b first xs h (changed hall mid p q)) → IsDesk end b next ys d.session.history (changed mid last q r)
+    → IsDesk end b first (xs ++ ys) h (changed hall last p r)
 desk_then {end} {b} {first} {next} {xs} {ys} {h} {hall} {mid} {last} {p} {q} {r} kept acts d n = record {
   last = n.last;
   session = session_then desk_turns (desk_follows b kept (d.session.up tt) last h first d.last next n.last (acts_at_last d ∙ sym acts)) d.session n.session;

@@ -13,7 +13,7 @@ use Rattle.centre_core.specs.Halls.{HallSeen, IsKept}
 use Rattle.centre_rules.specs.Summary.{Summary}
 use Rattle.centre_rules.specs.History.{Entry}
 use Rattle.session_rules.specs.Inputs.{input_limit, in_limit}
-use Rattle.session_rules.specs.Sessions.{answered, ReadsNoFurther, Goes}
+use Rattle.session_rules.specs.Sessions.{changed, answered, ReadsNoFurther, Goes}
 use Rattle.session_rules.proofs.Ahead.{reads_no_further}
 use Rattle.session_rules.proofs.Joined.{all_pieces, session_read, session_then}
 use Rattle.session_rules.specs.Turns.{entries_of}
@@ -36,7 +36,7 @@ read_all_lines ended read out = ap (λ (t : Bool). lines_read t read) out
 
 module _ (b : Summary) (h : List Entry) where
   -- A session ends with what it read, by a failed read.
-  pub desk_rests : (read : List ℕ) {hall hall' : HallSeen} {p q r : PortSeen} → quits (ended_lines read) ≡ false → r.ended ≡ false → OnlyReads q r → IsDesk answered b None (ended_lines read) h hall hall' p q
+  pub desk_rests : (read : List ℕ) {hall hall' : HallSeen} {p q r : PortSeen} → quits (ended_lines read) ≡ false → r.ended ≡ false → OnlyReads q r → IsDesk answered b None (ended_lines read) h (changed hall hall' p q)
       → Goes h (λ w. ServesDesk ReadFault read b w hall hall' p r)
   desk_rests read {hall} {hall'} {p} {q} {r} goes_on not_ended only d =
       let same : up_to_quit (lines_read r.ended read) ≡ ended_lines read = ap up_to_quit (read_lines r.ended read not_ended) ∙ up_all (ended_lines read) goes_on in
@@ -44,7 +44,7 @@ module _ (b : Summary) (h : List Entry) where
       (all.session.history, entries_of desk_turns all.session.turns, record { desk = all; to = refl; made = refl; ahead = tt; complete = completes all })
 
   module _ (stream : List ℕ) (goes_on : quits (ended_lines stream) ≡ false) {hall mid : HallSeen} {p q q' : PortSeen} (kept : IsKept hall mid) (only : OnlyReads q q')
-      (first : IsDesk answered b None (ended_lines stream) h hall mid p q) where
+      (first : IsDesk answered b None (ended_lines stream) h (changed hall mid p q)) where
     acts : acts_over (meaning mid.text) None (ended_lines stream) ≡ acts_over (meaning hall.text) None (ended_lines stream)
     acts = ap (λ (t : List ℕ). acts_over (meaning t) None (ended_lines stream)) kept.text
 
@@ -53,10 +53,10 @@ module _ (b : Summary) (h : List Entry) where
 
     -- A session goes on behind a piece.
     pub desk_goes : {hall' : HallSeen} {r : PortSeen} (after : List (List ℕ)) → quits after ≡ false → ((x : List Entry) → mid.stands b x → ServesLines (Ok tt) (ended_lines stream) after b x mid hall' q' r)
-        → IsDesk answered b None after h hall hall' p r
+        → IsDesk answered b None after h (changed hall hall' p r)
     unfolding desk_read session_read
     desk_goes {hall'} {r} after still next =
-        let d : IsDesk answered b None (ended_lines stream) h hall mid p q' = desk_read refl only first in
+        let d : IsDesk answered b None (ended_lines stream) h (changed hall mid p q') = desk_read refl only first in
         let n = next first.session.history first.session.holds in
         desk_read (sym (up_all after still) ∙ came (Ok tt) after first.session.history n) (record { rest = refl }) (desk_then kept acts d n.desk)
 
@@ -66,8 +66,8 @@ module _ (b : Summary) (h : List Entry) where
     unfolding desk_read desk_then session_read session_then
     desk_ends {hall'} {r} read piece end after parts short is next =
         let n = next first.session.history first.session.holds in
-        let d : IsDesk answered b None (ended_lines stream) h hall mid p q' = desk_read refl only first in
-        let all : IsDesk (ending_of (Err end)) b None (up_to_quit (lines_read r.ended read)) h hall hall' p r =
+        let d : IsDesk answered b None (ended_lines stream) h (changed hall mid p q') = desk_read refl only first in
+        let all : IsDesk (ending_of (Err end)) b None (up_to_quit (lines_read r.ended read)) h (changed hall hall' p r) =
         desk_read (ap up_to_quit is ∙ came (Err end) after first.session.history n) (record { rest = refl }) (desk_then kept acts d n.desk) in (
           all.session.history,
           entries_of desk_turns all.session.turns,

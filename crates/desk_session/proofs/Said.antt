@@ -17,7 +17,7 @@ use Rattle.centre_rules.specs.History.{Entry}
 use Rattle.centre_rules.specs.Answers.{IsLegal}
 use Rattle.desk_wire.specs.Replies.{line_of}
 use Rattle.desk_wire.specs.declared.command.Command.{Command}
-use Rattle.session_rules.specs.Sessions.{answered, cut_off, stopped}
+use Rattle.session_rules.specs.Sessions.{changed, answered, cut_off, stopped}
 use Rattle.session_rules.specs.Turns.{entries_of}
 use Rattle.session_rules.proofs.Made.{session_sent, session_cut, session_stopped}
 use Rattle.desk_session.specs.Asking.{Asked, Left, Asks, IsAsked, said_as, IsSaid}
@@ -62,7 +62,7 @@ module _ (b : Summary) (operator : Option (List ℕ)) (h : List Entry) (hall hal
   -- A session over one line, whose answer was sent whole, or cut off.
 
   desk_sent : (x : List Entry) (t : Turn) → IsTurn b (meaning hall.text) hall.caller operator h x t → hall'.stands b x → IsLegal b x
-      → hall'.own x ≡ reverse (entries_of desk_turns (t ∷ [])) ++ hall.own h → (hall.readable b h → hall'.readable b x) → (hall.up → hall'.up) → Adds p p' (desk_turns.adds t) → IsDesk answered b operator (t.line ∷ []) h hall hall' p p'
+      → hall'.own x ≡ reverse (entries_of desk_turns (t ∷ [])) ++ hall.own h → (hall.readable b h → hall'.readable b x) → (hall.up → hall'.up) → Adds p p' (desk_turns.adds t) → IsDesk answered b operator (t.line ∷ []) h (changed hall hall' p p')
   desk_sent x t turn s legal own reads up adds =
       record {
         last = acts_after (meaning hall.text) operator (command_in t.line);
@@ -71,7 +71,7 @@ module _ (b : Summary) (operator : Option (List ℕ)) (h : List Entry) (hall hal
 
   desk_cut : (x : List Entry) (t : Turn) (count : ℕ) → IsTurn b (meaning hall.text) hall.caller operator h x t → hall'.stands b x → IsLegal b x
       → hall'.own x ≡ reverse (entries_of desk_turns (t ∷ [])) ++ hall.own h → (hall.readable b h → hall'.readable b x) → (hall.up → hall'.up) → count < length t.reply → Adds p p' (record (desk_turns.adds t) { text = take count t.reply })
-      → IsDesk cut_off b operator (t.line ∷ []) h hall hall' p p'
+      → IsDesk cut_off b operator (t.line ∷ []) h (changed hall hall' p p')
   desk_cut x t count turn s legal own reads up short adds = record {
     last = acts_after (meaning hall.text) operator (command_in t.line);
     session = session_cut desk_turns (desk_rules b hall hall' operator (acts_after (meaning hall.text) operator (command_in t.line))) b h refl x t count ((x, turn, ([], refl)), refl) s legal own reads up short adds;
@@ -89,19 +89,19 @@ module _ (b : Summary) (operator : Option (List ℕ)) (h : List Entry) (line : L
         subst (λ (o : Option Event). IsAnswered b hall.caller h h said_turn o (text_of (meaning hall.text) (command_in line))) (sym (ap (event_of operator) (sym typed) ∙ nothing))
         (record { extends = ([], refl); reading = refl; entry = refl; reply = ap (text_of (meaning hall.text)) typed })
 
-    sent_said : event_of operator command ≡ None → hall.stands b h → IsLegal b h → Puts {T = Unit {0}} {E = DeskEnd} p p' (Ok tt) (text_of (meaning hall.text) command) → IsDesk answered b operator (line ∷ []) h hall hall p p'
+    sent_said : event_of operator command ≡ None → hall.stands b h → IsLegal b h → Puts {T = Unit {0}} {E = DeskEnd} p p' (Ok tt) (text_of (meaning hall.text) command) → IsDesk answered b operator (line ∷ []) h (changed hall hall p p')
     unfolding said_turn
     sent_said nothing s legal put =
         desk_sent b operator h hall hall p p' h said_turn (is_said nothing) s legal refl (λ r. r) (λ u. u) (adds_text p p' (text_of (meaning hall.text) command) put.taken put.others)
 
-    cut_said : event_of operator command ≡ None → hall.stands b h → IsLegal b h → Puts {T = Unit {0}} {E = DeskEnd} p p' (Err WriteFault) (text_of (meaning hall.text) command) → IsDesk cut_off b operator (line ∷ []) h hall hall p p'
+    cut_said : event_of operator command ≡ None → hall.stands b h → IsLegal b h → Puts {T = Unit {0}} {E = DeskEnd} p p' (Err WriteFault) (text_of (meaning hall.text) command) → IsDesk cut_off b operator (line ∷ []) h (changed hall hall p p')
     unfolding said_turn
     cut_said nothing s legal put =
         let part = part_said p p' (text_of (meaning hall.text) command) WriteFault put in
         desk_cut b operator h hall hall p p' h said_turn part.count (is_said nothing) s legal refl (λ r. r) (λ u. u) part.short part.adds
 
     pub session_said : (end : Result (Unit {0}) DeskEnd) → event_of operator command ≡ None → hall.stands b h → IsLegal b h → Puts p p' (said_as end) (text_of (meaning hall.text) command) → IsSaid end
-        → IsDesk (ending_of end) b operator (line ∷ []) h hall hall p p'
+        → IsDesk (ending_of end) b operator (line ∷ []) h (changed hall hall p p')
     session_said (Ok tt) nothing s legal put how = sent_said nothing s legal put
     session_said (Err Quit) nothing s legal put how = sent_said nothing s legal put
     session_said (Err WriteFault) nothing s legal put how = cut_said nothing s legal put
@@ -139,30 +139,30 @@ module _ (b : Summary) (operator : Option (List ℕ)) (h : List Entry) (line : L
     put_after : (end : Result (Unit {0}) DeskEnd) (a : Asked end b h hall hall' event p p') → Puts (after_noise [] (after_reading a.reading p)) p' end (line_of a.took.entry.reply)
     put_after end a = subst (λ (q : PortSeen). Puts q p' end (line_of a.took.entry.reply)) (sym (noise_none (after_reading a.reading p))) a.put
 
-    sent_asked : Asked (Ok tt) b h hall hall' event p p' → IsDesk answered b operator (line ∷ []) h hall hall' p p'
+    sent_asked : Asked (Ok tt) b h hall hall' event p p' → IsDesk answered b operator (line ∷ []) h (changed hall hall' p p')
     unfolding asked_turn
     sent_asked a =
         let goes = a.took.goes in
         desk_sent b operator h hall hall' p p' (a.took.entry ∷ goes.before) (asked_turn (Ok tt) a) (is_asked (Ok tt) a) goes.holds goes.legal goes.own goes.reads (λ _. goes.up)
         (adds_put p p' a.reading [] (line_of a.took.entry.reply) tt (put_after (Ok tt) a))
 
-    cut_asked : Asked (Err WriteFault) b h hall hall' event p p' → IsDesk cut_off b operator (line ∷ []) h hall hall' p p'
+    cut_asked : Asked (Err WriteFault) b h hall hall' event p p' → IsDesk cut_off b operator (line ∷ []) h (changed hall hall' p p')
     unfolding asked_turn
     cut_asked a =
         let goes = a.took.goes in
         let cut = adds_front p p' a.reading [] (line_of a.took.entry.reply) WriteFault (put_after (Err WriteFault) a) in
         desk_cut b operator h hall hall' p p' (a.took.entry ∷ goes.before) (asked_turn (Err WriteFault) a) cut.count (is_asked (Err WriteFault) a) goes.holds goes.legal goes.own goes.reads (λ _. goes.up) cut.short cut.adds
 
-    left_asked : (stop : Stop) → Left stop b h hall hall' event p p' → IsDesk (stopped stop) b operator (line ∷ []) h hall hall' p p'
+    left_asked : (stop : Stop) → Left stop b h hall hall' event p p' → IsDesk (stopped stop) b operator (line ∷ []) h (changed hall hall' p p')
     left_asked stop l =
-        subst (λ (q : PortSeen). IsDesk (stopped stop) b operator (line ∷ []) h hall hall' p q) (sym l.unsaid)
+        subst (λ (q : PortSeen). IsDesk (stopped stop) b operator (line ∷ []) h (changed hall hall' p q)) (sym l.unsaid)
         (record {
           last = operator;
           session = session_stopped desk_turns (desk_rules b hall hall' operator operator) b h refl p stop line l.reading l.left.waits (l.left.waits.extends, refl)
               (event, ap (event_of operator) (sym typed) ∙ submits, l.left.cause);
         })
 
-    pub session_asked : (end : Result (Unit {0}) DeskEnd) → Asks end b h hall hall' event p p' → IsDesk (ending_of end) b operator (line ∷ []) h hall hall' p p'
+    pub session_asked : (end : Result (Unit {0}) DeskEnd) → Asks end b h hall hall' event p p' → IsDesk (ending_of end) b operator (line ∷ []) h (changed hall hall' p p')
     session_asked (Ok tt) a = sent_asked a
     session_asked (Err WriteFault) a = cut_asked a
     session_asked (Err (Stopped stop)) a = left_asked stop a

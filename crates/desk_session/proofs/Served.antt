@@ -7,7 +7,7 @@ use Rattle.centre_core.specs.Halls.{HallSeen, IsKept}
 use Rattle.centre_rules.specs.Summary.{Summary}
 use Rattle.centre_rules.specs.History.{Entry}
 use Rattle.centre_rules.specs.Answers.{IsLegal}
-use Rattle.session_rules.specs.Sessions.{Ending, answered}
+use Rattle.session_rules.specs.Sessions.{changed, Ending, answered}
 use Rattle.session_rules.proofs.Joined.{IsEarly, session_wider, session_read}
 use Rattle.session_rules.proofs.Made.{session_none}
 use Rattle.desk_session.specs.Desks.{ServesLines}
@@ -22,11 +22,11 @@ use Rattle.desk_session.proofs.Quitting.{up_all, up_next, wider}
 
 -- the same session, over the same lines and to the same port but for reads
 unfoldable pub desk_read : {end : Ending} {b : Summary} {first : Option (List ℕ)} {xs ys : List (List ℕ)} {h : List Entry} {hall hall' : HallSeen} {p q r : PortSeen}
-    → ys ≡ xs → OnlyReads q r → IsDesk end b first xs h hall hall' p q → IsDesk end b first ys h hall hall' p r
+    → ys ≡ xs → OnlyReads q r → IsDesk end b first xs h (changed hall hall' p q) → IsDesk end b first ys h (changed hall hall' p r)
 desk_read {end} {b} {first} {xs} {ys} {h} {hall} {hall'} {p} {q} {r} same only d = record { last = d.last; session = session_read desk_turns same only d.session }
 
 -- a session over no lines
-pub desk_none : (b : Summary) (first : Option (List ℕ)) (h : List Entry) {hall : HallSeen} {p q : PortSeen} → hall.stands b h → IsLegal b h → OnlyReads p q → IsDesk answered b first [] h hall hall p q
+pub desk_none : (b : Summary) (first : Option (List ℕ)) (h : List Entry) {hall : HallSeen} {p q : PortSeen} → hall.stands b h → IsLegal b h → OnlyReads p q → IsDesk answered b first [] h (changed hall hall p q)
 desk_none b first h {hall} {p} {q} s legal only = record {
   last = first;
   session = session_none desk_turns (desk_rules b hall hall first first) b h refl (([], refl), refl) s legal only;
@@ -34,7 +34,7 @@ desk_none b first h {hall} {p} {q} s legal only = record {
 
 -- a session that ended early, over more lines
 pub desk_wider : {end : Ending} {b : Summary} {first : Option (List ℕ)} {xs : List (List ℕ)} {h : List Entry} {hall hall' : HallSeen} {p q : PortSeen} (more : List (List ℕ))
-    → IsEarly end → IsDesk end b first xs h hall hall' p q → IsDesk end b first (xs ++ more) h hall hall' p q
+    → IsEarly end → IsDesk end b first xs h (changed hall hall' p q) → IsDesk end b first (xs ++ more) h (changed hall hall' p q)
 desk_wider {end} {b} {first} {xs} {h} {hall} {hall'} {p} {q} more early d = record { last = d.last; session = session_wider desk_turns more early d.session }
 
 module _ (before : List (List ℕ)) (b : Summary) (h : List Entry) where
@@ -52,14 +52,14 @@ module _ (before : List (List ℕ)) (b : Summary) (h : List Entry) where
   serves_same end end' after after' {hall} {hall'} {p} {p'} alike same s = record {
     more = s.more;
     came = same ∙ s.came;
-    desk = subst (λ e. IsDesk e b (acts_over (meaning hall.text) None before) s.more h hall hall' p p') alike s.desk;
+    desk = subst (λ e. IsDesk e b (acts_over (meaning hall.text) None before) s.more h (changed hall hall' p p')) alike s.desk;
   }
 
   module _ (mid_lines : List (List ℕ)) (going : quits before ≡ false) (still : quits mid_lines ≡ false) where
     -- One line more came behind lines that were served, of a session that acts for this operator by then.
     pub serves_more : (end : Result (Unit {0}) DeskEnd) (line : List ℕ) (operator : Option (List ℕ)) {hall mid hall' : HallSeen} {p q r : PortSeen} → IsKept hall mid
         → operator ≡ acts_over (meaning hall.text) None mid_lines → ServesLines (Ok tt) before mid_lines b h hall mid p q
-        → ((x : List Entry) → mid.stands b x → IsDesk (ending_of end) b operator (line ∷ []) x mid hall' q r) → ServesLines end before (mid_lines ++ line ∷ []) b h hall hall' p r
+        → ((x : List Entry) → mid.stands b x → IsDesk (ending_of end) b operator (line ∷ []) x (changed mid hall' q r)) → ServesLines end before (mid_lines ++ line ∷ []) b h hall hall' p r
     serves_more end line operator {hall} {mid} {hall'} {p} {q} {r} kept is s next =
         let setup = meaning hall.text in
         let all : mid_lines ≡ before ++ s.more = sym (up_all mid_lines still) ∙ s.came ∙ ap (λ (l : List (List ℕ)). l ++ s.more) (up_all before going) in

@@ -7,7 +7,7 @@ use Rattle.arc_text.specs.Lines.{ended_lines}
 use Rattle.centre_core.specs.Halls.{HallSeen}
 use Rattle.centre_rules.specs.Summary.{Summary}
 use Rattle.centre_rules.specs.History.{Entry}
-use Rattle.session_rules.specs.Sessions.{answered}
+use Rattle.session_rules.specs.Sessions.{changed, answered}
 use Rattle.desk_session.specs.Desks.{DeskValue, TookStream}
 use Rattle.desk_session.specs.Sessions.{IsDesk}
 
@@ -19,4 +19,4 @@ pub record SoFar (state : DeskValue) (hall hall' : HallSeen) (p p' : PortSeen) :
   pub not_ended : p'.ended ≡ false
   pub reads : p.read_faults ≤ p'.read_faults
   pub writes : p.write_faults ≤ p'.write_faults
-  pub desk : (b : Summary) (h : List Entry) → hall.stands b h → IsDesk answered b None (ended_lines stream) h hall hall' p p'
+  pub desk : (b : Summary) (h : List Entry) → hall.stands b h → IsDesk answered b None (ended_lines stream) h (changed hall hall' p p')

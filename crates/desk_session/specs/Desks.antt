@@ -11,7 +11,7 @@ use Rattle.centre_core.specs.Halls.{HallSeen}
 use Rattle.centre_rules.specs.Summary.{Summary}
 use Rattle.centre_rules.specs.History.{Entry}
 use Rattle.session_rules.specs.Inputs.{input_limit, in_limit}
-use Rattle.session_rules.specs.Sessions.{ReadsNoFurther, Way}
+use Rattle.session_rules.specs.Sessions.{changed, ReadsNoFurther, Way}
 use Rattle.session_rules.specs.Turns.{entries_of}
 use Rattle.desk_session.specs.Completeness.{IsComplete}
 use Rattle.desk_session.specs.Events.{acts_over, quits, up_to_quit}
@@ -78,7 +78,7 @@ pub record ServesLines (end : Result (Unit {0}) DeskEnd) (before after : List (L
     (hall hall' : HallSeen) (p p' : PortSeen) : Type 0 where
   pub more : List (List ℕ)
   pub came : up_to_quit after ≡ up_to_quit before ++ more
-  pub desk : IsDesk (ending_of end) b (acts_over (meaning hall.text) None before) more h hall hall' p p'
+  pub desk : IsDesk (ending_of end) b (acts_over (meaning hall.text) None before) more h (changed hall hall' p p')
 
 -- over those that these bytes end behind a stream
 abbrev pub ServesBytes :
@@ -118,7 +118,7 @@ pub record ReadsDesk (end : DeskEnd) (read : List ℕ) (p p' : PortSeen) : Type 
 -- A desk session over a port that read these bytes, on this way: a session over all their lines up to a `quit`, which acts for nobody at
 -- first.
 pub record ServesDesk (end : DeskEnd) (read : List ℕ) (b : Summary) (w : Way) (hall hall' : HallSeen) (p p' : PortSeen) : Type 0 where
-  pub desk : IsDesk (ending_of (Err end)) b None (up_to_quit (lines_read p'.ended read)) w.from hall hall' p p'
+  pub desk : IsDesk (ending_of (Err end)) b None (up_to_quit (lines_read p'.ended read)) w.from (changed hall hall' p p')
   pub to : w.to ≡ desk.session.history
   pub made : w.made ≡ entries_of desk_turns desk.session.turns
   pub ahead : ReadsNoFurther desk_turns typed_lines (ending_of (Err end)) read desk.session.turns desk.session.behind

@@ -46,8 +46,6 @@ acts_over setup operator (line ∷ lines) = acts_over setup (acts_after setup op
 
 -- the event of a command, for an operator
 abbrev pub event_by : List ℕ → Command → Option Event
-event_by operator (Login name pin) = None
-event_by operator Quit = None
 event_by operator Next = Some (TheNext operator)
 event_by operator (Claim number) = Some (TheClaim operator number)
 event_by operator (Act number step outcome) = Some (TheAct operator number step outcome)
@@ -55,12 +53,12 @@ event_by operator (Release number) = Some (TheRelease operator number)
 event_by operator (Close number code) = Some (TheClose operator number code)
 event_by operator (Show number) = Some (TheShow number)
 event_by operator Rows = Some TheList
+event_by operator command = None
 
 -- for the operator for whom the session acts; nothing where it acts for nobody
 abbrev pub event_of : Option (List ℕ) → Option Command → Option Event
 event_of (Some operator) (Some command) = event_by operator command
-event_of (Some operator) None = None
-event_of None command = None
+event_of operator command = None
 
 -- What is answered without asking the hall.
 

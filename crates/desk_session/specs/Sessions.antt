@@ -1,14 +1,13 @@
 -- What a desk session over lines did, by its end.
 use Rattle.std.specs.Prelude.{◌≡◌, ℕ, List, [], Option, Some, Result, Ok, Err}
 use Rattle.arc_data.specs.declared.event.Event.{Event}
-use Rattle.arc_io.specs.Seen.{PortSeen}
 use Rattle.alarm_rules.specs.Setups.{meaning}
 use Rattle.centre_core.specs.Halls.{HallSeen, IsStopOf}
 use Rattle.centre_core.specs.declared.hall.Stop.{Stop}
 use Rattle.centre_rules.specs.Summary.{Summary}
 use Rattle.centre_rules.specs.History.{Entry}
 use Rattle.session_rules.specs.Turns.{Rules, pieces_of}
-use Rattle.session_rules.specs.Sessions.{Ending, answered, cut_off, stopped, IsSession}
+use Rattle.session_rules.specs.Sessions.{Ending, answered, cut_off, stopped, Change, IsSession}
 use Rattle.desk_session.specs.Events.{command_in, acts_over, event_of}
 use Rattle.desk_session.specs.Turns.{Turn, desk_turns, AreTurns}
 use Rattle.desk_session.specs.declared.desk_end.DeskEnd.{DeskEnd}
@@ -16,13 +15,9 @@ use Rattle.desk_session.specs.declared.desk_end.DeskEnd.TheVariants.{Quit, Input
 
 -- whether all was answered
 abbrev pub ending_of : Result (Unit {0}) DeskEnd → Ending
-ending_of (Ok done) = answered
-ending_of (Err Quit) = answered
-ending_of (Err InputEnded) = answered
-ending_of (Err ReadFault) = answered
-ending_of (Err Spent) = answered
 ending_of (Err WriteFault) = cut_off
 ending_of (Err (Stopped stop)) = stopped stop
+ending_of end = answered
 
 -- the hall stopped the event of the line, behind a history, of a session that acts for this operator
 abbrev pub HasStopped : Option (List ℕ) → Summary → HallSeen → HallSeen → List Entry → Stop → List ℕ → ℕ → Type 0
@@ -40,10 +35,10 @@ desk_rules b hall hall' first last = record {
 }
 
 -- A session over lines, from a history on, that acts for this operator (or for nobody) at first.
-pub record IsDesk (end : Ending) (b : Summary) (first : Option (List ℕ)) (lines : List (List ℕ)) (h : List Entry) (hall hall' : HallSeen)
-    (p p' : PortSeen) : Type 0 where
+pub record IsDesk (end : Ending) (b : Summary) (first : Option (List ℕ)) (lines : List (List ℕ)) (h : List Entry) (c : Change)
+    : Type 0 where
   pub last : Option (List ℕ)
-  pub session : IsSession desk_turns (desk_rules b hall hall' first last) end b lines h hall hall' p p'
+  pub session : IsSession desk_turns (desk_rules b c.hall c.hall' first last) end b lines h c
 
 -- all was answered, or there was a `quit`, a failed write or a stop
 abbrev pub IsCutShort : Result (Unit {0}) DeskEnd → Type 0

@@ -6,7 +6,7 @@ ghost use Rattle.centre_core.specs.Halls.{IsKept};
 ghost use Rattle.centre_rules.specs.Summary.{Summary};
 ghost use Rattle.centre_rules.specs.History.{Entry};
 ghost use Rattle.desk_wire.specs.Laws.{IsCommand};
-ghost use Rattle.session_rules.specs.Sessions.{HasShown};
+ghost use Rattle.session_rules.specs.Sessions.{changed, HasShown};
 ghost use Rattle.desk_session.specs.Events.{acts_after, command_in, ends, is_known, is_named};
 ghost use Rattle.desk_session.specs.Sessions.{IsCutShort, IsDesk, ending_of};
 
@@ -36,7 +36,7 @@ pub(crate) fn answer<H: Hall, P: Port>(
     ensures acts { operator.new ≡ acts_after (meaning (H.seen hall.old).text) operator.old command }
     ensures session { (line : List ℕ) (b : Summary) (h : List Entry) → command ≡ command_in line →
         is_known (meaning (H.seen hall.old).text) operator.old ≡ true → (H.seen hall.old).stands b h →
-        IsDesk (ending_of result) b operator.old (line ∷ []) h (H.seen hall.old) (H.seen hall.new) (P.seen port.old) (P.seen port.new) }
+        IsDesk (ending_of result) b operator.old (line ∷ []) h (changed (H.seen hall.old) (H.seen hall.new) (P.seen port.old) (P.seen port.new)) }
     ensures short { IsCutShort result }
     ensures quit { result ≡ Err DeskEnd.Quit → ends command ≡ true }
     ensures goes_on { result ≡ Ok tt → ends command ≡ false }

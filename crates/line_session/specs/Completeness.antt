@@ -12,11 +12,9 @@ use Rattle.line_session.specs.Turns.{Turn, line_turns, IsAck}
 
 -- the verdict is a heartbeat or a numbered message with this header
 abbrev pub IsReported : Verdict → Header → Type 0
-IsReported Silence h = ⊥
-IsReported Nak h = ⊥
-IsReported (Duh header why) h = ⊥
 IsReported (Beat header account) h = header ≡ h
 IsReported (Numbered header m) h = header ≡ h
+IsReported verdict h = ⊥
 
 -- where the turn's verdict is a heartbeat or a numbered message, its reply is the acknowledgement
 abbrev pub IsAcknowledged : Setup → Turn → Type 0

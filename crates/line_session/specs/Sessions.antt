@@ -10,19 +10,16 @@ use Rattle.centre_rules.specs.Summary.{Summary}
 use Rattle.centre_rules.specs.History.{Entry}
 use Rattle.dc09_message.specs.Verdicts.{verdict_of, TakesMemory}
 use Rattle.session_rules.specs.Turns.{Rules}
-use Rattle.session_rules.specs.Sessions.{Ending, answered, cut_off, stopped, IsSession}
+use Rattle.session_rules.specs.Sessions.{changed, Ending, answered, cut_off, stopped, IsSession}
 use Rattle.line_session.specs.Turns.{Turn, line_turns, event_of, AreTurns}
 use Rattle.line_session.specs.declared.line_end.LineEnd.{LineEnd}
 use Rattle.line_session.specs.declared.line_end.LineEnd.TheVariants.{InputEnded, ReadFault, WriteFault, Spent, Stopped}
 
 -- whether all was answered
 abbrev pub ending_of : Result (Unit {0}) LineEnd → Ending
-ending_of (Ok done) = answered
-ending_of (Err InputEnded) = answered
-ending_of (Err ReadFault) = answered
-ending_of (Err Spent) = answered
 ending_of (Err WriteFault) = cut_off
 ending_of (Err (Stopped stop)) = stopped stop
+ending_of end = answered
 
 -- the hall stopped the event of the piece's verdict, behind a history; or memory was wanted for a numbered message
 abbrev pub HasStopped : Summary → HallSeen → HallSeen → List Entry → Stop → List ℕ → ℕ → Type 0
@@ -40,7 +37,7 @@ line_rules b hall hall' = record {
 
 -- A session over whole pieces of these bodies, from a history on.
 abbrev pub IsLine : Ending → Summary → List (List ℕ) → List Entry → HallSeen → HallSeen → PortSeen → PortSeen → Type 0
-IsLine end b bodies h hall hall' p p' = IsSession line_turns (line_rules b hall hall') end b bodies h hall hall' p p'
+IsLine end b bodies h hall hall' p p' = IsSession line_turns (line_rules b hall hall') end b bodies h (changed hall hall' p p')
 
 -- all was answered, or a write failed, or the hall stopped
 abbrev pub IsCutShort : Result (Unit {0}) LineEnd → Type 0

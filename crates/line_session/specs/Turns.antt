@@ -37,11 +37,9 @@ line_turns = record {
 
 -- what is submitted of a verdict
 abbrev pub event_of : Verdict → Option Event
-event_of Silence = None
-event_of Nak = None
-event_of (Duh header why) = None
 event_of (Beat header account) = Some (Heartbeat account)
 event_of (Numbered header m) = Some (Sent m)
+event_of verdict = None
 
 -- The acknowledgement of a message with this header, at a reading: of a plain one its echo, which takes no noise; of a sealed
 -- one it is sealed under the account's key, with the stamp of the reading and ten bytes of noise.

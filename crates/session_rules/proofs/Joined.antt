@@ -10,7 +10,7 @@ use Rattle.centre_core.specs.declared.hall.Stop.{Stop}
 use Rattle.centre_rules.specs.Summary.{Summary}
 use Rattle.centre_rules.specs.History.{Entry}
 use Rattle.session_rules.specs.Turns.{Kind, Rules, pieces_of, entries_of, added_by}
-use Rattle.session_rules.specs.Sessions.{Ending, answered, cut_off, stopped, IsEnd, IsSession, IsUnstopped}
+use Rattle.session_rules.specs.Sessions.{changed, Ending, answered, cut_off, stopped, IsEnd, IsSession, IsUnstopped}
 use Rattle.session_rules.proofs.Appended.{pieces-append, ends_more, own_more}
 
 -- What holds of some turns, and then of others behind them, holds of all.
@@ -42,13 +42,13 @@ module _ {T : Type 0} (kind : Kind T) where
   }
 
   -- the pieces of a session that answered all
-  pub all_pieces : {rules : Rules T} {b : Summary} {xs : List (List ℕ)} {h : List Entry} {hall hall' : HallSeen} {p p' : PortSeen} (s : IsSession kind rules answered b xs h hall hall' p p') → xs ≡ pieces_of kind s.turns
+  pub all_pieces : {rules : Rules T} {b : Summary} {xs : List (List ℕ)} {h : List Entry} {hall hall' : HallSeen} {p p' : PortSeen} (s : IsSession kind rules answered b xs h (changed hall hall' p p')) → xs ≡ pieces_of kind s.turns
   all_pieces {rules} {b} {xs} {h} {hall} {hall'} {p} {p'} s = s.taken ∙ ap (λ (l : List (List ℕ)). pieces_of kind s.turns ++ l) s.ended.none_left ∙ append-nil (pieces_of kind s.turns)
 
   -- A session that answered all, and then a session over what follows.
   unfoldable pub session_then : {first_rules next_rules rules : Rules T} {end : Ending} {b : Summary} {xs ys : List (List ℕ)} {h : List Entry} {hall mid last : HallSeen} {p q r : PortSeen}
-      → Follows first_rules next_rules rules h → (first : IsSession kind first_rules answered b xs h hall mid p q) → IsSession kind next_rules end b ys first.history mid last q r
-      → IsSession kind rules end b (xs ++ ys) h hall last p r
+      → Follows first_rules next_rules rules h → (first : IsSession kind first_rules answered b xs h (changed hall mid p q)) → IsSession kind next_rules end b ys first.history (changed mid last q r)
+      → IsSession kind rules end b (xs ++ ys) h (changed hall last p r)
   session_then {first_rules} {next_rules} {rules} {end} {b} {xs} {ys} {h} {hall} {mid} {last} {p} {q} {r} law first next = record {
     turns = first.turns ++ next.turns;
     behind = next.behind;
@@ -73,7 +73,7 @@ module _ {T : Type 0} (kind : Kind T) where
 
   -- the same session, and then a read of its port
   unfoldable pub session_read : {rules : Rules T} {end : Ending} {b : Summary} {xs ys : List (List ℕ)} {h : List Entry} {hall hall' : HallSeen} {p q r : PortSeen}
-      → ys ≡ xs → OnlyReads q r → IsSession kind rules end b xs h hall hall' p q → IsSession kind rules end b ys h hall hall' p r
+      → ys ≡ xs → OnlyReads q r → IsSession kind rules end b xs h (changed hall hall' p q) → IsSession kind rules end b ys h (changed hall hall' p r)
   session_read {rules} {end} {b} {xs} {ys} {h} {hall} {hall'} {p} {q} {r} same only s = record {
     turns = s.turns;
     behind = s.behind;
@@ -108,7 +108,7 @@ module _ {T : Type 0} (kind : Kind T) where
 
   -- A session that ended early, over more pieces: it left them too.
   pub session_wider : {rules : Rules T} {end : Ending} {b : Summary} {xs : List (List ℕ)} {h : List Entry} {hall hall' : HallSeen} {p p' : PortSeen} (more : List (List ℕ))
-      → IsEarly end → IsSession kind rules end b xs h hall hall' p p' → IsSession kind rules end b (xs ++ more) h hall hall' p p'
+      → IsEarly end → IsSession kind rules end b xs h (changed hall hall' p p') → IsSession kind rules end b (xs ++ more) h (changed hall hall' p p')
   session_wider {rules} {end} {b} {xs} {h} {hall} {hall'} {p} {p'} more early s = record {
     turns = s.turns;
     behind = s.behind;

@@ -11,11 +11,11 @@ use Rattle.centre_rules.specs.Summary.{Summary}
 use Rattle.centre_rules.specs.History.{Entry}
 use Rattle.centre_rules.specs.Answers.{IsLegal}
 use Rattle.session_rules.specs.Turns.{Kind, Rules, entries_of, added_by}
-use Rattle.session_rules.specs.Sessions.{answered, cut_off, stopped, IsSession}
+use Rattle.session_rules.specs.Sessions.{changed, answered, cut_off, stopped, IsSession}
 
 module _ {T : Type 0} (kind : Kind T) (rules : Rules T) (b : Summary) (h : List Entry) (quick : rules.may_be_behind []) where
   -- over nothing
-  pub session_none : {hall : HallSeen} {p p' : PortSeen} → rules.are_turns h h [] → hall.stands b h → IsLegal b h → OnlyReads p p' → IsSession kind rules answered b [] h hall hall p p'
+  pub session_none : {hall : HallSeen} {p p' : PortSeen} → rules.are_turns h h [] → hall.stands b h → IsLegal b h → OnlyReads p p' → IsSession kind rules answered b [] h (changed hall hall p p')
   session_none {hall} {p} {p'} none s legal only = record {
     turns = [];
     behind = [];
@@ -40,7 +40,7 @@ module _ {T : Type 0} (kind : Kind T) (rules : Rules T) (b : Summary) (h : List 
 
   -- over one piece, whose reply was sent whole
   pub session_sent : {hall hall' : HallSeen} {p p' : PortSeen} (x : List Entry) (t : T) → rules.are_turns h x (t ∷ []) → hall'.stands b x → IsLegal b x
-      → hall'.own x ≡ reverse (entries_of kind (t ∷ [])) ++ hall.own h → (hall.readable b h → hall'.readable b x) → (hall.up → hall'.up) → Adds p p' (kind.adds t) → IsSession kind rules answered b (kind.asked t ∷ []) h hall hall' p p'
+      → hall'.own x ≡ reverse (entries_of kind (t ∷ [])) ++ hall.own h → (hall.readable b h → hall'.readable b x) → (hall.up → hall'.up) → Adds p p' (kind.adds t) → IsSession kind rules answered b (kind.asked t ∷ []) h (changed hall hall' p p')
   session_sent {hall} {hall'} {p} {p'} x t turn s legal own reads up adds = record {
     turns = t ∷ [];
     behind = [];
@@ -62,7 +62,7 @@ module _ {T : Type 0} (kind : Kind T) (rules : Rules T) (b : Summary) (h : List 
   -- over one piece, whose reply was cut off
   pub session_cut : {hall hall' : HallSeen} {p p' : PortSeen} (x : List Entry) (t : T) (count : ℕ) → rules.are_turns h x (t ∷ []) → hall'.stands b x → IsLegal b x
       → hall'.own x ≡ reverse (entries_of kind (t ∷ [])) ++ hall.own h → (hall.readable b h → hall'.readable b x) → (hall.up → hall'.up) → count < length (kind.adds t).text → Adds p p' (record (kind.adds t) { text = take count (kind.adds t).text })
-      → IsSession kind rules cut_off b (kind.asked t ∷ []) h hall hall' p p'
+      → IsSession kind rules cut_off b (kind.asked t ∷ []) h (changed hall hall' p p')
   session_cut {hall} {hall'} {p} {p'} x t count turn s legal own reads up short adds = record {
     turns = t ∷ [];
     behind = [];
@@ -94,7 +94,7 @@ module _ {T : Type 0} (kind : Kind T) (rules : Rules T) (b : Summary) (h : List 
 
   -- over one piece that was stopped after its reading
   pub session_stopped : {hall hall' : HallSeen} (p : PortSeen) (stop : Stop) (piece : List ℕ) (reading : ℕ) (w : Waits b hall hall' h) → rules.are_turns h w.now [] → rules.is_cause w.now stop piece reading
-      → IsSession kind rules (stopped stop) b (piece ∷ []) h hall hall' p (after_reading reading p)
+      → IsSession kind rules (stopped stop) b (piece ∷ []) h (changed hall hall' p (after_reading reading p))
   session_stopped {hall} {hall'} p stop piece reading w none cause = record {
     turns = [];
     behind = [];

@@ -63,9 +63,18 @@ IsEnd kind rules (stopped stop) x turns behind a rest = IsStopped kind (rules.is
 
 -- a session that was not stopped
 abbrev pub IsUnstopped : Ending → Type 0
-IsUnstopped answered = Unit {0}
-IsUnstopped cut_off = Unit {0}
 IsUnstopped (stopped stop) = ⊥
+IsUnstopped end = Unit {0}
+
+-- What a session met: a hall and a port, as they were at its beginning, and as they were at its end.
+pub record Change : Type 1 where
+  pub hall : HallSeen
+  pub hall' : HallSeen
+  pub port : PortSeen
+  pub port' : PortSeen
+
+abbrev pub changed : HallSeen → HallSeen → PortSeen → PortSeen → Change
+changed hall hall' p p' = record { hall = hall; hall' = hall'; port = p; port' = p' }
 
 -- The way of a session through a history: from which on it went, to which, and the entries that it made, the earliest first.
 pub record Way : Type 0 where
@@ -81,7 +90,7 @@ Goes h holds = (to : List Entry) × (made : List Entry) × holds (record { from 
 -- part grew by just the turns' entries, and what it added to the port. What was recorded can be read again if it could be before; and a
 -- hall that was not down is not, unless it stopped.
 pub record IsSession {T : Type 0} (kind : Kind T) (rules : Rules T) (end : Ending) (b : Summary) (pieces : List (List ℕ)) (h : List Entry)
-    (hall hall' : HallSeen) (p p' : PortSeen) : Type 0 where
+    (c : Change) : Type 0 where
   pub turns : List T
   pub behind : List T
   pub history : List Entry
@@ -89,12 +98,12 @@ pub record IsSession {T : Type 0} (kind : Kind T) (rules : Rules T) (end : Endin
   pub left : List (List ℕ)
   pub taken : pieces ≡ pieces_of kind turns ++ left
   pub each : rules.are_turns h history turns
-  pub holds : hall'.stands b history
+  pub holds : c.hall'.stands b history
   pub legal : IsLegal b history
-  pub own : hall'.own history ≡ reverse (entries_of kind turns) ++ hall.own h
-  pub reads : hall.readable b h → hall'.readable b history
-  pub up : IsUnstopped end → hall.up → hall'.up
-  pub adds : Adds p p' added
+  pub own : c.hall'.own history ≡ reverse (entries_of kind turns) ++ c.hall.own h
+  pub reads : c.hall.readable b h → c.hall'.readable b history
+  pub up : IsUnstopped end → c.hall.up → c.hall'.up
+  pub adds : Adds c.port c.port' added
   pub ended : IsEnd kind rules end history turns behind added left
   pub unanswered : rules.may_be_behind behind
 
@@ -104,9 +113,8 @@ IsShownFor hall stop = (stop ≡ Memory) ⊎ ((event : Event) × (reading : ℕ)
 
 -- a stop has its cause, whatever is known of the hall's history
 abbrev pub HasShown : HallSeen → Ending → Type 0
-HasShown hall answered = Unit {0}
-HasShown hall cut_off = Unit {0}
 HasShown hall (stopped stop) = IsShownFor hall stop
+HasShown hall end = Unit {0}
 
 -- Not far ahead: all pieces of a stream but those that end in the last bytes, at most 4,096 of them, were answered.
 pub record IsNotAhead {T : Type 0} (kind : Kind T) (cut : List ℕ → List (List ℕ)) (read : List ℕ) (turns : List T) : Type 0 where
