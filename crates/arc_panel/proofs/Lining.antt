@@ -11,14 +11,12 @@ use Rattle.arc_panel.specs.Playing.{Halts, SoFar}
 use Rattle.arc_panel.specs.Texts.{line_of, text_of}
 use Rattle.arc_panel.specs.declared.play.PanelEnd.TheVariants.{BadLine, Memory, WriteFault}
 use Rattle.arc_panel.specs.declared.play.Player.{Player}
+use Rattle.session_rules.proofs.Ports.{rose_since}
 use Rattle.arc_panel.proofs.SaidLines.{said_last}
 
 pub length_last : (xs : List (List ℕ)) (line : List ℕ) → length (xs ++ line ∷ []) ≡ length xs + 1
 length_last [] line = omega arith
 length_last (x ∷ xs) line = let rest = length_last xs line in omega (arith, rest)
-
-pub rose_since : (before mid now : ℕ) → before ≤ mid → Rose mid now → Rose before now
-rose_since before mid now later rose = omega (arith, later, rose)
 
 module _ (s : Setting) (p : PortSeen) (lines : List (List ℕ)) (player : Player) (q : PortSeen) (so : SoFar s p lines player q) (line : List ℕ) where
   -- it was played

@@ -12,59 +12,14 @@ use Rattle.arc_text.specs.Lines.{ended_lines}
 use Rattle.arc_text.specs.declared.line_cut.LineCut.{LineCut}
 use Rattle.panel_rules.specs.Panels.{Setting}
 use Rattle.session_rules.specs.Inputs.{input_limit}
-use Rattle.arc_panel.specs.Ends.{EndsAs, HasPlayed, IsNotAhead, Played, ReadsNoFurther, lines_read}
+use Rattle.session_rules.proofs.Ports.{of_reads, of_writes, ports_more, ports_none, rose_since}
+use Rattle.session_rules.specs.Reading.{IsNotAhead, OnlyReadsAndWrites, lines_read}
+use Rattle.arc_panel.specs.Ends.{EndsAs, HasPlayed, Played, ReadsNoFurther}
 use Rattle.arc_panel.specs.Playing.{Finishes, Halts, HaltsAt, HaltsIn, SoFar, WholeOf}
 use Rattle.arc_panel.specs.declared.play.PanelEnd.{PanelEnd}
 use Rattle.arc_panel.specs.declared.play.PanelEnd.TheVariants.{Done, ReadFault, WriteFault, Spent, BadLine, Memory}
 use Rattle.arc_panel.specs.declared.play.Player.{Player}
 use Rattle.arc_panel.proofs.Fed.{CameLine, lines_behind}
-use Rattle.arc_panel.proofs.Lining.{rose_since}
-
--- all but what is about reading and writing stayed
-pub record OnlyPorts (p p' : PortSeen) : Type 0 where
-  pub rest : p' ≡ record p {
-    left = p'.left;
-    ended = p'.ended;
-    read_faults = p'.read_faults;
-    written = p'.written;
-    write_faults = p'.write_faults;
-  }
-
-ports_none : (p : PortSeen) → OnlyPorts p p
-ports_none p = record { rest = refl }
-
-ports_more : {p q r : PortSeen} → OnlyPorts p q → OnlyPorts q r → OnlyPorts p r
-ports_more {p} {q} {r} first next = record {
-  rest = next.rest ∙ ap (λ (x : PortSeen). record x {
-    left = r.left;
-    ended = r.ended;
-    read_faults = r.read_faults;
-    written = r.written;
-    write_faults = r.write_faults;
-  }) first.rest;
-}
-
-of_reads : {p q : PortSeen} → OnlyReads p q → OnlyPorts p q
-of_reads {p} {q} only = record {
-  rest = only.rest ∙ ap (λ (x : PortSeen). record p {
-    left = q.left;
-    ended = q.ended;
-    read_faults = q.read_faults;
-    written = x.written;
-    write_faults = x.write_faults;
-  }) (sym only.rest);
-}
-
-of_writes : {p q : PortSeen} → OnlyWrites p q → OnlyPorts p q
-of_writes {p} {q} only = record {
-  rest = only.rest ∙ ap (λ (x : PortSeen). record p {
-    left = x.left;
-    ended = x.ended;
-    read_faults = x.read_faults;
-    written = q.written;
-    write_faults = q.write_faults;
-  }) (sym only.rest);
-}
 
 -- a read changes nothing that was done
 pub so_read : (s : Setting) (p : PortSeen) (all : List (List ℕ)) (player : Player) (q r : PortSeen) → OnlyReads q r → SoFar s p all player q → SoFar s p all player r
@@ -157,7 +112,7 @@ halted_ends s p q read before all Memory h is = record {
   output = is.1;
 }
 
-no_further : (s : Setting) (p q : PortSeen) (read : List ℕ) (lines front : List (List ℕ)) (line : List ℕ) (end : PanelEnd) (h : Halts s p lines line end q) → HaltsAt s p lines line h.history end q → IsNotAhead read front → ReadsNoFurther end read front
+no_further : (s : Setting) (p q : PortSeen) (read : List ℕ) (lines front : List (List ℕ)) (line : List ℕ) (end : PanelEnd) (h : Halts s p lines line end q) → HaltsAt s p lines line h.history end q → IsNotAhead ended_lines read front → ReadsNoFurther end read front
 no_further s p q read lines front line Done h is near = absurd is
 no_further s p q read lines front line ReadFault h is near = absurd is
 no_further s p q read lines front line Spent h is near = absurd is
@@ -166,11 +121,11 @@ no_further s p q read lines front line (BadLine number) h is near = near
 no_further s p q read lines front line Memory h is near = near
 
 module _ (s : Setting) (p q : PortSeen) (read : List ℕ) (taken : p.left ≡ prepend_known read q.left) (out : q.ended ≡ true → IsAtEnd q.left) (most : length read ≤ input_limit)
-    (others : OnlyPorts p q) (all : List (List ℕ)) (these : all ≡ lines_read q.ended read) where
+    (others : OnlyReadsAndWrites p q) (all : List (List ℕ)) (these : all ≡ lines_read q.ended read) where
   ended_so : (end : PanelEnd) → Ended s read end p q all → HasPlayed s end p q
   ended_so end ended =
       let e = subst (Ended s read end p q) these ended in
-      record { read = read; taken = taken; out = out; most = most; played = e.played; ends = e.ends; ahead = e.ahead; others = others.rest }
+      record { read = read; taken = taken; out = out; most = most; played = e.played; ends = e.ends; ahead = e.ahead; others = others }
 
   pub read_fault : WholeOf s p all q → length read < input_limit → Rose p.read_faults q.read_faults → HasPlayed s ReadFault p q
   read_fault whole short rose = ended_so ReadFault (record { played = whole_played s p q all whole; ends = (rose, short, record { none_behind = refl; output = whole.output }); ahead = tt })
@@ -185,7 +140,7 @@ module _ (s : Setting) (p q : PortSeen) (read : List ℕ) (taken : p.left ≡ pr
   halted early last end parts small h = ended_so end (record {
     played = front_played s p q (ended_lines early) all end h;
     ends = halted_ends s p q read (ended_lines early) all end h h.halts.halted;
-    ahead = no_further s p q read h.played h.played h.line end h.halts h.halts.halted (record { early = early; last = last; more = h.later; parts = parts; small = small; before = h.played_are });
+    ahead = no_further s p q read h.played h.played h.line end h.halts h.halts.halted (record { early = early; last = last; more = h.later; parts = parts; short = small; before = h.played_are });
   })
 
   pub finished : (end : PanelEnd) → Finishes s p (ended_lines read) all end q → length read < input_limit → IsReadOut q → HasPlayed s end p q
@@ -200,7 +155,7 @@ pub record ReadSoFar (s : Setting) (p : PortSeen) (count : ℕ) (cutter : LineCu
   pub taken : p.left ≡ prepend_known stream q.left
   pub reads : p.read_faults ≤ q.read_faults
   pub so : SoFar s p (ended_lines stream) player q
-  pub others : OnlyPorts p q
+  pub others : OnlyReadsAndWrites p q
 
 pub read_none : (s : Setting) (p : PortSeen) (cutter : LineCutterValue) (player : Player) → WasFed [] cutter → SoFar s p [] player p → ReadSoFar s p 0 cutter player p
 read_none s p cutter player fed so = record {

@@ -1,13 +1,13 @@
 -- How the playing of a panel's lines ended, and what was written.
-use Rattle.std.specs.Prelude.{◌≡◌, ◌<◌, ◌≤◌, ◌+◌, ◌++◌, ℕ, List, [], ◌∷◌, Bool, true, if◌then◌else◌, codes, length, take}
+use Rattle.std.specs.Prelude.{◌≡◌, ◌<◌, ◌≤◌, ◌+◌, ◌++◌, ℕ, List, [], ◌∷◌, true, codes, length, take}
 use Rattle.std.specs.Io.KnownBytes.{prepend_known, append_known, IsAtEnd}
 use Rattle.arc_io.specs.Causes.{Rose}
 use Rattle.arc_io.specs.Seen.{PortSeen}
 use Rattle.arc_io.specs.Told.{IsReadOut}
 use Rattle.panel_rules.specs.Panels.{Setting, Happening}
-use Rattle.std.specs.Str.Lines.{lines}
 use Rattle.arc_text.specs.Lines.{ended_lines}
 use Rattle.session_rules.specs.Inputs.{input_limit}
+use Rattle.session_rules.specs.Reading.{IsNotAhead, OnlyReadsAndWrites, lines_read}
 use Rattle.arc_panel.specs.Lines.{AreSaid, IsPlayable}
 use Rattle.arc_panel.specs.Texts.{line_of, text_of}
 use Rattle.arc_panel.specs.declared.play.PanelEnd.{PanelEnd}
@@ -16,11 +16,6 @@ use Rattle.arc_panel.specs.declared.play.PanelEnd.TheVariants.{Done, ReadFault, 
 -- the setting of the panel of an account: the line `0`, and the number 1 of the first message
 abbrev pub setting_of : List ℕ → Setting
 setting_of account = record { account = account; line = codes "0"; first = 1 }
-
--- The lines that were read: where the input ended, what stands behind its last line feed is a line too, if it is not empty; what a failed
--- read or the limit cut short is none.
-abbrev pub lines_read : Bool → List ℕ → List (List ℕ)
-lines_read ended read = if ended then lines read else ended_lines read
 
 -- What was played of some lines: the first of them say what happened. Those behind were not played.
 pub record Played (lines : List (List ℕ)) : Type 0 where
@@ -74,21 +69,12 @@ EndsAs s read lines played WriteFault p p' = Rose p.write_faults p'.write_faults
 EndsAs s read lines played (BadLine number) p p' = IsBad s lines played number p p'
 EndsAs s read lines played Memory p p' = IsWanting s lines played p p'
 
--- Not far ahead: all lines but those that end in the last bytes read, at most 4,096 of them, were played.
-pub record IsNotAhead (read : List ℕ) (front : List (List ℕ)) : Type 0 where
-  pub early : List ℕ
-  pub last : List ℕ
-  pub more : List (List ℕ)
-  pub parts : read ≡ early ++ last
-  pub small : length last ≤ 4096
-  pub before : front ≡ ended_lines early ++ more
-
--- of lines of which one ended the playing
+-- Of lines of which one ended the playing: all but those that end in the last bytes read were played.
 abbrev pub ReadsNoFurther : PanelEnd → List ℕ → List (List ℕ) → Type 0
 ReadsNoFurther Done read front = Unit {0}
 ReadsNoFurther ReadFault read front = Unit {0}
 ReadsNoFurther Spent read front = Unit {0}
-ReadsNoFurther end read front = IsNotAhead read front
+ReadsNoFurther end read front = IsNotAhead ended_lines read front
 
 -- What a panel of this setting did with the bytes that were read of the port: their lines, and what was played of them. Where a read
 -- has met the input's end, the last line may lack its line feed. All but what is about reading and writing stayed.
@@ -100,10 +86,4 @@ pub record HasPlayed (s : Setting) (end : PanelEnd) (p p' : PortSeen) : Type 0 w
   pub played : Played (lines_read p'.ended read)
   pub ends : EndsAs s read (lines_read p'.ended read) played end p p'
   pub ahead : ReadsNoFurther end read played.front
-  pub others : p' ≡ record p {
-    left = p'.left;
-    ended = p'.ended;
-    read_faults = p'.read_faults;
-    written = p'.written;
-    write_faults = p'.write_faults;
-  }
+  pub others : OnlyReadsAndWrites p p'

@@ -14,6 +14,7 @@ use Rattle.centre_store.specs.Stores.{Stored, StoreStands, HasFailed}
 use Rattle.disk_journal.specs.Journal.{Holds}
 use Rattle.disk_journal.specs.declared.fault.OpenFault.{OpenFault}
 use Rattle.script_lines.specs.Lines.{Asked, Reopen, spelling}
+use Rattle.session_rules.proofs.Ports.{rose_since}
 use Rattle.arc_script.specs.Begun.{Begun}
 use Rattle.arc_script.specs.Between.{Between, CarriedOut, StoppedAt, ShutAt, SoFar, size_of}
 use Rattle.arc_script.specs.Ends.{Tells, Played}
@@ -36,9 +37,6 @@ held_up seen base s h stands up =
       | inl holds ↦ holds
       | inr torn ↦ absurd (up torn.0)
     ]
-
-pub rose_since : (before mid now : ℕ) → before ≤ mid → Rose mid now → Rose before now
-rose_since before mid now later rose = omega (arith, later, rose)
 
 -- Behind these lines comes one that asks for this, with its number.
 module _ {D : Type 0} (seen : D → DiskSeen) (b : Begun D) (lines : List (List ℕ)) (script : Script) (s : Stored D) (p : PortSeen)

@@ -10,8 +10,9 @@ use Rattle.arc_io.specs.Told.{OnlyReads, OnlyWrites}
 use Rattle.arc_text.specs.LineCutting.{LineCutterValue, WasFed}
 use Rattle.arc_text.specs.Lines.{ended_lines}
 use Rattle.centre_store.specs.Stores.{Stored}
-use Rattle.desk_session.specs.Desks.{lines_read}
+use Rattle.session_rules.proofs.Ports.{of_reads, of_writes, ports_more, ports_none, rose_since}
 use Rattle.session_rules.specs.Inputs.{input_limit}
+use Rattle.session_rules.specs.Reading.{OnlyReadsAndWrites, lines_read}
 use Rattle.arc_script.specs.Begun.{Begun}
 use Rattle.arc_script.specs.Between.{SoFar}
 use Rattle.arc_script.specs.Ends.{IsTranscript}
@@ -21,30 +22,7 @@ use Rattle.arc_script.specs.declared.script_end.ScriptEnd.{ScriptEnd}
 use Rattle.arc_script.specs.declared.script_end.ScriptEnd.TheVariants.{ReadFault, Spent}
 use Rattle.arc_script.specs.declared.script_end.Tally.{Tally}
 use Rattle.arc_script.proofs.Ended.{whole}
-use Rattle.arc_script.proofs.Further.{rose_since}
-use Rattle.arc_script.proofs.Transcripts.{OnlyPorts, ReadSoFar, ports_none, ports_more, read_fault, spent, halted, finished}
-
-of_reads : {p q : PortSeen} → OnlyReads p q → OnlyPorts p q
-of_reads {p} {q} only = record {
-  rest = only.rest ∙ ap (λ (x : PortSeen). record p {
-    left = q.left;
-    ended = q.ended;
-    read_faults = q.read_faults;
-    written = x.written;
-    write_faults = x.write_faults;
-  }) (sym only.rest);
-}
-
-of_writes : {p q : PortSeen} → OnlyWrites p q → OnlyPorts p q
-of_writes {p} {q} only = record {
-  rest = only.rest ∙ ap (λ (x : PortSeen). record p {
-    left = x.left;
-    ended = x.ended;
-    read_faults = x.read_faults;
-    written = q.written;
-    write_faults = q.write_faults;
-  }) (sym only.rest);
-}
+use Rattle.arc_script.proofs.Transcripts.{ReadSoFar, read_fault, spent, halted, finished}
 
 -- a read changes nothing that was done
 pub so_read : {D : Type 0} (seen : D → DiskSeen) (b : Begun D) (all : List (List ℕ)) (script : Script) (s : Stored D) (p q : PortSeen) → OnlyReads p q
@@ -73,7 +51,7 @@ read_none seen b cutter script s p same fed number so = record {
   reads = subst (λ (x : PortSeen). b.port.read_faults ≤ x.read_faults) same (omega arith);
   so = so;
   number = number;
-  others = subst (λ (x : PortSeen). OnlyPorts b.port x) same (ports_none b.port);
+  others = subst (λ (x : PortSeen). OnlyReadsAndWrites b.port x) same (ports_none b.port);
 }
 
 module _ {D : Type 0} (seen : D → DiskSeen) (b : Begun D) (count : ℕ) (cutter : LineCutterValue) (script : Script) (s : Stored D) (p : PortSeen)

@@ -1,5 +1,5 @@
 -- What was read of a script so far, and the transcript at its end.
-use Rattle.std.proofs.Common.{◌≡◌, ◌≤◌, ◌<◌, ◌++◌, ℕ, List, [], true, length, inl, inr, refl, sym, ap, subst, ◌∙◌, append-nil, arith}
+use Rattle.std.proofs.Common.{◌≡◌, ◌≤◌, ◌<◌, ◌++◌, ℕ, List, [], true, length, inl, inr, sym, subst, append-nil, arith}
 use Rattle.std.specs.Io.KnownBytes.{prepend_known, IsAtEnd}
 use Rattle.std.specs.Str.Lines.{lines}
 use Rattle.arc_io.specs.Causes.{Rose}
@@ -9,27 +9,17 @@ use Rattle.arc_io.specs.Told.{IsReadOut}
 use Rattle.arc_text.specs.LineCutting.{LineCutterValue, WasFed}
 use Rattle.arc_text.specs.Lines.{ended_lines}
 use Rattle.centre_store.specs.Stores.{Stored}
-use Rattle.desk_session.specs.Desks.{lines_read}
 use Rattle.session_rules.specs.Inputs.{input_limit}
+use Rattle.session_rules.specs.Reading.{IsNotAhead, OnlyReadsAndWrites, lines_read}
 use Rattle.arc_script.specs.Begun.{Begun}
 use Rattle.arc_script.specs.Between.{SoFar}
-use Rattle.arc_script.specs.Ends.{Played, EndsAs, IsNotAhead, ReadsNoFurther, IsTranscript}
+use Rattle.arc_script.specs.Ends.{Played, EndsAs, ReadsNoFurther, IsTranscript}
 use Rattle.arc_script.specs.Halting.{Halts, HaltsAs, Whole, Finishes}
 use Rattle.arc_script.specs.Texts.{counted}
 use Rattle.arc_script.specs.declared.script.Script.{Script}
 use Rattle.arc_script.specs.declared.script_end.ScriptEnd.{ScriptEnd}
 use Rattle.arc_script.specs.declared.script_end.ScriptEnd.TheVariants.{Done, ReadFault, WriteFault, Spent, BadScript, Refused, Stopped}
 use Rattle.arc_script.specs.declared.script_end.Tally.{Tally}
-
--- all but what is about reading and writing stayed
-pub record OnlyPorts (p p' : PortSeen) : Type 0 where
-  pub rest : p' ≡ record p {
-    left = p'.left;
-    ended = p'.ended;
-    read_faults = p'.read_faults;
-    written = p'.written;
-    write_faults = p'.write_faults;
-  }
 
 -- this stream was read, and all lines in it that a line feed ends were carried out
 pub record ReadSoFar {D : Type 0} (seen : D → DiskSeen) (b : Begun D) (count : ℕ) (cutter : LineCutterValue) (script : Script) (s : Stored D)
@@ -41,7 +31,7 @@ pub record ReadSoFar {D : Type 0} (seen : D → DiskSeen) (b : Begun D) (count :
   pub reads : b.port.read_faults ≤ p.read_faults
   pub so : SoFar seen b (ended_lines stream) script s p
   pub number : script.number ≡ length (ended_lines stream)
-  pub others : OnlyPorts b.port p
+  pub others : OnlyReadsAndWrites b.port p
 
 halted_ends : {D : Type 0} (seen : D → DiskSeen) (b : Begun D) (read : List ℕ) (lines : List (ℕ × List ℕ))
     (played : Played seen b lines) (end : ScriptEnd) (p : PortSeen) (disk : D) (tally : Tally)
@@ -57,7 +47,7 @@ halted_ends seen b read lines played (Refused fault) p disk tally halts = halts
 
 no_further : {D : Type 0} (seen : D → DiskSeen) (b : Begun D) (read : List ℕ) (lines carried : List (ℕ × List ℕ))
     (played : Played seen b lines) (end : ScriptEnd) (p : PortSeen) (disk : D) (tally : Tally)
-    → HaltsAs seen b played end p disk tally → IsNotAhead read carried → ReadsNoFurther end read carried
+    → HaltsAs seen b played end p disk tally → IsNotAhead (λ early. counted (ended_lines early)) read carried → ReadsNoFurther end read carried
 no_further seen b read lines carried played Done p disk tally halts near = absurd halts
 no_further seen b read lines carried played ReadFault p disk tally halts near = absurd halts
 no_further seen b read lines carried played Spent p disk tally halts near = absurd halts
@@ -75,7 +65,7 @@ record Ended {D : Type 0} (seen : D → DiskSeen) (b : Begun D) (read : List ℕ
 
 module _ {D : Type 0} (seen : D → DiskSeen) (b : Begun D) (read : List ℕ) (p : PortSeen) (disk : D) (tally : Tally)
     (taken : b.port.left ≡ prepend_known read p.left) (out : p.ended ≡ true → IsAtEnd p.left) (most : length read ≤ input_limit)
-    (others : OnlyPorts b.port p) (all : List (List ℕ)) (these : all ≡ lines_read p.ended read) where
+    (others : OnlyReadsAndWrites b.port p) (all : List (List ℕ)) (these : all ≡ lines_read p.ended read) where
   transcript : (end : ScriptEnd) → Ended seen b read end p disk tally all
       → IsTranscript seen b end p disk tally
   transcript end ended =
@@ -88,7 +78,7 @@ module _ {D : Type 0} (seen : D → DiskSeen) (b : Begun D) (read : List ℕ) (p
         played = e.played;
         ends = e.ends;
         ahead = e.ahead;
-        others = others.rest;
+        others = others;
       }
 
   pub read_fault : Whole seen b all p disk tally → length read < input_limit → Rose b.port.read_faults p.read_faults
@@ -124,19 +114,3 @@ module _ {D : Type 0} (seen : D → DiskSeen) (b : Begun D) (read : List ℕ) (p
   finished end (inl d) short is =
       subst (λ (e : ScriptEnd). IsTranscript seen b e p disk tally) (sym d.0) (done d.1 short is)
   finished end (inr halts) short is = halted read [] end (sym (append-nil read)) (omega arith) halts
-
--- Ports, one call behind another.
-
-pub ports_none : (p : PortSeen) → OnlyPorts p p
-ports_none p = record { rest = refl }
-
-pub ports_more : {p q r : PortSeen} → OnlyPorts p q → OnlyPorts q r → OnlyPorts p r
-ports_more {p} {q} {r} first next = record {
-  rest = next.rest ∙ ap (λ (x : PortSeen). record x {
-    left = r.left;
-    ended = r.ended;
-    read_faults = r.read_faults;
-    written = r.written;
-    write_faults = r.write_faults;
-  }) first.rest;
-}

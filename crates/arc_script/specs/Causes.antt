@@ -11,7 +11,7 @@ use Rattle.centre_store.specs.Stores.{Stored, Shows}
 use Rattle.dc09_message.specs.Verdicts.{verdict_of}
 use Rattle.desk_session.specs.Events as Desk
 use Rattle.desk_session.specs.declared.desk_end.DeskEnd.{DeskEnd}
-use Rattle.desk_session.specs.declared.desk_end.DeskEnd.TheVariants.{InputEnded, Quit, ReadFault, Spent, Stopped, WriteFault}
+use Rattle.desk_session.specs.declared.desk_end.DeskEnd.TheVariants.{Stopped}
 use Rattle.line_session.specs.Turns as Line
 use Rattle.script_lines.specs.Lines.{Asked, Time, Feed, Message, Command, Reopen}
 use Rattle.arc_script.specs.Fed.{clock_of, desk_read}

@@ -18,7 +18,6 @@ use Rattle.centre_store.specs.Given.{HasRecorded, BeginsWith}
 use Rattle.centre_store.specs.Openings.{IsRefused}
 use Rattle.centre_store.specs.Stores.{Stored, StoreStands}
 use Rattle.dc09_frame.specs.Frames.{frame_of}
-use Rattle.desk_session.specs.Desks.{lines_read}
 use Rattle.disk_journal.specs.Faults.{IsOfContent, HasCounts}
 use Rattle.disk_journal.specs.Standing.{GoesOn}
 use Rattle.disk_journal.specs.declared.fault.OpenFault.{OpenFault}
@@ -26,6 +25,7 @@ use Rattle.disk_journal.specs.declared.journal.Limits.{Limits}
 use Rattle.line_session.specs.Turns.{Turn, line_turns}
 use Rattle.script_lines.specs.Lines.{Asked, Time, Feed, Message, Command, Reopen}
 use Rattle.session_rules.specs.Inputs.{input_limit}
+use Rattle.session_rules.specs.Reading.{IsNotAhead, OnlyReadsAndWrites, lines_read}
 use Rattle.session_rules.specs.Turns.{entries_of}
 use Rattle.arc_script.specs.Begun.{Begun}
 use Rattle.arc_script.specs.Causes.{HasShown, Submits, IsSentFor}
@@ -201,21 +201,13 @@ EndsAs seen b read played (BadScript number) p' disk' tally = IsBad seen b playe
 EndsAs seen b read played (Stopped stop) p' disk' tally = IsHalted seen b played stop p' disk' tally
 EndsAs seen b read played (Refused fault) p' disk' tally = IsShut seen b played fault p' disk' tally
 
--- Not far ahead: all lines but those that end in the last bytes read, at most 4,096 of them, were carried out.
-pub record IsNotAhead (read : List ℕ) (carried : List (ℕ × List ℕ)) : Type 0 where
-  pub early : List ℕ
-  pub last : List ℕ
-  pub more : List (ℕ × List ℕ)
-  pub parts : read ≡ early ++ last
-  pub short : length last ≤ 4096
-  pub before : carried ≡ counted (ended_lines early) ++ more
-
--- of a script that a line ended: no input can foresee that, so one that reads further ahead than this, or reads on, is none
+-- Of a script that a line ended: all lines but those that end in the last bytes read were carried out. No input can foresee that end, so
+-- one that reads further ahead than this, or reads on, is none.
 abbrev pub ReadsNoFurther : ScriptEnd → List ℕ → List (ℕ × List ℕ) → Type 0
 ReadsNoFurther Done read carried = Unit {0}
 ReadsNoFurther ReadFault read carried = Unit {0}
 ReadsNoFurther Spent read carried = Unit {0}
-ReadsNoFurther end read carried = IsNotAhead read carried
+ReadsNoFurther end read carried = IsNotAhead (λ early. counted (ended_lines early)) read carried
 
 -- The transcript of a script over a past, of the bytes that were read of the port: their lines and what was played of them. Where a read
 -- has met the input's end, that is all of it. All but what is about reading and writing stayed.
@@ -228,13 +220,7 @@ pub record IsTranscript {D : Type 0} (seen : D → DiskSeen) (b : Begun D) (end 
   pub played : Played seen b (counted (lines_read p'.ended read))
   pub ends : EndsAs seen b read played end p' disk' tally
   pub ahead : ReadsNoFurther end read played.front
-  pub others : p' ≡ record b.port {
-    left = p'.left;
-    ended = p'.ended;
-    read_faults = p'.read_faults;
-    written = p'.written;
-    write_faults = p'.write_faults;
-  }
+  pub others : OnlyReadsAndWrites b.port p'
 
 -- What a script did over a disk: the journal was not opened, and nothing was read or written; or the areas stood for a past, and the
 -- script is a transcript over it, or memory was wanted before it was read.

@@ -12,7 +12,7 @@ use Rattle.centre_store.specs.Stores.{Stored, StoreStands}
 use Rattle.alarm_rules.specs.Setups.{Setup}
 use Rattle.desk_session.specs.Desks.{DeskValue, TookStream}
 use Rattle.desk_wire.specs.Replies.{line_of}
-use Rattle.script_lines.specs.Lines.{Asked, Time, Feed, Message, Command, Reopen, Asks}
+use Rattle.script_lines.specs.Lines.{Asked, Time, Asks}
 use Rattle.script_lines.specs.Reading.{asked}
 use Rattle.script_lines.specs.declared.line.ScriptLine.{ScriptLine}
 use Rattle.arc_script.specs.Ends.{BegunUntil}

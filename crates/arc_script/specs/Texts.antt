@@ -1,6 +1,6 @@
 -- The lines of a script's text that ask for something, with their numbers.
 use Rattle.std.specs.Prelude.{◌≡◌, ◌≤◌, ◌+◌, ◌&&◌, ℕ, List, [], ◌∷◌, Bool, not, nat_le, filter, length}
-use Rattle.script_lines.specs.Lines.{Asked, Time, Feed, Message, Command, Reopen, Asks, is_skipped}
+use Rattle.script_lines.specs.Lines.{Asked, Time, Asks, is_skipped}
 use Rattle.arc_script.specs.Steps.{Step}
 
 -- how many bytes a line has at most

@@ -23,10 +23,10 @@ use Rattle.centre_rules.specs.Summary.{Summary, nothing}
 use Rattle.centre_store.proofs.OpeningOnce.{one_opening}
 use Rattle.centre_store.proofs.PastSteps.{no_past}
 use Rattle.centre_store.specs.Given.{BeginsWith}
-use Rattle.desk_session.specs.Desks.{lines_read}
 use Rattle.disk_journal.specs.Standing.{AreasStand}
 use Rattle.disk_journal.specs.declared.journal.Limits.{Limits}
 use Rattle.script_lines.specs.Lines.{Asked, Time, Feed, Message, Command, Reopen}
+use Rattle.session_rules.specs.Reading.{lines_read}
 use Rattle.arc_server.specs.DrillRuns.{IsDrilled}
 
 -- steps over a disk that tells what it holds

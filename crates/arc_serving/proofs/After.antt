@@ -1,14 +1,15 @@
 -- What is so of a session of either kind.
 use Rattle.std.proofs.Common.{◌≡◌, ◌++◌, ℕ, List, Option, Some, None, sym, ap, ◌∙◌, subst}
-use Rattle.std.specs.Prelude.{reverse}
+use Rattle.std.specs.Prelude.{reverse, MatchOption}
 use Rattle.arc_io.specs.Seen.{PortSeen}
 use Rattle.centre_core.specs.Halls.{HallSeen}
 use Rattle.centre_rules.specs.Answers.{IsLegal}
 use Rattle.centre_rules.specs.History.{Entry}
 use Rattle.centre_rules.specs.Summary.{Summary}
+use Rattle.line_session.specs.Lines.{ServesLine}
 use Rattle.line_session.specs.declared.line_end.LineEnd.{LineEnd}
 use Rattle.session_rules.specs.Sessions.{changed, Way}
-use Rattle.arc_serving.specs.Sessions.{Serves, ServesOneLine, line_end, IsHistoryAfter}
+use Rattle.arc_serving.specs.Sessions.{Serves, line_end, IsHistoryAfter}
 use Rattle.arc_serving.specs.declared.session.SessionEnd.{SessionEnd}
 use Rattle.arc_serving.specs.declared.side.Side.{Side}
 use Rattle.arc_serving.specs.declared.side.Side.TheVariants.{Lines, Desks}
@@ -23,7 +24,7 @@ after_way b w hall hall' to made goes makes holds legal own = record {
 }
 
 line_after : (end : Option LineEnd) (read : List ℕ) (b : Summary) (w : Way) (hall hall' : HallSeen) (p p' : PortSeen)
-    → ServesOneLine end read b w hall hall' p p' → IsHistoryAfter b w hall hall'
+    → MatchOption end ⊥ (λ e. ServesLine e read b w hall hall' p p') → IsHistoryAfter b w hall hall'
 line_after None read b w hall hall' p p' serves = absurd serves
 line_after (Some end) read b w hall hall' p p' serves =
     after_way b w hall hall' serves.session.history _ serves.to serves.made serves.session.holds serves.session.legal serves.session.own

@@ -2,11 +2,11 @@
 use Rattle.std.proofs.Common.{◌≡◌, ◌-◌, ℕ, List, [], ◌∷◌, ◌++◌, Option, Some, None, length, take, refl, sym, ap, ◌∙◌, subst, arith, length-append, append_assoc}
 use Rattle.std.proofs.lemmas.List.{reverse-reverse, reverse-append, append_cancel_right}
 use Rattle.std.proofs.lemmas.List.Elements.{All-append, All-nil}
-use Rattle.std.specs.Prelude.{All, reverse}
+use Rattle.std.specs.Prelude.{All, reverse, MatchOption}
 use Rattle.alarm_rules.specs.Setups.{meaning}
 use Rattle.arc_io.specs.Seen.{PortSeen}
 use Rattle.arc_serving.proofs.After.{is_after}
-use Rattle.arc_serving.specs.Sessions.{Serves, ServesOneLine, line_end}
+use Rattle.arc_serving.specs.Sessions.{Serves, line_end}
 use Rattle.arc_serving.specs.declared.session.SessionEnd.{SessionEnd}
 use Rattle.arc_serving.specs.declared.side.Side.{Side}
 use Rattle.arc_serving.specs.declared.side.Side.TheVariants.{Lines, Desks}
@@ -18,6 +18,7 @@ use Rattle.line_gate.specs.AtGates.{AtSeen, own_of, gate_seen}
 use Rattle.line_gate.specs.Entries.{Entry, Extends, made_by}
 use Rattle.line_gate.specs.Passes.{PassSeen, IsPass}
 use Rattle.line_gate.specs.Terms.{Terms}
+use Rattle.line_session.specs.Lines.{ServesLine}
 use Rattle.line_session.specs.declared.line_end.LineEnd.{LineEnd}
 use Rattle.session_rules.specs.Sessions.{changed, Goes, Way}
 use Rattle.arc_serving.proofs.DeskTurns as Desk
@@ -26,7 +27,7 @@ use Rattle.arc_serving.specs.Served.{Served, ServesAtGate, way_at, AreServed, Is
 
 -- A session's history begins with the one before it.
 
-line_extends : (end : Option LineEnd) (read : List ℕ) (b : Summary) (w : Way) (hall hall' : HallSeen) (p p' : PortSeen) → ServesOneLine end read b w hall hall' p p' → Extends w.from w.to
+line_extends : (end : Option LineEnd) (read : List ℕ) (b : Summary) (w : Way) (hall hall' : HallSeen) (p p' : PortSeen) → MatchOption end ⊥ (λ e. ServesLine e read b w hall hall' p p') → Extends w.from w.to
 line_extends None read b w hall hall' p p' s = absurd s
 line_extends (Some end) read b w hall hall' p p' s =
     subst (Extends w.from) (sym s.to) (Line.turns_extend b (meaning hall.text) hall.caller w.from s.session.history s.session.turns s.session.each)
@@ -41,7 +42,7 @@ goes_extends Desks end read b w hall hall' p p' s =
 abbrev OnlyOf : Side → List Entry → Type 0
 OnlyOf side es = All (λ (e : Entry). IsSubmittedBy side e.event) es
 
-line_only : (end : Option LineEnd) (read : List ℕ) (b : Summary) (w : Way) (hall hall' : HallSeen) (p p' : PortSeen) → ServesOneLine end read b w hall hall' p p' → OnlyOf Lines w.made
+line_only : (end : Option LineEnd) (read : List ℕ) (b : Summary) (w : Way) (hall hall' : HallSeen) (p p' : PortSeen) → MatchOption end ⊥ (λ e. ServesLine e read b w hall hall' p p') → OnlyOf Lines w.made
 line_only None read b w hall hall' p p' s = absurd s
 line_only (Some end) read b w hall hall' p p' s =
     subst (OnlyOf Lines) (sym s.made) (Line.turns_report b (meaning hall.text) hall.caller w.from s.session.history s.session.turns s.session.each)

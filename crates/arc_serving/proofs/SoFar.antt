@@ -7,6 +7,7 @@ use Rattle.arc_data.specs.declared.event.Event.{Event}
 use Rattle.arc_doors.specs.Doors.{DoorSeen, HasNoneLeft}
 use Rattle.arc_io.specs.Causes.{Rose}
 use Rattle.arc_io.specs.declared.traits.Failed.{Failed}
+use Rattle.session_rules.proofs.Ports.{rose_since}
 use Rattle.arc_serving.specs.Sessions.{ShowsEnd}
 use Rattle.arc_serving.specs.declared.session.SessionEnd.{SessionEnd}
 use Rattle.arc_serving.specs.declared.session.SessionEnd.TheVariants.{Quit, InputEnded, ReadFault, WriteFault, Spent, Stopped}
@@ -98,10 +99,6 @@ done_still side t p m q door first last count refused sessions ss w same = recor
   most = w.most;
   later = omega (arith, w.later, same.later);
 }
-
--- the count rose since the worker began
-rose_since : (first before now : ℕ) → first ≤ before → Rose before now → Rose first now
-rose_since first before now le rose = omega (arith, le, rose)
 
 -- a worker that ends says this
 works : (side : Side) (t : Terms) (p q : PassSeen) (door door' : DoorSeen) (count refused sessions : ℕ) (end : WorkerEnd) (served : List Served)

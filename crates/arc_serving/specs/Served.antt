@@ -1,7 +1,7 @@
 -- What a worker did with its links, and what its pass made of them.
 use Rattle.std.specs.Prelude.{◌≡◌, ◌≤◌, ◌-◌, ◌++◌, ℕ, List, [], ◌∷◌, Option, Some, None, All, length, take, map, reverse, flat_map}
 use Rattle.arc_data.specs.declared.event.Event.{Event}
-use Rattle.arc_data.specs.declared.event.Event.TheVariants.{Adopt, Start, Message, Beat, Tick}
+use Rattle.arc_data.specs.declared.event.Event.TheVariants.{Message, Beat}
 use Rattle.arc_data.specs.declared.event.Event.TheVariants.{Next, Claim, Act, Release, Close, Show, List as Rows}
 use Rattle.arc_io.specs.Seen.{PortSeen}
 use Rattle.arc_doors.specs.Doors.{Links}

@@ -39,13 +39,9 @@ abbrev pub Reads : Side → SessionEnd → List ℕ → PortSeen → PortSeen �
 Reads Lines end read p p' = MatchOption (line_end end) ⊥ (λ e. ReadsLine e read p p')
 Reads Desks end read p p' = ReadsDesk (desk_end end) read p p'
 
-abbrev pub ServesOneLine : Option LineEnd → List ℕ → Summary → Way → HallSeen → HallSeen → PortSeen → PortSeen → Type 0
-ServesOneLine None read b w hall hall' p p' = ⊥
-ServesOneLine (Some end) read b w hall hall' p p' = ServesLine end read b w hall hall' p p'
-
 -- On its way over b it answered what was read, over a hall and a port as they were and as they are.
 abbrev pub Serves : Side → SessionEnd → List ℕ → Summary → Way → Change → Type 0
-Serves Lines end read b w c = ServesOneLine (line_end end) read b w c.hall c.hall' c.port c.port'
+Serves Lines end read b w c = MatchOption (line_end end) ⊥ (λ e. ServesLine e read b w c.hall c.hall' c.port c.port')
 Serves Desks end read b w c = ServesDesk (desk_end end) read b w c.hall c.hall' c.port c.port'
 
 -- a session that a stop ended: the hall showed it for some event, or memory was wanted, whatever is known of the hall's history

@@ -4,10 +4,10 @@ use Rattle.arc_data.specs.declared.event.Event.{Event}
 use Rattle.arc_doors.specs.Doors.{DoorSeen, HasNoneLeft}
 use Rattle.arc_io.specs.Causes.{Rose}
 use Rattle.arc_serving.specs.declared.session.SessionEnd.{SessionEnd}
-use Rattle.arc_serving.specs.declared.session.SessionEnd.TheVariants.{Quit, InputEnded, ReadFault, WriteFault, Spent, Stopped}
+use Rattle.arc_serving.specs.declared.session.SessionEnd.TheVariants.{Stopped}
 use Rattle.arc_serving.specs.declared.side.Side.{Side}
 use Rattle.centre_core.specs.declared.hall.Stop.{Stop}
-use Rattle.centre_core.specs.declared.hall.Stop.TheVariants.{Memory, Down, Full, Worn}
+use Rattle.centre_core.specs.declared.hall.Stop.TheVariants.{Memory}
 use Rattle.centre_rules.specs.Summary.{Summary}
 use Rattle.line_gate.specs.Entries.{Entry}
 use Rattle.line_gate.specs.Passes.{PassSeen, PassShows}

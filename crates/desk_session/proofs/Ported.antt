@@ -17,7 +17,8 @@ use Rattle.session_rules.specs.Sessions.{changed, answered, ReadsNoFurther, Goes
 use Rattle.session_rules.proofs.Ahead.{reads_no_further}
 use Rattle.session_rules.proofs.Joined.{all_pieces, session_read, session_then}
 use Rattle.session_rules.specs.Turns.{entries_of}
-use Rattle.desk_session.specs.Desks.{typed_lines, ServesBytes, ServesLines, ServesDesk, IsTaken, IsFinished, HasEnded, DeskValue, lines_read}
+use Rattle.session_rules.specs.Reading.{lines_read}
+use Rattle.desk_session.specs.Desks.{typed_lines, ServesBytes, ServesLines, ServesDesk, IsTaken, IsFinished, HasEnded, DeskValue}
 use Rattle.desk_session.specs.Events.{acts_over, quits, up_to_quit}
 use Rattle.desk_session.specs.Sessions.{IsDesk, ending_of, desk_rules}
 use Rattle.desk_session.specs.Turns.{desk_turns}

@@ -1,5 +1,5 @@
 -- What a desk's state keeps of the bytes that it took, and what a session over a port did.
-use Rattle.std.specs.Prelude.{◌≡◌, ◌<◌, ◌≤◌, ◌++◌, ℕ, List, Bool, true, false, if◌then◌else◌, Option, None, Result, Ok, Err, length}
+use Rattle.std.specs.Prelude.{◌≡◌, ◌<◌, ◌≤◌, ◌++◌, ℕ, List, true, false, Option, None, Result, Ok, Err, length}
 use Rattle.std.specs.Io.KnownBytes.{prepend_known, IsAtEnd}
 use Rattle.std.specs.Str.Lines.{lines}
 use Rattle.alarm_rules.specs.Setups.{Setup, meaning}
@@ -11,6 +11,7 @@ use Rattle.centre_core.specs.Halls.{HallSeen}
 use Rattle.centre_rules.specs.Summary.{Summary}
 use Rattle.centre_rules.specs.History.{Entry}
 use Rattle.session_rules.specs.Inputs.{input_limit, in_limit}
+use Rattle.session_rules.specs.Reading.{lines_read}
 use Rattle.session_rules.specs.Sessions.{changed, ReadsNoFurther, Way}
 use Rattle.session_rules.specs.Turns.{entries_of}
 use Rattle.desk_session.specs.Completeness.{IsComplete}
@@ -84,11 +85,6 @@ pub record ServesLines (end : Result (Unit {0}) DeskEnd) (before after : List (L
 abbrev pub ServesBytes :
     Result (Unit {0}) DeskEnd → List ℕ → List ℕ → Summary → List Entry → HallSeen → HallSeen → PortSeen → PortSeen → Type 0
 ServesBytes end stream bytes b h hall hall' p p' = ServesLines end (ended_lines stream) (ended_lines (stream ++ bytes)) b h hall hall' p p'
-
--- The lines that were read: where the input ended, what stands behind its last line feed is a line too, if it is not empty; what a
--- failed read or the limit cut short is none.
-abbrev pub lines_read : Bool → List ℕ → List (List ℕ)
-lines_read ended read = if ended then lines read else ended_lines read
 
 -- a `quit` was read, within the last bytes, at most 4,096 of them
 pub record QuitsInTime (read : List ℕ) : Type 0 where

@@ -5,7 +5,7 @@ use Rattle.alarm_rules.specs.Setups.{Setup}
 use Rattle.dc09_frame.specs.declared.header.Header.{Header}
 use Rattle.dc09_message.specs.Verdicts.{verdict_of}
 use Rattle.dc09_message.specs.declared.outcome.Verdict.{Verdict}
-use Rattle.dc09_message.specs.declared.outcome.Verdict.TheVariants.{Silence, Nak, Duh, Beat, Numbered}
+use Rattle.dc09_message.specs.declared.outcome.Verdict.TheVariants.{Beat, Numbered}
 use Rattle.session_rules.specs.Turns.{pieces_of, text_of}
 use Rattle.session_rules.specs.Sessions.{Ending, answered, cut_off, stopped}
 use Rattle.line_session.specs.Turns.{Turn, line_turns, IsAck}

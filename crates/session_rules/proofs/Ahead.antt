@@ -2,14 +2,15 @@
 use Rattle.std.proofs.Common.{◌≡◌, ◌≤◌, ◌∷◌, ◌++◌, ℕ, List, length, refl, sym, ◌∙◌, ap, append_assoc}
 use Rattle.arc_io.specs.Added.{Added}
 use Rattle.centre_rules.specs.History.{Entry}
+use Rattle.session_rules.specs.Reading.{IsNotAhead}
 use Rattle.session_rules.specs.Turns.{Kind, Rules, pieces_of}
-use Rattle.session_rules.specs.Sessions.{Ending, answered, cut_off, stopped, IsEnd, IsNotAhead, ReadsNoFurther}
+use Rattle.session_rules.specs.Sessions.{Ending, answered, cut_off, stopped, IsEnd, ReadsNoFurther}
 use Rattle.session_rules.proofs.Appended.{pieces-append}
 
 module _ {T : Type 0} (kind : Kind T) (cut : List ℕ → List (List ℕ)) (stream piece : List ℕ) (ts : List T) (short : length piece ≤ 4096) (whole : cut stream ≡ pieces_of kind ts) where
-  not_ahead : (us : List T) → IsNotAhead kind cut (stream ++ piece) (ts ++ us)
+  not_ahead : (us : List T) → IsNotAhead cut (stream ++ piece) (pieces_of kind (ts ++ us))
   not_ahead us = record {
-    front = stream;
+    early = stream;
     last = piece;
     more = pieces_of kind us;
     parts = refl;

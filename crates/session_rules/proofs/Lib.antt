@@ -3,3 +3,4 @@ pub mod Appended
 pub mod Made
 pub mod Joined
 pub mod Ahead
+pub mod Ports

@@ -1,5 +1,5 @@
 -- What a session of any kind did, by how it ended.
-use Rattle.std.specs.Prelude.{◌≡◌, ◌<◌, ◌≤◌, ◌⊎◌, ◌++◌, ℕ, List, [], ◌∷◌, reverse, take, length}
+use Rattle.std.specs.Prelude.{◌≡◌, ◌<◌, ◌⊎◌, ◌++◌, ℕ, List, [], ◌∷◌, reverse, take, length}
 use Rattle.arc_data.specs.declared.event.Event.{Event}
 use Rattle.arc_io.specs.Added.{Added, Adds}
 use Rattle.arc_io.specs.Seen.{PortSeen}
@@ -9,6 +9,7 @@ use Rattle.centre_core.specs.declared.hall.Stop.TheVariants.{Memory}
 use Rattle.centre_rules.specs.Summary.{Summary}
 use Rattle.centre_rules.specs.History.{Entry}
 use Rattle.centre_rules.specs.Answers.{IsLegal}
+use Rattle.session_rules.specs.Reading.{IsNotAhead}
 use Rattle.session_rules.specs.Turns.{Kind, Rules, pieces_of, entries_of, text_of, readings_of, noise_of, added_by}
 
 -- How a session ended: all that was asked was answered; a write failed within a reply; or there was a stop.
@@ -116,19 +117,11 @@ abbrev pub HasShown : HallSeen → Ending → Type 0
 HasShown hall (stopped stop) = IsShownFor hall stop
 HasShown hall end = Unit {0}
 
--- Not far ahead: all pieces of a stream but those that end in the last bytes, at most 4,096 of them, were answered.
-pub record IsNotAhead {T : Type 0} (kind : Kind T) (cut : List ℕ → List (List ℕ)) (read : List ℕ) (turns : List T) : Type 0 where
-  pub front : List ℕ
-  pub last : List ℕ
-  pub more : List (List ℕ)
-  pub parts : read ≡ front ++ last
-  pub short : length last ≤ 4096
-  pub before : pieces_of kind turns ≡ cut front ++ more
-
--- Of a session that a write fault or a stop cut short: no input can foresee those, so one that reads further ahead than this, or
--- reads on after them, is none.
+-- Of a session that a write fault or a stop cut short: all pieces but those that end in the last bytes read were answered. No input can
+-- foresee those ends, so one that reads further ahead than this, or reads on after them, is none.
 abbrev pub ReadsNoFurther : {T : Type 0} → Kind T → (List ℕ → List (List ℕ)) → Ending → List ℕ → List T → List T → Type 0
 ReadsNoFurther {T} kind cut answered read turns behind = Unit {0}
 ReadsNoFurther {T} kind cut cut_off read turns behind =
-    (front : List T) × (last : T) × (turns ≡ front ++ last ∷ behind) × IsNotAhead kind cut read front
-ReadsNoFurther {T} kind cut (stopped stop) read turns behind = (front : List T) × (turns ≡ front ++ behind) × IsNotAhead kind cut read front
+    (front : List T) × (last : T) × (turns ≡ front ++ last ∷ behind) × IsNotAhead cut read (pieces_of kind front)
+ReadsNoFurther {T} kind cut (stopped stop) read turns behind =
+    (front : List T) × (turns ≡ front ++ behind) × IsNotAhead cut read (pieces_of kind front)

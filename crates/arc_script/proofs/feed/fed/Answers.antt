@@ -22,8 +22,8 @@ returns-in_default-clause-stop g c =
     none_fed g.D.Disk.seen c.args.store base c.args.script.now.setup c.args.moment c.args.line before c.args.bytes.now h
     c.args.script.now.tally set stands readable
 
-pub returns-in-Ok-end-clause-fed : goal.returns-in-Ok-end-clause-fed
-returns-in-Ok-end-clause-fed g c =
+pub returns-in-Ok-end : goal.returns-in-Ok-end
+returns-in-Ok-end g c =
     let script = c.args.script.now in
     let lines = script.lines.items in
     let place = c.args.line - 1 in
@@ -45,30 +45,22 @@ returns-in-Ok-end-clause-fed g c =
       silent = c.take-end.new.port.silent;
       served = (λ base stream h took for. c.take-end.ensures.served stream base h took for);
     } in
-    ended_fed g.D.Disk.seen c.args.store c.take-end.new.hall script.setup c.args.moment c.args.line place lines was
-    c.in-Ok.frames c.take-end.new.port c.args.bytes.now script.tally counted sums c.take-end.result taking c.in-Ok-end.is
+    record {
+      fed = ended_fed g.D.Disk.seen c.args.store c.take-end.new.hall script.setup c.args.moment c.args.line place lines was
+          c.in-Ok.frames c.take-end.new.port c.args.bytes.now script.tally counted sums c.take-end.result taking c.in-Ok-end.is;
+      took = took_all place lines was c.take-end.new.self c.args.bytes.now c.take-end.result there c.in-Ok-end.is c.take-end.ensures.taken;
+      stop = tt;
+      set = still_set c.take-end.new.hall.state.sum.text c.args.script.now.setup c.take-end.ensures.kept.ready
+          (c.take-end.ensures.kept.text ∙ ap (λ (o : Option (List ℕ)). unwrap_or o []) c.requires.set);
+      others = λ i other. set_other c.args.script.now.lines.items (c.args.line - 1) i c.take-end.new.self other;
+      rest = lines_kept c.args.script.now _ refl refl refl refl refl refl;
+      tells = tells_stays c.take-end.ensures.kept.fixed;
+      at_open = at_open_stays c.take-end.ensures.kept.fixed;
+      limits = limits_stay c.take-end.ensures.kept.fixed;
+    }
 
-pub returns-in-Ok-end-clause-took : goal.returns-in-Ok-end-clause-took
-returns-in-Ok-end-clause-took g c =
-    let script = c.args.script.now in
-    let lines = script.lines.items in
-    let place = c.args.line - 1 in
-    let was = c.index_mut.result.now in
-    let there : slice_get lines place ≡ Some was =
-    slice_get_read lines 16 place was (omega (arith, script.sixteen, script.lines.ok.0)) (omega (arith, c.requires.line.low, c.requires.line.high)) c.index_mut.ensures.value in
-    took_all place lines was c.take-end.new.self c.args.bytes.now c.take-end.result there c.in-Ok-end.is c.take-end.ensures.taken
-
-pub returns-in-Ok-end-clause-set : goal.returns-in-Ok-end-clause-set
-returns-in-Ok-end-clause-set g c =
-    still_set c.take-end.new.hall.state.sum.text c.args.script.now.setup c.take-end.ensures.kept.ready
-    (c.take-end.ensures.kept.text ∙ ap (λ (o : Option (List ℕ)). unwrap_or o []) c.requires.set)
-
-pub returns-in-Ok-end-clause-others : goal.returns-in-Ok-end-clause-others
-returns-in-Ok-end-clause-others g c =
-    λ i other. set_other c.args.script.now.lines.items (c.args.line - 1) i c.take-end.new.self other
-
-pub returns-in-Err-Stopped-clause-stop : goal.returns-in-Err-Stopped-clause-stop
-returns-in-Err-Stopped-clause-stop g c =
+pub returns-in-Err-Stopped : goal.returns-in-Err-Stopped
+returns-in-Err-Stopped g c =
     let script = c.args.script.now in
     let lines = script.lines.items in
     let place = c.args.line - 1 in
@@ -90,21 +82,23 @@ returns-in-Err-Stopped-clause-stop g c =
       silent = c.take-end.new.port.silent;
       served = (λ base stream h took for. c.take-end.ensures.served stream base h took for);
     } in
-    ended_stopped g.D.Disk.seen c.args.store c.take-end.new.hall script.setup c.args.moment c.args.line place lines was
-    c.in-Ok.frames c.take-end.new.port c.args.bytes.now script.tally counted sums c.take-end.result taking
-    c.in-Err-Stopped.stop (c.in-Err-Stopped.is ∙ ap Err (rw c.in-Err-Stopped.is at c.in-Err-Stopped.field-0-is))
+    record {
+      fed = tt;
+      took = tt;
+      stop = ended_stopped g.D.Disk.seen c.args.store c.take-end.new.hall script.setup c.args.moment c.args.line place lines was
+          c.in-Ok.frames c.take-end.new.port c.args.bytes.now script.tally counted sums c.take-end.result taking
+          c.in-Err-Stopped.stop (c.in-Err-Stopped.is ∙ ap Err (rw c.in-Err-Stopped.is at c.in-Err-Stopped.field-0-is));
+      set = still_set c.take-end.new.hall.state.sum.text c.args.script.now.setup c.take-end.ensures.kept.ready
+          (c.take-end.ensures.kept.text ∙ ap (λ (o : Option (List ℕ)). unwrap_or o []) c.requires.set);
+      others = λ i other. set_other c.args.script.now.lines.items (c.args.line - 1) i c.take-end.new.self other;
+      rest = lines_kept c.args.script.now _ refl refl refl refl refl refl;
+      tells = tells_stays c.take-end.ensures.kept.fixed;
+      at_open = at_open_stays c.take-end.ensures.kept.fixed;
+      limits = limits_stay c.take-end.ensures.kept.fixed;
+    }
 
-pub returns-in-Err-Stopped-clause-set : goal.returns-in-Err-Stopped-clause-set
-returns-in-Err-Stopped-clause-set g c =
-    still_set c.take-end.new.hall.state.sum.text c.args.script.now.setup c.take-end.ensures.kept.ready
-    (c.take-end.ensures.kept.text ∙ ap (λ (o : Option (List ℕ)). unwrap_or o []) c.requires.set)
-
-pub returns-in-Err-Stopped-clause-others : goal.returns-in-Err-Stopped-clause-others
-returns-in-Err-Stopped-clause-others g c =
-    λ i other. set_other c.args.script.now.lines.items (c.args.line - 1) i c.take-end.new.self other
-
-pub returns-clause-stop : goal.returns-clause-stop
-returns-clause-stop g c =
+pub returns : goal.returns
+returns g c =
     let script = c.args.script.now in
     let lines = script.lines.items in
     let place = c.args.line - 1 in
@@ -126,51 +120,17 @@ returns-clause-stop g c =
       silent = c.take-end.new.port.silent;
       served = (λ base stream h took for. c.take-end.ensures.served stream base h took for);
     } in
-    ended_otherwise g.D.Disk.seen c.args.store c.take-end.new.hall script.setup c.args.moment c.args.line place
-    lines was c.in-Ok.frames c.take-end.new.port c.args.bytes.now script.tally counted sums c.take-end.result taking c.in-Err.field-0
-    c.take-end.new.self c.in-Err.is c.take-end.ensures.ends c.take-end.ensures.taken
-
-pub returns-clause-set : goal.returns-clause-set
-returns-clause-set g c =
-    still_set c.take-end.new.hall.state.sum.text c.args.script.now.setup c.take-end.ensures.kept.ready
-    (c.take-end.ensures.kept.text ∙ ap (λ (o : Option (List ℕ)). unwrap_or o []) c.requires.set)
-
-pub returns-clause-others : goal.returns-clause-others
-returns-clause-others g c =
-    λ i other. set_other c.args.script.now.lines.items (c.args.line - 1) i c.take-end.new.self other
-
-pub returns-in-Ok-end-clause-rest : goal.returns-in-Ok-end-clause-rest
-returns-in-Ok-end-clause-rest g c = lines_kept c.args.script.now _ refl refl refl refl refl refl
-
-pub returns-in-Err-Stopped-clause-rest : goal.returns-in-Err-Stopped-clause-rest
-returns-in-Err-Stopped-clause-rest g c = lines_kept c.args.script.now _ refl refl refl refl refl refl
-
-pub returns-clause-rest : goal.returns-clause-rest
-returns-clause-rest g c = lines_kept c.args.script.now _ refl refl refl refl refl refl
-
-pub returns-in-Ok-end-clause-tells : goal.returns-in-Ok-end-clause-tells
-returns-in-Ok-end-clause-tells g c = tells_stays c.take-end.ensures.kept.fixed
-
-pub returns-in-Ok-end-clause-at_open : goal.returns-in-Ok-end-clause-at_open
-returns-in-Ok-end-clause-at_open g c = at_open_stays c.take-end.ensures.kept.fixed
-
-pub returns-in-Ok-end-clause-limits : goal.returns-in-Ok-end-clause-limits
-returns-in-Ok-end-clause-limits g c = limits_stay c.take-end.ensures.kept.fixed
-
-pub returns-in-Err-Stopped-clause-tells : goal.returns-in-Err-Stopped-clause-tells
-returns-in-Err-Stopped-clause-tells g c = tells_stays c.take-end.ensures.kept.fixed
-
-pub returns-in-Err-Stopped-clause-at_open : goal.returns-in-Err-Stopped-clause-at_open
-returns-in-Err-Stopped-clause-at_open g c = at_open_stays c.take-end.ensures.kept.fixed
-
-pub returns-in-Err-Stopped-clause-limits : goal.returns-in-Err-Stopped-clause-limits
-returns-in-Err-Stopped-clause-limits g c = limits_stay c.take-end.ensures.kept.fixed
-
-pub returns-clause-tells : goal.returns-clause-tells
-returns-clause-tells g c = tells_stays c.take-end.ensures.kept.fixed
-
-pub returns-clause-at_open : goal.returns-clause-at_open
-returns-clause-at_open g c = at_open_stays c.take-end.ensures.kept.fixed
-
-pub returns-clause-limits : goal.returns-clause-limits
-returns-clause-limits g c = limits_stay c.take-end.ensures.kept.fixed
+    record {
+      fed = tt;
+      took = tt;
+      stop = ended_otherwise g.D.Disk.seen c.args.store c.take-end.new.hall script.setup c.args.moment c.args.line place
+          lines was c.in-Ok.frames c.take-end.new.port c.args.bytes.now script.tally counted sums c.take-end.result taking c.in-Err.field-0
+          c.take-end.new.self c.in-Err.is c.take-end.ensures.ends c.take-end.ensures.taken;
+      set = still_set c.take-end.new.hall.state.sum.text c.args.script.now.setup c.take-end.ensures.kept.ready
+          (c.take-end.ensures.kept.text ∙ ap (λ (o : Option (List ℕ)). unwrap_or o []) c.requires.set);
+      others = λ i other. set_other c.args.script.now.lines.items (c.args.line - 1) i c.take-end.new.self other;
+      rest = lines_kept c.args.script.now _ refl refl refl refl refl refl;
+      tells = tells_stays c.take-end.ensures.kept.fixed;
+      at_open = at_open_stays c.take-end.ensures.kept.fixed;
+      limits = limits_stay c.take-end.ensures.kept.fixed;
+    }
