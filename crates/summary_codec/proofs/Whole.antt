@@ -6,10 +6,9 @@ use Rattle.event_codec.proofs.Readers.{IsReader, reworded, seq, passing, a_byte}
 use Rattle.event_codec.proofs.Fields.{last}
 use Rattle.centre_rules.specs.Summary.{Summary}
 use Rattle.summary_rules.specs.Fields.{IsLongNumber, IsRow, IsIncident, HasFields}
-use Rattle.summary_rules.specs.Conditions.{IsSpelling}
 use Rattle.summary_rules.specs.Spelling.{option_text, long_number, long_text, many_texts, row_text, incident_text, summary_text}
 use Rattle.summary_codec.specs.Reading.{SummaryParts, tag_at, summary_of_parts, summary_at}
-use Rattle.summary_codec.specs.OneSpelling.{SpellsOne}
+use Rattle.summary_codec.specs.OneSpelling.{AreOne, SpellsOne}
 use Rattle.summary_codec.proofs.Combining.{Spelled, paired, made, a_long_number, a_many, an_option}
 use Rattle.summary_codec.proofs.RowReading.{a_setup_text, a_row}
 use Rattle.summary_codec.proofs.IncidentReading.{an_incident}
@@ -76,9 +75,9 @@ a_summary = made summary_of_parts Fielded text_of
       text = refl;
     })
 
-read_whole : (generation : ℕ) (s : Summary) (bytes : List ℕ) → IsSpelling generation s bytes → summary_at bytes ≡ Some ((generation, s), [])
-read_whole generation s bytes w =
-    ap summary_at (sym (append-nil bytes)) ∙ a_summary.again (generation, s) bytes [] (record { ok = w.fields; is = w.is })
+pub read_text : (generation : ℕ) (s : Summary) (bytes : List ℕ) → HasFields generation s → bytes ≡ summary_text generation s → summary_at bytes ≡ Some ((generation, s), [])
+read_text generation s bytes fields is =
+    ap summary_at (sym (append-nil bytes)) ∙ a_summary.again (generation, s) bytes [] (record { ok = fields; is = is })
 
 abbrev some : {A : Type 0} → A → Option A
 some x = Some x
@@ -86,7 +85,13 @@ some x = Some x
 some_is : {A : Type 0} (x y : A) → some x ≡ some y → x ≡ y
 some_is x y e = cc
 
-pub spells_one : SpellsOne
-spells_one bytes generation other s t v w =
-    let same : ((generation, s), []) ≡ ((other, t), []) = some_is ((generation, s), []) ((other, t), []) (sym (read_whole generation s bytes v) ∙ read_whole other t bytes w) in
+-- bytes are of one generation and one summary with their fields in their ranges
+pub one_text : (bytes : List ℕ) (generation other : ℕ) (s t : Summary) → HasFields generation s → bytes ≡ summary_text generation s
+    → HasFields other t → bytes ≡ summary_text other t → AreOne generation s other t
+one_text bytes generation other s t v is w also =
+    let same : ((generation, s), []) ≡ ((other, t), []) =
+    some_is ((generation, s), []) ((other, t), []) (sym (read_text generation s bytes v is) ∙ read_text other t bytes w also) in
     record { generations = ap (λ (p : (ℕ × Summary) × List ℕ). p.0.0) same; summaries = ap (λ (p : (ℕ × Summary) × List ℕ). p.0.1) same }
+
+pub spells_one : SpellsOne
+spells_one bytes generation other s t v w = one_text bytes generation other s t v.fields v.is w.fields w.is

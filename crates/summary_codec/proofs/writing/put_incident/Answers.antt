@@ -1,5 +1,5 @@
 -- One part behind another.
-use Rattle.std.proofs.Common.{◌≡◌, ◌++◌, ◌∷◌, [], List, ℕ, length, ap, ◌∙◌}
+use Rattle.std.proofs.Common.{◌++◌, ◌∷◌, [], ap, ◌∙◌}
 use Rattle.event_codec.specs.Spelling.{short_text, step_byte}
 use Rattle.summary_rules.specs.Spelling.{long_number, class_byte, truth_byte, holder_text, few_texts, act_text, incident_text}
 use Rattle.summary_codec.proofs.Flat.{six_behind, opened_behind}
