@@ -2,7 +2,7 @@
 use Rattle.std.specs.Prelude.{not}
 use Rattle.std.proofs.Common.{◌≡◌, ◌≤◌, ◌+◌, ◌∷◌, ℕ, List, [], Bool, true, false, refl, sym, ◌∙◌, ap, subst}
 use Rattle.arc_data.specs.declared.event.Event.{Event}
-use Rattle.arc_data.specs.declared.event.Event.TheVariants.{Adopt, Start}
+use Rattle.arc_data.specs.declared.event.Event.TheVariants.{Adopt}
 use Rattle.centre_rules.specs.History.{Entry, is_recorded, marks, marks_of, onto}
 use Rattle.centre_rules.specs.Answers.{answer_over}
 use Rattle.centre_rules.specs.State.{State, Same, StandsFor, Plan, IsSound, Grows, entry_of}

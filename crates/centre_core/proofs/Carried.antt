@@ -1,10 +1,9 @@
 -- The signals that are carried, one after another.
-use Rattle.std.proofs.Common.{◌≡◌, ◌<◌, ◌≤◌, ℕ, zero, suc, ◌+◌, ◌*◌, List, [], ◌∷◌, ◌++◌, map, take, length, Bool, true, false, cond, refl, sym, ap, ◌∙◌, subst, Option, Some, None, arith, append_assoc}
-use Rattle.std.specs.Prelude.{slice_get, is_some, IfSome, if◌then◌else◌, nat_le, ◌&&◌}
-use Rattle.std.specs.List.{find, filter, flat_map, position}
+use Rattle.std.proofs.Common.{◌≡◌, ◌<◌, ◌≤◌, ℕ, zero, suc, ◌+◌, List, [], ◌∷◌, ◌++◌, take, length, Bool, true, false, cond, refl, sym, ap, ◌∙◌, Option, Some, None, arith}
+use Rattle.std.specs.Prelude.{slice_get, is_some, IfSome}
+use Rattle.std.specs.List.{find, flat_map}
 use Rattle.std.specs.Option.{option_map}
-use Rattle.std.proofs.lemmas.List.{take_more, map-append, append-nil}
-use Rattle.std.proofs.lemmas.List.Elements.{filter-append}
+use Rattle.std.proofs.lemmas.List.{take_more, append-nil}
 use Rattle.std.proofs.lemmas.Grind.{flat_map-append}
 use Rattle.std.proofs.lemmas.Option.{slice_get_within, get_or_from_slice_get}
 use Rattle.std.proofs.lemmas.Iterator.Adapters.{position_from-zero}
@@ -21,8 +20,6 @@ use Rattle.alarm_rules.specs.ContactId.{contact_id_signal}
 use Rattle.alarm_rules.specs.SiaCodes.{sia_signals, sia_items, signal_of_item}
 use Rattle.alarm_rules.specs.Setups.{Setup, Account, account_of, place_of, has_number, steps_of}
 use Rattle.alarm_rules.specs.Signals.{signals, data_of}
-use Rattle.centre_rules.specs.Marks.{Carried}
-use Rattle.centre_rules.specs.Carrying.{carried, own_signal, raised_where}
 
 -- The first so many of a list, and one more.
 

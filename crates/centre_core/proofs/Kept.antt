@@ -1,5 +1,5 @@
 -- What a recorded event leaves.
-use Rattle.std.proofs.Common.{◌≡◌, ◌<◌, ◌≤◌, ◌^◌, ◌*◌, ◌+◌, ℕ, List, [], ◌∷◌, map, length, Bool, true, false, Option, Some, None, refl, sym, ap, ◌∙◌, arith, subst}
+use Rattle.std.proofs.Common.{◌≡◌, ◌≤◌, ◌^◌, ◌*◌, ◌+◌, ℕ, List, [], map, length, true, Option, Some, None, refl, sym, ap, ◌∙◌, arith, subst}
 use Rattle.std.specs.Prelude.{IsOk, IsErr, is_ok, Result, Ok, Err}
 use Rattle.std.proofs.lemmas.Bool.{false≢true}
 use Rattle.arc_data.specs.declared.event.Event.{Event}
@@ -16,13 +16,13 @@ use Rattle.centre_rules.specs.Tables.{touched_by}
 use Rattle.centre_rules.specs.Carrying.{carried_by}
 use Rattle.centre_rules.specs.History.{is_recorded, marks_of, onto}
 use Rattle.centre_rules.specs.Answers.{answer_over, if_known}
-use Rattle.centre_rules.specs.State.{Same, State, Plan, IsSound, IsMarked}
+use Rattle.centre_rules.specs.State.{Same, State, Plan}
 use Rattle.centre_rules.proofs.Marked.{marked_same}
 use Rattle.centre_core.specs.Taken.{sum_of, marks_with, Takes, MayTake, Fits, accounts_of, IsNoAdopt}
 use Rattle.centre_core.proofs.Taking.{few_more, map_same}
-use Rattle.open_incidents.specs.Marked.{IsFew, HaveActRoom}
+use Rattle.open_incidents.specs.Marked.{IsFew}
 use Rattle.incidents.specs.Tables.{TableValue}
-use Rattle.centre_core.specs.Kept.{IsReady, IsAdopted, IsSetupOf, CarriesSetup, HasRoomFor, NoLess, IsWorked, MayRecord, Records, IsCentre}
+use Rattle.centre_core.specs.Kept.{IsReady, IsAdopted, IsSetupOf, CarriesSetup, NoLess, MayRecord, Records, IsCentre}
 use Rattle.centre_core.proofs.Ordered.{fits_of}
 use Rattle.centre_core.proofs.Owned.{carried_own}
 use Rattle.centre_core.proofs.Timely.{carried_timely}

@@ -11,3 +11,10 @@ pub mod Summed
 pub mod Written
 pub mod Taking
 pub mod Owned
+pub mod Growing
+pub mod StepRoom
+pub mod Numbers
+pub mod Apart
+pub mod RowsPut
+pub mod Tests
+pub mod Decoded

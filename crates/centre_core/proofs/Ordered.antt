@@ -1,14 +1,12 @@
 -- Answers to operators.
 use Rattle.std.proofs.Common.{◌≡◌, ℕ, List, [], ◌∷◌, ◌++◌, Bool, true, false, cond, Option, Some, None, refl, sym, ap, ◌∙◌}
-use Rattle.std.specs.Prelude.{IsSome, is_some, IfOk, Result, Ok, Err}
+use Rattle.std.specs.Prelude.{is_some, IfOk, Result, Ok, Err}
 use Rattle.arc_data.specs.declared.blob.Memory.{Memory}
 use Rattle.std.specs.List.{find}
-use Rattle.std.proofs.lemmas.Bool.{false≢true}
 use Rattle.arc_data.specs.Incidents.{has_number}
 use Rattle.arc_data.specs.Steps.{same_step}
-use Rattle.arc_data.specs.declared.event.CloseCode.{CloseCode}
 use Rattle.arc_data.specs.declared.event.Event.{Event}
-use Rattle.arc_data.specs.declared.event.Event.TheVariants.{Claim, Next, Act as Do, Release, Close, Show, List as Rows}
+use Rattle.arc_data.specs.declared.event.Event.TheVariants.{Act as Do, Close}
 use Rattle.arc_data.specs.declared.incident.Incident.{Incident}
 use Rattle.arc_data.specs.declared.reply.Reply.{Reply}
 use Rattle.arc_data.specs.declared.reply.Reply.TheVariants.{Recorded, Closed, Expected, NotYours}
@@ -19,7 +17,7 @@ use Rattle.centre_rules.specs.Summary.{Summary}
 use Rattle.centre_rules.specs.Cases.{incidents}
 use Rattle.centre_rules.specs.Marks.{force}
 use Rattle.centre_rules.specs.History.{acted_by}
-use Rattle.centre_rules.specs.Desks.{numbered, holds, on_claim, on_next, on_act, on_release, on_close, on_show, on_list, act_of, act_when, close_of, close_when}
+use Rattle.centre_rules.specs.Desks.{numbered, holds, on_act, on_close, act_of, act_when, close_of, close_when}
 use Rattle.centre_rules.specs.State.{State}
 use Rattle.centre_rules.specs.Answers.{answer_over, if_known, knows_operator}
 use Rattle.centre_rules.proofs.Steps.{incidents_begin}

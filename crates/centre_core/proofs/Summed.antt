@@ -1,14 +1,12 @@
 -- What a centre keeps is the summary of each history for which it stands.
-use Rattle.std.proofs.Common.{◌≡◌, ℕ, List, [], ◌∷◌, map, Bool, true, refl, sym, ap, ◌∙◌, subst}
-use Rattle.std.specs.Cmp.Lexicographic.{slice_cmp}
+use Rattle.std.proofs.Common.{◌≡◌, ℕ, List, [], ◌∷◌, map, true, refl, sym, ap, ◌∙◌, subst}
 use Rattle.std.specs.List.{list_any}
-use Rattle.std.specs.Ordering.{nat_cmp, is_lt}
 use Rattle.std.specs.Str.{bytes_eq}
 use Rattle.arc_data.specs.Steps.{is_step}
 use Rattle.arc_data.specs.declared.incident.Incident.{Incident}
 use Rattle.arc_data.specs.declared.step.Acted.{Acted}
-use Rattle.centre_rules.specs.Summary.{Summary, AccountRow}
-use Rattle.centre_rules.specs.Marks.{Mark, has_row, keeps_row}
+use Rattle.centre_rules.specs.Summary.{Summary}
+use Rattle.centre_rules.specs.Marks.{Mark, has_row}
 use Rattle.centre_rules.specs.Cases.{incidents}
 use Rattle.centre_rules.specs.History.{Entry, marks}
 use Rattle.centre_rules.specs.Answers.{IsLegal}

@@ -13,3 +13,4 @@ pub mod Runs
 pub mod Setting
 pub mod InForce
 pub mod Summing
+pub mod Decoding

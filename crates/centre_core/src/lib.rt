@@ -5,7 +5,9 @@
 mod answers;
 mod carrying;
 mod centre;
+mod conditions;
 mod copying;
+mod decoding;
 mod hall;
 mod marks;
 mod orders;
@@ -16,6 +18,7 @@ mod summing;
 pub use accounts::Setup;
 pub use arc_data::{Blob, Event, Memory, Message, Reply, Token};
 pub use centre::Centre;
+pub use decoding::decode_summary;
 pub use hall::{Hall, RamHall, Stop};
 pub use incidents::Table;
 pub use ready::{Done, Ready};

@@ -7,6 +7,7 @@ ghost use Rattle.centre_rules.specs.Summary.{Summary};
 ghost use Rattle.centre_rules.specs.History.{Entry, IsMoment};
 ghost use Rattle.centre_rules.specs.Answers.{if_known};
 
+mod decoding;
 mod storm;
 mod summaries;
 mod words;

@@ -61,7 +61,7 @@ fn play(rt: &impl Abort, alloc: Global, centre: &mut Centre, rows: &str) {
 }
 
 // The digits of bytes, two of each.
-fn digits_of(rt: &impl Abort, alloc: Global, bytes: &[u8]) -> String {
+pub(super) fn digits_of(rt: &impl Abort, alloc: Global, bytes: &[u8]) -> String {
     let mut digits = String::new(alloc);
     for byte in bytes {
         let pair = format!(in alloc; "{byte:02x}").expect(rt, "memory");

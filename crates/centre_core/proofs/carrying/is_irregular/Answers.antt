@@ -1,4 +1,4 @@
-use Rattle.std.proofs.Common.{◌≡◌, false, None, Option, sym, ap, ◌∙◌, List}
+use Rattle.std.proofs.Common.{◌≡◌, None, Option, sym, ap, ◌∙◌}
 use Rattle.alarm_rules.specs.Setups.{Account, meaning, account_of}
 use Rattle.centre_rules.specs.Carrying.{is_irregular}
 use Rattle.centre_core.proofs.Carried.{no_account}

@@ -1,4 +1,4 @@
-use Rattle.std.proofs.Common.{◌≡◌, ◌++◌, List, sym, ap, ◌∙◌, arith}
+use Rattle.std.proofs.Common.{◌++◌, List, sym, ap, ◌∙◌, arith}
 use Rattle.alarm_rules.specs.Setups.{meaning}
 use Rattle.centre_rules.specs.Carrying.{carried_sent}
 use Rattle.centre_rules.specs.Marks.{Carried}

@@ -1,5 +1,5 @@
-use Rattle.std.proofs.Common.{◌≡◌, None, sym, ◌∙◌}
-use Rattle.alarm_rules.specs.Setups.{meaning, account_of}
+use Rattle.std.proofs.Common.{sym, ◌∙◌}
+use Rattle.alarm_rules.specs.Setups.{meaning}
 use Rattle.centre_core.proofs.Carried.{no_account, no_steps}
 use Rattle.centre_core.proofs.carrying.steps_for.Goals as goal
 

@@ -1,11 +1,10 @@
 -- One part behind another.
-use Rattle.std.proofs.Common.{◌≡◌, ◌++◌, ◌∷◌, [], List, ℕ, map, ap, ◌∙◌, sym}
+use Rattle.std.proofs.Common.{◌++◌, ◌∷◌, [], map, ap, ◌∙◌}
 use Rattle.std.specs.Option.{option_map}
 use Rattle.centre_rules.specs.Sums.{account_row}
 use Rattle.known_accounts.specs.Supervised.{rows_sum}
 use Rattle.summary_rules.specs.Spelling.{long_number, long_text, option_text, many_texts, row_text, incident_text, summary_text}
 use Rattle.summary_codec.proofs.Flat.{five_behind, head_behind}
-use Rattle.summary_codec.specs.Writing.{HaveGoodSteps}
 use Rattle.centre_core.proofs.summing.put_kept.Goals as goal
 
 pub returns : goal.returns

@@ -1,5 +1,5 @@
 -- What is known of the account is what stands in its row.
-use Rattle.std.proofs.Common.{◌≡◌, ◌++◌, List, take, ap, ◌∙◌, sym}
+use Rattle.std.proofs.Common.{◌++◌, take, ap, ◌∙◌, sym}
 use Rattle.centre_rules.specs.Summary.{AccountRow}
 use Rattle.summary_rules.specs.Spelling.{row_text}
 use Rattle.centre_core.proofs.summing.put_row_of.Goals as goal

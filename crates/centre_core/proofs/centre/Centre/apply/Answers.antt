@@ -1,4 +1,4 @@
-use Rattle.std.proofs.Common.{◌+◌, ◌∙◌, ap, refl, subst, sym}
+use Rattle.std.proofs.Common.{◌+◌, ap, subst}
 use Rattle.centre_rules.specs.State.{State, Plan, IsSound, entry_of}
 use Rattle.centre_core.specs.Kept.{Records}
 use Rattle.centre_core.specs.contracts.centre.Centre.{the_view}

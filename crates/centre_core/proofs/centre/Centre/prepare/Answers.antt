@@ -1,6 +1,5 @@
-use Rattle.std.proofs.Common.{◌≡◌, [], sym, ap, ◌∙◌}
+use Rattle.std.proofs.Common.{◌≡◌, ap, ◌∙◌}
 use Rattle.centre_rules.specs.State.{State}
-use Rattle.centre_rules.specs.Summary.{Summary}
 use Rattle.centre_core.proofs.Applied.{answered}
 use Rattle.centre_core.proofs.centre.Centre.prepare.Goals as goal
 use Rattle.centre_core.proofs.centre.Centre.prepare.Goals.{then-is_recorded+in_ok-reserve, else-is_recorded}

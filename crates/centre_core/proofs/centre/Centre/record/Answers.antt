@@ -3,8 +3,6 @@ use Rattle.std.specs.Prelude.{IfSome, IsOk}
 use Rattle.alarm_rules.specs.Setups.{setup_of}
 use Rattle.centre_core.specs.Taken.{sum_of}
 use Rattle.arc_data.specs.declared.event.Event.{Event}
-use Rattle.centre_rules.specs.History.{IsMoment}
-use Rattle.centre_rules.specs.Marks.{Carried}
 use Rattle.centre_rules.specs.State.{State}
 use Rattle.centre_core.specs.Kept.{MayRecord, Records}
 use Rattle.centre_core.specs.contracts.centre.Centre.{the_view}

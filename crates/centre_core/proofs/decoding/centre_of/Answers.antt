@@ -1,0 +1,69 @@
+-- Each part of what was read is fine, and the centre keeps all of it.
+use Rattle.std.proofs.Common.{◌≡◌, ◌∙◌, map, sym, ap, subst}
+use Rattle.std.specs.Prelude.{IsOk}
+use Rattle.std.specs.Option.{option_map}
+use Rattle.std.proofs.lemmas.Bool.{false≢true}
+use Rattle.alarm_rules.specs.Setups.{setup_of}
+use Rattle.summary_rules.specs.Fields.{Given, IsIncident}
+use Rattle.summary_rules.specs.Lists.{Every}
+use Rattle.summary_rules.specs.Conditions.{IsSummary}
+use Rattle.summary_codec.specs.declared.head.Head.{Head}
+use Rattle.summary_codec.specs.declared.summary.ReadSummary.{ReadSummary}
+use Rattle.summary_codec.specs.Parts.{row_of_read, summary_of_read}
+use Rattle.centre_core.specs.Decoding.{IsHeadFine, AreRowsFine, AreIncidentsFine}
+use Rattle.centre_core.specs.Taken.{sum_of}
+use Rattle.centre_core.proofs.Decoded.{of_parts, head_of, rows_of, incidents_of, centre_fine}
+use Rattle.centre_core.proofs.decoding.centre_of.Goals as goal
+
+abbrev IsWhole : ReadSummary → Type 0
+IsWhole r = IsSummary r.head.generation (summary_of_read r)
+
+pub returns-then-not-is_head : goal.returns-then-not-is_head
+returns-then-not-is_head c = λ w.
+    let fine = subst (λ (h : Head). IsHeadFine h) (sym c.parts-rows.ensures.head) (head_of c.args.read w) in
+    false≢true (sym c.if-not-is_head.true ∙ c.is_head.ensures.only fine)
+
+pub returns-then-not-are_rows : goal.returns-then-not-are_rows
+returns-then-not-are_rows c = λ w.
+    let q : ReadSummary = record { head = c.parts-rows.result.0; rows = c.parts-rows.result.1; incidents = c.parts-rows.result.2 } in
+    let same : q ≡ c.args.read = λ i. record { head = c.parts-rows.ensures.head i; rows = c.parts-rows.ensures.rows i; incidents = c.parts-rows.ensures.incidents i } in
+    let fine = rows_of q (subst IsWhole (sym same) w) in
+    false≢true (sym c.if-not-are_rows.true ∙ c.are_rows.ensures.only (subst (AreRowsFine q.head.last) (sym c.deref.ensures.value) fine))
+
+pub returns-then-not-are_incidents : goal.returns-then-not-are_incidents
+returns-then-not-are_incidents c = λ w.
+    let q : ReadSummary = record { head = c.parts-rows.result.0; rows = c.parts-rows.result.1; incidents = c.parts-rows.result.2 } in
+    let same : q ≡ c.args.read = λ i. record { head = c.parts-rows.ensures.head i; rows = c.parts-rows.ensures.rows i; incidents = c.parts-rows.ensures.incidents i } in
+    let fine = incidents_of q (subst IsWhole (sym same) w) in
+    false≢true (sym c.if-not-are_incidents.true ∙ c.are_incidents.ensures.only (subst (AreIncidentsFine q.head) (sym c.deref-2.ensures.value) fine))
+
+pub invariant_of-result : goal.invariant_of-result
+invariant_of-result c =
+    let q : ReadSummary = record { head = c.parts-rows.result.0; rows = c.parts-rows.result.1; incidents = c.parts-rows.result.2 } in
+    let same : q ≡ c.args.read = λ i. record { head = c.parts-rows.ensures.head i; rows = c.parts-rows.ensures.rows i; incidents = c.parts-rows.ensures.incidents i } in
+    let kept : c.in-Some-2.queued.incidents ≡ q.incidents.items = rw c.in-Some-2.is at c.in_ok-queued.ensures.incidents in
+    let fine : AreIncidentsFine q.head q.incidents.items = subst (AreIncidentsFine q.head) c.deref-2.ensures.value (c.are_incidents.ensures.fine c.if-not-are_incidents.false) in
+    let fields : Every IsIncident q.incidents.items = subst (λ (r : ReadSummary). Every IsIncident r.incidents.items) (sym same) c.requires.incidents in
+    centre_fine q.head c.in-Some.accounts.text c.in-Some-2.queued (c.is_head.ensures.fine c.if-not-is_head.false)
+    (subst (Given (λ x. IsOk (setup_of x))) (sym (rw c.in-Some.is at c.in_ok-accounts.ensures.kept)) (rw c.in-Some.is at c.in_ok-accounts.ensures.text))
+    (subst (AreIncidentsFine q.head) (sym kept) fine) (subst (Every IsIncident) (sym kept) fields) (rw c.in-Some-2.is at c.in_ok-queued.ensures.opened)
+
+pub returns : goal.returns
+returns c =
+    let q : ReadSummary = record { head = c.parts-rows.result.0; rows = c.parts-rows.result.1; incidents = c.parts-rows.result.2 } in
+    let same : q ≡ c.args.read = λ i. record { head = c.parts-rows.ensures.head i; rows = c.parts-rows.ensures.rows i; incidents = c.parts-rows.ensures.incidents i } in
+    let text : c.in-Some.accounts.text ≡ option_map (λ t. t.now) q.head.text = rw c.in-Some.is at c.in_ok-accounts.ensures.kept in
+    let start : c.in-Some.accounts.rows.start ≡ q.head.start = rw c.in-Some.is at c.in_ok-accounts.ensures.start in
+    let rows : c.in-Some.accounts.rows.rows ≡ map row_of_read q.rows.items = rw c.in-Some.is at c.in_ok-accounts.ensures.rows in
+    let opened : c.in-Some-2.queued.opened ≡ q.head.opened = rw c.in-Some-2.is at c.in_ok-queued.ensures.opened in
+    let incidents : c.in-Some-2.queued.incidents ≡ q.incidents.items = rw c.in-Some-2.is at c.in_ok-queued.ensures.incidents in
+    let sum : sum_of q.head.last q.head.recorded c.in-Some.accounts.text c.in-Some.accounts.rows c.in-Some-2.queued ≡ summary_of_read q =
+    λ i. record { last = q.head.last; recorded = q.head.recorded; opened = opened i; start = start i; text = text i; rows = rows i; incidents = incidents i } in
+    record {
+      besides = subst IsWhole same (of_parts q (c.is_head.ensures.fine c.if-not-is_head.false)
+          (subst (AreRowsFine q.head.last) c.deref.ensures.value (c.are_rows.ensures.fine c.if-not-are_rows.false))
+          (subst (AreIncidentsFine q.head) c.deref-2.ensures.value (c.are_incidents.ensures.fine c.if-not-are_incidents.false))
+          (rw c.in-Some.is at c.in_ok-accounts.ensures.text) (rw c.in-Some-2.is at c.in_ok-queued.ensures.apart));
+      entries = ap (λ (h : Head). h.recorded) c.parts-rows.ensures.head;
+      sum = sum ∙ ap summary_of_read same;
+    }

@@ -1,0 +1,154 @@
+// A centre of the bytes of a summary.
+ghost use Rattle.std.specs.Prelude.{◌≡◌, ◌≤◌, ◌↔◌, ◌^◌, List, IfOk, MatchOption, IsTrue, map};
+ghost use Rattle.std.specs.Option.{option_map};
+ghost use Rattle.arc_data.specs.Incidents.{Ascends};
+ghost use Rattle.arc_data.specs.Moments.{IsMoment};
+ghost use Rattle.summary_rules.specs.Lists.{Every, EveryTwo};
+ghost use Rattle.summary_rules.specs.Fields.{HasFields};
+ghost use Rattle.summary_rules.specs.Conditions.{IsApart, IsHeldApart};
+ghost use Rattle.summary_codec.specs.Parts.{row_of_read, summary_of_read};
+ghost use Rattle.centre_core.specs.Decoding.{IsNoSpelling, IsDecoded, IsNoSummary, IsKeptOf, IsReadBefore, AreRowsFine, AreAllApart, IsTextFine};
+
+use crate::centre::Centre;
+use crate::conditions::{are_incidents, are_rows, is_head};
+use accounts::Setup;
+use arc_data::{Incident, Memory, SetupFault};
+use known_accounts::{AccountRows, Row, SupervisedAccounts, WatchedSetup};
+use open_incidents::QueuedTable;
+use std::alloc::Global;
+use summary_codec::{Head, ReadRow, ReadSummary, summary_read};
+
+/// The centre of a summary, and its generation. None exactly where the bytes are no spelling of one. The centre stands for the history
+/// of no entries over that summary. The error is want of memory.
+pub fn decode_summary(alloc: Global, bytes: &[u8]) -> Result<Option<(Centre, u64)>, Memory>
+    ensures { IfOk result (λ found. MatchOption found (IsNoSpelling bytes.now) (λ x. IsDecoded bytes.now x.0 x.1)) }
+{
+    let read = match summary_read(alloc, bytes) {
+        Ok(Some(read)) => read,
+        Ok(None) => return Ok(None),
+        Err(Memory) => return Err(Memory),
+    };
+    let generation = read.head.generation;
+    match centre_of(alloc, read) {
+        Ok(Some(centre)) => Ok(Some((centre, generation))),
+        Ok(None) => Ok(None),
+        Err(Memory) => Err(Memory),
+    }
+}
+
+// The centre that keeps what was read. None where that is not what a summary has to be.
+fn centre_of(alloc: Global, read: ReadSummary<'_>) -> Result<Option<Centre>, Memory>
+    requires { HasFields read.head.generation (summary_of_read read) }
+    ensures { IfOk result (λ found. MatchOption found (IsNoSummary read.entry) (IsKeptOf read.entry)) }
+{
+    let (head, rows, incidents) = read.parts();
+    if !is_head(&head) {
+        return Ok(None);
+    }
+    if !are_rows(&rows, head.last) {
+        return Ok(None);
+    }
+    if !are_incidents(&incidents, &head) {
+        return Ok(None);
+    }
+    let Some(accounts) = accounts_of(alloc, &head, rows)? else {
+        return Ok(None);
+    };
+    let Some(queued) = table_of(alloc, head.opened, incidents)? else {
+        return Ok(None);
+    };
+    Ok(Some(Centre {
+        entries: head.recorded,
+        recorded: head.recorded,
+        last: head.last,
+        accounts,
+        queued,
+    }))
+}
+
+// What is known of accounts, with the setup of the text in force. None where the text is no setup.
+fn accounts_of(
+    alloc: Global,
+    head: &Head<'_>,
+    rows: Vec<ReadRow>,
+) -> Result<Option<SupervisedAccounts>, Memory>
+    requires moment { IsMoment head.now.last }
+    requires fine { AreRowsFine head.now.last rows.items }
+    ensures text { IfOk result (λ found. MatchOption found (IsTextFine head.now → ⊥) (λ a. IsTextFine head.now)) }
+    ensures kept { IfOk result (λ found. MatchOption found Unit (λ a. a.text ≡ option_map (λ t. t.now) head.now.text)) }
+    ensures start { IfOk result (λ found. MatchOption found Unit (λ a. a.rows.start ≡ head.now.start)) }
+    ensures rows { IfOk result (λ found. MatchOption found Unit (λ a. a.rows.rows ≡ map row_of_read rows.items)) }
+{
+    let watched = match head.text {
+        None => None,
+        Some(text) => match Setup::read(alloc, text) {
+            Ok(setup) => Some(WatchedSetup::of(alloc, setup)?),
+            Err(SetupFault::Memory) => return Err(Memory),
+            Err(_) => return Ok(None),
+        },
+    };
+    let rows = rows_of(alloc, head.start, rows)?;
+    Ok(Some(SupervisedAccounts::of(alloc, watched, rows)))
+}
+
+// The rows of accounts in order.
+fn rows_of(alloc: Global, start: Option<u64>, rows: Vec<ReadRow>) -> Result<AccountRows, Memory>
+    requires { EveryTwo IsReadBefore rows.items }
+    ensures start { IfOk result (λ kept. kept.start ≡ start) }
+    ensures rows { IfOk result (λ kept. kept.rows ≡ map row_of_read rows.items) }
+{
+    let mut kept = AccountRows::started(alloc, start);
+    for row in rows {
+        let ReadRow {
+            account,
+            heard,
+            failed,
+            opening,
+            window,
+        } = row;
+        let row = Row {
+            heard,
+            failed,
+            opening,
+            window,
+        };
+        kept.put(account, row)?;
+    }
+    Ok(kept)
+}
+
+// The table of incidents whose numbers ascend. None where two are of one account and class, or an operator holds two.
+fn table_of(
+    alloc: Global,
+    opened: u64,
+    incidents: Vec<Incident>,
+) -> Result<Option<QueuedTable>, Memory>
+    requires few { opened ≤ 2 ^ 62 }
+    requires numbers { Ascends 0 incidents.items opened }
+    ensures apart { IfOk result (λ found. MatchOption found (AreAllApart incidents.items → ⊥) (λ queued. AreAllApart incidents.items)) }
+    ensures opened { IfOk result (λ found. MatchOption found Unit (λ queued. queued.opened ≡ opened)) }
+    ensures incidents { IfOk result (λ found. MatchOption found Unit (λ queued. queued.incidents ≡ incidents.items)) }
+{
+    let mut queued = QueuedTable::opened_at(alloc, opened);
+    queued.reserve(incidents.len())?;
+    for incident in incidents {
+        if !is_apart(&queued, &incident) {
+            return Ok(None);
+        }
+        queued.put(incident);
+    }
+    Ok(Some(queued))
+}
+
+// Whether none of these is of the account and class of an incident, and its holder holds none of them.
+fn is_apart(queued: &QueuedTable, i: &Incident) -> bool
+    ensures { IsTrue result ↔ (Every (λ other. IsApart other i.now) queued.now.incidents × Every (λ other. IsHeldApart other i.now) queued.now.incidents) }
+{
+    if queued.table().find(&i.account, i.class).is_some() {
+        return false;
+    }
+    match &i.holder {
+        Some(operator) => queued.held_by(operator).is_none(),
+        None => true,
+    }
+}
