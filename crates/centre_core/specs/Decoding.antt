@@ -9,7 +9,8 @@ use Rattle.centre_rules.specs.State.{State, StandsFor}
 use Rattle.centre_rules.specs.Summary.{Summary}
 use Rattle.summary_rules.specs.Fields.{Given}
 use Rattle.summary_rules.specs.Lists.{Every, EveryTwo}
-use Rattle.summary_rules.specs.Conditions.{HasRowBy, HasIncidentBy, IsRowBefore, AreMessages, IsApart, IsHeldApart, IsCount, AreSteps, AreActsOf, IsSummary, IsSpelling}
+use Rattle.summary_rules.specs.Conditions.{HasRowBy, HasIncidentBy, IsRowBefore, AreMessages, IsApart}
+use Rattle.summary_rules.specs.Conditions.{IsHeldApart, IsCount, AreSteps, AreActsOf, IsSummary, IsSpelling}
 use Rattle.summary_codec.specs.declared.head.Head.{Head}
 use Rattle.summary_codec.specs.declared.reading.ReadRow.{ReadRow}
 use Rattle.summary_codec.specs.declared.summary.ReadSummary.{ReadSummary}
