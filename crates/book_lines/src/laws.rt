@@ -1,6 +1,6 @@
 // The laws of words for moments, and of books.
 ghost use Rattle.book_lines.specs.GoOn.{BooksGoOn};
-ghost use Rattle.book_lines.specs.Laws.{DatesAreRead, MomentsAreRead};
+ghost use Rattle.book_lines.specs.Laws.{DatesAreRead, MomentsAreRead, OthersAreNotRead};
 ghost use Rattle.book_lines.specs.WordsFor.{WordsAsk};
 
 /// Each moment is read from its own word.
@@ -11,6 +11,11 @@ pub fn law_moments_are_read()
 /// A date alone is read as the first second of its day, or as the last.
 pub fn law_dates_are_read()
     ensures { DatesAreRead }
+{}
+
+/// Each word that is read as a moment is that moment's own word, or the date of its day.
+pub fn law_other_words_are_not_read()
+    ensures { OthersAreNotRead }
 {}
 
 /// Words ask for options exactly where they are those of each option, one behind the other.
