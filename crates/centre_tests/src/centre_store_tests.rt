@@ -2,7 +2,6 @@
 
 mod opening;
 mod submitting;
-mod wild;
 
 use arc_io::MemDisk;
 use std::alloc::Global;
