@@ -2,6 +2,7 @@
 
 mod opening;
 mod submitting;
+mod wild;
 
 use arc_io::MemDisk;
 use std::alloc::Global;

@@ -107,12 +107,12 @@ fn compare_area(rt: &impl Abort, alloc: Global, row: &str) {
     same(rt, told.as_str(), want, row);
 }
 
-fn append(rt: &impl Abort, area: &mut Vec<u8>, bytes: &[u8]) {
+pub(super) fn append(rt: &impl Abort, area: &mut Vec<u8>, bytes: &[u8]) {
     area.extend_from_slice(bytes).expect(rt, "memory");
 }
 
 // An area that has these records and a closed gate.
-fn area_of(rt: &impl Abort, alloc: Global, letters: &str) -> Vec<u8> {
+pub(super) fn area_of(rt: &impl Abort, alloc: Global, letters: &str) -> Vec<u8> {
     let mut area = Vec::new(alloc);
     append(rt, &mut area, b"ARC JOURNAL 0001");
     for letter in letters.chars() {

@@ -1,0 +1,242 @@
+// A store over a disk that nothing holds together: whatever it reads and whatever lengths it says, opening ends in a named answer that is
+// none of the disk's, and no call finds the disk down.
+ghost use Rattle.std.specs.Prelude.{◌≡◌, ◌<◌, ◌⊎◌, ℕ, IfOk, IfErr, OnOk};
+ghost use Rattle.centre_core.specs.Setting.{IsSetting};
+ghost use Rattle.disk_journal.specs.Faults.{IsOfContent};
+
+use super::opening::{append, area_of};
+use crate::same::{holds, same};
+use arc_data::{Blob, Reply};
+use arc_io::WildDisk;
+use centre_core::{Done, Setup, Stop};
+use centre_store::Store;
+use disk_journal::{OpenFault, SHIPPED};
+use std::alloc::Global;
+use std::process::Abort;
+use test_fixtures::messages::{account, burglary};
+use test_fixtures::moments::BEGIN;
+
+// Opens a disk of any content. The disk itself is never at fault.
+fn opened(alloc: Global, disk: WildDisk) -> Result<Store<WildDisk>, OpenFault>
+    ensures at_open { IfOk result (λ store. store.at_open ≡ 0) }
+    ensures named { IfErr result (λ fault. IsOfContent fault ⊎ (fault ≡ OpenFault.Memory)) }
+{
+    match Store::open(alloc, disk, SHIPPED) {
+        Ok(store) => Ok(store),
+        Err(refused) => {
+            let fault = refused.fault;
+            drop(refused);
+            Err(fault)
+        }
+    }
+}
+
+// Begins a run over it, or answers that there is no memory for its setup. The disk is never down.
+fn begun(alloc: Global, store: &mut Store<WildDisk>) -> Result<(), Stop>
+    requires { store.old.at_open ≡ 0 }
+    ensures setting { OnOk result (IsSetting store.new.state.sum.text) }
+    ensures at_open { store.new.at_open ≡ 0 }
+    ensures up { IfErr result (λ stop. (at_open now : ℕ) → stop ≡ Stop.Down at_open now → ⊥) }
+{
+    match Setup::read(alloc, b"account 1234\n") {
+        Ok(setup) => store.begin(alloc, setup, BEGIN),
+        Err(_) => Err(Stop::Memory),
+    }
+}
+
+// Submits an alarm, or answers that there is no memory for it. The disk is never down.
+fn submitted(alloc: Global, store: &mut Store<WildDisk>) -> Result<Done, Stop>
+    requires setting { IsSetting store.old.state.sum.text }
+    requires at_open { store.old.at_open ≡ 0 }
+    ensures up { IfErr result (λ stop. (at_open now : ℕ) → stop ≡ Stop.Down at_open now → ⊥) }
+{
+    match burglary(alloc, account(), 1) {
+        Ok(alarm) => store.submit(alloc, 7, alarm, BEGIN),
+        Err(_) => Err(Stop::Memory),
+    }
+}
+
+// What a store answers to a run that begins over it, and to an alarm.
+fn worked(alloc: Global, store: &mut Store<WildDisk>) -> &'static str
+    requires { store.old.at_open ≡ 0 }
+{
+    let Ok(()) = begun(alloc, store) else {
+        return "not begun";
+    };
+    match submitted(alloc, store) {
+        Ok(done) => word_of(&done.reply),
+        Err(_) => "stopped",
+    }
+}
+
+fn word_of(reply: &Reply) -> &'static str {
+    match reply {
+        Reply::Taken => "taken",
+        Reply::Repeat { .. } => "repeat",
+        _ => "another reply",
+    }
+}
+
+// What a disk says: how many entries are recorded and what is answered then, or why it was refused.
+fn told(rt: &impl Abort, alloc: Global, disk: WildDisk) -> String {
+    match opened(alloc, disk) {
+        Ok(store) => {
+            let mut store = store;
+            let count = store.centre().recorded();
+            let word = worked(alloc, &mut store);
+            drop(store);
+            format!(in alloc; "{count} {word}").expect(rt, "memory")
+        }
+        Err(fault) => format!(in alloc; "{fault:?}").expect(rt, "memory"),
+    }
+}
+
+// A disk of which each read gives these bytes from their front, whatever is asked for, and which says this length.
+fn wild_disk(rt: &impl Abort, alloc: Global, bytes: &[u8], length: u64) -> WildDisk {
+    let mut reads = Vec::new(alloc);
+    for _ in 0..4u8 {
+        let copy = Blob::of(alloc, bytes).expect(rt, "memory");
+        reads.push(copy).expect(rt, "memory");
+    }
+    let lengths = [length, length].to_vec(alloc).expect(rt, "memory");
+    WildDisk::new(reads, lengths)
+}
+
+// Records by their letters, the length that the disk says, and what it tells.
+const DISKS: &str = "\
+asm;100;3 repeat
+as;62;2 taken
+asm;0;0 taken
+asm;17;0 taken
+asm;18446744073709551615;3 repeat
+asm;99;Damaged { at: 61 }
+asm;61;Damaged { at: 47 }
+asm;47;Damaged { at: 16 }
+asmm;138;Damaged { at: 99 }
+x;32;Damaged { at: 16 }";
+
+#[test]
+fn a_length_is_believed(rt: HostRuntime) {
+    for row in DISKS.lines() {
+        compare_row(&rt, rt.alloc(), row);
+    }
+}
+
+fn compare_row(rt: &impl Abort, alloc: Global, row: &str) {
+    let (letters, rest) = row.split_once(';').expect(rt, "a row");
+    let (length, want) = rest.split_once(';').expect(rt, "a row");
+    let length = length.parse().expect(rt, "a length");
+    let area = area_of(rt, alloc, letters);
+    compare(rt, alloc, (&area, length), want, row);
+}
+
+fn compare(rt: &impl Abort, alloc: Global, disk: (&[u8], u64), want: &str, what: &str) {
+    let (bytes, length) = disk;
+    let told = told(rt, alloc, wild_disk(rt, alloc, bytes, length));
+    same(rt, told.as_str(), want, what);
+}
+
+// A byte below the length that a read does not give counts as 00.
+#[test]
+fn a_read_that_gives_less_gives_zeros(rt: HostRuntime) {
+    let alloc = rt.alloc();
+    let nothing = (b"".as_slice(), 100);
+    compare(&rt, alloc, nothing, "NotJournal { byte: 0 }", "no byte");
+    let short = (b"ARC JOURNAL".as_slice(), 100);
+    compare(&rt, alloc, short, "NotJournal { byte: 11 }", "a front");
+    let head = (b"ARC JOURNAL 0001".as_slice(), 100);
+    compare(&rt, alloc, head, "0 taken", "a head");
+    let gate = (b"ARC JOURNAL 0001\x01".as_slice(), 100);
+    compare(&rt, alloc, gate, "Damaged { at: 16 }", "an open gate");
+}
+
+// A number by chance, from the one before it: the step of Knuth's MMIX.
+fn stepped(number: u64) -> u64 {
+    number
+        .wrapping_mul(6_364_136_223_846_793_005)
+        .wrapping_add(1_442_695_040_888_963_407)
+}
+
+// A number below this one, by chance; 0 where it is 0.
+fn below(chance: &mut u64, limit: u64) -> u64
+    ensures { 0 < limit → result < limit }
+{
+    *chance = stepped(*chance);
+    if limit == 0 {
+        return 0;
+    }
+    (*chance >> 32u32) % limit
+}
+
+// Records that go on from one another, and some that don't.
+const LETTERS: [&str; 8] = ["asm", "osmc", "as", "asmm", "", "osmn", "asx", "ase"];
+
+// An area by chance: records, of whose bytes some are changed, cut behind some byte, and joined with others.
+fn area_by_chance(rt: &impl Abort, alloc: Global, chance: &mut u64) -> Vec<u8> {
+    let mut area = part_by_chance(rt, alloc, chance);
+    change_some(chance, &mut area);
+    let count = below(chance, (area.len() as u64).saturating_mul(2));
+    area.truncate(count as usize);
+    if below(chance, 4) == 0 {
+        let part = part_by_chance(rt, alloc, chance);
+        append(rt, &mut area, &part);
+    }
+    area
+}
+
+fn part_by_chance(rt: &impl Abort, alloc: Global, chance: &mut u64) -> Vec<u8> {
+    let place = below(chance, 8) as usize;
+    let letters = LETTERS.get(place).copied().unwrap_or("asm");
+    area_of(rt, alloc, letters)
+}
+
+// Changes none, one, or a few bytes.
+fn change_some(chance: &mut u64, area: &mut [u8]) {
+    for _ in 0..below(chance, 4) {
+        let place = below(chance, area.len() as u64) as usize;
+        let value = below(chance, 256) as u8;
+        if let Some(byte) = area.get_mut(place) {
+            *byte = value;
+        }
+    }
+}
+
+// A kind of answer, by its first letter: a count, NotJournal, WrongVersion or Damaged; 4 is none of these.
+fn kind_of(told: &str) -> usize {
+    match told.as_bytes().first() {
+        Some(b'0'..=b'9') => 0,
+        Some(b'N') => 1,
+        Some(b'W') => 2,
+        Some(b'D') => 3,
+        _ => 4,
+    }
+}
+
+// Each of a thousand disks by chance ends in a named answer, and each of these comes. The length is mostly that of the bytes.
+#[test]
+fn a_thousand_disks_by_chance(rt: HostRuntime) {
+    let mut chance = 39;
+    let mut counts = [0u64; 5];
+    for _ in 0..1000u16 {
+        let kind = kind_by_chance(&rt, rt.alloc(), &mut chance);
+        if let Some(count) = counts.get_mut(kind) {
+            *count = count.saturating_add(1);
+        }
+    }
+    let [opened, not_journal, wrong_version, damaged, other] = counts;
+    holds(&rt, opened > 0, "opened");
+    holds(&rt, not_journal > 0, "no journal");
+    holds(&rt, wrong_version > 0, "another version");
+    holds(&rt, damaged > 0, "damaged");
+    same(&rt, other, 0, "none of these");
+}
+
+fn kind_by_chance(rt: &impl Abort, alloc: Global, chance: &mut u64) -> usize {
+    let area = area_by_chance(rt, alloc, chance);
+    let length = match below(chance, 4) {
+        0 => below(chance, 300),
+        _ => area.len() as u64,
+    };
+    let told = told(rt, alloc, wild_disk(rt, alloc, &area, length));
+    kind_of(&told)
+}
