@@ -1,5 +1,5 @@
 -- What a centre is read from, and what has to hold of its parts.
-use Rattle.std.specs.Prelude.{◌≡◌, ◌≤◌, ◌^◌, ◌+◌, ◌*◌, ℕ, List, [], IsOk}
+use Rattle.std.specs.Prelude.{◌≡◌, ◌≤◌, ◌^◌, ◌+◌, ◌*◌, ℕ, List, [], Option, IsOk}
 use Rattle.std.specs.Option.{option_map}
 use Rattle.arc_data.specs.Incidents.{Ascends}
 use Rattle.arc_data.specs.Moments.{IsMoment}
@@ -71,11 +71,20 @@ pub record AreIncidentsFine (h : Head) (is : List Incident) : Type 0 where
   pub each : Every (IsIncidentFine h) is
   pub numbers : Ascends 0 is h.opened
 
+-- the head, the rows and the incidents
+pub record ArePartsFine (h : Head) (rows : List ReadRow) (is : List Incident) : Type 0 where
+  pub head : IsHeadFine h
+  pub rows_are : AreRowsFine h.last rows
+  pub incidents : AreIncidentsFine h is
+
 -- no two are of one account and class, and no operator holds two
 pub record AreAllApart (is : List Incident) : Type 0 where
   pub single : EveryTwo IsApart is
   pub holders : EveryTwo IsHeldApart is
 
 -- the text, where there is one, is a setup
+abbrev pub IsSetupGiven : Option (List ℕ) → Type 0
+IsSetupGiven text = Given (λ t. IsOk (setup_of t)) text
+
 abbrev pub IsTextFine : Head → Type 0
-IsTextFine h = Given (λ text. IsOk (setup_of text)) (option_map (λ t. t.now) h.text)
+IsTextFine h = IsSetupGiven (option_map (λ t. t.now) h.text)

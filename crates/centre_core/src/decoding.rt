@@ -7,7 +7,7 @@ ghost use Rattle.summary_rules.specs.Lists.{Every, EveryTwo};
 ghost use Rattle.summary_rules.specs.Fields.{HasFields};
 ghost use Rattle.summary_rules.specs.Conditions.{IsApart, IsHeldApart};
 ghost use Rattle.summary_codec.specs.Parts.{row_of_read, summary_of_read};
-ghost use Rattle.centre_core.specs.Decoding.{IsNoSpelling, IsDecoded, IsNoSummary, IsKeptOf, IsReadBefore, AreRowsFine, AreAllApart, IsTextFine};
+ghost use Rattle.centre_core.specs.Decoding.{IsNoSpelling, IsDecoded, IsNoSummary, IsKeptOf, IsReadBefore, AreRowsFine, ArePartsFine, AreAllApart, IsSetupGiven, IsTextFine};
 
 use crate::centre::Centre;
 use crate::conditions::{are_incidents, are_rows, is_head};
@@ -42,13 +42,7 @@ fn centre_of(alloc: Global, read: ReadSummary<'_>) -> Result<Option<Centre>, Mem
     ensures { IfOk result (λ found. MatchOption found (IsNoSummary read.entry) (IsKeptOf read.entry)) }
 {
     let (head, rows, incidents) = read.parts();
-    if !is_head(&head) {
-        return Ok(None);
-    }
-    if !are_rows(&rows, head.last) {
-        return Ok(None);
-    }
-    if !are_incidents(&incidents, &head) {
+    if !are_parts(&head, &rows, &incidents) {
         return Ok(None);
     }
     let Some(accounts) = accounts_of(alloc, &head, rows)? else {
@@ -66,6 +60,14 @@ fn centre_of(alloc: Global, read: ReadSummary<'_>) -> Result<Option<Centre>, Mem
     }))
 }
 
+// Whether each part by itself is such as a summary has.
+fn are_parts(head: &Head<'_>, rows: &[ReadRow], incidents: &[Incident]) -> bool
+    ensures fine { IsTrue result → ArePartsFine head.now rows.now incidents.now }
+    ensures only { ArePartsFine head.now rows.now incidents.now → IsTrue result }
+{
+    is_head(head) && are_rows(rows, head.last) && are_incidents(incidents, head)
+}
+
 // What is known of accounts, with the setup of the text in force. None where the text is no setup.
 fn accounts_of(
     alloc: Global,
@@ -79,16 +81,26 @@ fn accounts_of(
     ensures start { IfOk result (λ found. MatchOption found Unit (λ a. a.rows.start ≡ head.now.start)) }
     ensures rows { IfOk result (λ found. MatchOption found Unit (λ a. a.rows.rows ≡ map row_of_read rows.items)) }
 {
-    let watched = match head.text {
-        None => None,
-        Some(text) => match Setup::read(alloc, text) {
-            Ok(setup) => Some(WatchedSetup::of(alloc, setup)?),
-            Err(SetupFault::Memory) => return Err(Memory),
-            Err(_) => return Ok(None),
-        },
+    let Some(watched) = watched_in(alloc, head.text)? else {
+        return Ok(None);
     };
     let rows = rows_of(alloc, head.start, rows)?;
     Ok(Some(SupervisedAccounts::of(alloc, watched, rows)))
+}
+
+// The setup of a text, where there is one. None where the text is no setup.
+fn watched_in(alloc: Global, text: Option<&[u8]>) -> Result<Option<Option<WatchedSetup>>, Memory>
+    ensures text { IfOk result (λ found. MatchOption found (IsSetupGiven (option_map (λ t. t.now) text.entry) → ⊥) (λ w. IsSetupGiven (option_map (λ t. t.now) text.entry))) }
+    ensures kept { IfOk result (λ found. MatchOption found Unit (λ w. w ≡ option_map (λ t. t.now) text.entry)) }
+{
+    let Some(text) = text else {
+        return Ok(Some(None));
+    };
+    match Setup::read(alloc, text) {
+        Ok(setup) => Ok(Some(Some(WatchedSetup::of(alloc, setup)?))),
+        Err(SetupFault::Memory) => Err(Memory),
+        Err(_) => Ok(None),
+    }
 }
 
 // The rows of accounts in order.

@@ -8,8 +8,8 @@ use Rattle.centre_rules.specs.Summary.{AccountRow, row_or}
 use Rattle.centre_core.proofs.Decoded.{opened_rows}
 use Rattle.centre_core.proofs.decoding.accounts_of.Goals as goal
 
-pub of-requires-2 : goal.of-requires-2
-of-requires-2 c account =
+pub of-requires : goal.of-requires
+of-requires c account =
     let start = c.in_ok-rows.rows.start in
     subst (λ (l : List AccountRow). IfSome (row_or (find (λ (r : AccountRow). bytes_eq r.account account) l) account start).opening (λ o. IsMoment o.at)) (sym c.in_ok-rows.ensures.rows)
     (opened_rows c.args.head.now.last start c.args.rows.items account c.requires.moment c.requires.fine.each)

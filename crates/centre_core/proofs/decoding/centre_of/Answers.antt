@@ -18,33 +18,25 @@ use Rattle.centre_core.proofs.decoding.centre_of.Goals as goal
 abbrev IsWhole : ReadSummary → Type 0
 IsWhole r = IsSummary r.head.generation (summary_of_read r)
 
-pub returns-then-not-is_head : goal.returns-then-not-is_head
-returns-then-not-is_head c = λ w.
-    let fine = subst (λ (h : Head). IsHeadFine h) (sym c.parts-rows.ensures.head) (head_of c.args.read w) in
-    false≢true (sym c.if-not-is_head.true ∙ c.is_head.ensures.only fine)
-
-pub returns-then-not-are_rows : goal.returns-then-not-are_rows
-returns-then-not-are_rows c = λ w.
+pub returns-then-not-are_parts : goal.returns-then-not-are_parts
+returns-then-not-are_parts c = λ w.
     let q : ReadSummary = record { head = c.parts-rows.result.0; rows = c.parts-rows.result.1; incidents = c.parts-rows.result.2 } in
     let same : q ≡ c.args.read = λ i. record { head = c.parts-rows.ensures.head i; rows = c.parts-rows.ensures.rows i; incidents = c.parts-rows.ensures.incidents i } in
-    let fine = rows_of q (subst IsWhole (sym same) w) in
-    false≢true (sym c.if-not-are_rows.true ∙ c.are_rows.ensures.only (subst (AreRowsFine q.head.last) (sym c.deref.ensures.value) fine))
-
-pub returns-then-not-are_incidents : goal.returns-then-not-are_incidents
-returns-then-not-are_incidents c = λ w.
-    let q : ReadSummary = record { head = c.parts-rows.result.0; rows = c.parts-rows.result.1; incidents = c.parts-rows.result.2 } in
-    let same : q ≡ c.args.read = λ i. record { head = c.parts-rows.ensures.head i; rows = c.parts-rows.ensures.rows i; incidents = c.parts-rows.ensures.incidents i } in
-    let fine = incidents_of q (subst IsWhole (sym same) w) in
-    false≢true (sym c.if-not-are_incidents.true ∙ c.are_incidents.ensures.only (subst (AreIncidentsFine q.head) (sym c.deref-2.ensures.value) fine))
+    let whole = subst IsWhole (sym same) w in
+    false≢true (sym c.if-not-are_parts.true ∙ c.are_parts.ensures.only (record {
+      head = head_of q whole;
+      rows_are = subst (AreRowsFine q.head.last) (sym c.deref.ensures.value) (rows_of q whole);
+      incidents = subst (AreIncidentsFine q.head) (sym c.deref-2.ensures.value) (incidents_of q whole);
+    }))
 
 pub invariant_of-result : goal.invariant_of-result
 invariant_of-result c =
     let q : ReadSummary = record { head = c.parts-rows.result.0; rows = c.parts-rows.result.1; incidents = c.parts-rows.result.2 } in
     let same : q ≡ c.args.read = λ i. record { head = c.parts-rows.ensures.head i; rows = c.parts-rows.ensures.rows i; incidents = c.parts-rows.ensures.incidents i } in
     let kept : c.in-Some-2.queued.incidents ≡ q.incidents.items = rw c.in-Some-2.is at c.in_ok-queued.ensures.incidents in
-    let fine : AreIncidentsFine q.head q.incidents.items = subst (AreIncidentsFine q.head) c.deref-2.ensures.value (c.are_incidents.ensures.fine c.if-not-are_incidents.false) in
+    let fine : AreIncidentsFine q.head q.incidents.items = subst (AreIncidentsFine q.head) c.deref-2.ensures.value (c.are_parts.ensures.fine c.if-not-are_parts.false).incidents in
     let fields : Every IsIncident q.incidents.items = subst (λ (r : ReadSummary). Every IsIncident r.incidents.items) (sym same) c.requires.incidents in
-    centre_fine q.head c.in-Some.accounts.text c.in-Some-2.queued (c.is_head.ensures.fine c.if-not-is_head.false)
+    centre_fine q.head c.in-Some.accounts.text c.in-Some-2.queued (c.are_parts.ensures.fine c.if-not-are_parts.false).head
     (subst (Given (λ x. IsOk (setup_of x))) (sym (rw c.in-Some.is at c.in_ok-accounts.ensures.kept)) (rw c.in-Some.is at c.in_ok-accounts.ensures.text))
     (subst (AreIncidentsFine q.head) (sym kept) fine) (subst (Every IsIncident) (sym kept) fields) (rw c.in-Some-2.is at c.in_ok-queued.ensures.opened)
 
@@ -60,9 +52,9 @@ returns c =
     let sum : sum_of q.head.last q.head.recorded c.in-Some.accounts.text c.in-Some.accounts.rows c.in-Some-2.queued ≡ summary_of_read q =
     λ i. record { last = q.head.last; recorded = q.head.recorded; opened = opened i; start = start i; text = text i; rows = rows i; incidents = incidents i } in
     record {
-      besides = subst IsWhole same (of_parts q (c.is_head.ensures.fine c.if-not-is_head.false)
-          (subst (AreRowsFine q.head.last) c.deref.ensures.value (c.are_rows.ensures.fine c.if-not-are_rows.false))
-          (subst (AreIncidentsFine q.head) c.deref-2.ensures.value (c.are_incidents.ensures.fine c.if-not-are_incidents.false))
+      besides = subst IsWhole same (of_parts q (c.are_parts.ensures.fine c.if-not-are_parts.false).head
+          (subst (AreRowsFine q.head.last) c.deref.ensures.value (c.are_parts.ensures.fine c.if-not-are_parts.false).rows_are)
+          (subst (AreIncidentsFine q.head) c.deref-2.ensures.value (c.are_parts.ensures.fine c.if-not-are_parts.false).incidents)
           (rw c.in-Some.is at c.in_ok-accounts.ensures.text) (rw c.in-Some-2.is at c.in_ok-queued.ensures.apart));
       entries = ap (λ (h : Head). h.recorded) c.parts-rows.ensures.head;
       sum = sum ∙ ap summary_of_read same;
