@@ -1,4 +1,3 @@
-pub mod Alone
 pub mod Tapes
 pub mod Intakes
 pub mod Fronts

@@ -1,9 +1,4 @@
 pub mod Gates
-pub mod Steps
-pub mod Chosen
-pub mod Appends
-pub mod Turns
-pub mod Opens
 pub mod Pieces
 pub mod Windows
 pub mod Once

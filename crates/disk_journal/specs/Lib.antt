@@ -5,4 +5,3 @@ pub mod Faults
 pub mod Journal
 pub mod OtherArea
 pub mod Behind
-pub mod Turning

@@ -12,5 +12,3 @@ mod disk_journal_tests;
 mod rows;
 #[cfg(test)]
 mod same;
-#[cfg(test)]
-mod turning_tests;
