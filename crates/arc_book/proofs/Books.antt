@@ -18,6 +18,7 @@ use Rattle.arc_book.specs.Compiled.{IsCompiled, IsEnd, EndsRefused, BeginsWith, 
 use Rattle.arc_book.specs.Statuses.{IsTold, IsOfArea, IsWritten, last_line}
 use Rattle.arc_book.specs.declared.status.Status.{Status}
 use Rattle.arc_book.specs.declared.status.Status.TheVariants.{Done, Usage, ReadFault, WriteFault, Journal, Memory, Spent}
+use Rattle.arc_book.proofs.Alone.{shown_alone}
 use Rattle.arc_book.proofs.Pages.{unwritten, put_out, failed_on}
 
 begins_none : (all : Option (List ℕ)) → IfSome all (BeginsWith [])
@@ -62,8 +63,8 @@ fresh_compiled o all s s' k short reads = none_compiled o Done all s s' k (stand
 refused : (all : Option (List ℕ)) (fault : OpenFault) → IsOfFront fault → IfSome all (IsShown fault) → IfSome all (EndsRefused fault [] [])
 refused None fault front shown = tt
 refused (Some bytes) (Open.DiskFault was is) front shown = absurd front
-refused (Some bytes) (Open.NotJournal byte) front shown = (shown, refl)
-refused (Some bytes) (Open.WrongVersion found) front shown = (shown, refl)
+refused (Some bytes) (Open.NotJournal byte) front shown = (shown_alone (Open.NotJournal byte) bytes shown, refl)
+refused (Some bytes) (Open.WrongVersion found) front shown = (shown_alone (Open.WrongVersion found) bytes shown, refl)
 refused (Some bytes) (Open.Damaged place) front shown = absurd front
 refused (Some bytes) Open.Memory front shown = absurd front
 

@@ -34,7 +34,7 @@ front_read all rest body front gate d is long front_is head_is gate_is far =
     let whole : body ≡ head ++ gate ∷ [] =
     sym (take-append-drop 16 body) ∙ ap (λ l. l ++ drop 16 body) (sym front_is ∙ head_is) ∙ ap (λ l. head ++ l) last in
     record {
-      sizes = λ k d below. absurd (omega (arith, below));
+      sizes = tt;
       at = refl;
       long = far;
       is = is ∙ ap (λ l. prepend_known l rest) whole;

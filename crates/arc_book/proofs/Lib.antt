@@ -1,3 +1,4 @@
+pub mod Alone
 pub mod Tapes
 pub mod Intakes
 pub mod Fronts

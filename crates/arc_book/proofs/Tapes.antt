@@ -6,10 +6,11 @@ use Rattle.arc_io.proofs.KnownMore.{known_taken}
 use Rattle.centre_rules.specs.History.{Entry}
 use Rattle.centre_rules.specs.Summary.{nothing}
 use Rattle.centre_store.specs.Pasts.{IsPast, IsBadAt, HasNoNext}
-use Rattle.disk_journal.specs.Records.{front as bytes_before, bytes_of, IsWhole, IsDamaged, Stands}
+use Rattle.disk_journal.specs.Records.{front as bytes_before, bytes_of, IsWhole, IsDamaged, MayStandAt, Stands}
 use Rattle.disk_journal.specs.declared.fault.OpenFault.{OpenFault}
 use Rattle.disk_journal.specs.declared.fault.OpenFault.TheVariants as Open
 use Rattle.disk_journal.proofs.Gates.{front-more, sizes-more, length-front, size-more}
+use Rattle.arc_book.proofs.Alone.{damaged_alone, bad_alone}
 use Rattle.arc_book.specs.Compiled.{BeginsWith, EndsAt, EndsRefused}
 use Rattle.arc_book.specs.Tapes.{IsReadTo, IsBodyAhead, IsBrokenAhead}
 
@@ -58,9 +59,9 @@ pub spent_end : (all : Option (List ℕ)) (bodies : List (List ℕ)) (gate place
     → IfSome all (λ bytes. BeginsWith bodies bytes × (2 ^ 40 ≤ length bytes))
 spent_end all bodies gate place rest r far = both_far all bodies (begins_at all bodies gate place rest r) (spent_at all bodies gate place rest r far)
 
-lacks_ahead : (rest : Option (List ℕ)) (behind : List ℕ) → rest ≡ Some behind → IsBrokenAhead rest → IsWhole behind → ⊥
-lacks_ahead None behind is broken whole = absurd (never behind (sym is))
-lacks_ahead (Some x) behind is broken whole = broken (subst IsWhole (sym (some_is x behind is)) whole)
+lacks_ahead : (place : ℕ) (rest : Option (List ℕ)) (behind : List ℕ) → rest ≡ Some behind → IsBrokenAhead place rest → IsWhole place behind → ⊥
+lacks_ahead place None behind is broken whole = absurd (never behind (sym is))
+lacks_ahead place (Some x) behind is broken whole = broken (subst (IsWhole place) (sym (some_is x behind is)) whole)
 
 pub long_bytes : (all : Option (List ℕ)) (bytes : List ℕ) → all ≡ Some bytes → IfSome all (λ b. 17 < length b) → 17 < length bytes
 long_bytes None bytes is long = absurd (never bytes (sym is))
@@ -68,11 +69,11 @@ long_bytes (Some x) bytes is long = subst (λ (b : List ℕ). 17 < length b) (so
 
 -- no whole record stands behind an open gate
 pub damaged_at : (all : Option (List ℕ)) (bodies : List (List ℕ)) (gate place : ℕ) (rest : Option (List ℕ)) → IsReadTo all bodies gate place rest → gate ≡ 1
-    → IsBrokenAhead rest → IfSome all (λ bytes. IsDamaged bytes place)
+    → IsBrokenAhead place rest → IfSome all (λ bytes. IsDamaged bytes place)
 damaged_at all bodies gate place rest r opened broken =
     told (λ bytes. IsDamaged bytes place) all rest (bytes_before bodies ++ gate ∷ []) r.is
     (λ bytes behind some some' is.
-    let lacks = lacks_ahead rest behind some' broken in
+    let lacks = lacks_ahead place rest behind some' broken in
     record {
       long = long_bytes all bytes some r.long;
       bodies = bodies;
@@ -84,32 +85,32 @@ damaged_at all bodies gate place rest r opened broken =
     })
 
 pub ends_broken : (all : Option (List ℕ)) (bodies : List (List ℕ)) (past : List Entry) (gate place : ℕ) (rest : Option (List ℕ)) → IsReadTo all bodies gate place rest → gate ≡ 1
-    → IsBrokenAhead rest → IfSome all (EndsAt bodies past)
+    → IsBrokenAhead place rest → IfSome all (EndsAt bodies past)
 ends_broken all bodies past gate place rest r opened broken =
     told (EndsAt bodies past) all rest (bytes_before bodies ++ gate ∷ []) r.is
     (λ bytes behind some some' is.
-    let lacking = lacks_ahead rest behind some' broken in
+    let lacking = lacks_ahead place rest behind some' broken in
     record {
       rest = behind;
       is = gated bodies gate behind bytes is ∙ ap (λ g. bytes_before bodies ++ g ∷ behind) opened;
-      lacks = inl lacking;
+      lacks = inl (subst (λ (n : ℕ). IsWhole n behind → ⊥) r.at lacking);
     })
 
 -- the end at an open gate behind which no whole record stands
 pub broken_end : (all : Option (List ℕ)) (bodies : List (List ℕ)) (past : List Entry) (gate place : ℕ) (rest : Option (List ℕ)) → IsReadTo all bodies gate place rest → gate ≡ 1
-    → IsBrokenAhead rest → IfSome all (EndsRefused (Open.Damaged place) bodies past)
+    → IsBrokenAhead place rest → IfSome all (EndsRefused (Open.Damaged place) bodies past)
 broken_end all bodies past gate place rest r opened broken =
     refused_both all (damaged_at all bodies gate place rest r opened broken) (ends_broken all bodies past gate place rest r opened broken)
   where
     refused_both : (all : Option (List ℕ)) → IfSome all (λ bytes. IsDamaged bytes place) → IfSome all (EndsAt bodies past) → IfSome all (EndsRefused (Open.Damaged place) bodies past)
     refused_both None p q = tt
-    refused_both (Some bytes) p q = (inl p, q)
+    refused_both (Some bytes) p q = (damaged_alone bytes place p, q)
 
 -- one record more was read
 pub read_on : (all : Option (List ℕ)) (bodies : List (List ℕ)) (body : List ℕ) (gate place next : ℕ) (before rest : Option (List ℕ)) → IsReadTo all bodies 1 place before
-    → IsBodyAhead before body gate rest → next ≡ place + (5 + length body) → IsReadTo all (bodies ++ body ∷ []) gate next rest
+    → IsBodyAhead place before body gate rest → next ≡ place + (5 + length body) → IsReadTo all (bodies ++ body ∷ []) gate next rest
 read_on all bodies body gate place next before rest r ahead step = record {
-  sizes = sizes-more bodies body r.sizes ahead.size;
+  sizes = sizes-more bodies body r.sizes (subst (λ (n : ℕ). MayStandAt n body) r.at ahead.size);
   at = omega (arith, step, r.at, length-front bodies, length-front (bodies ++ body ∷ []), size-more bodies body);
   long = r.long;
   is = r.is ∙ ap (prepend_known (bytes_before bodies ++ 1 ∷ [])) ahead.is ∙ known_taken rest (bytes_before bodies ++ 1 ∷ []) (bytes_of body ++ gate ∷ [])
@@ -148,6 +149,6 @@ pub bad_end : (all : Option (List ℕ)) (bodies : List (List ℕ)) (past : List 
     → IfSome all (EndsRefused fault bodies past)
 bad_end None bodies past body fault place ends p at bad found = tt
 bad_end (Some bytes) bodies past body fault place ends p at bad (inl f) =
-    subst (λ (x : OpenFault). EndsRefused x bodies past bytes) (sym f.0) (inr (nothing, (bodies ++ body ∷ []) ++ f.1.0, (refl, f.1.1), bad_at bodies f.1.0 body past place p at bad), ends)
+    subst (λ (x : OpenFault). EndsRefused x bodies past bytes) (sym f.0) (bad_alone bytes bodies f.1.0 body past place p at f.1.1 (bad_at bodies f.1.0 body past place p at bad), ends)
 bad_end (Some bytes) bodies past body fault place ends p at bad (inr f) =
-    subst (λ (x : OpenFault). EndsRefused x bodies past bytes) (sym f.1) (inl f.2, ends)
+    subst (λ (x : OpenFault). EndsRefused x bodies past bytes) (sym f.1) (damaged_alone bytes f.0 f.2, ends)

@@ -48,7 +48,7 @@ module _ (o : Options) (all : Option (List ℕ)) (gate at : ℕ) (rest : Option 
   pub closed_walk : gate ≢ 1 → IsCompiled o Done all s s' k0 k page
   closed_walk closed = ends Done (stands_at all w.bodies gate at rest w.read closed) w.text tt
 
-  pub broken_walk : gate ≡ 1 → IsBrokenAhead rest → IsCompiled o (Journal (Open.Damaged at)) all s s' k0 k page
+  pub broken_walk : gate ≡ 1 → IsBrokenAhead at rest → IsCompiled o (Journal (Open.Damaged at)) all s s' k0 k page
   broken_walk opened broken = ends (Journal (Open.Damaged at)) (broken_end all w.bodies w.past gate at rest w.read opened broken) w.text tt
 
   pub spent_walk : 2 ^ 40 ≤ at → IsCompiled o Spent all s s' k0 k page

@@ -30,7 +30,8 @@ BeginsWith bodies bytes = (bodies ≡ []) ⊎ ((behind : List ℕ) × (bytes ≡
 pub record EndsAt (bodies : List (List ℕ)) (past : List Entry) (bytes : List ℕ) : Type 0 where
   pub rest : List ℕ
   pub is : bytes ≡ bytes_before bodies ++ 1 ∷ rest
-  pub lacks : (IsWhole rest → ⊥) ⊎ ((body behind : List ℕ) × (rest ≡ bytes_of body ++ behind) × HasNoNext nothing bodies past body)
+  pub lacks : (IsWhole (length (bytes_before bodies)) rest → ⊥)
+      ⊎ ((body behind : List ℕ) × (rest ≡ bytes_of body ++ behind) × HasNoNext nothing bodies past body)
 
 -- a refusal of the area, of which the records up to the first that lacks were told: none of an area that is no journal
 abbrev pub EndsRefused : OpenFault → List (List ℕ) → List Entry → List ℕ → Type 0

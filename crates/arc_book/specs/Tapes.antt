@@ -1,7 +1,7 @@
 -- How far an area was read, from its front on.
 use Rattle.std.specs.Prelude.{◌≡◌, ◌<◌, ℕ, List, [], ◌∷◌, ◌++◌, length, Option, IfSome}
 use Rattle.std.specs.Io.KnownBytes.{prepend_known}
-use Rattle.disk_journal.specs.Records.{front, bytes_of, HaveSizes, MayHave, IsWhole}
+use Rattle.disk_journal.specs.Records.{front, bytes_of, HaveSizes, MayStandAt, IsWhole}
 
 -- bytes that were read and not looked at yet, and those that are left to read
 abbrev pub ahead : List ℕ → Option (List ℕ) → Option (List ℕ)
@@ -14,11 +14,11 @@ pub record IsReadTo (all : Option (List ℕ)) (bodies : List (List ℕ)) (gate p
   pub long : IfSome all (λ bytes. 17 < length bytes)
   pub is : all ≡ prepend_known (front bodies ++ gate ∷ []) rest
 
--- a length, a body and a next gate stand ahead
-pub record IsBodyAhead (before : Option (List ℕ)) (body : List ℕ) (gate : ℕ) (rest : Option (List ℕ)) : Type 0 where
-  pub size : MayHave (length body)
+-- a length, a body that may stand behind the gate at this place, and a next gate stand ahead
+pub record IsBodyAhead (place : ℕ) (before : Option (List ℕ)) (body : List ℕ) (gate : ℕ) (rest : Option (List ℕ)) : Type 0 where
+  pub size : MayStandAt place body
   pub is : before ≡ prepend_known (bytes_of body ++ gate ∷ []) rest
 
--- no whole record stands ahead
-abbrev pub IsBrokenAhead : Option (List ℕ) → Type 0
-IsBrokenAhead before = IfSome before (λ rest. IsWhole rest → ⊥)
+-- behind the gate at this place no whole record stands ahead
+abbrev pub IsBrokenAhead : ℕ → Option (List ℕ) → Type 0
+IsBrokenAhead place before = IfSome before (λ rest. IsWhole place rest → ⊥)

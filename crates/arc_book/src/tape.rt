@@ -4,6 +4,7 @@ ghost use Rattle.std.specs.Int.{to_be_bytes, from_be_bytes, w32};
 ghost use Rattle.arc_io.specs.Causes.{Rose};
 ghost use Rattle.arc_io.specs.Told.{OnlyReads};
 ghost use Rattle.disk_journal.specs.Faults.{IsShown, IsOfFront};
+ghost use Rattle.disk_journal.specs.Records.{most_at};
 ghost use Rattle.disk_journal.specs.declared.fault.OpenFault.{OpenFault as AnOpenFault};
 ghost use Rattle.arc_book.specs.Tapes.{ahead, IsReadTo, IsBodyAhead, IsBrokenAhead};
 
@@ -13,8 +14,13 @@ use arc_io::{ReadEnd, Source};
 use disk_journal::{OpenFault, check_front};
 use std::alloc::Global;
 
-// The most bytes that a body may have.
+// The most bytes that a body may have, but the first one of a journal where it begins with this byte, as that of a summary.
 const MOST: u32 = 4_194_400;
+
+const TAG: u8 = 11;
+
+// Where the first gate of an area stands.
+const FIRST: u64 = 16;
 
 // No record is read whose gate stands at this place or behind it.
 const LIMIT: u64 = 1 << 40;
@@ -113,7 +119,7 @@ impl Tape {
         ensures on { IfOk result (λ n. n ≡ Next.Body → ((S.seen source.new).ended ≡ false) × (self.old.at < 2 ^ 40) × (self.old.at < self.new.at)) }
         ensures closed { IfOk result (λ n. n ≡ Next.Closed → self.old.gate ≢ 1) }
         ensures broken { IfOk result (λ n. n ≡ Next.Broken → (self.old.gate ≡ 1)
-            × IsBrokenAhead (ahead self.old.intake (S.seen source.old).left)) }
+            × IsBrokenAhead self.old.at (ahead self.old.intake (S.seen source.old).left)) }
         ensures spent { IfOk result (λ n. n ≡ Next.Spent → (self.old.gate ≡ 1) × (2 ^ 40 ≤ self.old.at)) }
         ensures stays { IfOk result (λ n. (n ≡ Next.Body → ⊥) → (self.new.at ≡ self.old.at) × (self.new.gate ≡ self.old.gate)) }
         ensures failed { result ≡ Err ReadEnd.Failed → Rose (S.seen source.old).read_faults (S.seen source.new).read_faults }
@@ -137,9 +143,9 @@ impl Tape {
     // Reads the length and the body of a record and the gate behind it, which is the answer. None where no whole record stands there.
     fn next_body<S: Source>(&mut self, source: &mut S) -> Result<Option<u8>, ReadEnd>
         requires { (S.seen source.old).ended ≡ false }
-        ensures some { IfOk result (λ found. IfSome found (λ gate. IsBodyAhead (ahead self.old.intake (S.seen source.old).left) self.new.body.items gate
+        ensures some { IfOk result (λ found. IfSome found (λ gate. IsBodyAhead self.old.at (ahead self.old.intake (S.seen source.old).left) self.new.body.items gate
             (ahead self.new.intake (S.seen source.new).left) × ((S.seen source.new).ended ≡ false))) }
-        ensures none { IfOk result (λ found. IfNone found (IsBrokenAhead (ahead self.old.intake (S.seen source.old).left))) }
+        ensures none { IfOk result (λ found. IfNone found (IsBrokenAhead self.old.at (ahead self.old.intake (S.seen source.old).left))) }
         ensures stays { (self.new.gate ≡ self.old.gate) × (self.new.at ≡ self.old.at) }
         ensures failed { result ≡ Err ReadEnd.Failed → Rose (S.seen source.old).read_faults (S.seen source.new).read_faults }
         ensures later { (S.seen source.old).read_faults ≤ (S.seen source.new).read_faults }
@@ -149,13 +155,32 @@ impl Tape {
             return Ok(None);
         }
         let size = number_in(&self.body);
-        if size == 0 || size > MOST {
+        if !self.intake.more(source)? {
+            return Ok(None);
+        }
+        if size == 0 || size > most(self.at, self.intake.front(1)[0]) {
             return Ok(None);
         }
         if !self.intake.fill(source, &mut self.body, size as usize + 1)? {
             return Ok(None);
         }
+        // A source that tells nothing might have shown another byte than it gives.
+        let first = self.body[0];
+        if size > most(self.at, first) {
+            return Ok(None);
+        }
         Ok(self.body.pop())
+    }
+}
+
+// The most bytes that the body behind the gate at this place may have, by its first byte.
+fn most(place: u64, byte: u8) -> u32
+    ensures { result ≡ most_at place byte }
+{
+    if place == FIRST && byte == TAG {
+        u32::MAX
+    } else {
+        MOST
     }
 }
 

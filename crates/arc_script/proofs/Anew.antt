@@ -11,13 +11,12 @@ use Rattle.centre_core.specs.declared.hall.Stop.{Stop}
 use Rattle.centre_rules.specs.History.{Entry, IsMoment, recorded}
 use Rattle.centre_rules.specs.Summary.{Summary}
 use Rattle.centre_store.specs.Begins.{begun_after, IsOfBegin}
-use Rattle.centre_store.specs.Bodies.{bodies_of}
+use Rattle.centre_store.specs.Given.{HoldsRecorded}
 use Rattle.centre_store.specs.Openings.{IsOpened, IsRefused}
 use Rattle.centre_store.specs.Pasts.{AreKept}
 use Rattle.centre_store.specs.Stores.{Stored, StoreStands}
 use Rattle.desk_session.specs.Desks as Desk
 use Rattle.disk_journal.specs.Faults.{HasCounts, IsOfContent}
-use Rattle.disk_journal.specs.Journal.{Holds}
 use Rattle.disk_journal.specs.OtherArea.{SparesOther}
 use Rattle.disk_journal.specs.Standing.{GoesOn}
 use Rattle.disk_journal.specs.declared.journal.OpenRefused.{OpenRefused}
@@ -111,7 +110,7 @@ made_anew {D = D} seen script closed script' s mid s' disk before disk_is closed
 
 module _ {D : Type 0} (seen : D → DiskSeen) (script script' : Script) (s mid s' : Stored D) (anew : IsAnew seen script script' s mid s') (moment : ℕ)
     (b : Begun D) (before : List Asked) (count : ℕ) (h : List Entry) (between : Between seen b before count h script s)
-    (held : Holds seen s.journal (bodies_of h)) (set : clock_of before ≡ Some moment) where
+    (held : HoldsRecorded seen s.journal b.base h) (set : clock_of before ≡ Some moment) where
   abbrev past : List Entry
   past = anew.opened.past
 
@@ -232,7 +231,7 @@ module _ {D : Type 0} (seen : D → DiskSeen) (script script' : Script) (s mid s
       → OnOk r (s'.state.sum.text ≡ Some script'.setup)
       → OnOk r (p'.written ≡ append_known p.written (counted_line s'.state.sum.recorded))
       → OnOk r ((b : Begun D) (before : List Asked) (count number : ℕ) (h : List Entry) → Between seen b before count h script s
-      → Holds seen s.journal (bodies_of h) → clock_of before ≡ Some moment
+      → HoldsRecorded seen s.journal b.base h → clock_of before ≡ Some moment
       → CarriedOut seen b before count number h Reopen script.tally script' s' p p')
   carried_on (Ok done) p p' fits begun text put = λ b before count number h between held set.
       let same = anew.setup ∙ between.setup in
@@ -247,7 +246,7 @@ module _ {D : Type 0} (seen : D → DiskSeen) (script script' : Script) (s mid s
       → (x : List Entry) × StoreStands seen base s' x × BegunAgain stop base script'.setup moment k x)
       → IfErr r (λ stop. HasShown seen s' stop moment (IsOfBegin script'.setup))
       → IfErr r (λ stop. (b : Begun D) (before : List Asked) (count : ℕ) (h : List Entry) → Between seen b before count h script s
-      → Holds seen s.journal (bodies_of h) → clock_of before ≡ Some moment
+      → HoldsRecorded seen s.journal b.base h → clock_of before ≡ Some moment
       → StoppedAt seen b before h Reopen stop script.tally script'.tally s')
   stopped_on (Ok done) stops cause = tt
   stopped_on (Err stop) stops cause = λ b before count h between held set.
@@ -264,7 +263,7 @@ shut : {D : Type 0} (seen : D → DiskSeen) (script : Script) (s : Stored D) (r 
     → LeavesOnly (seen s.journal.disk) (seen r.disk) (λ c. (d : Areas) × (seen s.journal.disk).may_leave d × GoesOn d c)
     → (IsOfContent r.fault → IsQuiet (seen s.journal.disk) (seen r.disk))
     → (b : Begun D) (before : List Asked) (count : ℕ) (h : List Entry) → Between seen b before count h script s
-    → Holds seen s.journal (bodies_of h) → ShutAt seen b h r.fault r.disk
+    → HoldsRecorded seen s.journal b.base h → ShutAt seen b h r.fault r.disk
 shut seen script s r later shown counts told any_moment unwritten b before count h between held = record {
   closed = s.journal.disk;
   later = (let first = between.store.later in omega (arith, first, later));
@@ -279,10 +278,10 @@ pub shut_on : {A D : Type 0} (seen : D → DiskSeen) (script : Script) (s : Stor
     → LeavesOnly (seen disk) (seen refused.disk) (λ c. (d : Areas) × (seen disk).may_leave d × GoesOn d c)
     → (IsOfContent refused.fault → IsQuiet (seen disk) (seen refused.disk))
     → IfErr r (λ o. (b : Begun D) (before : List Asked) (count : ℕ) (h : List Entry) → Between seen b before count h script s
-    → Holds seen s.journal (bodies_of h) → ShutAt seen b h o.fault o.disk)
+    → HoldsRecorded seen s.journal b.base h → ShutAt seen b h o.fault o.disk)
 shut_on {A} {D} seen script s disk refused r is disk_is later shown counts told any_moment unwritten =
     let at = λ (o : OpenRefused D). (b : Begun D) (before : List Asked) (count : ℕ) (h : List Entry) → Between seen b before count h script s
-    → Holds seen s.journal (bodies_of h) → ShutAt seen b h o.fault o.disk in
+    → HoldsRecorded seen s.journal b.base h → ShutAt seen b h o.fault o.disk in
     subst (λ (q : Result A (OpenRefused D)). IfErr q at) (sym is)
     (shut seen script s refused later
     (subst (λ d. IfSome (seen d).told (IsRefused refused.fault)) disk_is shown)

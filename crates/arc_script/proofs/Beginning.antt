@@ -4,9 +4,8 @@ use Rattle.arc_io.specs.Disks.{DiskSeen}
 use Rattle.arc_io.specs.Seen.{PortSeen}
 use Rattle.centre_rules.specs.History.{Entry}
 use Rattle.centre_rules.specs.Summary.{Summary}
-use Rattle.centre_store.specs.Bodies.{bodies_of}
+use Rattle.centre_store.specs.Given.{HoldsRecorded}
 use Rattle.centre_store.specs.Stores.{Stored, StoreStands}
-use Rattle.disk_journal.specs.Journal.{Holds}
 use Rattle.arc_script.specs.Ends.{IsUnread}
 use Rattle.arc_script.specs.declared.script_end.Tally.{Tally}
 use Rattle.arc_script.proofs.Ended.{recorded_in, tally_is}
@@ -24,7 +23,7 @@ untouched sum opened = record {
 
 -- memory was wanted before it was read
 pub unread : {D : Type 0} (seen : D → DiskSeen) (base : Summary) (past : List Entry) (s : Stored D) (p : PortSeen) (disk : D) (tally : Tally)
-    → StoreStands seen base s past → Holds seen s.journal (bodies_of past) → disk ≡ s.journal.disk
+    → StoreStands seen base s past → HoldsRecorded seen s.journal base past → disk ≡ s.journal.disk
     → tally ≡ untouched s.state.sum 0 → IsUnread seen base past p p disk tally
 unread seen base past s p disk tally stands held is tally_as =
     let none : 0 ≡ s.state.sum.opened - s.state.sum.opened = omega arith in

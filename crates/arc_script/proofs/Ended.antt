@@ -9,11 +9,9 @@ use Rattle.centre_rules.specs.Cases.{opened, begun, incident_of}
 use Rattle.centre_rules.specs.History.{Entry, marks}
 use Rattle.centre_rules.specs.State.{StandsFor}
 use Rattle.centre_rules.specs.Summary.{Summary}
-use Rattle.centre_store.specs.Bodies.{bodies_of}
-use Rattle.centre_store.specs.Given.{HasRecorded}
+use Rattle.centre_store.proofs.Holding.{recorded_there}
+use Rattle.centre_store.specs.Given.{HasRecorded, HoldsRecorded}
 use Rattle.centre_store.specs.Stores.{Stored}
-use Rattle.disk_journal.specs.Journal.{Holds}
-use Rattle.disk_journal.specs.Records.{AtRest, Stands}
 use Rattle.script_lines.specs.Lines.{Asked, Time, Feed, Message, Command, Reopen, Asks}
 use Rattle.arc_script.specs.Begun.{Begun}
 use Rattle.arc_script.specs.Between.{CountsSteps, IsClock, SoFar}
@@ -33,18 +31,11 @@ use Rattle.arc_script.proofs.Counted.{counted_next, is_played}
 use Rattle.std.proofs.lemmas.List.{length-map}
 use Rattle.std.proofs.lemmas.List.Elements.{filter-append}
 
-at_rest : (told : Option Areas) (bodies : List (List ℕ)) → IfSome told (λ s. AtRest s.a bodies) → IfSome told (λ s. Stands s.a bodies)
-at_rest None bodies rests = rests
-at_rest (Some s) bodies rests = inr rests
-
--- the disk of a journal that holds the bodies of the recorded entries
-pub recorded_in : {D : Type 0} (seen : D → DiskSeen) (base : Summary) (s : Stored D) (h : List Entry) (disk : D) → Holds seen s.journal (bodies_of h)
+-- the disk of a journal that has the recorded entries
+pub recorded_in : {D : Type 0} (seen : D → DiskSeen) (base : Summary) (s : Stored D) (h : List Entry) (disk : D) → HoldsRecorded seen s.journal base h
     → disk ≡ s.journal.disk → HasRecorded (seen disk) base h
 recorded_in seen base s h disk holds is =
-    subst (λ d. HasRecorded (seen d) base h) (sym is) (record {
-      area = at_rest (seen s.journal.disk).told (bodies_of h) holds.kept.file;
-      images = λ c left. inr (holds.kept.images c left);
-    })
+    subst (λ d. HasRecorded (seen d) base h) (sym is) (recorded_there seen s.journal base h holds)
 
 open_count : (xs : List Incident) → length (map incident_of (map begun xs)) ≡ length xs
 open_count xs = length-map (map begun xs) incident_of ∙ length-map xs begun

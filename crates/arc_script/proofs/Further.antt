@@ -9,9 +9,8 @@ use Rattle.arc_io.specs.Seen.{PortSeen}
 use Rattle.centre_core.specs.declared.hall.Stop.{Stop}
 use Rattle.centre_rules.specs.History.{Entry}
 use Rattle.centre_rules.specs.Summary.{Summary}
-use Rattle.centre_store.specs.Bodies.{bodies_of}
+use Rattle.centre_store.specs.Given.{HoldsRecorded}
 use Rattle.centre_store.specs.Stores.{Stored, StoreStands, HasFailed}
-use Rattle.disk_journal.specs.Journal.{Holds}
 use Rattle.disk_journal.specs.declared.fault.OpenFault.{OpenFault}
 use Rattle.script_lines.specs.Lines.{Asked, Reopen, spelling}
 use Rattle.session_rules.proofs.Ports.{rose_since}
@@ -31,9 +30,9 @@ use Rattle.arc_script.proofs.Sizes.{size_last}
 
 -- a store whose disk has not failed
 held_up : {D : Type 0} (seen : D → DiskSeen) (base : Summary) (s : Stored D) (h : List Entry) → StoreStands seen base s h
-    → (HasFailed seen s → ⊥) → Holds seen s.journal (bodies_of h)
+    → (HasFailed seen s → ⊥) → HoldsRecorded seen s.journal base h
 held_up seen base s h stands up =
-    elim stands.journal as (λ j. Holds seen s.journal (bodies_of h)) [
+    elim stands.journal as (λ j. HoldsRecorded seen s.journal base h) [
       | inl holds ↦ holds
       | inr torn ↦ absurd (up torn.0)
     ]
@@ -129,7 +128,7 @@ module _ {D : Type 0} (seen : D → DiskSeen) (b : Begun D) (lines : List (List 
     of : AreOf [] (counted lines ++ (number, line) ∷ []) steps
     of = of_last [] (counted lines) so.steps (number, line) out.step so.of out.number_is playable
 
-    held : Holds seen s'.journal (bodies_of out.history)
+    held : HoldsRecorded seen s'.journal b.base out.history
     held = held_up seen b.base s' out.history out.between.store.stands up
 
     -- what the page has

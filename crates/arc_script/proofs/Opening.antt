@@ -6,13 +6,11 @@ use Rattle.arc_io.proofs.KnownMore.{known_none}
 use Rattle.arc_io.specs.Disks.{DiskSeen}
 use Rattle.centre_rules.specs.History.{IsMoment}
 use Rattle.centre_rules.specs.Summary.{Summary}
-use Rattle.centre_store.specs.Bodies.{bodies_of}
-use Rattle.centre_store.specs.Given.{IsGiven, BeginsWith}
+use Rattle.centre_store.specs.Given.{IsGiven, BeginsWith, HoldsRecorded}
 use Rattle.centre_store.specs.Openings.{IsOpened}
 use Rattle.centre_store.specs.Pasts.{AreKept}
 use Rattle.centre_store.specs.Stores.{Stored, StoreStands}
 use Rattle.desk_session.specs.Desks as Desk
-use Rattle.disk_journal.specs.Journal.{Holds}
 use Rattle.line_session.specs.Lines as Line
 use Rattle.arc_script.specs.Begun.{Begun}
 use Rattle.arc_script.specs.Between.{IsStoreSoFar, SoFar}
@@ -61,8 +59,8 @@ store_opened seen b s o same tells limits later = record {
 }
 
 pub held_opened : {D : Type 0} (seen : D → DiskSeen) (disk : D) (s : Stored D) (o : IsOpened seen disk s)
-    → Holds seen s.journal (bodies_of o.past)
-held_opened seen disk s o = subst (λ (l : List (List ℕ)). Holds seen s.journal l) o.is_past.is o.held
+    → HoldsRecorded seen s.journal o.base o.past
+held_opened seen disk s o = o.held
 
 pub begins_with : {D : Type 0} (seen : D → DiskSeen) (disk : D) (s : Stored D) (o : IsOpened seen disk s) → BeginsWith (seen disk) o.base o.past
 begins_with seen disk s o = record { bodies = o.bodies; given = o.given; is_past = o.is_past; area = o.area }
@@ -71,7 +69,7 @@ begins_with seen disk s o = record { bodies = o.bodies; given = o.given; is_past
 pub so_far_none : {D : Type 0} (seen : D → DiskSeen) (b : Begun D) (script : Script) (s : Stored D) → script.setup ≡ b.setup → script.limits ≡ b.limits
     → All (Line.TookStream []) script.lines.items → All IsNewDesk script.desks.items → script.clock ≡ None
     → script.opened_before ≡ s.state.sum.opened → script.tally.sent ≡ 0 → script.tally.repeats ≡ 0 → script.tally.closed ≡ 0
-    → IsStoreSoFar seen b b.past s → Holds seen s.journal (bodies_of b.past) → SoFar seen b [] script s b.port
+    → IsStoreSoFar seen b b.past s → HoldsRecorded seen s.journal b.base b.past → SoFar seen b [] script s b.port
 so_far_none seen b script s setup limits new_lines new_desks none opened sent repeats closed store held = record {
   steps = [];
   history = b.past;

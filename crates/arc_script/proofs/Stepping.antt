@@ -9,9 +9,8 @@ use Rattle.centre_core.specs.declared.hall.Stop.{Stop}
 use Rattle.centre_core.specs.declared.hall.Stop.TheVariants.{Memory}
 use Rattle.centre_rules.specs.History.{Entry, IsMoment}
 use Rattle.centre_rules.specs.Summary.{Summary}
-use Rattle.centre_store.specs.Bodies.{bodies_of}
+use Rattle.centre_store.specs.Given.{HoldsRecorded}
 use Rattle.centre_store.specs.Stores.{Stored, StoreStands}
-use Rattle.disk_journal.specs.Journal.{Holds}
 use Rattle.script_lines.specs.Lines.{Asked, Time, Command, Reopen}
 use Rattle.arc_script.specs.Begun.{Begun}
 use Rattle.arc_script.specs.Between.{Between, CarriedOut, Carries, StoppedAt, Stops}
@@ -213,7 +212,7 @@ set_before before a moment is set = ap (moment_at (clock_of before)) (sym is) �
 pub reopen_carries : {D E : Type 0} (seen : D → DiskSeen) (moment : ℕ) (a : Asked) (script script' : Script) (s : Stored D) (p p' : PortSeen)
     (r : Result (Stored D × Result (Unit {0}) Stop) E) → a ≡ Reopen
     → IfOk r (λ x. OnOk x.1 ((b : Begun D) (before : List Asked) (count number : ℕ) (h : List Entry) → Between seen b before count h script s
-    → Holds seen s.journal (bodies_of h) → clock_of before ≡ Some moment
+    → HoldsRecorded seen s.journal b.base h → clock_of before ≡ Some moment
     → CarriedOut seen b before count number h Reopen script.tally script' x.0 p p'))
     → IfOk r (λ x. OnOk x.1 (Carries seen moment a script script' s x.0 p p'))
 reopen_carries seen moment a script script' s p p' (Ok x) is out = on_ok_weaker x.1 (λ all b before count number h between next holds.
@@ -224,12 +223,12 @@ reopen_carries seen moment a script script' s p p' (Err e) is out = tt
 pub reopen_stops : {D E : Type 0} (seen : D → DiskSeen) (moment : ℕ) (a : Asked) (script script' : Script) (s : Stored D)
     (r : Result (Stored D × Result (Unit {0}) Stop) E) → a ≡ Reopen
     → IfOk r (λ x. IfErr x.1 (λ stop. (b : Begun D) (before : List Asked) (count : ℕ) (h : List Entry) → Between seen b before count h script s
-    → Holds seen s.journal (bodies_of h) → clock_of before ≡ Some moment
+    → HoldsRecorded seen s.journal b.base h → clock_of before ≡ Some moment
     → StoppedAt seen b before h Reopen stop script.tally script'.tally x.0))
     → IfOk r (λ x. IfErr x.1 (λ stop. Stops seen moment a script script' s x.0 stop))
 reopen_stops {D} seen moment a script script' s (Ok x) is out =
     IfErr-weaker x.1 (λ stop. (b : Begun D) (before : List Asked) (count : ℕ) (h : List Entry) → Between seen b before count h script s
-    → Holds seen s.journal (bodies_of h) → clock_of before ≡ Some moment
+    → HoldsRecorded seen s.journal b.base h → clock_of before ≡ Some moment
     → StoppedAt seen b before h Reopen stop script.tally script'.tally x.0) (λ stop. Stops seen moment a script script' s x.0 stop)
     (λ stop all b before count h between next holds.
     subst (λ (k : Asked). StoppedAt seen b before h k stop script.tally script'.tally x.0) (sym is)

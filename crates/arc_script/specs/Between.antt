@@ -9,10 +9,8 @@ use Rattle.arc_text.specs.Lines.{is_feed}
 use Rattle.centre_core.specs.declared.hall.Stop.{Stop}
 use Rattle.centre_rules.specs.Cases.{opened}
 use Rattle.centre_rules.specs.History.{Entry, IsMoment, marks}
-use Rattle.centre_store.specs.Bodies.{bodies_of}
-use Rattle.centre_store.specs.Given.{IsGiven, HasRecorded}
+use Rattle.centre_store.specs.Given.{IsGiven, HasRecorded, HoldsRecorded}
 use Rattle.centre_store.specs.Stores.{Stored, StoreStands}
-use Rattle.disk_journal.specs.Journal.{Holds}
 use Rattle.disk_journal.specs.declared.fault.OpenFault.{OpenFault}
 use Rattle.script_lines.specs.Lines.{Asked, spelling}
 use Rattle.session_rules.specs.Inputs.{input_limit}
@@ -88,7 +86,7 @@ pub record SoFar {D : Type 0} (seen : D → DiskSeen) (b : Begun D) (lines : Lis
   pub of : AreOf [] (counted lines) steps
   pub are : AreSteps (Tells (seen b.disk)) (placed b.base b.setup []) b.past history steps
   pub between : Between seen b (asked_after [] steps) (size_of lines) history script s
-  pub held : Holds seen s.journal (bodies_of history)
+  pub held : HoldsRecorded seen s.journal b.base history
   pub counts : CountsSteps steps script.tally
   pub opened_before : script.opened_before ≡ opened b.base (marks b.base b.past)
   pub written : p.written ≡ append_known b.port.written (output_of steps)
@@ -134,7 +132,7 @@ abbrev pub Carries : {D : Type 0} → (D → DiskSeen) → ℕ → Asked → Scr
 Carries {D} seen moment asked script script' s s' p p' =
     (b : Begun D) (before : List Asked) (count number : ℕ) (h : List Entry) → Between seen b before count h script s
     → IsNext (meaning b.setup) moment count before asked script.lines.items script.desks.items
-    → Holds seen s.journal (bodies_of h)
+    → HoldsRecorded seen s.journal b.base h
     → CarriedOut seen b before count number h asked script.tally script' s' p p'
 
 -- or it is stopped
@@ -142,7 +140,7 @@ abbrev pub Stops : {D : Type 0} → (D → DiskSeen) → ℕ → Asked → Scrip
 Stops {D} seen moment asked script script' s s' stop =
     (b : Begun D) (before : List Asked) (count : ℕ) (h : List Entry) → Between seen b before count h script s
     → IsNext (meaning b.setup) moment count before asked script.lines.items script.desks.items
-    → Holds seen s.journal (bodies_of h)
+    → HoldsRecorded seen s.journal b.base h
     → StoppedAt seen b before h asked stop script.tally script'.tally s'
 
 -- or the journal is not opened again
@@ -150,5 +148,5 @@ abbrev pub Shuts : {D : Type 0} → (D → DiskSeen) → ℕ → Asked → Scrip
 Shuts {D} seen moment asked script s fault disk =
     (b : Begun D) (before : List Asked) (count : ℕ) (h : List Entry) → Between seen b before count h script s
     → IsNext (meaning b.setup) moment count before asked script.lines.items script.desks.items
-    → Holds seen s.journal (bodies_of h)
+    → HoldsRecorded seen s.journal b.base h
     → ShutAt seen b h fault disk

@@ -4,9 +4,8 @@ ghost use Rattle.std.specs.Io.KnownBytes.{append_known};
 ghost use Rattle.centre_rules.specs.History.{Entry};
 ghost use Rattle.centre_rules.specs.Summary.{Summary};
 ghost use Rattle.centre_store.specs.Begins.{begun_after, IsOfBegin};
-ghost use Rattle.centre_store.specs.Bodies.{bodies_of};
+ghost use Rattle.centre_store.specs.Given.{HoldsRecorded};
 ghost use Rattle.centre_store.specs.Stores.{StoreStands};
-ghost use Rattle.disk_journal.specs.Journal.{Holds};
 ghost use Rattle.script_lines.specs.Lines.{Asked, Reopen};
 ghost use Rattle.arc_script.specs.Begun.{Begun};
 ghost use Rattle.arc_script.specs.Between.{Between, CarriedOut, ShutAt, StoppedAt};
@@ -39,16 +38,16 @@ pub(crate) fn reopen<D: Disk>(
     requires clock { moment < 253_402_300_800 }
     ensures carried { IfOk result (λ r. OnOk r.1 ((b : Begun D) (before : List Asked) (count number : ℕ) (h : List Entry)
         → Between D.seen b before count h script.old store
-        → Holds D.seen store.journal (bodies_of h) → clock_of before ≡ Some moment
+        → HoldsRecorded D.seen store.journal b.base h → clock_of before ≡ Some moment
         → CarriedOut D.seen b before count number h Reopen
         script.old.tally script.new r.0 (page_seen page.old) (page_seen page.new))) }
     ensures stop { IfOk result (λ r. IfErr r.1 (λ stop. (b : Begun D) (before : List Asked) (count : ℕ) (h : List Entry)
         → Between D.seen b before count h script.old store
-        → Holds D.seen store.journal (bodies_of h) → clock_of before ≡ Some moment
+        → HoldsRecorded D.seen store.journal b.base h → clock_of before ≡ Some moment
         → StoppedAt D.seen b before h Reopen stop script.old.tally script.new.tally r.0)) }
     ensures shut { IfErr result (λ r. (b : Begun D) (before : List Asked) (count : ℕ) (h : List Entry)
         → Between D.seen b before count h script.old store
-        → Holds D.seen store.journal (bodies_of h)
+        → HoldsRecorded D.seen store.journal b.base h
         → ShutAt D.seen b h r.fault r.disk) }
     ensures closed { script.new.tally ≡ closing script.old.tally script.old.opened_before store.state.sum }
     ensures rest { (script.new.setup ≡ script.old.setup) × (script.new.clock ≡ script.old.clock)

@@ -4,8 +4,7 @@ ghost use Rattle.std.specs.Str.Lines.{lines};
 ghost use Rattle.arc_io.specs.Told.{OnlyWrites};
 ghost use Rattle.arc_text.specs.LineCutting.{WasFed};
 ghost use Rattle.arc_text.specs.Lines.{ended_lines};
-ghost use Rattle.centre_store.specs.Bodies.{bodies_of};
-ghost use Rattle.disk_journal.specs.Journal.{Holds};
+ghost use Rattle.centre_store.specs.Given.{HoldsRecorded};
 ghost use Rattle.session_rules.specs.Inputs.{input_limit};
 ghost use Rattle.arc_script.specs.Begun.{Begun};
 ghost use Rattle.arc_script.specs.Between.{IsReady, IsStoreSoFar, SoFar};
@@ -71,7 +70,7 @@ fn run_over<D: Disk, P: Port>(
     requires few { limits.bytes < 2 ^ 32 }
     requires not_ended { (P.seen port.old).ended ≡ false }
     ensures ran { (b : Begun D) → b.setup ≡ setup → b.limits ≡ limits → b.port ≡ P.seen port.old
-        → IsStoreSoFar D.seen b b.past store → Holds D.seen store.journal (bodies_of b.past)
+        → IsStoreSoFar D.seen b b.past store → HoldsRecorded D.seen store.journal b.base b.past
         → IsTranscript D.seen b result.end (P.seen port.new) result.disk result.tally
         ⊎ ((result.end ≡ ScriptEnd.Stopped Stop.Memory) × IsUnread D.seen b.base b.past (P.seen port.old) (P.seen port.new) result.disk result.tally) }
 {

@@ -1,13 +1,15 @@
 -- What a drill tells: the tally of its script, which was read to its end over an empty disk.
-use Rattle.std.proofs.Common.{◌≡◌, ◌++◌, ℕ, List, [], ◌∷◌, Bool, Option, Some, None, IfSome}
+use Rattle.std.proofs.Common.{◌≡◌, ◌++◌, ℕ, List, [], ◌∷◌, Bool, length, Option, Some, None, IfSome}
 use Rattle.std.proofs.Common.{inl, inr, refl, ap, sym, subst, ◌∙◌, arith}
 use Rattle.std.proofs.lemmas.List.{append-nil}
 use Rattle.std.specs.Io.KnownBytes.{prepend_known, IsAtEnd}
 use Rattle.std.specs.Str.Lines.{lines}
 use Rattle.arc_drill.specs.Texts.{drill_text, drill_setup}
-use Rattle.arc_io.specs.Areas.{Areas}
+use Rattle.arc_io.specs.Areas.{Areas, part}
 use Rattle.arc_io.specs.Disks.{DiskSeen}
 use Rattle.arc_io.specs.Seen.{PortSeen, untold}
+use Rattle.arc_io.specs.declared.disk.Area.{Area}
+use Rattle.arc_io.specs.declared.disk.Area.TheVariants.{A, B}
 use Rattle.arc_script.specs.Begun.{Begun}
 use Rattle.arc_script.specs.Ends.{IsScript, IsTranscript, Tells}
 use Rattle.arc_script.specs.Steps.{Place, placed, Step, Keeps, IsStepOf, AreSteps}
@@ -22,8 +24,9 @@ use Rattle.centre_rules.specs.History.{Entry}
 use Rattle.centre_rules.specs.Summary.{Summary, nothing}
 use Rattle.centre_store.proofs.OpeningOnce.{one_opening}
 use Rattle.centre_store.proofs.PastSteps.{no_past}
-use Rattle.centre_store.specs.Given.{BeginsWith}
-use Rattle.disk_journal.specs.Standing.{AreasStand}
+use Rattle.centre_store.specs.Given.{AreasGive, BeginsWith}
+use Rattle.disk_journal.proofs.Opens.{few_not_live}
+use Rattle.disk_journal.specs.Standing.{AreasStand, chosen, chosen_part}
 use Rattle.disk_journal.specs.declared.journal.Limits.{Limits}
 use Rattle.script_lines.specs.Lines.{Asked, Time, Feed, Message, Command, Reopen}
 use Rattle.session_rules.specs.Reading.{lines_read}
@@ -67,13 +70,24 @@ all_read text read left (Some xs) is taken end =
     let same : Some text ≡ Some (read ++ xs) = sym is ∙ taken in
     ap (λ (o : Option (List ℕ)). elim o [ None ↦ text | Some l ↦ l ]) same ∙ ap (λ (l : List ℕ). read ++ l) end ∙ append-nil read
 
--- an area without bytes has no past
+empty_part : (x : Area) → part x (record { a = []; b = [] }) ≡ []
+empty_part A = refl
+empty_part B = refl
+
+-- areas without bytes stand for no bodies
+empty_stands : AreasStand (record { a = []; b = [] }) None []
+empty_stands =
+    let empty : Areas = record { a = []; b = [] } in
+    let short : length (chosen_part empty) ≡ 0 = ap length (empty_part (chosen empty)) in
+    (few_not_live (chosen_part empty) (omega (arith, short)), inl (omega (arith, short), refl))
+
+-- and have no past
 new_past : {D : Type 0} (seen : D → DiskSeen) (disk : D) (base : Summary) (past : List Entry) → (seen disk).told ≡ Some (record { a = []; b = [] })
     → BeginsWith (seen disk) base past → past ≡ []
 new_past seen disk base past is begins =
     let empty : Areas = record { a = []; b = [] } in
-    let area : AreasStand empty begins.bodies = subst (λ (o : Option Areas). IfSome o (λ s. AreasStand s begins.bodies)) is begins.area in
-    (one_opening empty).pasts base nothing begins.bodies [] past [] (begins.given, area) (refl, inl (omega arith, refl)) begins.is_past no_past
+    let gives : AreasGive empty base begins.bodies = subst (λ (o : Option Areas). IfSome o (λ s. AreasGive s base begins.bodies)) is begins.area in
+    (one_opening empty).pasts base nothing begins.bodies [] past [] gives (refl, empty_stands) begins.is_past no_past
 
 drilled_by : {D : Type 0} (seen : D → DiskSeen) (n : ℕ) (b : Begun D) (p' : PortSeen) (disk' : D) (tally : Tally) → b.setup ≡ drill_setup
     → b.port.left ≡ Some (drill_text n) → (seen b.disk).told ≡ Some (record { a = []; b = [] }) → BeginsWith (seen b.disk) b.base b.past

@@ -5,24 +5,9 @@ use Rattle.arc_io.specs.Causes.{Rose}
 use Rattle.arc_io.specs.Disks.{DiskSeen}
 use Rattle.centre_rules.specs.Summary.{Summary}
 use Rattle.centre_rules.specs.History.{Entry}
-use Rattle.centre_store.specs.Bodies.{bodies_of}
-use Rattle.centre_store.specs.Given.{HasRecorded}
+use Rattle.centre_store.proofs.Holding.{recorded_there}
 use Rattle.centre_store.specs.Stores.{Stored, StoreStands}
-use Rattle.disk_journal.specs.Journal.{Holds}
-use Rattle.disk_journal.specs.Records.{AtRest, Stands}
 use Rattle.arc_server.specs.Areas.{EndsWith}
-
-at_rest : (told : Option Areas) (bodies : List (List ℕ)) → IfSome told (λ s. AtRest s.a bodies) → IfSome told (λ s. Stands s.a bodies)
-at_rest None bodies rests = rests
-at_rest (Some s) bodies rests = inr rests
-
--- a journal that holds the bodies of the recorded entries
-recorded : {D : Type 0} {seen : D → DiskSeen} {b : Summary} (s : Stored D) {h : List Entry}
-    → Holds seen s.journal (bodies_of h) → HasRecorded (seen s.journal.disk) b h
-recorded {D} {seen} {b} s {h} holds = record {
-  area = at_rest (seen s.journal.disk).told (bodies_of h) holds.kept.file;
-  images = λ c left. inr (holds.kept.images c left);
-}
 
 -- the later of two counts at entry rose no sooner than the earlier
 pub rose_from : (entry at_open now : ℕ) → entry ≤ at_open → Rose at_open now → Rose entry now
@@ -32,7 +17,7 @@ kept_there : {D : Type 0} {seen : D → DiskSeen} {b : Summary} (s : Stored D) {
     → StoreStands seen b s h → entry ≤ s.at_open → EndsWith entry (seen s.journal.disk) b h
 kept_there {D} {seen} {b} s {h} entry stands since =
     elim stands.journal as (λ j. EndsWith entry (seen s.journal.disk) b h) [
-      | inl holds ↦ inl (recorded s holds)
+      | inl holds ↦ inl (recorded_there seen s.journal b h holds)
       | inr torn ↦ inr (rose_from entry s.at_open (seen s.journal.disk).faults since torn.0, torn.1)
     ]
 

@@ -1,6 +1,6 @@
 -- How a run begins over a history.
 use Rattle.std.proofs.Common.{◌≡◌, ℕ, List, [], ◌∷◌, Bool, true, false, inl, inr, refl, sym, ap, subst, ◌∙◌}
-use Rattle.std.specs.Prelude.{if◌then◌else◌, IsOk, is_ok, Result, Ok, Err, IfErr}
+use Rattle.std.specs.Prelude.{if◌then◌else◌, IsOk, is_ok, Result, Ok, Err, IfErr, OnErr}
 use Rattle.arc_data.specs.declared.event.Event.{Event}
 use Rattle.arc_data.specs.declared.event.Event.TheVariants.{Adopt, Start}
 use Rattle.arc_data.specs.declared.reply.Reply.{Reply}
@@ -16,14 +16,12 @@ use Rattle.centre_rules.specs.History.{Entry, Extends, marks, moment_after}
 use Rattle.centre_rules.specs.Answers.{if_known}
 use Rattle.centre_rules.specs.State.{State, StandsFor}
 use Rattle.centre_core.specs.declared.hall.Stop.{Stop}
-use Rattle.disk_journal.specs.Standing.{AreasStand}
 use Rattle.event_codec.specs.Spelling.{spelling}
-use Rattle.centre_store.specs.Bodies.{bodies_of}
 use Rattle.centre_store.specs.Given.{StandFor, StandForEither}
 use Rattle.centre_store.specs.Stores.{Stored, HasFailed, StoreStands, Takes, Shows}
 use Rattle.centre_store.specs.Begins.{is_in_force, adopted_after, begun_after, IsOfBegin, StandsWithin}
-use Rattle.centre_store.proofs.Bodies.{bodies_more}
 use Rattle.centre_store.proofs.Entered.{held}
+use Rattle.centre_store.proofs.Holding.{either_one, recorded_there}
 
 abbrev pub adopted_entry : Summary → List Entry → List ℕ → ℕ → Entry
 adopted_entry b h setup clock = record { caller = 0; event = Adopt setup; at = moment_after b h clock; reply = Adopted }
@@ -65,22 +63,22 @@ within_adopted b h setup clock areas stands = record {
 
 pub within_adopt : (b : Summary) (h : List Entry) (setup : List ℕ) (clock : ℕ) (areas : Areas) → is_in_force (text b (marks b h)) setup ≡ false
     → StandForEither b h (spelling (Adopt setup) (moment_after b h clock)) areas → StandsWithin b h setup clock areas
-within_adopt b h setup clock areas is (inl old) = within_before b h setup clock areas old
-within_adopt b h setup clock areas is (inr new) =
-    within_adopted b h setup clock areas
-    (subst (λ (bs : List (List ℕ)). AreasStand areas bs) (sym (ap bodies_of (one_adopt b h setup clock is) ∙ bodies_more (adopted_entry b h setup clock) h refl)) new)
+within_adopt b h setup clock areas is either =
+    elim (either_one b h (adopted_entry b h setup clock) areas refl either) as (λ _. StandsWithin b h setup clock areas) [
+      | inl old ↦ within_before b h setup clock areas old
+      | inr new ↦ within_adopted b h setup clock areas
+          (subst (λ (x : List Entry). StandFor b x areas) (sym (one_adopt b h setup clock is)) new)
+    ]
 
 pub within_start : (b : Summary) (h : List Entry) (setup : List ℕ) (clock : ℕ) (areas : Areas)
     → StandForEither b (adopted_after b h setup clock) (spelling Start (moment_after b (adopted_after b h setup clock) clock)) areas
     → StandsWithin b h setup clock areas
-within_start b h setup clock areas (inl old) = within_adopted b h setup clock areas old
-within_start b h setup clock areas (inr new) = record {
-  so_far = begun_after b h setup clock;
-  from_h = begun_extends b h setup clock;
-  to_begun = ([], refl);
-  stands = subst (λ (bs : List (List ℕ)). AreasStand areas bs)
-      (sym (bodies_more (started_entry b (adopted_after b h setup clock) clock) (adopted_after b h setup clock) refl)) new;
-}
+within_start b h setup clock areas either =
+    elim (either_one b (adopted_after b h setup clock) (started_entry b (adopted_after b h setup clock) clock) areas refl either)
+    as (λ _. StandsWithin b h setup clock areas) [
+      | inl old ↦ within_adopted b h setup clock areas old
+      | inr new ↦ record { so_far = begun_after b h setup clock; from_h = begun_extends b h setup clock; to_begun = ([], refl); stands = new }
+    ]
 
 -- What the store stands for.
 
@@ -110,7 +108,7 @@ module _ {D : Type 0} (seen : D → DiskSeen) where
       → LeavesOnly (seen s.journal.disk) (seen s.journal.disk) (StandsWithin b h setup clock)
   still_within b s h setup clock only_now up w =
       started (seen s.journal.disk) _
-      (λ c left. within_before b h setup clock c (inr ((held seen b s h up w).kept.images c (only_now s.journal.disk c left))))
+      (λ c left. within_before b h setup clock c ((recorded_there seen s.journal b h (held seen b s h up w)).images c (only_now s.journal.disk c left)))
 
   -- while the Adopt is made
   pub adopt_within : (b : Summary) (s : Stored D) (new : D) (h : List Entry) (setup taken : List ℕ) (clock : ℕ) → taken ≡ setup
@@ -135,3 +133,7 @@ pub cause_of : {A D : Type 0} (seen : D → DiskSeen) (s : Stored D) (setup : Li
     → IfErr r (λ stop. (x : Event) × IsOfBegin setup x × Shows seen s stop x clock)
 cause_of seen s setup clock event (Ok a) of shows = tt
 cause_of seen s setup clock event (Err stop) of shows = (event, of, shows)
+
+pub on_err : {T E P : Type 0} (r : Result T E) → P → OnErr r P
+on_err (Ok x) p = tt
+on_err (Err e) p = p

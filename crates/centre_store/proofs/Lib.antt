@@ -1,13 +1,16 @@
 pub mod Bodies
+pub mod PastSteps
+pub mod Distinct
 pub mod Written
+pub mod Holding
 pub mod Entered
 pub mod Ordered
 pub mod Begun
 pub mod Readable
 pub mod Halled
-pub mod PastSteps
 pub mod PastOnce
 pub mod OpeningOnce
 pub mod OpeningSteps
 pub mod OpeningLoop
+pub mod Opened
 pub mod Recorded

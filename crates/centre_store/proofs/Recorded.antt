@@ -1,5 +1,5 @@
 -- The past of a history's recorded entries, and that areas can be opened again.
-use Rattle.std.proofs.Common.{◌≡◌, ◌≤◌, ◌<◌, ◌+◌, ◌^◌, ℕ, List, [], ◌∷◌, ◌++◌, Bool, true, false, cond, map, reverse, length, inl, inr, refl, sym, ap, ◌∙◌, subst, arith}
+use Rattle.std.proofs.Common.{◌≡◌, ◌≤◌, ◌<◌, ◌+◌, ◌^◌, ℕ, List, [], ◌∷◌, ◌++◌, Bool, true, false, cond, map, reverse, length, None, inl, inr, refl, sym, ap, ◌∙◌, subst, arith}
 use Rattle.arc_io.specs.Areas.{Areas}
 use Rattle.centre_rules.proofs.Quiet.{legal_recorded}
 use Rattle.centre_rules.specs.Summary.{Summary}
@@ -58,7 +58,7 @@ module _ (base : Summary) (h : List Entry) (e : Entry) (given : IsGiven base) (l
       subst (λ (l : List (List ℕ)). IsPast base l (recorded (last ∷ h))) (bodies_more last h goes.recorded)
       (past_recorded base (last ∷ h) (next, legal) all within)
 
-  pub opens : (areas : Areas) → StandsForEither (bodies_of h) (spelling e.event e.at) areas → CanOpen areas
+  pub opens : (areas : Areas) → StandsForEither None (bodies_of h) (spelling e.event e.at) areas → CanOpen areas
   opens areas (inl stands) = record {
     base = base;
     bodies = bodies_of h;

@@ -10,11 +10,10 @@ use Rattle.centre_rules.specs.State.{State, StandsFor}
 use Rattle.centre_core.specs.declared.hall.Stop.{Stop}
 use Rattle.centre_core.specs.declared.hall.Stop.TheVariants.{Memory, Down, Full, Worn}
 use Rattle.disk_journal.specs.Faults.{IsOver}
-use Rattle.disk_journal.specs.Journal.{Holds}
 use Rattle.disk_journal.specs.declared.journal.Journal.{Journal}
 use Rattle.event_codec.specs.Spelling.{HasSpelling, spelling}
-use Rattle.centre_store.specs.Bodies.{bodies_of, need_of}
-use Rattle.centre_store.specs.Given.{HasEither}
+use Rattle.centre_store.specs.Bodies.{need_of}
+use Rattle.centre_store.specs.Given.{HasEither, HoldsRecorded}
 
 -- the centre's state, the journal over its disk, and the count of the disk's faults when the store was opened
 pub record Stored (D : Type 0) : Type 0 where
@@ -39,11 +38,11 @@ pub record IsTorn (disk : DiskSeen) (b : Summary) (h : List Entry) : Type 0 wher
   pub goes_on : IsNextKept b h entry
   pub leaves : HasEither disk b h (spelling entry.event entry.at)
 
--- The store stands for the history: its centre does, and its journal holds the bodies of the recorded entries. After a fault of the disk
+-- The store stands for the history: its centre does, and its journal has the recorded entries. After a fault of the disk
 -- the areas may have the record of one entry more, of the event that met the fault.
 pub record StoreStands {D : Type 0} (seen : D → DiskSeen) (b : Summary) (s : Stored D) (h : List Entry) : Type 0 where
   pub centre : StandsFor b s.state h
-  pub journal : Holds seen s.journal (bodies_of h) ⊎ (HasFailed seen s × IsTorn (seen s.journal.disk) b h)
+  pub journal : HoldsRecorded seen s.journal b h ⊎ (HasFailed seen s × IsTorn (seen s.journal.disk) b h)
 
 -- whatever the store stood for, it stands for
 abbrev pub StandsOn : {D : Type 0} → (D → DiskSeen) → Stored D → Stored D → Type 0

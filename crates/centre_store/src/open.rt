@@ -1,5 +1,5 @@
 // How a store is opened: the recorded events are read and taken in again, one after another.
-ghost use Rattle.std.specs.Prelude.{◌≡◌, ◌≤◌, ◌<◌, ◌↔◌, ◌^◌, ◌++◌, [], ◌∷◌, ℕ, List, true, false, IfOk, IfErr, IfSome, IfNone, IsTrue};
+ghost use Rattle.std.specs.Prelude.{◌≡◌, ◌≤◌, ◌<◌, ◌↔◌, ◌^◌, ◌++◌, [], ◌∷◌, ℕ, List, true, false, length, OnOk, IfOk, IfErr, IfSome, IfNone, IsTrue};
 ghost use Rattle.arc_io.specs.Areas.{Areas};
 ghost use Rattle.arc_io.specs.Crashes.{Becomes, IsQuiet, LeavesOnly};
 ghost use Rattle.centre_rules.specs.Summary.{Summary, nothing};
@@ -11,7 +11,7 @@ ghost use Rattle.disk_journal.specs.Records.{size};
 ghost use Rattle.disk_journal.specs.Standing.{GoesOn};
 ghost use Rattle.event_codec.specs.Spelling.{HasSpelling, spelling};
 ghost use Rattle.centre_store.specs.Pasts.{IsPast, HasNoNext, IsReplayed};
-ghost use Rattle.centre_store.specs.Openings.{IsOpened, IsRefused, IsOfBodies, disk_of};
+ghost use Rattle.centre_store.specs.Openings.{IsOpened, IsRefused, IsOfAll, IsOfBodies, disk_of};
 
 use crate::store::Store;
 use arc_data::Memory;
@@ -24,8 +24,8 @@ use std::alloc::Global;
 impl<D: Disk> Store<D> {
     /// Opens the journal of both areas (at most `limits.bytes` bytes, below 2^32, and `limits.records` records), and takes its events in again.
     /// An area of at most 17 bytes is a new one. Damaged comes, besides the journal's own cases, where a body is no spelling of an event,
-    /// or its event would be quiet after those before it, or its moment is less than the one before; its place is that of the first such
-    /// body's gate. The other faults are the journal's.
+    /// as that of a summary is none, or its event would be quiet after those before it, or its moment is less than the one before; its
+    /// place is that of the first such body's gate. The other faults are the journal's.
     pub fn open(alloc: Global, disk: D, limits: Limits) -> Result<Store<D>, OpenRefused<D>>
         requires few { limits.bytes < 2 ^ 32 }
 
@@ -50,7 +50,7 @@ impl<D: Disk> Store<D> {
         ensures met_none { IfOk result (λ s. (D.seen s.journal.disk).faults ≡ (D.seen disk).faults) }
     {
         let (journal, bodies) = Journal::open(alloc, disk, limits)?;
-        match replay(alloc, &bodies) {
+        match replay_all(alloc, &bodies, journal.records()) {
             Ok(centre) => {
                 let at_open = journal.disk().faults();
                 Ok(Store {
@@ -66,6 +66,19 @@ impl<D: Disk> Store<D> {
             }),
         }
     }
+}
+
+// The centre of the events of all these bodies, where so many are those of records.
+fn replay_all(alloc: Global, bodies: &Bodies, records: u64) -> Result<Centre, OpenFault>
+    requires fits { size bodies.now < 2 ^ 64 }
+    ensures all { OnOk result (records ≡ length bodies.now) }
+    ensures replayed { IfOk result (IsReplayed nothing bodies.now) }
+    ensures broken { IfErr result (λ f. IsOfAll f nothing bodies.now records) }
+{
+    if bodies.count() as u64 != records {
+        return Err(OpenFault::Damaged { at: 16 });
+    }
+    replay(alloc, bodies)
 }
 
 // The centre of the events of these bodies.

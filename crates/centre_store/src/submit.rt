@@ -1,6 +1,6 @@
 // How an event is submitted: it is prepared, its record is written where it is to be recorded, and then it is applied.
 ghost use Rattle.std.specs.Prelude.{◌≡◌, ◌≤◌, ◌<◌, ◌⊎◌, ◌↔◌, ◌+◌, ◌^◌, ◌++◌, ◌∷◌, [], ℕ, List, true, false};
-ghost use Rattle.std.specs.Prelude.{Some, IfOk, IfErr, IsErr, OnOk, OnErr, IsTrue};
+ghost use Rattle.std.specs.Prelude.{Option, Some, IfOk, IfErr, IsErr, OnOk, OnErr, IsTrue};
 ghost use Rattle.arc_data.specs.WellFormed.{IsWellFormed};
 ghost use Rattle.arc_io.specs.Causes.{Rose};
 ghost use Rattle.arc_io.specs.Crashes.{LeavesOnly};
@@ -17,7 +17,7 @@ ghost use Rattle.disk_journal.specs.Standing.{StandsForEither};
 ghost use Rattle.event_codec.specs.Spelling.{IsKept, HasSpelling, spelling};
 ghost use Rattle.centre_store.specs.Bodies.{need_of};
 ghost use Rattle.centre_store.specs.Given.{StandForEither, Leaves, HasEither};
-ghost use Rattle.centre_store.specs.Stores.{HasFailed, StoreStands, StandsOn, Takes, Shows};
+ghost use Rattle.centre_store.specs.Stores.{HasFailed, IsStored, StoreStands, StandsOn, Takes, Shows};
 ghost use Rattle.centre_store.specs.Stores.{IsSameJournal, LeavesJournal, IsAsBefore};
 ghost use Rattle.centre_store.specs.Orders.{IsDownWhereFailed, IsWornFirst, IsFullThen, StopsInOrder};
 ghost use Rattle.centre_store.specs.Writes.{IsOverAt, IsUnwritten};
@@ -128,6 +128,7 @@ impl<D: Disk> Store<D> {
     fn adopt(&mut self, alloc: Global, setup: &Setup, clock: u64) -> Result<(), Stop>
         requires clock { IsMoment clock }
 
+        ensures stored { IsStored D.seen self.old }
         ensures adopted { OnOk result ((b : Summary) (h : List Entry) → StoreStands D.seen b self.old h
             → StoreStands D.seen b self.new (adopted_after b h setup.now clock)) }
         ensures text { OnOk result (self.new.state.sum.text ≡ Some setup.now) }
@@ -143,6 +144,7 @@ impl<D: Disk> Store<D> {
         ensures any_moment { LeavesWithin D.seen self.old self.new setup.now clock }
         ensures spared { SparesOther (D.seen self.old.journal.disk) (D.seen self.new.journal.disk) }
         ensures behind { OnOk result (SparesBehind (self.old.journal.used + need_of (Event.Adopt setup.now)) (D.seen self.old.journal.disk) (D.seen self.new.journal.disk)) }
+        ensures area { self.new.journal.area ≡ self.old.journal.area }
         ensures at_open { self.new.at_open ≡ self.old.at_open }
         ensures limits { self.new.journal.limits ≡ self.old.journal.limits }
         ensures later { (D.seen self.old.journal.disk).faults ≤ (D.seen self.new.journal.disk).faults }
@@ -203,6 +205,7 @@ impl<D: Disk> Store<D> {
             → HasEither (D.seen self.new.journal.disk) b h (spelling event (moment_after b h clock)) }
         ensures spared { SparesOther (D.seen self.old.journal.disk) (D.seen self.new.journal.disk) }
         ensures behind { OnOk result (SparesBehind (self.old.journal.used + need_of event) (D.seen self.old.journal.disk) (D.seen self.new.journal.disk)) }
+        ensures area { self.new.journal.area ≡ self.old.journal.area }
         ensures at_open { self.new.at_open ≡ self.old.at_open }
         ensures limits { self.new.journal.limits ≡ self.old.journal.limits }
         ensures later { (D.seen self.old.journal.disk).faults ≤ (D.seen self.new.journal.disk).faults }
@@ -227,6 +230,7 @@ impl<D: Disk> Store<D> {
 
     // Down where the disk has failed since the opening.
     fn check_disk(&self) -> Result<(), Stop>
+        ensures stored { IsStored D.seen self.now }
         ensures up { OnOk result (HasFailed D.seen self.now → ⊥) }
         ensures down { IfErr result (λ s. s ≡ Stop.Down self.now.at_open (D.seen self.now.journal.disk).faults) }
         ensures failed { OnErr result (HasFailed D.seen self.now) }
@@ -255,27 +259,28 @@ fn write<D: Disk>(
     at_open: u64,
     ready: &Ready,
 ) -> Result<(), Stop>
-    requires holds { (bodies : List (List ℕ)) × Holds D.seen journal.old bodies }
+    requires holds { (summary : Option (List ℕ)) × (bodies : List (List ℕ)) × Holds D.seen journal.old summary bodies }
     requires formed { IsWellFormed ready.now.event }
     requires kept { IsKept ready.now.event }
     requires later { at_open ≤ (D.seen journal.old.disk).faults }
     requires up { Rose at_open (D.seen journal.old.disk).faults → ⊥ }
 
-    ensures added { OnOk result ((bodies : List (List ℕ)) → Holds D.seen journal.old bodies
-        → Holds D.seen journal.new (bodies ++ spelling ready.now.event ready.now.at ∷ [])) }
+    ensures added { OnOk result ((summary : Option (List ℕ)) (bodies : List (List ℕ)) → Holds D.seen journal.old summary bodies
+        → Holds D.seen journal.new summary (bodies ++ spelling ready.now.event ready.now.at ∷ [])) }
     ensures up { OnOk result (Rose at_open (D.seen journal.new.disk).faults → ⊥) }
     ensures stop { IfErr result (IsUnwritten D.seen at_open journal.old journal.new (need_of ready.now.event)) }
     ensures full { IsOverAt journal.old (need_of ready.now.event)
         → (result ≡ Err Stop.Memory) ⊎ (result ≡ Err (Stop.Full journal.old.used (need_of ready.now.event) journal.old.records)) }
 
-    ensures any_moment { (bodies : List (List ℕ)) → Holds D.seen journal.old bodies
+    ensures any_moment { (summary : Option (List ℕ)) (bodies : List (List ℕ)) → Holds D.seen journal.old summary bodies
         → LeavesOnly (D.seen journal.old.disk) (D.seen journal.new.disk)
-        (StandsForEither bodies (spelling ready.now.event ready.now.at)) }
-    ensures met { (bodies : List (List ℕ)) → Holds D.seen journal.old bodies
-        → Leaves (D.seen journal.new.disk) bodies (spelling ready.now.event ready.now.at) }
+        (StandsForEither summary bodies (spelling ready.now.event ready.now.at)) }
+    ensures met { (summary : Option (List ℕ)) (bodies : List (List ℕ)) → Holds D.seen journal.old summary bodies
+        → Leaves (D.seen journal.new.disk) summary bodies (spelling ready.now.event ready.now.at) }
     ensures spared { SparesOther (D.seen journal.old.disk) (D.seen journal.new.disk) }
     ensures behind { OnOk result (SparesBehind (journal.old.used + need_of ready.now.event) (D.seen journal.old.disk) (D.seen journal.new.disk)) }
     ensures spelled { HasSpelling ready.now.event ready.now.at }
+    ensures area { journal.new.area ≡ journal.old.area }
     ensures limits { journal.new.limits ≡ journal.old.limits }
     ensures later { (D.seen journal.old.disk).faults ≤ (D.seen journal.new.disk).faults }
     ensures met_none { OnOk result ((D.seen journal.new.disk).faults ≡ (D.seen journal.old.disk).faults) }

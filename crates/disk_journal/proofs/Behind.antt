@@ -1,13 +1,18 @@
--- What stands behind the records is not written.
-use Rattle.std.proofs.Common.{◌≡◌, ◌≤◌, ◌+◌, ◌-◌, ℕ, List, ◌++◌, [], ◌∷◌, length, drop, Option, Some, None, refl, sym, ap, ◌∙◌, arith, length-append}
+-- What a run writes to one area alone, in its front.
+use Rattle.std.proofs.Common.{◌≡◌, ◌≤◌, ◌+◌, ◌-◌, ℕ, List, ◌++◌, [], ◌∷◌, length, drop, refl, sym, ap, ◌∙◌, subst, arith, length-append}
+use Rattle.std.specs.Prelude.{IfSome}
 use Rattle.std.proofs.lemmas.List.{drop-drop}
-use Rattle.arc_io.specs.Areas.{Areas}
+use Rattle.arc_io.specs.Areas.{Areas, part, rest}
 use Rattle.arc_io.specs.Disks.{DiskSeen}
-use Rattle.arc_io.specs.Crashes.{TornIn, Becomes, Follows}
-use Rattle.arc_io.specs.declared.disk.Area.TheVariants.{A}
+use Rattle.arc_io.specs.Crashes.{TornIn, IsQuiet}
+use Rattle.arc_io.specs.declared.disk.Area.{Area}
 use Rattle.disk_journal.specs.Records.{bytes_of}
-use Rattle.disk_journal.specs.Standing.{IsSameBehind}
+use Rattle.disk_journal.specs.Journal.{IsSettled}
+use Rattle.disk_journal.specs.Standing.{chosen, IsOtherSame, IsSameBehind}
+use Rattle.disk_journal.specs.OtherArea.{SparesOther}
 use Rattle.disk_journal.specs.Behind.{SparesBehind}
+use Rattle.disk_journal.specs.Turning.{Changes}
+use Rattle.disk_journal.proofs.Steps.{changes_map, changes_then, changes_weaker, quiet_changes, still}
 
 -- the bytes of a record with its next gate
 pub laid_length : (body laid : List ℕ) → laid ≡ bytes_of body ++ 0 ∷ [] → length laid ≡ 5 + length body
@@ -18,45 +23,40 @@ further at m d c le same =
     let is : at + (m - at) ≡ m = omega (arith, le) in
     ap (λ k. drop k c) (sym is) ∙ sym (drop-drop (m - at) at c) ∙ ap (drop (m - at)) same ∙ drop-drop (m - at) at d ∙ ap (λ k. drop k d) is
 
-told_behind : (o n : Option Areas) (at k m : ℕ) → at + k ≤ m → Becomes o n (TornIn A at k) → Becomes o n (IsSameBehind m)
-told_behind None None at k m le torn = tt
-told_behind None (Some t) at k m le torn = absurd torn
-told_behind (Some s) None at k m le torn = absurd torn
-told_behind (Some s) (Some t) at k m le torn = further (at + k) m s.a t.a le torn.0.after
+-- the other area is the same, and this one behind its first bytes, so many
+abbrev pub IsAside : Area → ℕ → Areas → Areas → Type 0
+IsAside area m s t = (rest area t ≡ rest area s) × (drop m (part area t) ≡ drop m (part area s))
 
-told_then : (o m n : Option Areas) (k : ℕ) → Becomes o m (IsSameBehind k) → Becomes m n (IsSameBehind k)
-    → Becomes o n (IsSameBehind k)
-told_then None None None k one two = tt
-told_then None None (Some u) k one two = absurd two
-told_then None (Some t) n k one two = absurd one
-told_then (Some s) None n k one two = absurd one
-told_then (Some s) (Some t) None k one two = absurd two
-told_then (Some s) (Some t) (Some u) k one two = two ∙ one
+aside_then : (area : Area) (m : ℕ) (s t u : Areas) → IsAside area m s t → IsAside area m t u → IsAside area m s u
+aside_then area m s t u one two = (two.0 ∙ one.0, two.1 ∙ one.1)
 
-told_still : (o : Option Areas) (k : ℕ) → Becomes o o (IsSameBehind k)
-told_still None k = tt
-told_still (Some s) k = refl
+pub torn_aside : (area : Area) (at n m : ℕ) (old new : DiskSeen) → at + n ≤ m → Changes (TornIn area at n) old new → Changes (IsAside area m) old new
+torn_aside area at n m old new le run =
+    changes_weaker (TornIn area at n) (IsAside area m) old new (λ s t x. (x.1, further (at + n) m (part area s) (part area t) le x.0.after)) run
 
--- a write in front
-pub torn_spares : (old new : DiskSeen) (at n m : ℕ) → at + n ≤ m → Becomes old.told new.told (TornIn A at n) → Follows (TornIn A at n) old.may_leave new.may_leave
+pub asides : (area : Area) (m : ℕ) (old mid new : DiskSeen) → Changes (IsAside area m) old mid → Changes (IsAside area m) mid new → Changes (IsAside area m) old new
+asides area m old mid new one two = changes_then (IsAside area m) old mid new (aside_then area m) one two
+
+-- where this area was chosen
+pub spares_other : (area : Area) (m : ℕ) (old new : DiskSeen) → IsSettled old → IfSome old.told (λ s. chosen s ≡ area) → Changes (IsAside area m) old new
+    → SparesOther old new
+spares_other area m old new settled file run =
+    let same = changes_map (IsAside area m) IsOtherSame (λ s. chosen s ≡ area) old new settled file run
+    (λ s t is x. subst (λ (y : Area). rest y t ≡ rest y s) (sym is) x.0) in
+    record { same = same.told; crash = same.crash; any_moment = same.any_moment }
+
+pub spares_behind : (area : Area) (m : ℕ) (old new : DiskSeen) → IsSettled old → IfSome old.told (λ s. chosen s ≡ area) → Changes (IsAside area m) old new
     → SparesBehind m old new
-torn_spares old new at n m le torn crash = record {
-  same = told_behind old.told new.told at n m le torn;
-  crash = λ c now.
-      let d = crash c now in
-      (d.0, d.1, further (at + n) m d.0.a c.a le d.2.0.after);
-}
+spares_behind area m old new settled file run =
+    let same = changes_map (IsAside area m) (IsSameBehind m) (λ s. chosen s ≡ area) old new settled file run
+    (λ s t is x. subst (λ (y : Area). drop m (part y t) ≡ drop m (part y s)) (sym is) x.1) in
+    record { same = same.told; crash = same.crash }
 
--- one run after another
-pub spares_more : (old mid new : DiskSeen) (m : ℕ) → SparesBehind m old mid → SparesBehind m mid new → SparesBehind m old new
-spares_more old mid new m one two = record {
-  same = told_then old.told mid.told new.told m one.same two.same;
-  crash = λ c now.
-      let d = two.crash c now in
-      let e = one.crash d.0 d.1 in
-      (e.0, e.1, d.2 ∙ e.2);
-}
+-- no run at all, or one that writes nothing
+pub quiet_spares : (old new : DiskSeen) → IsQuiet old new → SparesOther old new
+quiet_spares old new quiet =
+    let same = quiet_changes IsOtherSame old new (λ s. refl) quiet in
+    record { same = same.told; crash = same.crash; any_moment = same.any_moment }
 
--- no run at all
 pub spares_still : (old : DiskSeen) (m : ℕ) → SparesBehind m old old
-spares_still old m = record { same = told_still old.told m; crash = λ c now. (c, now, refl) }
+spares_still old m = record { same = still (IsSameBehind m) old.told (λ s. refl); crash = λ c now. (c, now, refl) }

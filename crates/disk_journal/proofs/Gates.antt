@@ -1,15 +1,12 @@
 -- What each step of an append may leave.
-use Rattle.std.proofs.Common.{◌≡◌, ◌≢◌, ◌⊎◌, ◌≤◌, ◌+◌, ◌-◌, ℕ, List, [], ◌∷◌, ◌++◌, length, take, drop, get_or, Option, Some, None, true, false, refl, sym, ap, ◌∙◌, subst, inl, inr, ⊎_elim, arith, append_assoc, append-nil, length-append, take-append-drop, eqb}
-use Rattle.std.specs.Prelude.{IfSome, ◌<◌, Result, Ok, Err, OnOk}
+use Rattle.std.proofs.Common.{◌≡◌, ◌≢◌, ◌⊎◌, ◌≤◌, ◌+◌, ℕ, List, [], ◌∷◌, ◌++◌, length, take, drop, get_or, true, false, refl, sym, ap, ◌∙◌, inl, inr, ⊎_elim, arith, append_assoc, append-nil, length-append, take-append-drop, eqb}
+use Rattle.std.specs.Prelude.{◌<◌, Result, Ok, Err, OnOk, Bool, if◌then◌else◌, nat_eq}
 use Rattle.std.proofs.lemmas.Grind.{flat_map-append}
 use Rattle.std.proofs.lemmas.List.{take_at, drop_at, drop_more}
 use Rattle.std.proofs.lemmas.List.Elements.{All-append}
 use Rattle.std.proofs.lemmas.Bool.Decides.{eqb_tells}
-use Rattle.arc_io.specs.Areas.{Areas}
-use Rattle.arc_io.specs.Crashes.{Torn, TornIn, Becomes, IsWritten}
-use Rattle.arc_io.specs.declared.disk.Area.TheVariants.{A}
-use Rattle.disk_journal.specs.Records.{head, front, bytes_of, records_of, AtRest, size, MayHave, HaveSizes}
-use Rattle.disk_journal.specs.Standing.{StandsForEither}
+use Rattle.arc_io.specs.Crashes.{Torn}
+use Rattle.disk_journal.specs.Records.{head, tag, front, bytes_of, records_of, AtRest, size, MayHave, MayStandAt, HaveSizes, most_at}
 
 length-records : (bodies : List (List ℕ)) → length (records_of bodies) + 17 ≡ size bodies
 length-records [] = refl
@@ -35,9 +32,36 @@ front-more bodies body rest =
     ∙ append_assoc (front bodies) (records_of (body ∷ [])) rest
     ∙ ap (λ l. front bodies ++ 1 ∷ (l ++ rest)) (append-nil (bytes_of body))
 
+-- behind another gate than the first, no more than wherever a body stands
+pub most_elsewhere : (place byte : ℕ) → (place ≡ 16 → ⊥) → most_at place byte ≡ 4_194_400
+most_elsewhere place byte apart =
+    ⊎_elim
+    (λ (t : (eqb place 16 ≡ true) × (place ≡ 16)). absurd (apart t.1))
+    (λ (t : (eqb place 16 ≡ false) × (place ≢ 16)). ap (λ (q : Bool). if q then (if nat_eq byte tag then 4_294_967_295 else 4_194_400) else 4_194_400) t.0)
+    (eqb_tells place 16)
+
+most_by : (p q : Bool) → (4_194_400 ≤ (if p then (if q then 4_294_967_295 else 4_194_400) else 4_194_400)) × ((if p then (if q then 4_294_967_295 else 4_194_400) else 4_194_400) ≤ 4_294_967_295)
+most_by true true = (omega arith, omega arith)
+most_by true false = (omega arith, omega arith)
+most_by false q = (omega arith, omega arith)
+
+pub most_least : (place byte : ℕ) → 4_194_400 ≤ most_at place byte
+most_least place byte = (most_by (nat_eq place 16) (nat_eq byte tag)).0
+
+pub most_most : (place byte : ℕ) → most_at place byte ≤ 4_294_967_295
+most_most place byte = (most_by (nat_eq place 16) (nat_eq byte tag)).1
+
+-- a body that may stand wherever it is
+pub small_stands : (place : ℕ) (body : List ℕ) → MayHave (length body) → MayStandAt place body
+small_stands place body fits = (fits.0, omega (arith, fits.1, most_least place (get_or body 0 0)))
+
 -- sizes of one body more
-pub sizes-more : (bodies : List (List ℕ)) (body : List ℕ) → HaveSizes bodies → MayHave (length body) → HaveSizes (bodies ++ body ∷ [])
-sizes-more bodies body sizes fits = All-append (λ (b : List ℕ). MayHave (length b)) bodies (body ∷ []) sizes (λ k d below. let first : k ≡ 0 = omega arith in rw first fits)
+pub sizes-more : (bodies : List (List ℕ)) (body : List ℕ) → HaveSizes bodies → MayStandAt (length (front bodies)) body → HaveSizes (bodies ++ body ∷ [])
+sizes-more [] body sizes fits = (fits, λ k d below. absurd (omega arith))
+sizes-more (b ∷ bodies) body sizes fits =
+    let apart : length (front (b ∷ bodies)) ≡ 16 → ⊥ = λ same. omega (arith, same, length-front (b ∷ bodies), size-least bodies) in
+    let small : MayHave (length body) = (fits.0, omega (arith, fits.1, most_elsewhere (length (front (b ∷ bodies))) (get_or body 0 0) apart)) in
+    (sizes.0, All-append (λ (other : List ℕ). MayHave (length other)) bodies (body ∷ []) sizes.1 (λ k d below. let first : k ≡ 0 = omega arith in rw first small))
 
 -- the closed gate stands in each outcome of the first write
 pub torn_behind : (bodies : List (List ℕ)) (used n : ℕ) (d c : List ℕ) → used ≡ size bodies → AtRest d bodies → Torn used n d c → AtRest c bodies
@@ -64,7 +88,7 @@ at_gate : (bodies : List (List ℕ)) (gate : ℕ) (rest : List ℕ) (used : ℕ)
 at_gate bodies gate rest used is =
     ap (take used) (sym (append_assoc (front bodies) (gate ∷ []) rest)) ∙ take_at (front bodies ++ gate ∷ []) rest used (omega (arith, length-append (front bodies) (gate ∷ []), length-front bodies))
 
-staged : (bodies : List (List ℕ)) (body : List ℕ) (used : ℕ) (s t : List ℕ) → used ≡ size bodies → AtRest s bodies
+pub staged : (bodies : List (List ℕ)) (body : List ℕ) (used : ℕ) (s t : List ℕ) → used ≡ size bodies → AtRest s bodies
     → t ≡ take used s ++ (bytes_of body ++ 0 ∷ []) ++ drop (used + length (bytes_of body ++ 0 ∷ [])) s → Staged bodies body t
 staged bodies body used s t is rest new =
     let behind = drop (used + length (bytes_of body ++ 0 ∷ [])) s in
@@ -79,7 +103,7 @@ staged bodies body used s t is rest new =
     }
 
 -- whatever a staged area has at the gate, it has the old bodies or one more
-gate_decides : (bodies : List (List ℕ)) (body behind c : List ℕ) (x : ℕ) → HaveSizes bodies → MayHave (length body)
+gate_decides : (bodies : List (List ℕ)) (body behind c : List ℕ) (x : ℕ) → HaveSizes bodies → MayStandAt (length (front bodies)) body
     → c ≡ front bodies ++ x ∷ (bytes_of body ++ 0 ∷ behind) → AtRest c bodies ⊎ AtRest c (bodies ++ body ∷ [])
 gate_decides bodies body behind c x sizes fits is =
     ⊎_elim
@@ -100,7 +124,7 @@ around bodies gate rest at is = (
 )
 
 -- each outcome of the second write
-pub torn_gate : (bodies : List (List ℕ)) (body : List ℕ) (at : ℕ) (d c : List ℕ) → HaveSizes bodies → MayHave (length body) → at + 1 ≡ size bodies
+pub torn_gate : (bodies : List (List ℕ)) (body : List ℕ) (at : ℕ) (d c : List ℕ) → HaveSizes bodies → MayStandAt (length (front bodies)) body → at + 1 ≡ size bodies
     → Staged bodies body d → Torn at 1 d c → AtRest c bodies ⊎ AtRest c (bodies ++ body ∷ [])
 torn_gate bodies body at d c sizes fits is st torn =
     let sides = around bodies st.gate (bytes_of body ++ 0 ∷ st.behind) at is in
@@ -110,7 +134,7 @@ torn_gate bodies body at d c sizes fits is st torn =
     let back : drop at c ≡ x ∷ (bytes_of body ++ 0 ∷ st.behind) = drop_more c at 0 long ∙ ap (λ l. x ∷ l) (torn.after ∙ ap (drop (at + 1)) st.is ∙ sides.1) in
     gate_decides bodies body st.behind c x sizes fits (sym (take-append-drop at c) ∙ ap (λ l. l ++ drop at c) before ∙ ap (λ l. front bodies ++ l) back)
 
-opened : (bodies : List (List ℕ)) (body : List ℕ) (at : ℕ) (t u : List ℕ) → HaveSizes bodies → MayHave (length body) → at + 1 ≡ size bodies
+pub opened : (bodies : List (List ℕ)) (body : List ℕ) (at : ℕ) (t u : List ℕ) → HaveSizes bodies → MayStandAt (length (front bodies)) body → at + 1 ≡ size bodies
     → Staged bodies body t → u ≡ take at t ++ (1 ∷ []) ++ drop (at + 1) t → AtRest u (bodies ++ body ∷ [])
 opened bodies body at t u sizes fits is st new =
     let sides = around bodies st.gate (bytes_of body ++ 0 ∷ st.behind) at is in
@@ -123,61 +147,19 @@ opened bodies body at t u sizes fits is st new =
           ∙ append_assoc (front bodies) (1 ∷ []) (bytes_of body ++ 0 ∷ st.behind) ∙ sym (front-more bodies body (0 ∷ st.behind));
     }
 
--- the gate's place is within what the disk tells
-pub place : (o : Option Areas) (bodies : List (List ℕ)) (used : ℕ) → used ≡ size bodies → IfSome o (λ s. AtRest s.a bodies) → IfSome o (λ s. used ≤ length s.a)
-place None bodies used is at_rest = tt
-place (Some s) bodies used is at_rest = omega (arith, ap length at_rest.is, length-append (front bodies) (at_rest.gate ∷ at_rest.behind), length-front bodies)
+-- a staged area is at rest with the old bodies
+pub staged_rests : (bodies : List (List ℕ)) (body c : List ℕ) → HaveSizes bodies → Staged bodies body c → AtRest c bodies
+staged_rests bodies body c sizes st = record { gate = st.gate; behind = bytes_of body ++ 0 ∷ st.behind; closed = st.closed; sizes = sizes; is = st.is }
+
+-- the place behind the closed gate is within the area
+pub rest_place : (bodies : List (List ℕ)) (used : ℕ) (s : List ℕ) → used ≡ size bodies → AtRest s bodies → used ≤ length s
+rest_place bodies used s is at_rest = omega (arith, ap length at_rest.is, length-append (front bodies) (at_rest.gate ∷ at_rest.behind), length-front bodies)
 
 -- what follows from two clauses of a call that are so where it answers `Ok`
 pub on_ok_both : {T E P Q R : Type 0} (r : Result T E) → OnOk r P → OnOk r Q → (P → Q → R) → OnOk r R
 on_ok_both (Ok x) p q so = so p q
 on_ok_both (Err e) p q so = tt
 
-pub either_image : {P Q R S : Type 0} → P ⊎ Q → (R ⊎ P) ⊎ (S ⊎ Q)
-either_image (inl p) = inl (inr p)
-either_image (inr q) = inr (inr q)
-
--- what is said of the told bytes holds of each image that is just these bytes; a disk that tells nothing has no image
-pub images_of : (P : List ℕ → Type 0) (o : Option Areas) (left : Areas → Type 0) → IfSome o (λ s. P s.a) → IfSome o (λ s. (c : Areas) → left c → c.a ≡ s.a)
-    → ((c : Areas) → o ≡ None → left c → ⊥) → (c : Areas) → left c → P c.a
-images_of P None left file only silent c now = absurd (silent c refl now)
-images_of P (Some t) left file only silent c now = subst P (sym (only c now)) file
-
-module _ (bodies : List (List ℕ)) (body laid : List ℕ) (used : ℕ) (is : used ≡ size bodies) (spelled : laid ≡ bytes_of body ++ 0 ∷ [])
-    (sizes : HaveSizes bodies) (fits : MayHave (length body)) where
-  -- after the first sync
-  pub staged_file : (o m : Option Areas) → Becomes o m (IsWritten A used laid) → IfSome o (λ s. AtRest s.a bodies) → IfSome m (λ s. Staged bodies body s.a)
-  staged_file None None written at_rest = tt
-  staged_file None (Some t) written at_rest = absurd written
-  staged_file (Some s) None written at_rest = absurd written
-  staged_file (Some s) (Some t) written at_rest =
-      staged bodies body used s.a t.a is at_rest (written.0 ∙ ap (λ l. take used s.a ++ l ++ drop (used + length l) s.a) spelled)
-
-  pub gate_place : (m : Option Areas) → IfSome m (λ s. Staged bodies body s.a) → IfSome m (λ s. used - 1 ≤ length s.a)
-  gate_place None st = tt
-  gate_place (Some t) st = omega (arith, ap length st.is, length-append (front bodies) (st.gate ∷ (bytes_of body ++ 0 ∷ st.behind)), length-front bodies)
-
-  -- after the second sync
-  pub opened_file : (m n : Option Areas) → Becomes m n (IsWritten A (used - 1) (1 ∷ [])) → IfSome m (λ s. Staged bodies body s.a) → IfSome n (λ s. AtRest s.a (bodies ++ body ∷ []))
-  opened_file None None written st = tt
-  opened_file None (Some t) written st = absurd written
-  opened_file (Some s) None written st = absurd written
-  opened_file (Some s) (Some t) written st = opened bodies body (used - 1) s.a t.a sizes fits (omega (arith, size-least bodies)) st written.0
-
-  -- what a read gives after a first write that failed
-  pub first_torn : (o m : Option Areas) → Becomes o m (TornIn A used (length laid)) → IfSome o (λ s. AtRest s.a bodies) → Becomes o m (λ _ t. StandsForEither bodies body t)
-  first_torn None None torn at_rest = tt
-  first_torn None (Some t) torn at_rest = absurd torn
-  first_torn (Some s) None torn at_rest = absurd torn
-  first_torn (Some s) (Some t) torn at_rest = inl (inr (torn_behind bodies used (length laid) s.a t.a is at_rest torn.0))
-
-  -- and after both writes, whether the second failed or not
-  pub second_torn : (o m n : Option Areas) → Becomes o m (IsWritten A used laid) → Becomes m n (TornIn A (used - 1) 1) → IfSome o (λ s. AtRest s.a bodies)
-      → Becomes o n (λ _ t. StandsForEither bodies body t)
-  second_torn None None None one two at_rest = tt
-  second_torn None None (Some u) one two at_rest = absurd two
-  second_torn None (Some t) n one two at_rest = absurd one
-  second_torn (Some s) None n one two at_rest = absurd one
-  second_torn (Some s) (Some t) None one two at_rest = absurd two
-  second_torn (Some s) (Some t) (Some u) one two at_rest =
-      either_image (torn_gate bodies body (used - 1) t.a u.a sizes fits (omega (arith, size-least bodies)) (staged_file (Some s) (Some t) one at_rest) two.0)
+pub on_ok : {T E P Q : Type 0} (r : Result T E) → OnOk r P → (P → Q) → OnOk r Q
+on_ok (Ok x) p so = so p
+on_ok (Err e) p so = tt

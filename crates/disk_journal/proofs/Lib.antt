@@ -1,4 +1,9 @@
 pub mod Gates
+pub mod Steps
+pub mod Chosen
+pub mod Appends
+pub mod Turns
+pub mod Opens
 pub mod Pieces
 pub mod Windows
 pub mod Once

@@ -3,7 +3,8 @@ use Rattle.std.proofs.Common.{◌≡◌, ◌≤◌, ◌<◌, ◌+◌, ◌-◌, �
 use Rattle.std.specs.Prelude.{IfSome}
 use Rattle.std.proofs.Math.Seq.{take-add}
 use Rattle.std.proofs.lemmas.List.{drop-drop, take-take, length-take, drop-take, take_all, drop_all}
-use Rattle.arc_io.specs.Areas.{Areas}
+use Rattle.arc_io.specs.Areas.{Areas, part}
+use Rattle.arc_io.specs.declared.disk.Area.{Area}
 use Rattle.arc_io.specs.Crashes.{IsRead}
 use Rattle.disk_journal.specs.Reading.{IsPiece, IsFilled}
 
@@ -47,10 +48,10 @@ more_filled bytes at n next full front rest buf piece is behind joined =
     }
 
 -- the same of what the disk tells, of a buffer whose rest was filled in place
-pub more_told : (o : Option Areas) (at n next left : ℕ) (full : Bool) (front rest : List ℕ) (was : List ℕ → Type 0) → IfSome o (λ s. was s.a)
-    → ((bytes : List ℕ) → was bytes → IsPiece bytes at n front) → next ≡ at + n → IfSome o (λ s. IsFilled s.a next full rest) → length (drop n front) ≤ left
-    → IfSome o (λ s. IsFilled s.a at full (take n front ++ (rest ++ drop left (drop n front))))
-more_told None at n next left full front rest was before given is behind all = tt
-more_told (Some s) at n next left full front rest was before given is behind all =
-    more_filled s.a at n next full front rest (take n front ++ (rest ++ drop left (drop n front))) (given s.a before) is behind
+pub more_told : (area : Area) (o : Option Areas) (at n next left : ℕ) (full : Bool) (front rest : List ℕ) (was : List ℕ → Type 0) → IfSome o (λ s. was (part area s))
+    → ((bytes : List ℕ) → was bytes → IsPiece bytes at n front) → next ≡ at + n → IfSome o (λ s. IsFilled (part area s) next full rest) → length (drop n front) ≤ left
+    → IfSome o (λ s. IsFilled (part area s) at full (take n front ++ (rest ++ drop left (drop n front))))
+more_told area None at n next left full front rest was before given is behind all = tt
+more_told area (Some s) at n next left full front rest was before given is behind all =
+    more_filled (part area s) at n next full front rest (take n front ++ (rest ++ drop left (drop n front))) (given (part area s) before) is behind
     (ap (λ l. take n front ++ l) (ap (λ l. rest ++ l) (drop_all left (drop n front) all) ∙ append-nil rest))

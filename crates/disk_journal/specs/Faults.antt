@@ -1,7 +1,9 @@
 -- When each refusal comes.
-use Rattle.std.specs.Prelude.{◌≡◌, ◌⊎◌, ◌≤◌, ◌<◌, ◌+◌, ℕ, List}
+use Rattle.std.specs.Prelude.{◌≡◌, ◌⊎◌, ◌≤◌, ◌<◌, ◌+◌, ℕ, List, Option}
 use Rattle.arc_io.specs.Causes.{Rose}
+use Rattle.arc_io.specs.Areas.{Areas}
 use Rattle.disk_journal.specs.Records.{Stands, IsNoJournal, IsOfVersion, IsDamaged}
+use Rattle.disk_journal.specs.Standing.{AreasStand, chosen_part}
 use Rattle.disk_journal.specs.declared.fault.OpenFault.{OpenFault}
 use Rattle.disk_journal.specs.declared.fault.AppendFault.{AppendFault}
 use Rattle.disk_journal.specs.declared.fault.OpenFault.TheVariants as Open
@@ -44,6 +46,15 @@ pub record HasOneAnswer (bytes : List ℕ) : Type 0 where
   pub faults : (one other : OpenFault) → IsOfContent one → IsOfContent other → IsShown one bytes → IsShown other bytes → one ≡ other
   pub apart : (bodies : List (List ℕ)) (fault : OpenFault) → IsOfContent fault → Stands bytes bodies → IsShown fault bytes → ⊥
 
+-- And what both areas answer: one summary or none with one list of bodies, or one refusal of the content of the chosen area.
+pub record HaveOneAnswer (areas : Areas) : Type 0 where
+  pub lists : (one other : Option (List ℕ)) (bodies behind : List (List ℕ)) → AreasStand areas one bodies → AreasStand areas other behind
+      → (one ≡ other) × (bodies ≡ behind)
+  pub faults : (one other : OpenFault) → IsOfContent one → IsOfContent other → IsShown one (chosen_part areas)
+      → IsShown other (chosen_part areas) → one ≡ other
+  pub apart : (summary : Option (List ℕ)) (bodies : List (List ℕ)) (fault : OpenFault) → IsOfContent fault
+      → AreasStand areas summary bodies → IsShown fault (chosen_part areas) → ⊥
+
 -- and of the disk's counts: a fault of the disk comes only where it failed
 abbrev pub HasCounts : OpenFault → ℕ → ℕ → Type 0
 HasCounts (Open.DiskFault was is) before now = Counts before now was is
@@ -57,6 +68,11 @@ IsOver used need records most_bytes most_records = (most_bytes < used + need) �
 abbrev pub IsFull : ℕ → ℕ → ℕ → AppendFault → Type 0
 IsFull used need records (Append.Full u n r) = (u ≡ used) × (n ≡ need) × (r ≡ records)
 IsFull used need records (Append.DiskFault was is) = ⊥
+
+-- the disk failed
+abbrev pub IsDiskFault : AppendFault → Type 0
+IsDiskFault (Append.Full u n r) = ⊥
+IsDiskFault (Append.DiskFault was is) = Unit {0}
 
 -- Full comes only where this is so, and a fault of the disk only where it failed
 abbrev pub HasCountsOf : Type 0 → ℕ → ℕ → AppendFault → Type 0

@@ -1,24 +1,61 @@
 -- What a journal over a disk holds.
-use Rattle.std.specs.Prelude.{◌≡◌, ◌<◌, ◌^◌, ℕ, List, length, IfSome, vec_len, Result, Ok, Err}
-use Rattle.arc_io.specs.Areas.{Areas}
+use Rattle.std.specs.Prelude.{◌≡◌, ◌<◌, ◌^◌, ℕ, false, List, length, Option, Some, IfSome, vec_len, Result, Ok, Err}
+use Rattle.arc_io.specs.Areas.{Areas, part}
 use Rattle.arc_io.specs.Disks.{DiskSeen}
-use Rattle.disk_journal.specs.Records.{AtRest, HaveSizes, size}
-use Rattle.disk_journal.specs.Standing.{chosen_part}
+use Rattle.arc_io.specs.declared.disk.Area.{Area}
+use Rattle.disk_journal.specs.Records.{AtRest, size}
+use Rattle.disk_journal.specs.Standing.{chosen, all_of, size_of, generation_in, generation_now, IsDistinct, AreasStand}
 use Rattle.disk_journal.specs.declared.journal.Journal.{Journal}
 use Rattle.disk_journal.specs.declared.journal.OpenRefused.{OpenRefused}
 
--- what a read gives and all that a crash may leave now are at rest with these bodies
-pub record Keeps (disk : DiskSeen) (bodies : List (List ℕ)) : Type 0 where
-  pub sizes : HaveSizes bodies
-  pub file : IfSome disk.told (λ s. AtRest (chosen_part s) bodies)
-  pub images : (c : Areas) → disk.may_leave c → AtRest (chosen_part c) bodies
+-- all that a crash may leave now is what a read gives
+abbrev pub IsSettled : DiskSeen → Type 0
+IsSettled disk = (c : Areas) → disk.may_leave c → disk.told ≡ Some c
 
--- the journal has these bodies
-pub record Holds {D : Type 0} (seen : D → DiskSeen) (j : Journal D) (bodies : List (List ℕ)) : Type 0 where
-  pub used : j.used ≡ size bodies
+-- the area is chosen, and is at rest with the body of the summary, where there is one, and these bodies
+pub record IsAtRestIn (area : Area) (summary : Option (List ℕ)) (bodies : List (List ℕ)) (areas : Areas) : Type 0 where
+  pub chosen_is : chosen areas ≡ area
+  pub at_rest : AtRest (part area areas) (all_of summary bodies)
+
+-- what a read gives is at rest so, and a crash leaves nothing else
+pub record Keeps (disk : DiskSeen) (area : Area) (summary : Option (List ℕ)) (bodies : List (List ℕ)) : Type 0 where
+  pub distinct : IsDistinct summary bodies
+  pub file : IfSome disk.told (IsAtRestIn area summary bodies)
+  pub settled : IsSettled disk
+
+-- the journal has the body of this summary, or none, and these bodies, and no call of it has answered a fault of the disk
+pub record Holds {D : Type 0} (seen : D → DiskSeen) (j : Journal D) (summary : Option (List ℕ)) (bodies : List (List ℕ)) : Type 0 where
+  pub used : j.used ≡ size_of summary bodies
   pub count : j.records ≡ length bodies
+  pub generation : j.generation ≡ generation_in summary
   pub few : j.limits.bytes < 2 ^ 32
-  pub kept : Keeps (seen j.disk) bodies
+  pub met_none : j.has_failed ≡ false
+  pub kept : Keeps (seen j.disk) j.area summary bodies
+
+-- these bodies stand in the area
+abbrev pub HasBodies : Area → List (List ℕ) → Areas → Type 0
+HasBodies area bodies areas = AtRest (part area areas) bodies
+
+-- No call of the journal has answered a fault of the disk, and bodies stand in its area up to its closed gate.
+pub record Works {D : Type 0} (seen : D → DiskSeen) (j : Journal D) : Type 0 where
+  pub bodies : List (List ℕ)
+  pub used : j.used ≡ size bodies
+  pub few : j.limits.bytes < 2 ^ 32
+  pub met_none : j.has_failed ≡ false
+  pub file : IfSome (seen j.disk).told (HasBodies j.area bodies)
+  pub settled : IsSettled (seen j.disk)
+
+-- What an opening gives: the bodies are those of the summary and the records for which the areas stood. The journal holds them, where an
+-- area can tell of them.
+pub record IsOpen {D : Type 0} (seen : D → DiskSeen) (disk : D) (j : Journal D) (given : List (List ℕ)) : Type 0 where
+  pub summary : Option (List ℕ)
+  pub bodies : List (List ℕ)
+  pub all : given ≡ all_of summary bodies
+  pub stands : IfSome (seen disk).told (λ s. AreasStand s summary bodies)
+  pub used : j.used ≡ size_of summary bodies
+  pub count : j.records ≡ length bodies
+  pub generation : IfSome (seen disk).told (λ s. j.generation ≡ generation_now s)
+  pub holds : IsDistinct summary bodies → Holds seen j summary bodies
 
 -- the room for records that was reserved
 abbrev pub room_of : {D : Type 0} → Journal D → ℕ

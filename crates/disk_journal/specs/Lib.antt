@@ -5,3 +5,4 @@ pub mod Faults
 pub mod Journal
 pub mod OtherArea
 pub mod Behind
+pub mod Turning

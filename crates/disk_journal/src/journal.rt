@@ -1,22 +1,25 @@
-// The journal: it opens the areas of a disk, appends records to one of them, and gives the disk back.
-ghost use Rattle.std.specs.Prelude.{◌≡◌, ◌⊎◌, ◌≤◌, ◌<◌, ◌+◌, ◌^◌, ◌++◌, [], ◌∷◌, ℕ, List, length, OnOk, OnErr, IfOk, IfErr, IfSome, MatchResult, vec_len};
-ghost use Rattle.arc_io.specs.Areas.{Areas};
+// The journal: it opens the areas of a disk, appends records to the one that counts, puts a new summary into the other one, and gives the
+// disk back.
+ghost use Rattle.std.specs.Prelude.{◌≡◌, ◌⊎◌, ◌≤◌, ◌<◌, ◌+◌, ◌^◌, ◌++◌, [], ◌∷◌, ℕ, List, Option, Some, true, length, OnOk, OnErr, IfOk, IfErr, IfSome, MatchResult, vec_len};
 ghost use Rattle.arc_io.specs.Crashes.{Becomes, IsQuiet, LeavesOnly};
 ghost use Rattle.disk_journal.specs.Records.{MayHave};
-ghost use Rattle.disk_journal.specs.Standing.{chosen_part, AreasStand, GoesOn, StandsForEither};
+ghost use Rattle.disk_journal.specs.Standing.{chosen_part, GoesOn, IsDistinct, StandsForEither, StandsForTurn};
+ghost use Rattle.disk_journal.specs.Turning.{Changes, IsNextTo};
 ghost use Rattle.disk_journal.specs.OtherArea.{SparesOther};
 ghost use Rattle.disk_journal.specs.Behind.{SparesBehind};
-ghost use Rattle.disk_journal.specs.Faults.{IsShown, IsOfContent, HasCounts, IsOver, IsFull, HasCountsOf};
+ghost use Rattle.disk_journal.specs.Faults.{IsShown, IsOfContent, HasCounts, IsOver, IsFull, IsDiskFault, HasCountsOf};
 
 use crate::bodies::Bodies;
 use crate::fault::{AppendFault, OpenFault};
 use crate::open::load;
 use crate::record::{lay, write_record};
+use crate::summary::{generation_of, records_of};
+use crate::turn::{other, write_turn};
 use arc_data::Memory;
-use arc_io::{Disk, Failed};
+use arc_io::{Area, Disk, Failed};
 use std::alloc::Global;
 
-/// How much a journal may hold: the bytes of its area, and the records.
+/// How much a journal may hold: the bytes of one area, and the records behind its summary.
 #[derive(Clone, Copy, Debug, PartialEq, Eq)]
 pub struct Limits {
     pub bytes: u64,
@@ -29,11 +32,14 @@ pub const SHIPPED: Limits = Limits {
     records: 1_000_000,
 };
 
-/// Records in area A of a disk.
+/// The body of a summary, or none, and records, in the area of a disk that counts.
 pub struct Journal<D: Disk> {
     disk: D,
+    area: Area,
+    generation: u64,
     used: u64,
     records: u64,
+    has_failed: bool,
     limits: Limits,
     alloc: Global,
     room: Vec<u8>,
@@ -44,8 +50,11 @@ impl<D: Disk + Drop> Drop for Journal<D> {
     fn drop(self) {
         let Journal {
             disk,
+            area: _,
+            generation: _,
             used: _,
             records: _,
+            has_failed: _,
             limits: _,
             alloc: _,
             room,
@@ -55,7 +64,7 @@ impl<D: Disk + Drop> Drop for Journal<D> {
     }
 }
 
-/// Why an area was not opened, and its disk.
+/// Why the areas were not opened, and their disk.
 #[derive(Drop)]
 pub struct OpenRefused<D: Disk> {
     pub fault: OpenFault,
@@ -63,9 +72,10 @@ pub struct OpenRefused<D: Disk> {
 }
 
 impl<D: Disk> Journal<D> {
-    ghost use Rattle.disk_journal.specs.Journal.{Holds, room_of, disk_after};
+    ghost use Rattle.disk_journal.specs.Journal.{Works, Holds, IsOpen, room_of, disk_after};
 
-    /// Opens the journal of area A, and gives the bodies for which both areas stand. An area of at most 17 bytes is a new one.
+    /// Opens the journal of both areas, and gives the bodies for which they stand, that of the summary first. Where none is live, area A
+    /// counts, and with at most 17 bytes it is a new one.
     pub fn open(
         alloc: Global,
         disk: D,
@@ -73,23 +83,19 @@ impl<D: Disk> Journal<D> {
     ) -> Result<(Journal<D>, Bodies), OpenRefused<D>>
         requires few { limits.bytes < 2 ^ 32 }
 
-        ensures holds { IfOk result (λ r. Holds D.seen r.0 r.1) }
+        // What is given is what the areas stood for, and a refusal shows why they stood for nothing.
+        ensures works { IfOk result (λ r. Works D.seen r.0) }
+        ensures opened { IfOk result (λ r. IsOpen D.seen disk r.0 r.1) }
         ensures limits { IfOk result (λ r. r.0.limits ≡ limits) }
         ensures room { IfOk result (λ r. room_of r.0 ≡ 0) }
-
-        // The list is that for which the areas stood, and a refusal shows why they stood for none.
-        ensures stands { IfOk result (λ r. IfSome (D.seen disk).told (λ s. AreasStand s r.1)) }
         ensures shown { IfErr result (λ r. IfSome (D.seen disk).told (λ s. IsShown r.fault (chosen_part s))) }
         ensures counts { IfErr result (λ r. HasCounts r.fault (D.seen disk).faults (D.seen r.disk).faults) }
 
-        // A crash at any moment of the call leaves what stands for each list that an image at its start stood for.
-        ensures any_moment { LeavesOnly (D.seen disk) (D.seen (disk_after result))
-            (λ c. (d : Areas) × (D.seen disk).may_leave d × GoesOn d c) }
-        ensures told { Becomes (D.seen disk).told (D.seen (disk_after result)).told GoesOn }
-
+        // A crash at any moment of the call leaves what stands for all that an image at its start stood for, and so does a read.
+        ensures goes_on { Changes GoesOn (D.seen disk) (D.seen (disk_after result)) }
         ensures spared { SparesOther (D.seen disk) (D.seen (disk_after result)) }
 
-        // Where the area's bytes are refused, or some body stands there, nothing was written.
+        // Where the bytes of the area are refused, or some body stands there, nothing was written.
         ensures unwritten { IfErr result (λ r. IsOfContent r.fault → IsQuiet (D.seen disk) (D.seen r.disk)) }
         ensures untouched { IfOk result (λ r. (r.1 ≡ [] → ⊥) → IsQuiet (D.seen disk) (D.seen r.0.disk)) }
         ensures later { (D.seen disk).faults ≤ (D.seen (disk_after result)).faults }
@@ -100,11 +106,15 @@ impl<D: Disk> Journal<D> {
         let mut disk = disk;
         match load(alloc, &mut disk) {
             Ok(loaded) => {
-                let records = loaded.bodies.count() as u64;
+                let generation = generation_of(loaded.found, &loaded.bodies);
+                let records = records_of(loaded.found, &loaded.bodies);
                 let journal = Journal {
                     disk,
+                    area: loaded.area,
+                    generation,
                     used: loaded.used,
                     records,
+                    has_failed: false,
                     limits,
                     alloc,
                     room: Vec::new(alloc),
@@ -134,26 +144,33 @@ impl<D: Disk> Journal<D> {
     }
 
     /// Adds a record. Once it has answered Ok, every crash leaves it. It takes no memory. After a fault of the disk,
-    /// open the area again.
+    /// open the areas again.
     pub fn append(&mut self, body: &[u8]) -> Result<(), AppendFault>
-        requires holds { (bodies : List (List ℕ)) × Holds D.seen self.old bodies }
+        requires works { Works D.seen self.old }
         requires size { MayHave (length body.now) }
         requires room { 5 + length body.now ≤ room_of self.old }
 
-        ensures added { OnOk result ((bodies : List (List ℕ)) → Holds D.seen self.old bodies
-            → Holds D.seen self.new (bodies ++ body.now ∷ [])) }
+        ensures works { OnOk result (Works D.seen self.new) }
 
-        // A crash at any moment of the call leaves the records from before it, with the new one or without.
-        ensures any_moment { (bodies : List (List ℕ)) → Holds D.seen self.old bodies
-            → LeavesOnly (D.seen self.old.disk) (D.seen self.new.disk) (λ c. StandsForEither bodies body.now c) }
+        // A first body that begins as that of a summary would be read as one.
+        ensures added { OnOk result ((summary : Option (List ℕ)) (bodies : List (List ℕ)) → Holds D.seen self.old summary bodies
+            → IsDistinct summary (bodies ++ body.now ∷ []) → Holds D.seen self.new summary (bodies ++ body.now ∷ [])) }
+
+        // A crash at any moment of the call leaves what stood before it, with the new record or without.
+        ensures any_moment { (summary : Option (List ℕ)) (bodies : List (List ℕ)) → Holds D.seen self.old summary bodies
+            → IsDistinct summary (bodies ++ body.now ∷ [])
+            → LeavesOnly (D.seen self.old.disk) (D.seen self.new.disk) (StandsForEither summary bodies body.now) }
 
         // What a read gives afterwards, too.
-        ensures told { (bodies : List (List ℕ)) → Holds D.seen self.old bodies
-            → Becomes (D.seen self.old.disk).told (D.seen self.new.disk).told (λ _ t. StandsForEither bodies body.now t) }
+        ensures told { (summary : Option (List ℕ)) (bodies : List (List ℕ)) → Holds D.seen self.old summary bodies
+            → IsDistinct summary (bodies ++ body.now ∷ [])
+            → Becomes (D.seen self.old.disk).told (D.seen self.new.disk).told (λ _ t. StandsForEither summary bodies body.now t) }
 
-        // Nothing but the record and its gates is written: all that stands behind is as it was.
-        ensures spared { SparesOther (D.seen self.old.disk) (D.seen self.new.disk) }
-        ensures behind { SparesBehind (self.old.used + 5 + length body.now) (D.seen self.old.disk) (D.seen self.new.disk) }
+        // Nothing but the record and its gates is written: all that stands behind is as it was, and so is the other area.
+        ensures spared { (summary : Option (List ℕ)) (bodies : List (List ℕ)) → Holds D.seen self.old summary bodies
+            → SparesOther (D.seen self.old.disk) (D.seen self.new.disk) }
+        ensures behind { (summary : Option (List ℕ)) (bodies : List (List ℕ)) → Holds D.seen self.old summary bodies
+            → SparesBehind (self.old.used + 5 + length body.now) (D.seen self.old.disk) (D.seen self.new.disk) }
 
         // Full comes exactly over a limit, before any device call.
         ensures full { IsOver self.old.used (5 + length body.now) self.old.records self.old.limits.bytes self.old.limits.records
@@ -161,8 +178,10 @@ impl<D: Disk> Journal<D> {
         ensures cause { IfErr result (HasCountsOf
             (IsOver self.old.used (5 + length body.now) self.old.records self.old.limits.bytes self.old.limits.records)
             (D.seen self.old.disk).faults (D.seen self.new.disk).faults) }
+        ensures failed { IfErr result (λ f. IsDiskFault f → self.new.has_failed ≡ true) }
         ensures later { (D.seen self.old.disk).faults ≤ (D.seen self.new.disk).faults }
         ensures met_none { OnOk result ((D.seen self.new.disk).faults ≡ (D.seen self.old.disk).faults) }
+        ensures area { self.new.area ≡ self.old.area }
         ensures limits { self.new.limits ≡ self.old.limits }
         ensures same_room { room_of self.new ≡ room_of self.old }
     {
@@ -179,16 +198,69 @@ impl<D: Disk> Journal<D> {
         }
         let before = self.disk.faults();
         lay(&mut self.room, body);
-        match write_record(&mut self.disk, self.used, body, &self.room[..need as usize]) {
+        let laid = &self.room[..need as usize];
+        match write_record(&mut self.disk, self.area, self.used, body, laid) {
             Ok(()) => {
                 self.used += need;
                 self.records += 1;
                 Ok(())
             }
-            Err(Failed) => Err(AppendFault::DiskFault {
-                before,
-                now: self.disk.faults(),
-            }),
+            Err(Failed) => {
+                self.has_failed = true;
+                Err(AppendFault::DiskFault {
+                    before,
+                    now: self.disk.faults(),
+                })
+            }
+        }
+    }
+
+    /// Puts the body of a new summary into the other area, which counts from then on, and has no record yet. Once it has answered Ok,
+    /// every crash leaves it. It takes no memory. After a fault of the disk, open the areas again.
+    pub fn turn(&mut self, body: &[u8]) -> Result<(), AppendFault>
+        requires works { Works D.seen self.old }
+        requires next { IsNextTo self.old.generation body.now }
+        requires fits { 22 + length body.now ≤ self.old.limits.bytes }
+
+        ensures works { OnOk result (Works D.seen self.new) }
+        ensures turned { OnOk result ((summary : Option (List ℕ)) (bodies : List (List ℕ)) → Holds D.seen self.old summary bodies
+            → Holds D.seen self.new (Some body.now) []) }
+
+        // A crash at any moment of the call leaves what stood before it, or the new summary and no records.
+        ensures any_moment { (summary : Option (List ℕ)) (bodies : List (List ℕ)) → Holds D.seen self.old summary bodies
+            → LeavesOnly (D.seen self.old.disk) (D.seen self.new.disk) (StandsForTurn summary bodies body.now) }
+
+        // What a read gives afterwards, too.
+        ensures told { (summary : Option (List ℕ)) (bodies : List (List ℕ)) → Holds D.seen self.old summary bodies
+            → Becomes (D.seen self.old.disk).told (D.seen self.new.disk).told (λ _ t. StandsForTurn summary bodies body.now t) }
+
+        ensures generation { OnOk result (self.new.generation ≡ self.old.generation + 1) }
+
+        // A fault of the disk is the one refusal.
+        ensures cause { IfErr result (HasCountsOf ⊥ (D.seen self.old.disk).faults (D.seen self.new.disk).faults) }
+        ensures failed { OnErr result (self.new.has_failed ≡ true) }
+        ensures later { (D.seen self.old.disk).faults ≤ (D.seen self.new.disk).faults }
+        ensures met_none { OnOk result ((D.seen self.new.disk).faults ≡ (D.seen self.old.disk).faults) }
+        ensures limits { self.new.limits ≡ self.old.limits }
+        ensures same_room { room_of self.new ≡ room_of self.old }
+    {
+        let before = self.disk.faults();
+        let next = other(self.area);
+        match write_turn(&mut self.disk, next, body) {
+            Ok(()) => {
+                self.area = next;
+                self.generation += 1;
+                self.used = 22 + body.len() as u64;
+                self.records = 0;
+                Ok(())
+            }
+            Err(Failed) => {
+                self.has_failed = true;
+                Err(AppendFault::DiskFault {
+                    before,
+                    now: self.disk.faults(),
+                })
+            }
         }
     }
 
@@ -199,7 +271,14 @@ impl<D: Disk> Journal<D> {
         self.used
     }
 
-    /// How many records there are.
+    /// The generation of the summary, 0 without one.
+    pub fn generation(&self) -> u64
+        ensures { result ≡ self.now.generation }
+    {
+        self.generation
+    }
+
+    /// How many records there are behind the summary.
     pub fn records(&self) -> u64
         ensures { result ≡ self.now.records }
     {
@@ -219,8 +298,11 @@ impl<D: Disk> Journal<D> {
     {
         let Journal {
             disk,
+            area: _,
+            generation: _,
             used: _,
             records: _,
+            has_failed: _,
             limits: _,
             alloc: _,
             room,

@@ -1,5 +1,5 @@
-//! A journal in area A of a disk: records behind gates, so that a crash at any moment leaves the records from before
-//! a call, with the new one or without.
+//! A journal in two areas of a disk that take turns: the body of a summary, and records behind gates, so that a crash at any
+//! moment leaves what stood before a call, with the new record or without, or the new summary.
 #![tactic(auto)]
 
 mod bodies;
@@ -8,10 +8,12 @@ mod journal;
 mod laws;
 mod open;
 mod record;
+mod summary;
+mod turn;
 mod window;
 
 pub use bodies::Bodies;
 pub use fault::{AppendFault, OpenFault};
 pub use journal::{Journal, Limits, OpenRefused, SHIPPED};
-pub use laws::law_one_answer;
+pub use laws::{law_one_answer, law_one_standing};
 pub use open::check_front;

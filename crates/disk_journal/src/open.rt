@@ -1,20 +1,20 @@
 // How an area is read when a journal is opened.
-ghost use Rattle.std.specs.Prelude.{◌≡◌, ◌≢◌, ◌≤◌, ◌<◌, ◌+◌, ◌^◌, [], ◌∷◌, ℕ, List, true, length, take, drop, slice_index, OnOk, OnErr, IfOk, IfErr, IfSome, MatchOption, vec_len};
-ghost use Rattle.std.specs.Int.{to_be_bytes, from_be_bytes, w32};
-ghost use Rattle.arc_io.specs.Areas.{Areas};
-ghost use Rattle.arc_io.specs.Crashes.{Becomes, IsQuiet, OnlyIn, LeavesOnly, LeavesTorn, TornIn};
+ghost use Rattle.std.specs.Prelude.{◌≡◌, ◌≢◌, ◌≤◌, ◌<◌, ◌+◌, ◌^◌, [], ◌∷◌, ℕ, List, true, None, is_some, length, take, drop, slice_index, OnOk, OnErr, IfOk, IfErr, IfSome, MatchOption, vec_len};
+ghost use Rattle.std.specs.Int.{to_be_bytes, from_be_bytes, w32, w64};
+ghost use Rattle.arc_io.specs.Areas.{Areas, part};
+ghost use Rattle.arc_io.specs.Crashes.{Becomes, Follows, IsQuiet, OnlyIn, LeavesTorn, TornIn};
 ghost use Rattle.arc_io.specs.Causes.{IsCounted};
-ghost use Rattle.arc_io.specs.declared.disk.Area.TheVariants.{A};
-ghost use Rattle.disk_journal.specs.Records.{MayHave, HaveSizes, AtRest, head, size};
+ghost use Rattle.disk_journal.specs.Records.{AtRest, Stands, head, size, most_at};
 ghost use Rattle.disk_journal.specs.Faults.{IsShown, IsOfContent, IsOfFront, HasCounts};
-ghost use Rattle.disk_journal.specs.Reading.{Shows, IsGate, IsRecord, IsBrokenAt};
-ghost use Rattle.disk_journal.specs.Journal.{Keeps};
+ghost use Rattle.disk_journal.specs.Reading.{Shows, IsGate, IsRecord, IsBrokenAt, IsFound, IsSelected, found_or_none};
+ghost use Rattle.disk_journal.specs.Journal.{IsSettled, IsAtRestIn};
 ghost use Rattle.disk_journal.specs.OtherArea.{SparesOther};
-ghost use Rattle.disk_journal.specs.Standing.{chosen_part, AreasStand, GoesOn};
+ghost use Rattle.disk_journal.specs.Standing.{chosen, chosen_part, choice, GoesOn};
+ghost use Rattle.disk_journal.specs.Turning.{Changes};
 
 use crate::bodies::Bodies;
 use crate::fault::OpenFault;
-use crate::window::Window;
+use crate::window::{Window, read};
 use arc_io::{Area, Disk, Failed, write_synced};
 use std::alloc::Global;
 
@@ -22,28 +22,74 @@ const NAME: [u8; 12] = *b"ARC JOURNAL ";
 
 const VERSION: [u8; 4] = *b"0001";
 
-// What a new area begins with: the head and a closed gate.
-const FRESH: [u8; 17] = *b"ARC JOURNAL 0001\0";
+pub const HEAD: [u8; 16] = *b"ARC JOURNAL 0001";
 
-// The most bytes that a body may have.
+// What a new area begins with: the head and a closed gate.
+pub const FRESH: [u8; 17] = *b"ARC JOURNAL 0001\0";
+
+// The most bytes that a body may have, wherever it stands.
 const MOST: u32 = 4_194_400;
+
+// The place of the first gate.
+const FIRST: u64 = 16;
+
+// The first byte of the body of a summary.
+const TAG: u8 = 11;
 
 // How many bytes are read at a time.
 const PIECE: u64 = 1 << 20;
 
 // The bodies that were read, and the place of the closed gate, plus 1.
 #[derive(Drop)]
+struct Records {
+    bodies: Bodies,
+    used: u64,
+}
+
+// The area that is chosen, its generation where it is live, and its length.
+#[derive(Clone, Copy)]
+struct Selected {
+    area: Area,
+    found: Option<u64>,
+    len: u64,
+}
+
+// What was read of it.
+#[derive(Drop)]
 pub struct Loaded {
+    pub area: Area,
+    pub found: Option<u64>,
     pub bodies: Bodies,
     pub used: u64,
 }
 
-// The number in four bytes, from which they come back.
-fn number_in(prefix: &[u8; 4]) -> u32
-    ensures number { result ≡ from_be_bytes w32 prefix.now }
-    ensures back { to_be_bytes w32 result ≡ prefix.now }
+// The number in the first four of five bytes, from which they come back.
+fn number_in(prefix: &[u8; 5]) -> u32
+    ensures number { result ≡ from_be_bytes w32 (take 4 prefix.now) }
+    ensures back { to_be_bytes w32 result ≡ take 4 prefix.now }
 {
-    u32::from_be_bytes(*prefix)
+    let mut size = [0; 4];
+    size.copy_from_slice(&prefix[..4]);
+    four_in(&size)
+}
+
+// The number in four bytes, from which they come back.
+fn four_in(size: &[u8; 4]) -> u32
+    ensures number { result ≡ from_be_bytes w32 size.now }
+    ensures back { to_be_bytes w32 result ≡ size.now }
+{
+    u32::from_be_bytes(*size)
+}
+
+// The most bytes that the body behind the gate at this place may have, by its first byte.
+fn most(at: u64, byte: u8) -> u32
+    ensures { result ≡ most_at at byte }
+{
+    if at == FIRST && byte == TAG {
+        u32::MAX
+    } else {
+        MOST
+    }
 }
 
 // The gate at the place is open.
@@ -51,22 +97,23 @@ fn is_open<D: Disk>(
     disk: &mut D,
     window: &mut Window,
     before: u64,
+    area: Area,
     at: u64,
 ) -> Result<bool, OpenFault>
     requires before { before ≤ (D.seen disk.old).faults }
-    requires within { IfSome (D.seen disk.old).told (λ s. at < length s.a) }
+    requires within { IfSome (D.seen disk.old).told (λ s. at < length (part area s)) }
     requires fits { at + 1 < 2 ^ 64 }
-    requires piece { Shows (D.seen disk.old).told window.old }
-    ensures gate { IfOk result (λ is. IfSome (D.seen disk.old).told (λ s. IsGate s.a at is)) }
-    ensures piece { OnOk result (Shows (D.seen disk.old).told window.new) }
+    requires piece { Shows area (D.seen disk.old).told window.old }
+    ensures gate { IfOk result (λ is. IfSome (D.seen disk.old).told (λ s. IsGate (part area s) at is)) }
+    ensures piece { OnOk result (Shows area (D.seen disk.old).told window.new) }
     ensures quiet { IsQuiet (D.seen disk.old) (D.seen disk.new) }
     ensures later { (D.seen disk.old).faults ≤ (D.seen disk.new).faults }
     ensures met_none { OnOk result ((D.seen disk.new).faults ≡ (D.seen disk.old).faults) }
     ensures counts { IfErr result (λ f. HasCounts f before (D.seen disk.new).faults) }
-    ensures shown { IfErr result (λ f. IfSome (D.seen disk.old).told (λ s. IsBrokenAt f s.a at)) }
+    ensures shown { IfErr result (λ f. IfSome (D.seen disk.old).told (λ s. IsBrokenAt f (part area s) at)) }
 {
     let mut gate = [0; 1];
-    if !window.fill(disk, before, at, &mut gate)? {
+    if !window.fill(disk, before, area, at, &mut gate)? {
         return Ok(false);
     }
     Ok(gate[0] == 1)
@@ -77,30 +124,32 @@ fn read_size<D: Disk>(
     disk: &mut D,
     window: &mut Window,
     before: u64,
+    area: Area,
     len: u64,
     at: u64,
 ) -> Result<u32, OpenFault>
     requires before { before ≤ (D.seen disk.old).faults }
-    requires len { IfSome (D.seen disk.old).told (λ s. len ≡ length s.a) }
+    requires len { IfSome (D.seen disk.old).told (λ s. len ≡ length (part area s)) }
     requires within { at < len }
-    requires gate { IfSome (D.seen disk.old).told (λ s. IsGate s.a at true) }
-    requires piece { Shows (D.seen disk.old).told window.old }
-    ensures size { IfOk result (λ n. IfSome (D.seen disk.old).told (λ s. take 4 (drop (at + 1) s.a) ≡ to_be_bytes w32 n)) }
-    ensures room { IfOk result (λ n. MayHave n × (at + 5 + n < len)) }
-    ensures piece { OnOk result (Shows (D.seen disk.old).told window.new) }
+    requires gate { IfSome (D.seen disk.old).told (λ s. IsGate (part area s) at true) }
+    requires piece { Shows area (D.seen disk.old).told window.old }
+    ensures size { IfOk result (λ n. IfSome (D.seen disk.old).told (λ s. take 4 (drop (at + 1) (part area s)) ≡ to_be_bytes w32 n)) }
+    ensures room { IfOk result (λ n. (1 ≤ n) × (at + 5 + n < len)) }
+    ensures no_more { IfOk result (λ n. IfSome (D.seen disk.old).told (λ s. n ≤ most_at at (slice_index (part area s) (at + 5)))) }
+    ensures piece { OnOk result (Shows area (D.seen disk.old).told window.new) }
     ensures quiet { IsQuiet (D.seen disk.old) (D.seen disk.new) }
     ensures later { (D.seen disk.old).faults ≤ (D.seen disk.new).faults }
     ensures met_none { OnOk result ((D.seen disk.new).faults ≡ (D.seen disk.old).faults) }
     ensures counts { IfErr result (λ f. HasCounts f before (D.seen disk.new).faults) }
-    ensures shown { IfErr result (λ f. IfSome (D.seen disk.old).told (λ s. IsBrokenAt f s.a at)) }
+    ensures shown { IfErr result (λ f. IfSome (D.seen disk.old).told (λ s. IsBrokenAt f (part area s) at)) }
 {
     if len - at <= 5 {
         return Err(OpenFault::Damaged { at });
     }
-    let mut prefix = [0; 4];
-    let has_size = window.fill(disk, before, at + 1, &mut prefix)?;
+    let mut prefix = [0; 5];
+    let has_size = window.fill(disk, before, area, at + 1, &mut prefix)?;
     let size = number_in(&prefix);
-    if !has_size || size == 0 || size > MOST || len - at <= 5 + size as u64 {
+    if !has_size || size == 0 || size > most(at, prefix[4]) || len - at <= 5 + size as u64 {
         return Err(OpenFault::Damaged { at });
     }
     Ok(size)
@@ -112,30 +161,31 @@ fn read_record<D: Disk>(
     disk: &mut D,
     window: &mut Window,
     before: u64,
+    area: Area,
     len: u64,
     at: u64,
 ) -> Result<Option<Vec<u8>>, OpenFault>
     requires before { before ≤ (D.seen disk.old).faults }
-    requires len { IfSome (D.seen disk.old).told (λ s. len ≡ length s.a) }
+    requires len { IfSome (D.seen disk.old).told (λ s. len ≡ length (part area s)) }
     requires within { at < len }
-    requires piece { Shows (D.seen disk.old).told window.old }
-    ensures bytes { IfOk result (λ found. IfSome (D.seen disk.old).told (λ s. IsRecord s.a at found)) }
-    ensures room { IfOk result (λ found. IfSome found (λ body. MayHave (length body.items) × (at + 5 + length body.items < len))) }
-    ensures piece { OnOk result (Shows (D.seen disk.old).told window.new) }
+    requires piece { Shows area (D.seen disk.old).told window.old }
+    ensures bytes { IfOk result (λ found. IfSome (D.seen disk.old).told (λ s. IsRecord (part area s) at found)) }
+    ensures room { IfOk result (λ found. IfSome found (λ body. (1 ≤ length body.items) × (at + 5 + length body.items < len))) }
+    ensures piece { OnOk result (Shows area (D.seen disk.old).told window.new) }
     ensures quiet { IsQuiet (D.seen disk.old) (D.seen disk.new) }
     ensures later { (D.seen disk.old).faults ≤ (D.seen disk.new).faults }
     ensures met_none { OnOk result ((D.seen disk.new).faults ≡ (D.seen disk.old).faults) }
     ensures counts { IfErr result (λ f. HasCounts f before (D.seen disk.new).faults) }
-    ensures shown { IfErr result (λ f. IfSome (D.seen disk.old).told (λ s. IsBrokenAt f s.a at)) }
+    ensures shown { IfErr result (λ f. IfSome (D.seen disk.old).told (λ s. IsBrokenAt f (part area s) at)) }
 {
-    if !is_open(disk, window, before, at)? {
+    if !is_open(disk, window, before, area, at)? {
         return Ok(None);
     }
-    let size = read_size(disk, window, before, len, at)?;
+    let size = read_size(disk, window, before, area, len, at)?;
     let Ok(mut body) = vec![in alloc; 0; size as usize] else {
         return Err(OpenFault::Memory);
     };
-    if !window.fill(disk, before, at + 5, &mut body)? {
+    if !window.fill(disk, before, area, at + 5, &mut body)? {
         return Err(OpenFault::Damaged { at });
     }
     Ok(Some(body))
@@ -147,30 +197,31 @@ fn read_records<D: Disk>(
     disk: &mut D,
     window: &mut Window,
     before: u64,
+    area: Area,
     len: u64,
-) -> Result<Loaded, OpenFault>
+) -> Result<Records, OpenFault>
     requires before { before ≤ (D.seen disk.old).faults }
-    requires len { IfSome (D.seen disk.old).told (λ s. len ≡ length s.a) }
+    requires len { IfSome (D.seen disk.old).told (λ s. len ≡ length (part area s)) }
     requires long { 17 < len }
-    requires head { IfSome (D.seen disk.old).told (λ s. take 16 s.a ≡ head) }
-    requires piece { Shows (D.seen disk.old).told window.old }
-    ensures used { IfOk result (λ l. (l.used ≡ size l.bodies) × HaveSizes l.bodies) }
-    ensures bytes { IfOk result (λ l. IfSome (D.seen disk.old).told (λ s. AtRest s.a l.bodies)) }
+    requires head { IfSome (D.seen disk.old).told (λ s. take 16 (part area s) ≡ head) }
+    requires piece { Shows area (D.seen disk.old).told window.old }
+    ensures used { IfOk result (λ r. r.used ≡ size r.bodies) }
+    ensures bytes { IfOk result (λ r. IfSome (D.seen disk.old).told (λ s. AtRest (part area s) r.bodies)) }
     ensures quiet { IsQuiet (D.seen disk.old) (D.seen disk.new) }
     ensures later { (D.seen disk.old).faults ≤ (D.seen disk.new).faults }
     ensures met_none { OnOk result ((D.seen disk.new).faults ≡ (D.seen disk.old).faults) }
     ensures counts { IfErr result (λ f. HasCounts f before (D.seen disk.new).faults) }
-    ensures shown { IfErr result (λ f. IfSome (D.seen disk.old).told (λ s. IsShown f s.a)) }
+    ensures shown { IfErr result (λ f. IfSome (D.seen disk.old).told (λ s. IsShown f (part area s))) }
 {
     let mut bodies = Bodies::new(alloc);
     let mut at = 16;
-    while let Some(body) = read_record(alloc, disk, window, before, len, at)? {
+    while let Some(body) = read_record(alloc, disk, window, before, area, len, at)? {
         at += 5 + body.len() as u64;
         let Ok(()) = bodies.push_vec(body) else {
             return Err(OpenFault::Memory);
         };
     }
-    Ok(Loaded {
+    Ok(Records {
         bodies,
         used: at + 1,
     })
@@ -210,36 +261,41 @@ pub fn check_front(front: &[u8; 16]) -> Result<(), OpenFault>
 }
 
 // Finds the name and the version at the front of an area that is long enough to have them.
-fn check_head<D: Disk>(disk: &mut D, window: &mut Window, before: u64) -> Result<(), OpenFault>
+fn check_head<D: Disk>(
+    disk: &mut D,
+    window: &mut Window,
+    before: u64,
+    area: Area,
+) -> Result<(), OpenFault>
     requires before { before ≤ (D.seen disk.old).faults }
-    requires long { IfSome (D.seen disk.old).told (λ s. 17 < length s.a) }
-    requires piece { Shows (D.seen disk.old).told window.old }
-    ensures head { OnOk result (IfSome (D.seen disk.old).told (λ s. take 16 s.a ≡ head)) }
-    ensures piece { OnOk result (Shows (D.seen disk.old).told window.new) }
+    requires long { IfSome (D.seen disk.old).told (λ s. 17 < length (part area s)) }
+    requires piece { Shows area (D.seen disk.old).told window.old }
+    ensures head { OnOk result (IfSome (D.seen disk.old).told (λ s. take 16 (part area s) ≡ head)) }
+    ensures piece { OnOk result (Shows area (D.seen disk.old).told window.new) }
     ensures quiet { IsQuiet (D.seen disk.old) (D.seen disk.new) }
     ensures later { (D.seen disk.old).faults ≤ (D.seen disk.new).faults }
     ensures met_none { OnOk result ((D.seen disk.new).faults ≡ (D.seen disk.old).faults) }
     ensures counts { IfErr result (λ f. HasCounts f before (D.seen disk.new).faults) }
-    ensures shown { IfErr result (λ f. IfSome (D.seen disk.old).told (λ s. IsShown f s.a)) }
+    ensures shown { IfErr result (λ f. IfSome (D.seen disk.old).told (λ s. IsShown f (part area s))) }
 {
     let mut front = [0; 16];
-    let _ = window.fill(disk, before, 0, &mut front)?;
+    let _ = window.fill(disk, before, area, 0, &mut front)?;
     check_front(&front)
 }
 
-// Syncs the area and takes its length.
-fn settle<D: Disk>(disk: &mut D, before: u64) -> Result<u64, OpenFault>
+// Syncs both areas and takes their lengths.
+fn settle<D: Disk>(disk: &mut D, before: u64) -> Result<(u64, u64), OpenFault>
     requires before { before ≤ (D.seen disk.old).faults }
-    ensures len { IfOk result (λ n. IfSome (D.seen disk.old).told (λ s. n ≡ length s.a)) }
-    ensures durable { OnOk result (IfSome (D.seen disk.old).told (λ s. OnlyIn A s (D.seen disk.new).may_leave)) }
+    ensures len { IfOk result (λ n. IfSome (D.seen disk.old).told (λ s. (n.0 ≡ length s.a) × (n.1 ≡ length s.b))) }
+    ensures settled { OnOk result (IsSettled (D.seen disk.new)) }
     ensures quiet { IsQuiet (D.seen disk.old) (D.seen disk.new) }
     ensures later { (D.seen disk.old).faults ≤ (D.seen disk.new).faults }
     ensures met_none { OnOk result ((D.seen disk.new).faults ≡ (D.seen disk.old).faults) }
     ensures counts { IfErr result (λ f. HasCounts f before (D.seen disk.new).faults) }
     ensures shown { IfErr result (λ f. (IsOfContent f → ⊥) × ((bytes : List ℕ) → IsShown f bytes)) }
 {
-    match synced_length(disk) {
-        Ok(len) => Ok(len),
+    match synced_lengths(disk) {
+        Ok(lengths) => Ok(lengths),
         Err(Failed) => Err(OpenFault::DiskFault {
             before,
             now: disk.faults(),
@@ -247,33 +303,141 @@ fn settle<D: Disk>(disk: &mut D, before: u64) -> Result<u64, OpenFault>
     }
 }
 
-fn synced_length<D: Disk>(disk: &mut D) -> Result<u64, Failed>
-    ensures len { IfOk result (λ n. IfSome (D.seen disk.old).told (λ s. n ≡ length s.a)) }
-    ensures durable { OnOk result (IfSome (D.seen disk.old).told (λ s. OnlyIn A s (D.seen disk.new).may_leave)) }
+fn synced_lengths<D: Disk>(disk: &mut D) -> Result<(u64, u64), Failed>
+    ensures len { IfOk result (λ n. IfSome (D.seen disk.old).told (λ s. (n.0 ≡ length s.a) × (n.1 ≡ length s.b))) }
+    ensures settled { OnOk result (IsSettled (D.seen disk.new)) }
     ensures quiet { IsQuiet (D.seen disk.old) (D.seen disk.new) }
     ensures cause { IsCounted (D.seen disk.old).faults (D.seen disk.new).faults result }
 {
-    disk.sync(Area::A)?;
-    disk.length(Area::A)
+    let a = synced_length(disk, Area::A)?;
+    let b = synced_length(disk, Area::B)?;
+    Ok((a, b))
 }
 
-// Writes the head and a closed gate into an area that has no record yet.
-fn begin<D: Disk>(alloc: Global, disk: &mut D, before: u64) -> Result<Loaded, OpenFault>
+fn synced_length<D: Disk>(disk: &mut D, area: Area) -> Result<u64, Failed>
+    ensures len { IfOk result (λ n. IfSome (D.seen disk.old).told (λ s. n ≡ length (part area s))) }
+    ensures durable { OnOk result (IfSome (D.seen disk.old).told (λ s. OnlyIn area s (D.seen disk.new).may_leave)) }
+    ensures quiet { IsQuiet (D.seen disk.old) (D.seen disk.new) }
+    ensures cause { IsCounted (D.seen disk.old).faults (D.seen disk.new).faults result }
+{
+    disk.sync(area)?;
+    disk.length(area)
+}
+
+// The number in eight of thirty bytes.
+fn number_at_22(front: &[u8; 30]) -> u64
+    ensures { result ≡ from_be_bytes w64 (drop 22 front.now) }
+{
+    let mut number = [0; 8];
+    number.copy_from_slice(&front[22..]);
+    u64::from_be_bytes(number)
+}
+
+// The generation in the first thirty bytes of an area, where it is live.
+fn found_in(front: &[u8; 30]) -> Option<u64>
+    ensures { (bytes : List ℕ) → take 30 bytes ≡ front.now → IsFound result bytes }
+{
+    if front[16] != 1 {
+        return None;
+    }
+    if front[21] != TAG {
+        return None;
+    }
+    let (start, _) = front.split_at(16);
+    match first_other(start, &HEAD) {
+        Some(_) => None,
+        None => Some(number_at_22(front)),
+    }
+}
+
+// The generation of an area, where it is live.
+fn look<D: Disk>(disk: &mut D, before: u64, area: Area, len: u64) -> Result<Option<u64>, OpenFault>
     requires before { before ≤ (D.seen disk.old).faults }
-    requires short { IfSome (D.seen disk.old).told (λ s. length s.a ≤ 17) }
-    ensures used { IfOk result (λ l. (l.used ≡ size l.bodies) × HaveSizes l.bodies × (l.bodies ≡ [])) }
-    ensures bytes { OnOk result (IfSome (D.seen disk.new).told (λ s. AtRest s.a [])) }
-    ensures durable { OnOk result (IfSome (D.seen disk.new).told (λ s. OnlyIn A s (D.seen disk.new).may_leave)) }
-    ensures torn { Becomes (D.seen disk.old).told (D.seen disk.new).told (TornIn A 0 17) }
-    ensures any_moment { LeavesTorn (D.seen disk.old) (D.seen disk.new) A 0 17 }
-    ensures spared { SparesOther (D.seen disk.old) (D.seen disk.new) }
+    requires len { IfSome (D.seen disk.old).told (λ s. len ≡ length (part area s)) }
+    ensures found { IfOk result (λ found. IfSome (D.seen disk.old).told (λ s. IsFound found (part area s))) }
+    ensures quiet { IsQuiet (D.seen disk.old) (D.seen disk.new) }
     ensures later { (D.seen disk.old).faults ≤ (D.seen disk.new).faults }
     ensures met_none { OnOk result ((D.seen disk.new).faults ≡ (D.seen disk.old).faults) }
     ensures counts { IfErr result (λ f. HasCounts f before (D.seen disk.new).faults) }
     ensures shown { IfErr result (λ f. (IsOfContent f → ⊥) × ((bytes : List ℕ) → IsShown f bytes)) }
 {
-    match write_synced(disk, Area::A, 0, &FRESH) {
-        Ok(()) => Ok(Loaded {
+    if len < 30 {
+        return Ok(None);
+    }
+    let mut front = [0; 30];
+    let _ = read(disk, before, area, 0, &mut front)?;
+    Ok(found_in(&front))
+}
+
+// The area that counts, of two that are live, with these generations, or not.
+fn choose(a: Option<u64>, b: Option<u64>) -> Area
+    ensures { result ≡ choice (is_some a) (is_some b) (found_or_none a) (found_or_none b) }
+{
+    match (a, b) {
+        (Some(of_a), Some(of_b)) => { if of_b < of_a { Area::A } else { Area::B } }
+        (None, Some(_)) => Area::B,
+        _ => Area::A,
+    }
+}
+
+// Syncs both areas and finds the one that counts.
+fn select<D: Disk>(disk: &mut D, before: u64) -> Result<Selected, OpenFault>
+    requires before { before ≤ (D.seen disk.old).faults }
+    ensures selected { IfOk result (λ r. IfSome (D.seen disk.old).told (IsSelected r.area r.found r.len)) }
+    ensures settled { OnOk result (IsSettled (D.seen disk.new)) }
+    ensures quiet { IsQuiet (D.seen disk.old) (D.seen disk.new) }
+    ensures later { (D.seen disk.old).faults ≤ (D.seen disk.new).faults }
+    ensures met_none { OnOk result ((D.seen disk.new).faults ≡ (D.seen disk.old).faults) }
+    ensures counts { IfErr result (λ f. HasCounts f before (D.seen disk.new).faults) }
+    ensures shown { IfErr result (λ f. (IsOfContent f → ⊥) × ((bytes : List ℕ) → IsShown f bytes)) }
+{
+    let (len_a, len_b) = settle(disk, before)?;
+    let a = look(disk, before, Area::A, len_a)?;
+    let b = look(disk, before, Area::B, len_b)?;
+    Ok(pick(a, len_a, b, len_b))
+}
+
+// One of the two areas, with what was found of it.
+fn pick(a: Option<u64>, len_a: u64, b: Option<u64>, len_b: u64) -> Selected
+    ensures { (areas : Areas) → IsFound a areas.a → len_a ≡ length areas.a → IsFound b areas.b → len_b ≡ length areas.b
+        → IsSelected result.area result.found result.len areas }
+{
+    match choose(a, b) {
+        Area::A => Selected {
+            area: Area::A,
+            found: a,
+            len: len_a,
+        },
+        Area::B => Selected {
+            area: Area::B,
+            found: b,
+            len: len_b,
+        },
+    }
+}
+
+// Writes the head and a closed gate into an area that has no record yet.
+fn begin<D: Disk>(
+    alloc: Global,
+    disk: &mut D,
+    before: u64,
+    area: Area,
+) -> Result<Records, OpenFault>
+    requires before { before ≤ (D.seen disk.old).faults }
+    requires short { IfSome (D.seen disk.old).told (λ s. length (part area s) ≤ 17) }
+    ensures used { IfOk result (λ r. (r.used ≡ size r.bodies) × (r.bodies ≡ [])) }
+    ensures bytes { OnOk result (IfSome (D.seen disk.new).told (λ s. AtRest (part area s) [])) }
+    ensures durable { OnOk result (IfSome (D.seen disk.new).told (λ s. OnlyIn area s (D.seen disk.new).may_leave)) }
+    ensures torn { Becomes (D.seen disk.old).told (D.seen disk.new).told (TornIn area 0 17) }
+    ensures crash { Follows (TornIn area 0 17) (D.seen disk.old).may_leave (D.seen disk.new).may_leave }
+    ensures any_moment { LeavesTorn (D.seen disk.old) (D.seen disk.new) area 0 17 }
+    ensures later { (D.seen disk.old).faults ≤ (D.seen disk.new).faults }
+    ensures met_none { OnOk result ((D.seen disk.new).faults ≡ (D.seen disk.old).faults) }
+    ensures counts { IfErr result (λ f. HasCounts f before (D.seen disk.new).faults) }
+    ensures shown { IfErr result (λ f. (IsOfContent f → ⊥) × ((bytes : List ℕ) → IsShown f bytes)) }
+{
+    match write_synced(disk, area, 0, &FRESH) {
+        Ok(()) => Ok(Records {
             bodies: Bodies::new(alloc),
             used: 17,
         }),
@@ -289,47 +453,81 @@ fn read_area<D: Disk>(
     alloc: Global,
     disk: &mut D,
     before: u64,
+    area: Area,
     len: u64,
-) -> Result<Loaded, OpenFault>
+) -> Result<Records, OpenFault>
     requires before { before ≤ (D.seen disk.old).faults }
-    requires len { IfSome (D.seen disk.old).told (λ s. len ≡ length s.a) }
+    requires len { IfSome (D.seen disk.old).told (λ s. len ≡ length (part area s)) }
     requires long { 17 < len }
-    ensures used { IfOk result (λ l. (l.used ≡ size l.bodies) × HaveSizes l.bodies) }
-    ensures bytes { IfOk result (λ l. IfSome (D.seen disk.old).told (λ s. AtRest s.a l.bodies)) }
+    ensures used { IfOk result (λ r. r.used ≡ size r.bodies) }
+    ensures bytes { IfOk result (λ r. IfSome (D.seen disk.old).told (λ s. AtRest (part area s) r.bodies)) }
     ensures quiet { IsQuiet (D.seen disk.old) (D.seen disk.new) }
     ensures later { (D.seen disk.old).faults ≤ (D.seen disk.new).faults }
     ensures met_none { OnOk result ((D.seen disk.new).faults ≡ (D.seen disk.old).faults) }
     ensures counts { IfErr result (λ f. HasCounts f before (D.seen disk.new).faults) }
-    ensures shown { IfErr result (λ f. IfSome (D.seen disk.old).told (λ s. IsShown f s.a)) }
+    ensures shown { IfErr result (λ f. IfSome (D.seen disk.old).told (λ s. IsShown f (part area s))) }
 {
     let Ok(mut window) = Window::new(alloc, len.min(PIECE) as usize) else {
         return Err(OpenFault::Memory);
     };
-    check_head(disk, &mut window, before)?;
-    read_records(alloc, disk, &mut window, before, len)
+    check_head(disk, &mut window, before, area)?;
+    read_records(alloc, disk, &mut window, before, area, len)
+}
+
+// Reads the records of the area that was selected, or begins it.
+fn take_up<D: Disk>(
+    alloc: Global,
+    disk: &mut D,
+    before: u64,
+    area: Area,
+    len: u64,
+) -> Result<Records, OpenFault>
+    requires before { before ≤ (D.seen disk.old).faults }
+    requires chosen { IfSome (D.seen disk.old).told (λ s. (chosen s ≡ area) × (len ≡ length (part area s))) }
+    requires settled { IsSettled (D.seen disk.old) }
+    ensures used { IfOk result (λ r. r.used ≡ size r.bodies) }
+    ensures rest { IfOk result (λ r. IfSome (D.seen disk.new).told (IsAtRestIn area None r.bodies)) }
+    ensures settled { OnOk result (IsSettled (D.seen disk.new)) }
+    ensures stands { IfOk result (λ r. IfSome (D.seen disk.old).told (λ s. Stands (part area s) r.bodies)) }
+    ensures shown { IfErr result (λ f. IfSome (D.seen disk.old).told (λ s. IsShown f (part area s))) }
+    ensures unwritten { IfErr result (λ f. IsOfContent f → IsQuiet (D.seen disk.old) (D.seen disk.new)) }
+    ensures untouched { IfOk result (λ r. (r.bodies ≡ [] → ⊥) → IsQuiet (D.seen disk.old) (D.seen disk.new)) }
+    ensures goes_on { Changes GoesOn (D.seen disk.old) (D.seen disk.new) }
+    ensures spared { SparesOther (D.seen disk.old) (D.seen disk.new) }
+    ensures later { (D.seen disk.old).faults ≤ (D.seen disk.new).faults }
+    ensures met_none { OnOk result ((D.seen disk.new).faults ≡ (D.seen disk.old).faults) }
+    ensures counts { IfErr result (λ f. HasCounts f before (D.seen disk.new).faults) }
+{
+    if len <= 17 {
+        begin(alloc, disk, before, area)
+    } else {
+        read_area(alloc, disk, before, area, len)
+    }
 }
 
 // All that opening does to the disk.
 pub fn load<D: Disk>(alloc: Global, disk: &mut D) -> Result<Loaded, OpenFault>
-    ensures used { IfOk result (λ l. l.used ≡ size l.bodies) }
-    ensures kept { IfOk result (λ l. Keeps (D.seen disk.new) l.bodies) }
-    ensures stands { IfOk result (λ l. IfSome (D.seen disk.old).told (λ s. AreasStand s l.bodies)) }
+    ensures used { IfOk result (λ r. r.used ≡ size r.bodies) }
+    ensures rest { IfOk result (λ r. IfSome (D.seen disk.new).told (IsAtRestIn r.area None r.bodies)) }
+    ensures settled { OnOk result (IsSettled (D.seen disk.new)) }
+    ensures found { IfOk result (λ r. IfSome (D.seen disk.old).told (λ s. IsFound r.found (chosen_part s))) }
+    ensures stands { IfOk result (λ r. IfSome (D.seen disk.old).told (λ s. Stands (chosen_part s) r.bodies)) }
     ensures shown { IfErr result (λ f. IfSome (D.seen disk.old).told (λ s. IsShown f (chosen_part s))) }
     ensures unwritten { IfErr result (λ f. IsOfContent f → IsQuiet (D.seen disk.old) (D.seen disk.new)) }
-    ensures untouched { IfOk result (λ l. (l.bodies ≡ [] → ⊥) → IsQuiet (D.seen disk.old) (D.seen disk.new)) }
-    ensures told { Becomes (D.seen disk.old).told (D.seen disk.new).told GoesOn }
-    ensures any_moment { LeavesOnly (D.seen disk.old) (D.seen disk.new)
-        (λ c. (d : Areas) × (D.seen disk.old).may_leave d × GoesOn d c) }
+    ensures untouched { IfOk result (λ r. (r.bodies ≡ [] → ⊥) → IsQuiet (D.seen disk.old) (D.seen disk.new)) }
+    ensures goes_on { Changes GoesOn (D.seen disk.old) (D.seen disk.new) }
     ensures spared { SparesOther (D.seen disk.old) (D.seen disk.new) }
     ensures later { (D.seen disk.old).faults ≤ (D.seen disk.new).faults }
     ensures met_none { OnOk result ((D.seen disk.new).faults ≡ (D.seen disk.old).faults) }
     ensures counts { IfErr result (λ f. HasCounts f (D.seen disk.old).faults (D.seen disk.new).faults) }
 {
     let before = disk.faults();
-    let len = settle(disk, before)?;
-    if len <= 17 {
-        begin(alloc, disk, before)
-    } else {
-        read_area(alloc, disk, before, len)
-    }
+    let selected = select(disk, before)?;
+    let records = take_up(alloc, disk, before, selected.area, selected.len)?;
+    Ok(Loaded {
+        area: selected.area,
+        found: selected.found,
+        bodies: records.bodies,
+        used: records.used,
+    })
 }

@@ -1,12 +1,12 @@
 // A record's bytes, and how they get to the disk.
-ghost use Rattle.std.specs.Prelude.{◌≡◌, ◌≤◌, ◌<◌, ◌+◌, ◌^◌, ◌++◌, [], ◌∷◌, ℕ, List, length, take, OnOk};
+ghost use Rattle.std.specs.Prelude.{◌≡◌, ◌≤◌, ◌<◌, ◌+◌, ◌^◌, ◌++◌, [], ◌∷◌, ℕ, List, Option, length, take, OnOk, IfSome};
 ghost use Rattle.arc_io.specs.Crashes.{Becomes, LeavesOnly};
 ghost use Rattle.arc_io.specs.Causes.{IsCounted};
 ghost use Rattle.disk_journal.specs.Records.{MayHave, bytes_of, size};
-ghost use Rattle.disk_journal.specs.Journal.{Keeps};
+ghost use Rattle.disk_journal.specs.Journal.{HasBodies, IsSettled, Keeps};
 ghost use Rattle.disk_journal.specs.OtherArea.{SparesOther};
 ghost use Rattle.disk_journal.specs.Behind.{SparesBehind};
-ghost use Rattle.disk_journal.specs.Standing.{StandsForEither};
+ghost use Rattle.disk_journal.specs.Standing.{size_of, IsDistinct, StandsForEither};
 
 use arc_io::{Area, Disk, Failed, write_synced};
 
@@ -25,24 +25,34 @@ pub fn lay(room: &mut [u8], body: &[u8])
 // Four device calls: the record is on the disk behind the closed gate before the gate is opened.
 pub fn write_record<D: Disk>(
     disk: &mut D,
+    area: Area,
     used: u64,
     body: &[u8],
     laid: &[u8],
 ) -> Result<(), Failed>
-    requires kept { (bodies : List (List ℕ)) × (used ≡ size bodies) × Keeps (D.seen disk.old) bodies }
+    requires works { (bodies : List (List ℕ)) × (used ≡ size bodies) × IfSome (D.seen disk.old).told (HasBodies area bodies) }
+    requires settled { IsSettled (D.seen disk.old) }
     requires size { MayHave (length body.now) }
     requires laid { laid.now ≡ bytes_of body.now ++ 0 ∷ [] }
     requires fits { used + length laid.now < 2 ^ 63 }
-    ensures added { OnOk result ((bodies : List (List ℕ)) → used ≡ size bodies → Keeps (D.seen disk.old) bodies
-        → Keeps (D.seen disk.new) (bodies ++ body.now ∷ [])) }
-    ensures any_moment { (bodies : List (List ℕ)) → used ≡ size bodies → Keeps (D.seen disk.old) bodies
-        → LeavesOnly (D.seen disk.old) (D.seen disk.new) (λ c. StandsForEither bodies body.now c) }
-    ensures told { (bodies : List (List ℕ)) → used ≡ size bodies → Keeps (D.seen disk.old) bodies
-        → Becomes (D.seen disk.old).told (D.seen disk.new).told (λ _ t. StandsForEither bodies body.now t) }
-    ensures spared { SparesOther (D.seen disk.old) (D.seen disk.new) }
-    ensures behind { SparesBehind (used + 5 + length body.now) (D.seen disk.old) (D.seen disk.new) }
+    ensures added { OnOk result ((summary : Option (List ℕ)) (bodies : List (List ℕ)) → used ≡ size_of summary bodies
+        → Keeps (D.seen disk.old) area summary bodies → IsDistinct summary (bodies ++ body.now ∷ [])
+        → Keeps (D.seen disk.new) area summary (bodies ++ body.now ∷ [])) }
+    ensures any_moment { (summary : Option (List ℕ)) (bodies : List (List ℕ)) → used ≡ size_of summary bodies
+        → Keeps (D.seen disk.old) area summary bodies → IsDistinct summary (bodies ++ body.now ∷ [])
+        → LeavesOnly (D.seen disk.old) (D.seen disk.new) (StandsForEither summary bodies body.now) }
+    ensures told { (summary : Option (List ℕ)) (bodies : List (List ℕ)) → used ≡ size_of summary bodies
+        → Keeps (D.seen disk.old) area summary bodies → IsDistinct summary (bodies ++ body.now ∷ [])
+        → Becomes (D.seen disk.old).told (D.seen disk.new).told (λ _ t. StandsForEither summary bodies body.now t) }
+    ensures rests { OnOk result ((bodies : List (List ℕ)) → used ≡ size bodies → IfSome (D.seen disk.old).told (HasBodies area bodies)
+        → IfSome (D.seen disk.new).told (HasBodies area (bodies ++ body.now ∷ []))) }
+    ensures settled { OnOk result (IsSettled (D.seen disk.new)) }
+    ensures spared { (summary : Option (List ℕ)) (bodies : List (List ℕ)) → Keeps (D.seen disk.old) area summary bodies
+        → SparesOther (D.seen disk.old) (D.seen disk.new) }
+    ensures behind { (summary : Option (List ℕ)) (bodies : List (List ℕ)) → Keeps (D.seen disk.old) area summary bodies
+        → SparesBehind (used + 5 + length body.now) (D.seen disk.old) (D.seen disk.new) }
     ensures cause { IsCounted (D.seen disk.old).faults (D.seen disk.new).faults result }
 {
-    write_synced(disk, Area::A, used, laid)?;
-    write_synced(disk, Area::A, used - 1, &[1])
+    write_synced(disk, area, used, laid)?;
+    write_synced(disk, area, used - 1, &[1])
 }

@@ -1,5 +1,6 @@
 // Reading an area from its front to its end, in large pieces, each byte once.
 ghost use Rattle.std.specs.Prelude.{◌≡◌, ◌≤◌, ◌<◌, ◌+◌, ◌^◌, ℕ, List, length, drop, min, OnOk, IfOk, IfErr, IfSome, vec_len};
+ghost use Rattle.arc_io.specs.Areas.{part};
 ghost use Rattle.arc_io.specs.Crashes.{IsQuiet, IsRead};
 ghost use Rattle.disk_journal.specs.Faults.{IsShown, IsOfContent, HasCounts};
 
@@ -8,7 +9,7 @@ use arc_data::Memory;
 use arc_io::{Area, Disk, Failed};
 use std::alloc::Global;
 
-// The last piece of area A that was read: so many bytes from this place on stand in the room's front.
+// The last piece of an area that was read: so many bytes from this place on stand in the room's front.
 #[derive(Drop)]
 pub struct Window {
     room: Vec<u8>,
@@ -50,12 +51,18 @@ impl Window {
     }
 
     // Reads the next piece into the window, from the place on.
-    fn slide<D: Disk>(&mut self, disk: &mut D, before: u64, at: u64) -> Result<(), OpenFault>
+    fn slide<D: Disk>(
+        &mut self,
+        disk: &mut D,
+        before: u64,
+        area: Area,
+        at: u64,
+    ) -> Result<(), OpenFault>
         requires before { before ≤ (D.seen disk.old).faults }
         ensures place { OnOk result (self.new.at ≡ at) }
         ensures room { vec_len self.new.room ≡ vec_len self.old.room }
-        ensures count { OnOk result (IfSome (D.seen disk.old).told (λ s. self.new.count ≡ min (vec_len self.new.room) (length (drop at s.a)))) }
-        ensures piece { OnOk result (Shows (D.seen disk.old).told self.new) }
+        ensures count { OnOk result (IfSome (D.seen disk.old).told (λ s. self.new.count ≡ min (vec_len self.new.room) (length (drop at (part area s))))) }
+        ensures piece { OnOk result (Shows area (D.seen disk.old).told self.new) }
         ensures quiet { IsQuiet (D.seen disk.old) (D.seen disk.new) }
         ensures later { (D.seen disk.old).faults ≤ (D.seen disk.new).faults }
         ensures met_none { OnOk result ((D.seen disk.new).faults ≡ (D.seen disk.old).faults) }
@@ -63,7 +70,7 @@ impl Window {
         ensures shown { IfErr result (λ f. (IsOfContent f → ⊥) × ((bytes : List ℕ) → IsShown f bytes)) }
     {
         self.count = 0;
-        self.count = read(disk, before, at, &mut self.room)?;
+        self.count = read(disk, before, area, at, &mut self.room)?;
         self.at = at;
         Ok(())
     }
@@ -73,15 +80,16 @@ impl Window {
         &mut self,
         disk: &mut D,
         before: u64,
+        area: Area,
         at: u64,
         buf: &mut [u8],
     ) -> Result<bool, OpenFault>
         requires before { before ≤ (D.seen disk.old).faults }
         requires some { 0 < length buf.old }
         requires fits { at + length buf.old < 2 ^ 64 }
-        requires piece { Shows (D.seen disk.old).told self.old }
-        ensures bytes { IfOk result (λ full. IfSome (D.seen disk.old).told (λ s. IsFilled s.a at full buf.new)) }
-        ensures piece { OnOk result (Shows (D.seen disk.old).told self.new) }
+        requires piece { Shows area (D.seen disk.old).told self.old }
+        ensures bytes { IfOk result (λ full. IfSome (D.seen disk.old).told (λ s. IsFilled (part area s) at full buf.new)) }
+        ensures piece { OnOk result (Shows area (D.seen disk.old).told self.new) }
         ensures quiet { IsQuiet (D.seen disk.old) (D.seen disk.new) }
         ensures later { (D.seen disk.old).faults ≤ (D.seen disk.new).faults }
         ensures met_none { OnOk result ((D.seen disk.new).faults ≡ (D.seen disk.old).faults) }
@@ -92,7 +100,7 @@ impl Window {
         if given == buf.len() {
             return Ok(true);
         }
-        let full = self.fill_rest(disk, before, at + given as u64, &mut buf[given..])?;
+        let full = self.fill_rest(disk, before, area, at + given as u64, &mut buf[given..])?;
         Ok(full)
     }
 
@@ -101,14 +109,15 @@ impl Window {
         &mut self,
         disk: &mut D,
         before: u64,
+        area: Area,
         at: u64,
         buf: &mut [u8],
     ) -> Result<bool, OpenFault>
         requires before { before ≤ (D.seen disk.old).faults }
         requires some { 0 < length buf.old }
-        requires piece { Shows (D.seen disk.old).told self.old }
-        ensures bytes { IfOk result (λ full. IfSome (D.seen disk.old).told (λ s. IsFilled s.a at full buf.new)) }
-        ensures piece { OnOk result (Shows (D.seen disk.old).told self.new) }
+        requires piece { Shows area (D.seen disk.old).told self.old }
+        ensures bytes { IfOk result (λ full. IfSome (D.seen disk.old).told (λ s. IsFilled (part area s) at full buf.new)) }
+        ensures piece { OnOk result (Shows area (D.seen disk.old).told self.new) }
         ensures quiet { IsQuiet (D.seen disk.old) (D.seen disk.new) }
         ensures later { (D.seen disk.old).faults ≤ (D.seen disk.new).faults }
         ensures met_none { OnOk result ((D.seen disk.new).faults ≡ (D.seen disk.old).faults) }
@@ -116,26 +125,32 @@ impl Window {
         ensures shown { IfErr result (λ f. (IsOfContent f → ⊥) × ((bytes : List ℕ) → IsShown f bytes)) }
     {
         if buf.len() >= self.room.len() {
-            let count = read(disk, before, at, buf)?;
+            let count = read(disk, before, area, at, buf)?;
             return Ok(count == buf.len());
         }
-        self.slide(disk, before, at)?;
+        self.slide(disk, before, area, at)?;
         Ok(self.give(at, buf) == buf.len())
     }
 }
 
 // Reads as many bytes as stand from the place on and have room.
-fn read<D: Disk>(disk: &mut D, before: u64, at: u64, buf: &mut [u8]) -> Result<usize, OpenFault>
+pub fn read<D: Disk>(
+    disk: &mut D,
+    before: u64,
+    area: Area,
+    at: u64,
+    buf: &mut [u8],
+) -> Result<usize, OpenFault>
     requires before { before ≤ (D.seen disk.old).faults }
     ensures bound { IfOk result (λ n. n ≤ length buf.new) }
-    ensures bytes { IfOk result (λ n. IfSome (D.seen disk.old).told (λ s. IsRead s.a at n buf.new)) }
+    ensures bytes { IfOk result (λ n. IfSome (D.seen disk.old).told (λ s. IsRead (part area s) at n buf.new)) }
     ensures quiet { IsQuiet (D.seen disk.old) (D.seen disk.new) }
     ensures later { (D.seen disk.old).faults ≤ (D.seen disk.new).faults }
     ensures met_none { OnOk result ((D.seen disk.new).faults ≡ (D.seen disk.old).faults) }
     ensures counts { IfErr result (λ f. HasCounts f before (D.seen disk.new).faults) }
     ensures shown { IfErr result (λ f. (IsOfContent f → ⊥) × ((bytes : List ℕ) → IsShown f bytes)) }
 {
-    match disk.read_at(Area::A, at, buf) {
+    match disk.read_at(area, at, buf) {
         Ok(count) => Ok(count),
         Err(Failed) => Err(OpenFault::DiskFault {
             before,

@@ -10,8 +10,8 @@ use Rattle.centre_rules.specs.Answers.{answer}
 use Rattle.centre_core.specs.declared.hall.Stop.{Stop}
 use Rattle.centre_core.specs.declared.hall.Stop.TheVariants.{Memory, Down, Full, Worn}
 use Rattle.disk_journal.specs.Faults.{IsOver}
-use Rattle.disk_journal.specs.Records.{size}
-use Rattle.centre_store.specs.Bodies.{bodies_of, need_of}
+use Rattle.centre_store.specs.Bodies.{need_of}
+use Rattle.centre_store.specs.Given.{HasNumbers}
 use Rattle.centre_store.specs.Stores.{IsToRecord}
 use Rattle.line_gate.specs.Entries.{Entry, Extends, made_by}
 use Rattle.line_gate.specs.declared.view.View.{View}
@@ -73,8 +73,7 @@ pub record Makes (t : Terms) (p q : PassSeen) (clock : ℕ) (e : Entry) : Type 0
 -- over this base the journal has the records of what the pass has seen, and the event would be recorded
 pub record IsFullAfter (t : Terms) (since : List Entry) (used records : ℕ) (event : Event) (clock : ℕ) (b : Summary) (base : List Entry)
     : Type 0 where
-  pub used_is : used ≡ size (bodies_of (since ++ base))
-  pub records_is : records ≡ length (bodies_of (since ++ base))
+  pub numbers : HasNumbers b (since ++ base) used records
   pub to_record : IsToRecord b (since ++ base) event clock
 
 -- the event's record would pass a limit of the journal

@@ -80,20 +80,20 @@ fn appends_byte_for_byte(rt: HostRuntime) -> Result<(), Fail> {
     let alloc = rt.alloc();
     let (count, _, disk) = append_three(alloc, MemDisk::new(alloc, Vec::new(alloc)));
     compare_area_of_three(&rt, count, &disk);
-    // A sync, the length, and all of its bytes in one read.
+    // A sync and the length of each area, the first thirty bytes of the one that has so many, and all of its bytes in one read.
     let told = opening_of(alloc, disk)?;
     same(
         &rt,
         told.as_str(),
-        "3 bodies, 100 bytes, 3 records, 19 calls",
+        "3 bodies, 100 bytes, 3 records, 24 calls",
         "an opening",
     );
     Ok(())
 }
 
-// Four calls for the opening of a new area, and four for each record.
+// Six calls for the opening of a new area, and four for each record.
 fn compare_area_of_three(rt: &impl Abort, count: usize, disk: &MemDisk) {
-    same(rt, (count, disk.calls()), (3, 16), "bodies, calls");
+    same(rt, (count, disk.calls()), (3, 18), "bodies, calls");
     same(rt, disk.bytes(Area::A), AREA, "area A");
     same(rt, disk.bytes(Area::B), b"".as_slice(), "area B");
 }
@@ -112,7 +112,7 @@ fn opening_of(alloc: Global, disk: MemDisk) -> Result<String, Fail> {
 // How many of the three records a stop within this call leaves, of the calls of `append_three` over an empty disk. The third and
 // fourth call of an append leave the new one where its gate is 01.
 fn left_by(call: u64, fill: Fill) -> usize {
-    let Some(after_opening) = call.checked_sub(5) else {
+    let Some(after_opening) = call.checked_sub(7) else {
         return 0;
     };
     let before = (after_opening / 4) as usize;
@@ -136,7 +136,7 @@ fn left_after(alloc: Global, disk: &MemDisk, call: u64, fill: Fill) -> Result<us
 fn opens_what_a_stop_leaves(rt: HostRuntime) -> Result<(), Fail> {
     let alloc = rt.alloc();
     let (_, _, disk) = append_three(alloc, MemDisk::new(alloc, Vec::new(alloc)));
-    for call in 1..17u64 {
+    for call in 1..19u64 {
         compare_stops(&rt, alloc, &disk, call)?;
     }
     Ok(())
@@ -158,7 +158,7 @@ fn compare_stops(rt: &impl Abort, alloc: Global, disk: &MemDisk, call: u64) -> R
 
 #[test]
 fn a_failing_call_is_told_and_leaves_whole_records(rt: HostRuntime) -> Result<(), Fail> {
-    for call in 1..17u64 {
+    for call in 1..19u64 {
         compare_failing(&rt, rt.alloc(), call)?;
     }
     Ok(())
@@ -170,10 +170,10 @@ fn compare_failing(rt: &impl Abort, alloc: Global, call: u64) -> Result<(), Fail
     let Some(OpenFault::DiskFault { before: 0, now: 1 }) = fault else {
         return Err("another fault")?;
     };
-    let appended = (call.saturating_sub(5) / 4) as usize;
+    let appended = (call.saturating_sub(7) / 4) as usize;
     same(rt, (count, disk.calls()), (appended, call), "bodies, calls");
     // Where the last sync fails, its gate is written already.
-    let left = appended + usize::from(call >= 8 && call % 4 == 0);
+    let left = appended + usize::from(call >= 10 && call % 4 == 2);
     same(
         rt,
         (call, opened(alloc, disk)?),

@@ -12,3 +12,5 @@ mod disk_journal_tests;
 mod rows;
 #[cfg(test)]
 mod same;
+#[cfg(test)]
+mod turning_tests;

@@ -256,7 +256,7 @@ fn cut_by_the_journal(rt: &impl Abort, alloc: Global) {
     let end = ScriptEnd::Stopped(stop);
     cut(rt, alloc, full, THREE, end, b"T raised 0\n");
     let failing = Outside {
-        disk: &[18],
+        disk: &[23],
         ..NOTHING_FAILS
     };
     let end = ScriptEnd::Stopped(Stop::Down { at_open: 0, now: 1 });

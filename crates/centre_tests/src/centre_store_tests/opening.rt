@@ -124,7 +124,7 @@ pub(super) fn area_of(rt: &impl Abort, alloc: Global, letters: &str) -> Vec<u8> 
 
 #[test]
 fn a_disk_that_fails_comes_back_with_both_counts(rt: HostRuntime) {
-    for call in 1..5u64 {
+    for call in 1..7u64 {
         compare_fault(&rt, rt.alloc(), call);
     }
 }

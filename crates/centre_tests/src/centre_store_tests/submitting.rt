@@ -143,8 +143,8 @@ fn writes_byte_for_byte_and_is_full_of_records(rt: HostRuntime) {
     };
     let disk = MemDisk::new(alloc, Vec::new(alloc));
     let disk = play(&rt, alloc, disk, limits, FULL);
-    // Four calls for the opening of a new area, and four for each record.
-    same(&rt, disk.calls(), 16, "calls");
+    // Six calls for the opening of a new area, and four for each record.
+    same(&rt, disk.calls(), 18, "calls");
     same(&rt, disk.bytes(Area::A), AREA, "the first area");
     same(&rt, disk.bytes(Area::B), b"", "the second area");
     drop(disk);
@@ -187,10 +187,10 @@ fn compare_filled(
     same(rt, (seq, told.as_str()), (seq, want), "filled");
 }
 
-// How many of the three records a stop within this call leaves. Four calls open a new area, and four write each record; the third and
+// How many of the three records a stop within this call leaves. Six calls open a new area, and four write each record; the third and
 // fourth of these leave the new one where its gate is 01.
 fn left_by(call: u64, fill: Fill) -> u64 {
-    let Some(after_opening) = call.checked_sub(5) else {
+    let Some(after_opening) = call.checked_sub(7) else {
         return 0;
     };
     let is_open = matches!(fill, Fill::New | Fill::Torn(1));
@@ -202,13 +202,13 @@ fn a_stop_leaves_a_record_or_none(rt: HostRuntime) {
     let alloc = rt.alloc();
     let disk = MemDisk::new(alloc, Vec::new(alloc));
     let disk = play(&rt, alloc, disk, SHIPPED, "begin=begun;1=7 taken");
-    same(&rt, disk.calls(), 16, "calls");
+    same(&rt, disk.calls(), 18, "calls");
     compare_calls(&rt, alloc, &disk);
     drop(disk);
 }
 
 fn compare_calls(rt: &impl Abort, alloc: Global, disk: &MemDisk) {
-    for call in 1..17u64 {
+    for call in 1..19u64 {
         compare_stops(rt, alloc, disk, call);
     }
 }
@@ -233,18 +233,18 @@ fn compare_stop(rt: &impl Abort, alloc: Global, disk: &MemDisk, call: u64, fill:
 // The call that fails, what is told then and ever after, and how many records are found when the disk is opened again. Where the last sync
 // of a record fails, its gate is written already.
 const FAULTS: &str = "\
-5|faults=0 false;begin=down;begin=down;recorded=0;faults=0 true|0
-6|begin=down;begin=down;recorded=0|0
-7|begin=down;begin=down;recorded=0|0
-8|begin=down;begin=down;recorded=0|1
-9|begin=down;begin=down;list=down;recorded=1|1
-10|begin=down;begin=down;list=down;recorded=1|1
+7|faults=0 false;begin=down;begin=down;recorded=0;faults=0 true|0
+8|begin=down;begin=down;recorded=0|0
+9|begin=down;begin=down;recorded=0|0
+10|begin=down;begin=down;recorded=0|1
 11|begin=down;begin=down;list=down;recorded=1|1
-12|begin=down;begin=down;list=down;recorded=1|2
-13|begin=begun;1=down;list=down;1=down;begin=down;recorded=2|2
-14|begin=begun;1=down;list=down;1=down;begin=down;recorded=2|2
+12|begin=down;begin=down;list=down;recorded=1|1
+13|begin=down;begin=down;list=down;recorded=1|1
+14|begin=down;begin=down;list=down;recorded=1|2
 15|begin=begun;1=down;list=down;1=down;begin=down;recorded=2|2
-16|begin=begun;1=down;list=down;1=down;begin=down;recorded=2|3
+16|begin=begun;1=down;list=down;1=down;begin=down;recorded=2|2
+17|begin=begun;1=down;list=down;1=down;begin=down;recorded=2|2
+18|begin=begun;1=down;list=down;1=down;begin=down;recorded=2|3
 0|begin=begun;1=7 taken;list=7 listed;1=7 repeat;recorded=3|3";
 
 #[test]

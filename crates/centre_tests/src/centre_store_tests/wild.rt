@@ -94,7 +94,7 @@ fn told(rt: &impl Abort, alloc: Global, disk: WildDisk) -> String {
 // A disk of which each read gives these bytes from their front, whatever is asked for, and which says this length.
 fn wild_disk(rt: &impl Abort, alloc: Global, bytes: &[u8], length: u64) -> WildDisk {
     let mut reads = Vec::new(alloc);
-    for _ in 0..4u8 {
+    for _ in 0..6u8 {
         let copy = Blob::of(alloc, bytes).expect(rt, "memory");
         reads.push(copy).expect(rt, "memory");
     }

@@ -63,7 +63,7 @@ fn run_line<P: Port>(alloc: Global, disk: MemDisk, port: &mut P) -> (Option<Sess
     }
 }
 
-// Four calls open a new area, and each of three records, of an Adopt, a Start and the alarm, takes four.
+// Six calls open a new area, and each of three records, of an Adopt, a Start and the alarm, takes four.
 #[test]
 fn an_alarm_over_a_disk_that_fails_at_each_of_its_calls(rt: HostRuntime) -> Result<(), Fail> {
     for call in 1..40u64 {
@@ -72,11 +72,11 @@ fn an_alarm_over_a_disk_that_fails_at_each_of_its_calls(rt: HostRuntime) -> Resu
     Ok(())
 }
 
-// How a line ends over a disk that fails at this call: the 12 first ones come before it is served.
+// How a line ends over a disk that fails at this call: the 14 first ones come before it is served.
 fn end_at(call: u64) -> Option<SessionEnd> {
     match call {
-        0..=12 => None,
-        13..=16 => Some(SessionEnd::Stopped(Stop::Down { at_open: 0, now: 1 })),
+        0..=14 => None,
+        15..=18 => Some(SessionEnd::Stopped(Stop::Down { at_open: 0, now: 1 })),
         _ => Some(SessionEnd::InputEnded),
     }
 }
@@ -87,7 +87,7 @@ fn compare_line(rt: &impl Abort, alloc: Global, call: u64) -> Result<(), Fail> {
     let failing = [call].to_vec(alloc)?;
     let (end, disk) = run_line(alloc, MemDisk::new(alloc, failing), &mut port);
     same(rt, (call, end), (call, end_at(call)), "the end");
-    let is_done = call > 16;
+    let is_done = call > 18;
     let faults = (call, u64::from(!is_done));
     same(rt, (call, disk.faults()), faults, "the faults");
     let answer = if is_done {
@@ -121,8 +121,8 @@ fn compare_again(rt: &impl Abort, alloc: Global, disk: MemDisk) -> Result<(), Fa
 fn an_alarm_over_what_a_stop_leaves(rt: HostRuntime) -> Result<(), Fail> {
     let alloc = rt.alloc();
     let disk = line_disk(&rt, alloc)?;
-    same(&rt, disk.calls(), 16, "calls");
-    for call in 1..17u64 {
+    same(&rt, disk.calls(), 18, "calls");
+    for call in 1..19u64 {
         compare_stops(&rt, alloc, &disk, call)?;
     }
     Ok(())
@@ -209,7 +209,7 @@ fn run_worked<D: Disk + Drop, P: Port>(
 
 #[test]
 fn a_script_over_a_disk_that_fails_at_each_of_its_calls(rt: HostRuntime) -> Result<(), Fail> {
-    for call in 1..40u64 {
+    for call in 1..50u64 {
         compare_script(&rt, rt.alloc(), call)?;
     }
     Ok(())

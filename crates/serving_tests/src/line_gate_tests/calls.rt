@@ -143,8 +143,8 @@ fn submitted<R: Abort + Wait, D: Disk + Drop>(
 #[test]
 fn a_disk_that_fails_stops_every_caller(rt: HostRuntime) {
     let alloc = rt.alloc();
-    // Opening a new area, the Adopt and the Start take four calls each.
-    let failing = vec![in alloc; 13].expect(&rt, "memory");
+    // Opening a new area takes six calls, the Adopt and the Start four each.
+    let failing = vec![in alloc; 15].expect(&rt, "memory");
     let blank = blank(&rt, alloc, SETUP, failing);
     let told = submitted(&rt, alloc, blank);
     let down = Some(Stop::Down { at_open: 0, now: 1 });

@@ -1,4 +1,4 @@
-use Rattle.std.proofs.Common.{◌++◌, ◌∷◌, [], ℕ, List, refl, subst, inl, inr, arith, append_assoc}
+use Rattle.std.proofs.Common.{◌++◌, ◌∷◌, [], ℕ, List, refl, sym, subst, inl, inr, arith, append_assoc, append-nil}
 use Rattle.arc_io.proofs.Frames.{reads_more}
 use Rattle.arc_book.specs.Tapes.{ahead, IsReadTo}
 use Rattle.arc_book.proofs.Tapes.{stands_at, damaged_at, spent_at}
@@ -39,3 +39,15 @@ returns-in-Ok-Spent-clause-shown g c all bodies r =
     let t = c.records.tape in
     let old = c.records.invariant.read all bodies r in
     spent_at all (bodies ++ old.0) t.gate t.at (ahead t.intake (g.S.Ends.seen c.records.source).left) old.1 (c.in-Ok-Spent.ensures.spent c.in-Ok-Spent.field-0-is).1
+
+pub records-init : goal.records-init
+records-init g c = record {
+  read = λ all bodies r. (
+    [],
+    subst (λ (l : List (List ℕ)). IsReadTo all l c.args.tape.now.gate c.args.tape.now.at (ahead c.args.tape.now.intake (g.S.Ends.seen c.args.source.now).left))
+        (sym (append-nil bodies)) r,
+  );
+  not_ended = c.requires.ended;
+  faults = omega arith;
+  others = record { rest = refl };
+}

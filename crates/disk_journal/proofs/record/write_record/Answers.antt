@@ -1,81 +1,194 @@
-use Rattle.std.proofs.Common.{◌≡◌, ◌+◌, ◌-◌, [], ◌∷◌, ◌++◌, length, inl, inr, arith}
-use Rattle.arc_io.specs.Areas.{Areas}
-use Rattle.arc_io.proofs.Moments.{weaker, joined}
-use Rattle.disk_journal.specs.Records.{AtRest, size}
-use Rattle.disk_journal.specs.Standing.{StandsForEither}
-use Rattle.disk_journal.proofs.Gates.{place, size-least, sizes-more, torn_behind, torn_gate, Staged, staged_file, images_of, gate_place, opened_file, on_ok_both, first_torn, second_torn, either_image}
-use Rattle.disk_journal.proofs.Behind.{laid_length, torn_spares, spares_more}
+use Rattle.std.proofs.Common.{◌≡◌, ◌≤◌, ◌+◌, ◌-◌, [], ◌∷◌, ◌++◌, ℕ, List, Option, length, arith}
+use Rattle.std.specs.Prelude.{IfSome}
+use Rattle.arc_io.specs.Areas.{Areas, part}
+use Rattle.arc_io.specs.Disks.{DiskSeen}
+use Rattle.arc_io.specs.Crashes.{TornIn, IsWritten}
+use Rattle.arc_io.specs.declared.disk.Area.{Area}
+use Rattle.disk_journal.specs.Journal.{IsAtRestIn, HasBodies, Keeps}
+use Rattle.disk_journal.specs.Standing.{chosen, StandsForEither}
+use Rattle.disk_journal.proofs.Appends.{IsStagedIn, IsFlatStaged, flat_within, flat_step, flat_gate, flat_last, first_stands, staged_step, second_step, last_step}
+use Rattle.disk_journal.proofs.Behind.{laid_length, torn_aside, asides, spares_other, spares_behind}
+use Rattle.disk_journal.proofs.Gates.{on_ok, on_ok_both, size-least}
+use Rattle.disk_journal.proofs.Steps.{becomes_map, becomes_last, told_after, if_map, moments, moments_then, settled_after, torn_changes}
 use Rattle.disk_journal.proofs.record.write_record.Goals as goal
 
+-- the area that was chosen
+was_chosen : (area : Area) (summary : Option (List ℕ)) (bodies : List (List ℕ)) (disk : DiskSeen) → Keeps disk area summary bodies → IfSome disk.told (λ s. chosen s ≡ area)
+was_chosen area summary bodies disk h = if_map (IsAtRestIn area summary bodies) (λ s. chosen s ≡ area) disk.told h.file (λ s at. at.chosen_is)
+
 pub write_synced-requires-clause-place : goal.write_synced-requires-clause-place
-write_synced-requires-clause-place g c = let h = c.requires.kept in place _ h.0 c.args.used h.1 h.2.file
+write_synced-requires-clause-place g c =
+    let h = c.requires.works in
+    let area = c.args.area in
+    if_map (HasBodies area h.0) (λ s. c.args.used ≤ length (part area s)) (g.D.Disk.seen c.args.disk.now).told h.2
+    (flat_within area h.0 c.args.body.now c.args.laid.now c.args.used h.1 c.requires.laid c.requires.size)
 
 pub overflow_sub-used : goal.overflow_sub-used
-overflow_sub-used g c = let h = c.requires.kept in omega (arith, h.1, size-least h.0)
+overflow_sub-used g c = let h = c.requires.works in omega (arith, h.1, size-least h.0)
 
 pub write_synced-requires-2-clause-place : goal.write_synced-requires-2-clause-place
 write_synced-requires-2-clause-place g c =
-    let h = c.requires.kept in
-    let body = c.args.body.now in
+    let h = c.requires.works in
+    let area = c.args.area in
+    let used = c.args.used in
     let laid = c.args.laid.now in
-    gate_place h.0 body laid c.args.used h.1 c.requires.laid h.2.sizes c.requires.size _
-    (staged_file h.0 body laid c.args.used h.1 c.requires.laid h.2.sizes c.requires.size _ _ c.in_ok-write_synced.ensures.written h.2.file)
+    let body = c.args.body.now in
+    told_after (IsWritten area used laid) (HasBodies area h.0) (λ s. used - 1 ≤ length (part area s)) _ _ c.in_ok-write_synced.ensures.written h.2
+    (λ s t at w. flat_gate area h.0 body laid used h.1 c.requires.laid c.requires.size t
+    (flat_step area h.0 body laid used h.1 c.requires.laid c.requires.size s t at w))
+
+pub returns-clause-rests : goal.returns-clause-rests
+returns-clause-rests g c = on_ok c.write_synced-2.result c.write_synced-2.ensures.written (λ written bodies is file.
+    let area = c.args.area in
+    let used = c.args.used in
+    let laid = c.args.laid.now in
+    let body = c.args.body.now in
+    let Mid : Areas → Type 0 = IsFlatStaged area bodies body laid used is c.requires.laid c.requires.size in
+    told_after (IsWritten area (used - 1) (1 ∷ [])) Mid (HasBodies area (bodies ++ body ∷ [])) _ _ written
+    (told_after (IsWritten area used laid) (HasBodies area bodies) Mid _ _ c.in_ok-write_synced.ensures.written file
+    (flat_step area bodies body laid used is c.requires.laid c.requires.size))
+    (flat_last area bodies body laid used is c.requires.laid c.requires.size))
+
+pub returns-clause-settled : goal.returns-clause-settled
+returns-clause-settled g c = on_ok c.write_synced-2.result c.write_synced-2.ensures.durable (λ durable.
+    let area = c.args.area in
+    let used = c.args.used in
+    let n = length c.args.laid.now in
+    let old = g.D.Disk.seen c.args.disk.now in
+    let mid = g.D.Disk.seen c.write_synced.new.disk in
+    let new = g.D.Disk.seen c.write_synced-2.new.disk in
+    let one = torn_changes area used n old mid c.write_synced.ensures.torn c.write_synced.ensures.crash c.write_synced.ensures.any_moment in
+    let two = torn_changes area (used - 1) 1 mid new c.write_synced-2.ensures.torn c.write_synced-2.ensures.crash c.write_synced-2.ensures.any_moment in
+    let settled = settled_after area (TornIn area used n) old mid (λ s t x. x.1) c.requires.settled one c.in_ok-write_synced.ensures.durable in
+    settled_after area (TornIn area (used - 1) 1) mid new (λ s t x. x.1) settled two durable)
 
 pub returns-in_err-write_synced-clause-told : goal.returns-in_err-write_synced-clause-told
-returns-in_err-write_synced-clause-told g c bodies is h =
-    first_torn bodies c.args.body.now c.args.laid.now c.args.used is c.requires.laid h.sizes c.requires.size _ _ c.write_synced.ensures.torn h.file
+returns-in_err-write_synced-clause-told g c summary bodies is h more =
+    let area = c.args.area in
+    let used = c.args.used in
+    let laid = c.args.laid.now in
+    let body = c.args.body.now in
+    becomes_map (TornIn area used (length laid)) (λ s t. StandsForEither summary bodies body t) (IsAtRestIn area summary bodies) _ _ c.write_synced.ensures.torn h.file
+    (first_stands area summary bodies body laid used h.distinct is c.requires.laid c.requires.size more (length laid))
 
 pub returns-clause-told : goal.returns-clause-told
-returns-clause-told g c bodies is h =
-    second_torn bodies c.args.body.now c.args.laid.now c.args.used is c.requires.laid h.sizes c.requires.size _ _ _ c.in_ok-write_synced.ensures.written c.write_synced-2.ensures.torn h.file
+returns-clause-told g c summary bodies is h more =
+    let area = c.args.area in
+    let used = c.args.used in
+    let laid = c.args.laid.now in
+    let body = c.args.body.now in
+    let file = told_after (IsWritten area used laid) (IsAtRestIn area summary bodies) (IsStagedIn area summary bodies body) _ _ c.in_ok-write_synced.ensures.written h.file
+    (staged_step area summary bodies body laid used h.distinct is c.requires.laid c.requires.size) in
+    becomes_last (IsWritten area used laid) (TornIn area (used - 1) 1) (IsStagedIn area summary bodies body) (StandsForEither summary bodies body) _ _ _
+    c.in_ok-write_synced.ensures.written c.write_synced-2.ensures.torn file
+    (second_step area summary bodies body laid used h.distinct is c.requires.laid c.requires.size more)
 
 pub returns-in_err-write_synced-clause-any_moment : goal.returns-in_err-write_synced-clause-any_moment
-returns-in_err-write_synced-clause-any_moment g c bodies is h =
-    weaker _ _ (λ (x : Areas). StandsForEither bodies c.args.body.now x) _ c.write_synced.ensures.any_moment
-    (λ x t. inl (inr (torn_behind bodies c.args.used (length c.args.laid.now) t.0.a x.a is (h.images t.0 t.1) t.2.0)))
+returns-in_err-write_synced-clause-any_moment g c summary bodies is h more =
+    let area = c.args.area in
+    let used = c.args.used in
+    let laid = c.args.laid.now in
+    let body = c.args.body.now in
+    let n = length laid in
+    let old = g.D.Disk.seen c.args.disk.now in
+    let mid = g.D.Disk.seen c.write_synced.new.disk in
+    moments (TornIn area used n) (IsAtRestIn area summary bodies) (StandsForEither summary bodies body) old mid h.settled h.file
+    (torn_changes area used n old mid c.write_synced.ensures.torn c.write_synced.ensures.crash c.write_synced.ensures.any_moment)
+    (first_stands area summary bodies body laid used h.distinct is c.requires.laid c.requires.size more n)
 
 pub returns-clause-any_moment : goal.returns-clause-any_moment
-returns-clause-any_moment g c bodies is h =
+returns-clause-any_moment g c summary bodies is h more =
+    let area = c.args.area in
     let used = c.args.used in
-    let body = c.args.body.now in
     let laid = c.args.laid.now in
-    let P : Areas → Type 0 = λ x. StandsForEither bodies body x in
-    let seen = g.D.Disk.seen in
-    let file = staged_file bodies body laid used is c.requires.laid h.sizes c.requires.size _ _ c.in_ok-write_synced.ensures.written h.file in
-    let images = images_of (Staged bodies body) _ _ file c.in_ok-write_synced.ensures.durable (λ x none. g.met.D.Disk.silent c.write_synced.new.disk x none) in
-    let at : used - 1 + 1 ≡ size bodies = omega (arith, is, size-least bodies) in
-    joined _ _ _ P _
-    (weaker _ _ P _ c.write_synced.ensures.any_moment (λ x t. inl (inr (torn_behind bodies used (length laid) t.0.a x.a is (h.images t.0 t.1) t.2.0))))
-    c.write_synced-2.ensures.any_moment
-    (λ x t. either_image (torn_gate bodies body (used - 1) t.0.a x.a h.sizes c.requires.size at (images t.0 t.1) t.2.0))
+    let body = c.args.body.now in
+    let n = length laid in
+    let old = g.D.Disk.seen c.args.disk.now in
+    let mid = g.D.Disk.seen c.write_synced.new.disk in
+    let new = g.D.Disk.seen c.write_synced-2.new.disk in
+    let one = torn_changes area used n old mid c.write_synced.ensures.torn c.write_synced.ensures.crash c.write_synced.ensures.any_moment in
+    let two = torn_changes area (used - 1) 1 mid new c.write_synced-2.ensures.torn c.write_synced-2.ensures.crash c.write_synced-2.ensures.any_moment in
+    let file = told_after (IsWritten area used laid) (IsAtRestIn area summary bodies) (IsStagedIn area summary bodies body) old.told mid.told c.in_ok-write_synced.ensures.written h.file
+    (staged_step area summary bodies body laid used h.distinct is c.requires.laid c.requires.size) in
+    let settled = settled_after area (TornIn area used n) old mid (λ s t x. x.1) h.settled one c.in_ok-write_synced.ensures.durable in
+    moments_then (StandsForEither summary bodies body) old mid new
+    (moments (TornIn area used n) (IsAtRestIn area summary bodies) (StandsForEither summary bodies body) old mid h.settled h.file one
+    (first_stands area summary bodies body laid used h.distinct is c.requires.laid c.requires.size more n))
+    (moments (TornIn area (used - 1) 1) (IsStagedIn area summary bodies body) (StandsForEither summary bodies body) mid new settled file two
+    (second_step area summary bodies body laid used h.distinct is c.requires.laid c.requires.size more))
 
 pub returns-clause-added : goal.returns-clause-added
-returns-clause-added g c = on_ok_both c.write_synced-2.result c.write_synced-2.ensures.written c.write_synced-2.ensures.durable (λ written durable bodies is h.
+returns-clause-added g c = on_ok_both c.write_synced-2.result c.write_synced-2.ensures.written c.write_synced-2.ensures.durable (λ written durable summary bodies is h more.
+    let area = c.args.area in
     let used = c.args.used in
-    let body = c.args.body.now in
     let laid = c.args.laid.now in
-    let file = staged_file bodies body laid used is c.requires.laid h.sizes c.requires.size _ _ c.in_ok-write_synced.ensures.written h.file in
-    let now = opened_file bodies body laid used is c.requires.laid h.sizes c.requires.size _ _ written file in
+    let body = c.args.body.now in
+    let n = length laid in
+    let old = g.D.Disk.seen c.args.disk.now in
+    let mid = g.D.Disk.seen c.write_synced.new.disk in
+    let new = g.D.Disk.seen c.write_synced-2.new.disk in
+    let one = torn_changes area used n old mid c.write_synced.ensures.torn c.write_synced.ensures.crash c.write_synced.ensures.any_moment in
+    let two = torn_changes area (used - 1) 1 mid new c.write_synced-2.ensures.torn c.write_synced-2.ensures.crash c.write_synced-2.ensures.any_moment in
+    let file = told_after (IsWritten area used laid) (IsAtRestIn area summary bodies) (IsStagedIn area summary bodies body) old.told mid.told c.in_ok-write_synced.ensures.written h.file
+    (staged_step area summary bodies body laid used h.distinct is c.requires.laid c.requires.size) in
+    let settled = settled_after area (TornIn area used n) old mid (λ s t x. x.1) h.settled one c.in_ok-write_synced.ensures.durable in
     record {
-      sizes = sizes-more bodies body h.sizes c.requires.size;
-      file = now;
-      images = images_of (λ l. AtRest l (bodies ++ body ∷ [])) _ _ now durable (λ x none. g.met.D.Disk.silent c.write_synced-2.new.disk x none);
+      distinct = more;
+      file = told_after (IsWritten area (used - 1) (1 ∷ [])) (IsStagedIn area summary bodies body) (IsAtRestIn area summary (bodies ++ body ∷ [])) mid.told new.told written file
+          (last_step area summary bodies body laid used h.distinct is c.requires.laid c.requires.size more);
+      settled = settled_after area (TornIn area (used - 1) 1) mid new (λ s t x. x.1) settled two durable;
     })
 
+pub returns-in_err-write_synced-clause-spared : goal.returns-in_err-write_synced-clause-spared
+returns-in_err-write_synced-clause-spared g c summary bodies h =
+    let area = c.args.area in
+    let used = c.args.used in
+    let n = length c.args.laid.now in
+    let m = used + 5 + length c.args.body.now in
+    let old = g.D.Disk.seen c.args.disk.now in
+    let mid = g.D.Disk.seen c.write_synced.new.disk in
+    let one = torn_changes area used n old mid c.write_synced.ensures.torn c.write_synced.ensures.crash c.write_synced.ensures.any_moment in
+    spares_other area m old mid h.settled (was_chosen area summary bodies old h)
+    (torn_aside area used n m old mid (omega (arith, laid_length c.args.body.now c.args.laid.now c.requires.laid)) one)
+
 pub returns-in_err-write_synced-clause-behind : goal.returns-in_err-write_synced-clause-behind
-returns-in_err-write_synced-clause-behind g c =
-    torn_spares (g.D.Disk.seen c.args.disk.now) (g.D.Disk.seen c.write_synced.new.disk) c.args.used (length c.args.laid.now) _ (omega (arith, laid_length c.args.body.now c.args.laid.now c.requires.laid))
-    c.write_synced.ensures.torn c.write_synced.ensures.crash
+returns-in_err-write_synced-clause-behind g c summary bodies h =
+    let area = c.args.area in
+    let used = c.args.used in
+    let n = length c.args.laid.now in
+    let m = used + 5 + length c.args.body.now in
+    let old = g.D.Disk.seen c.args.disk.now in
+    let mid = g.D.Disk.seen c.write_synced.new.disk in
+    let one = torn_changes area used n old mid c.write_synced.ensures.torn c.write_synced.ensures.crash c.write_synced.ensures.any_moment in
+    spares_behind area m old mid h.settled (was_chosen area summary bodies old h)
+    (torn_aside area used n m old mid (omega (arith, laid_length c.args.body.now c.args.laid.now c.requires.laid)) one)
+
+pub returns-clause-spared : goal.returns-clause-spared
+returns-clause-spared g c summary bodies h =
+    let area = c.args.area in
+    let used = c.args.used in
+    let n = length c.args.laid.now in
+    let m = used + 5 + length c.args.body.now in
+    let old = g.D.Disk.seen c.args.disk.now in
+    let mid = g.D.Disk.seen c.write_synced.new.disk in
+    let new = g.D.Disk.seen c.write_synced-2.new.disk in
+    let one = torn_changes area used n old mid c.write_synced.ensures.torn c.write_synced.ensures.crash c.write_synced.ensures.any_moment in
+    let two = torn_changes area (used - 1) 1 mid new c.write_synced-2.ensures.torn c.write_synced-2.ensures.crash c.write_synced-2.ensures.any_moment in
+    spares_other area m old new h.settled (was_chosen area summary bodies old h)
+    (asides area m old mid new (torn_aside area used n m old mid (omega (arith, laid_length c.args.body.now c.args.laid.now c.requires.laid)) one)
+    (torn_aside area (used - 1) 1 m mid new (omega (arith, c.requires.works.1, size-least c.requires.works.0)) two))
 
 pub returns-clause-behind : goal.returns-clause-behind
-returns-clause-behind g c =
-    let seen = g.D.Disk.seen in
-    let old = seen c.args.disk.now in
-    let mid = seen c.write_synced.new.disk in
-    let new = seen c.write_synced-2.new.disk in
-    let h = c.requires.kept in
-    let m = c.args.used + 5 + length c.args.body.now in
-    spares_more old mid new m
-    (torn_spares old mid c.args.used (length c.args.laid.now) m (omega (arith, laid_length c.args.body.now c.args.laid.now c.requires.laid))
-    c.write_synced.ensures.torn c.write_synced.ensures.crash)
-    (torn_spares mid new (c.args.used - 1) 1 m (omega (arith, h.1, size-least h.0)) c.write_synced-2.ensures.torn c.write_synced-2.ensures.crash)
+returns-clause-behind g c summary bodies h =
+    let area = c.args.area in
+    let used = c.args.used in
+    let n = length c.args.laid.now in
+    let m = used + 5 + length c.args.body.now in
+    let old = g.D.Disk.seen c.args.disk.now in
+    let mid = g.D.Disk.seen c.write_synced.new.disk in
+    let new = g.D.Disk.seen c.write_synced-2.new.disk in
+    let one = torn_changes area used n old mid c.write_synced.ensures.torn c.write_synced.ensures.crash c.write_synced.ensures.any_moment in
+    let two = torn_changes area (used - 1) 1 mid new c.write_synced-2.ensures.torn c.write_synced-2.ensures.crash c.write_synced-2.ensures.any_moment in
+    spares_behind area m old new h.settled (was_chosen area summary bodies old h)
+    (asides area m old mid new (torn_aside area used n m old mid (omega (arith, laid_length c.args.body.now c.args.laid.now c.requires.laid)) one)
+    (torn_aside area (used - 1) 1 m mid new (omega (arith, c.requires.works.1, size-least c.requires.works.0)) two))

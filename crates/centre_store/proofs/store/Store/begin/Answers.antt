@@ -1,11 +1,12 @@
-use Rattle.std.proofs.Common.{◌≡◌, inr, refl, rules}
+use Rattle.std.proofs.Common.{◌≡◌, inr, refl, rules, subst, sym}
 use Rattle.std.specs.Prelude.{Err}
 use Rattle.arc_data.specs.declared.event.Event.TheVariants.{Adopt, Start}
 use Rattle.arc_io.proofs.Moments.{joined}
 use Rattle.centre_store.specs.Begins.{adopted_after, StandsWithin}
-use Rattle.centre_store.proofs.Begun.{within_start, started_stands}
+use Rattle.centre_store.specs.Stores.{Stored, HasFailed}
+use Rattle.centre_store.proofs.Begun.{within_start, started_stands, on_err}
+use Rattle.centre_store.proofs.Entered.{spares_both}
 use Rattle.centre_store.proofs.Ordered.{order_on, order_past, before_on}
-use Rattle.centre_store.proofs.Written.{spares_then}
 use Rattle.centre_store.proofs.store.Store.begin.Goals as goal
 
 pub returns-in_err-enter-clause-any_moment : goal.returns-in_err-enter-clause-any_moment
@@ -30,12 +31,24 @@ returns-clause-any_moment g c b h w up =
 
 pub returns-in_err-enter-clause-spared : goal.returns-in_err-enter-clause-spared
 returns-in_err-enter-clause-spared g c =
-    spares_then g.D.Disk.seen c.args.self.now.journal.disk c.adopt.new.self.journal.disk c.enter.new.self.journal.disk
+    let s = c.adopt.ensures.stored in
+    let now : HasFailed g.D.Disk.seen c.adopt.new.self → ⊥ = λ f.
+    let e = c.in_ok-adopt.ensures.down.0 f in
+    cc in
+    let up : HasFailed g.D.Disk.seen c.args.self.now → ⊥ = λ f. now (subst (λ (x : Stored g.row.D.Denot). HasFailed g.D.Disk.seen x) (sym (c.adopt.ensures.already f)) f) in
+    spares_both g.D.Disk.seen s.base c.args.self.now c.adopt.new.self c.enter.new.self.journal.disk s.history
+    (adopted_after s.base s.history c.args.setup c.args.clock) s.stands up (c.in_ok-adopt.ensures.adopted s.base s.history s.stands) now c.adopt.ensures.area
     c.adopt.ensures.spared c.enter.ensures.spared
 
 pub returns-clause-spared : goal.returns-clause-spared
 returns-clause-spared g c =
-    spares_then g.D.Disk.seen c.args.self.now.journal.disk c.adopt.new.self.journal.disk c.enter.new.self.journal.disk
+    let s = c.adopt.ensures.stored in
+    let now : HasFailed g.D.Disk.seen c.adopt.new.self → ⊥ = λ f.
+    let e = c.in_ok-adopt.ensures.down.0 f in
+    cc in
+    let up : HasFailed g.D.Disk.seen c.args.self.now → ⊥ = λ f. now (subst (λ (x : Stored g.row.D.Denot). HasFailed g.D.Disk.seen x) (sym (c.adopt.ensures.already f)) f) in
+    spares_both g.D.Disk.seen s.base c.args.self.now c.adopt.new.self c.enter.new.self.journal.disk s.history
+    (adopted_after s.base s.history c.args.setup c.args.clock) s.stands up (c.in_ok-adopt.ensures.adopted s.base s.history s.stands) now c.adopt.ensures.area
     c.adopt.ensures.spared c.enter.ensures.spared
 
 pub returns-clause-begun : goal.returns-clause-begun
@@ -91,3 +104,8 @@ returns-clause-order g c up = record {
     before = record { entries = tt; sum = tt; unwritten = tt };
   });
 }
+
+pub returns-in_err-enter-clause-stop : goal.returns-in_err-enter-clause-stop
+returns-in_err-enter-clause-stop g c =
+    on_err c.from_residual-in_err-enter.result
+    (λ b h w. inr (c.in_err-enter.ensures.stop b (adopted_after b h c.args.setup c.args.clock) (c.in_ok-adopt.ensures.adopted b h w)))

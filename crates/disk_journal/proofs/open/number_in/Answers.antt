@@ -1,5 +1,0 @@
-use Rattle.std.proofs.lemmas.Nat.{be_bytes_4}
-use Rattle.disk_journal.proofs.open.number_in.Goals as goal
-
-pub returns-clause-back : goal.returns-clause-back
-returns-clause-back c = be_bytes_4 c.args.prefix.now _ c.told-prefix c.fits-prefix c.from_be_bytes.ensures
