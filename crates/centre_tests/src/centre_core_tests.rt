@@ -170,29 +170,30 @@ fn a_centre_that_was_told_nothing(rt: HostRuntime) {
     drop(centre);
 }
 
-// Tells a hall a heartbeat. Gives whether the setup in force has the account, and what the hall answers.
+// Tells a hall a heartbeat. Gives whether the setup in force has the account, the entry's moment, and what the hall answers.
 fn tell_hall<H: Hall>(
     alloc: Global,
     hall: &mut H,
     account: Txt,
     clock: u64,
-) -> Result<(bool, Reply), Stop>
+) -> Result<(bool, u64, Reply), Stop>
     requires ready { (H.seen hall.old).ready }
     requires account { is_run is_capital_hex 3 16 account ≡ true }
     requires clock { IsMoment clock }
-    ensures { IfOk result (λ r. (b : Summary) (h : List Entry) → (H.seen hall.old).stands b h → r.1 ≡ if_known r.0 Reply.Heard) }
+    ensures { IfOk result (λ r. (b : Summary) (h : List Entry) → (H.seen hall.old).stands b h → r.2 ≡ if_known r.0 Reply.Heard) }
 {
     let done = hall.submit(alloc, Event::Beat { account }, clock)?;
     let known = hall.setup().knows(&account);
-    Ok((known, done.reply))
+    Ok((known, done.at, done.reply))
 }
 
-// A heartbeat of an account, which the setup has or not, is heard where it has it.
+// A heartbeat of an account, which the setup has or not, is heard where it has it. The clock stands before the run's beginning: the entry's
+// moment is that of the last entry all the same.
 fn compare_beat(rt: &impl Abort, alloc: Global, hall: &mut RamHall, account: Txt, want: bool)
     requires { is_run is_capital_hex 3 16 account ≡ true }
 {
-    let (known, reply) = tell_hall(alloc, hall, account, 10).expect(rt, "an answer");
-    same(rt, known, want, "known");
+    let (known, at, reply) = tell_hall(alloc, hall, account, 10).expect(rt, "an answer");
+    same(rt, (known, at), (want, BEGIN), "known, and when");
     let word = if want { "heard" } else { "unknown" };
     same(rt, answer_of(&reply), word, "heard");
 }
