@@ -285,6 +285,13 @@ impl<D: Disk> Journal<D> {
         self.records
     }
 
+    /// How much it may hold.
+    pub fn limits(&self) -> Limits
+        ensures { result ≡ self.now.limits }
+    {
+        self.limits
+    }
+
     /// The disk.
     pub fn disk(&self) -> &D
         ensures { result.now ≡ self.now.disk }

@@ -10,15 +10,90 @@ use std::alloc::Global;
 use std::process::Abort;
 use std::test::Fail;
 
-// A record of one byte in area A.
+const HEAD: &[u8] = b"ARC JOURNAL 0001";
+
+// What may stand in an area.
+#[derive(Clone, Copy, Debug, PartialEq, Eq)]
+enum Content {
+    Empty,
+    Record,
+    First,
+    Second,
+    Stopped,
+}
+
+// A record of one byte, without a summary.
 const RECORD: &[u8] = b"ARC JOURNAL 0001\x01\0\0\0\x01\x05\0";
 
-// A stopped turn that was never opened: four bytes 00, 0B and bytes ff behind a closed gate.
-const STOPPED: &[u8] = b"ARC JOURNAL 0001\0\0\0\0\0\x0b\xff\xff\xff\xff\xff\xff\xff\xff\xff\xff\xff\xff\xff\xff\xff\xff\xff\xff";
+// A summary of generation 1, and a record behind it.
+const FIRST: &[u8] =
+    b"ARC JOURNAL 0001\x01\0\0\0\x0a\x0b\0\0\0\0\0\0\0\x01\x09\x01\0\0\0\x01\x05\0";
 
-// A disk with these areas.
-fn disk_of(alloc: Global, a: &[u8], b: &[u8]) -> Result<MemDisk, Fail> {
-    Ok(MemDisk::of(alloc, a.to_vec(alloc)?, b.to_vec(alloc)?, Vec::new(alloc))?)
+// A summary of generation 2, and two records behind it.
+const SECOND: &[u8] =
+    b"ARC JOURNAL 0001\x01\0\0\0\x0a\x0b\0\0\0\0\0\0\0\x02\x09\x01\0\0\0\x01\x06\x01\0\0\0\x02\x05\x06\0";
+
+// What a stopped turn may have left behind a closed gate: four bytes 00, 0B and 200 bytes ff.
+fn stopped_turn(alloc: Global) -> Result<Vec<u8>, Fail> {
+    let mut area = HEAD.to_vec(alloc)?;
+    area.extend_from_slice(b"\0\0\0\0\0\x0b")?;
+    area.extend_from_slice(&[0xff; 200])?;
+    Ok(area)
+}
+
+fn bytes_of(alloc: Global, content: Content) -> Result<Vec<u8>, Fail> {
+    match content {
+        Content::Empty => Ok(Vec::new(alloc)),
+        Content::Record => Ok(RECORD.to_vec(alloc)?),
+        Content::First => Ok(FIRST.to_vec(alloc)?),
+        Content::Second => Ok(SECOND.to_vec(alloc)?),
+        Content::Stopped => stopped_turn(alloc),
+    }
+}
+
+// Areas A and B, the one that counts, and how many calls a turn then makes.
+type State = (Content, Content, Area, u64);
+
+// A turn takes the other area's length, closes the gate there, writes four times behind it, and opens it, with a sync behind each of these
+// three. An open gate is read and written, a closed one is read alone, and an area that is too short for one is begun anew.
+const STATES: [State; 9] = [
+    (Content::Record, Content::Empty, Area::A, 10),
+    (Content::Record, Content::Stopped, Area::A, 10),
+    (Content::Record, Content::First, Area::B, 11),
+    (Content::Second, Content::Empty, Area::A, 10),
+    (Content::Second, Content::First, Area::A, 11),
+    (Content::Second, Content::Stopped, Area::A, 10),
+    (Content::Empty, Content::Second, Area::B, 10),
+    (Content::First, Content::Second, Area::B, 11),
+    (Content::Stopped, Content::Second, Area::B, 10),
+];
+
+fn disk_of(alloc: Global, a: Content, b: Content) -> Result<MemDisk, Fail> {
+    let (a, b) = (bytes_of(alloc, a)?, bytes_of(alloc, b)?);
+    Ok(MemDisk::of(alloc, a, b, Vec::new(alloc))?)
+}
+
+// What areas stand for: the generation of their summary, how many records, and the bytes of an area with this alone.
+#[derive(Drop)]
+struct Standing {
+    generation: u64,
+    records: u64,
+    area: Vec<u8>,
+}
+
+fn standing_of(alloc: Global, content: Content) -> Result<Standing, Fail> {
+    let (generation, records) = match content {
+        Content::Record => (0, 1),
+        Content::First => (1, 1),
+        Content::Second => (2, 2),
+        Content::Empty | Content::Stopped => (0, 0),
+    };
+    let area = bytes_of(alloc, content)?;
+    Ok(Standing {
+        generation,
+        records,
+        area,
+    })
 }
 
 // The body of the summary behind this generation, with one byte of its own.
@@ -27,18 +102,68 @@ fn next_summary(alloc: Global, generation: u64) -> Result<Vec<u8>, Fail>
     ensures { IfOk result (λ body. IsNextTo generation body.items) }
 {
     let number = (generation + 1).to_be_bytes();
-    Ok(vec![in alloc; 11, number[0], number[1], number[2], number[3], number[4], number[5], number[6], number[7], 7]?)
+    Ok(vec![in alloc;
+        11, number[0], number[1], number[2], number[3], number[4], number[5], number[6], number[7],
+        7,
+    ]?)
 }
 
-// The areas of a disk whose journal turned so often over a record in area A, and appended nothing.
-fn turned(alloc: Global, disk: MemDisk, times: u32) -> Result<MemDisk, Fail> {
+// What the areas stand for behind a turn.
+fn standing_next(alloc: Global, generation: u64) -> Result<Standing, Fail>
+    requires { generation + 1 < 2 ^ 64 }
+{
+    let mut area = HEAD.to_vec(alloc)?;
+    put_body(&mut area, &next_summary(alloc, generation)?)?;
+    area.push(0)?;
+    Ok(Standing {
+        generation: generation + 1,
+        records: 0,
+        area,
+    })
+}
+
+// An open gate, the length and the bytes of a body.
+fn put_body(area: &mut Vec<u8>, body: &[u8]) -> Result<(), Fail> {
+    let length = u32::try_from(body.len())?;
+    area.push(1)?;
+    area.extend_from_slice(&length.to_be_bytes())?;
+    area.extend_from_slice(body)?;
+    Ok(())
+}
+
+// What an opening gives.
+fn opened(alloc: Global, disk: MemDisk) -> Result<Standing, Fail> {
+    let Ok((journal, bodies)) = Journal::open(alloc, disk, SHIPPED) else {
+        return Err("not opened")?;
+    };
+    let area = area_with(alloc, &bodies)?;
+    if journal.used() != area.len() as u64 {
+        return Err("other bytes are used")?;
+    }
+    Ok(Standing {
+        generation: journal.generation(),
+        records: journal.records(),
+        area,
+    })
+}
+
+fn area_with(alloc: Global, bodies: &Bodies) -> Result<Vec<u8>, Fail> {
+    let mut area = HEAD.to_vec(alloc)?;
+    for i in 0..bodies.count() {
+        put_body(&mut area, bodies.at(i))?;
+    }
+    area.push(0)?;
+    Ok(area)
+}
+
+// The disk after a turn, and the number of the call before it.
+fn turned(alloc: Global, disk: MemDisk) -> Result<(MemDisk, u64), Fail> {
     let Ok((mut journal, _)) = Journal::open(alloc, disk, SHIPPED) else {
         return Err("not opened")?;
     };
-    for _ in 0..times {
-        turn_once(alloc, &mut journal)?;
-    }
-    Ok(journal.close())
+    let first = journal.disk().calls();
+    turn_once(alloc, &mut journal)?;
+    Ok((journal.close(), first))
 }
 
 fn turn_once(alloc: Global, journal: &mut Journal<MemDisk>) -> Result<(), Fail> {
@@ -52,84 +177,89 @@ fn turn_once(alloc: Global, journal: &mut Journal<MemDisk>) -> Result<(), Fail> 
     }
 }
 
-// What opening gives: the generation, the bytes that are used, the records, and how many bodies.
-fn shown(alloc: Global, disk: MemDisk) -> Result<String, Fail> {
-    match Journal::open(alloc, disk, SHIPPED) {
-        Ok((journal, bodies)) => told(alloc, &journal, &bodies),
-        Err(refused) => Ok(format!(in alloc; "{:?}", refused.fault)?),
-    }
-}
-
-fn told(alloc: Global, journal: &Journal<MemDisk>, bodies: &Bodies) -> Result<String, Fail> {
-    let (generation, used) = (journal.generation(), journal.used());
-    let (records, count) = (journal.records(), bodies.count());
-    Ok(format!(in alloc; "generation {generation}, {used} bytes, {records} records, {count} bodies")?)
-}
-
 #[test]
 fn a_turn_goes_to_the_other_area(rt: HostRuntime) -> Result<(), Fail> {
     let alloc = rt.alloc();
-    let disk = turned(alloc, disk_of(alloc, RECORD, b"")?, 1)?;
+    let disk = disk_of(alloc, Content::Record, Content::Empty)?;
+    let (disk, _) = turned(alloc, disk)?;
     same(&rt, disk.bytes(Area::A), RECORD, "area A");
     let wanted = b"ARC JOURNAL 0001\x01\0\0\0\x0a\x0b\0\0\0\0\0\0\0\x01\x07\0".as_slice();
     same(&rt, disk.bytes(Area::B), wanted, "area B");
-    let after = shown(alloc, disk)?;
-    same(&rt, after.as_str(), "generation 1, 32 bytes, 0 records, 1 bodies", "after a turn");
     Ok(())
 }
-
-// How often a journal over area A with one record and these bytes in area B has turned before the turn that is stopped, how many calls an
-// opening and a turn then make, and what stands before and after it.
-const STATES: &str = "\
-0 empty;10;generation 0, 23 bytes, 1 records, 1 bodies;generation 1, 32 bytes, 0 records, 1 bodies
-3 empty;11;generation 3, 32 bytes, 0 records, 1 bodies;generation 4, 32 bytes, 0 records, 1 bodies
-0 stopped;10;generation 0, 23 bytes, 1 records, 1 bodies;generation 1, 32 bytes, 0 records, 1 bodies";
 
 #[test]
 fn opens_what_a_stop_leaves_of_a_turn(rt: HostRuntime) -> Result<(), Fail> {
-    for row in STATES.lines() {
-        compare_state(&rt, rt.alloc(), row)?;
+    for state in &STATES {
+        compare_state(&rt, rt.alloc(), state)?;
     }
     Ok(())
 }
 
-fn compare_state(rt: &impl Abort, alloc: Global, row: &str) -> Result<(), Fail> {
-    let (state, rest) = row.split_once(';').ok_or("no row")?;
-    let (calls, rest) = rest.split_once(';').ok_or("no row")?;
-    let (before, after) = rest.split_once(';').ok_or("no row")?;
-    let (times, other) = state.split_once(' ').ok_or("no row")?;
-    let other = if other == "stopped" { STOPPED } else { b"".as_slice() };
-    let disk = turned(alloc, disk_of(alloc, RECORD, other)?, times.parse()?)?;
-    let first = disk.calls();
-    let disk = turned(alloc, disk, 1)?;
-    let made = calls.parse::<u64>()?;
-    let start = disk.calls().saturating_sub(made);
-    same(rt, (state, start > first), (state, true), "a turn's calls");
-    for call in 1..made.saturating_add(1) {
+// Stops within each call of a turn.
+fn compare_state(rt: &impl Abort, alloc: Global, state: &State) -> Result<(), Fail> {
+    let (a, b, counts, calls) = *state;
+    let before = standing_of(alloc, if counts == Area::A { a } else { b })?;
+    let after = standing_next(alloc, before.generation)?;
+    let (disk, first) = turned(alloc, disk_of(alloc, a, b)?)?;
+    let last = disk.calls();
+    same(
+        rt,
+        (a, b, last),
+        (a, b, first.saturating_add(calls)),
+        "a turn's calls",
+    );
+    for call in first.saturating_add(1)..=last {
         // From the write of 01 at place 16 on, the second last call, the gate may be open.
-        let is_last = call.saturating_add(2) > made;
-        compare_stops(rt, alloc, &disk, start.saturating_add(call), is_last, (before, after))?;
+        let may_open = call.saturating_add(2) > last;
+        let open = if may_open { &after } else { &before };
+        compare_stops(rt, alloc, &disk, call, &before, open)?;
     }
     Ok(())
 }
 
-// Stops within this call, by each fill.
+// Stops within this call, by each fill. The gate is open where all that was written counts, or each of its bytes is 01.
 fn compare_stops(
     rt: &impl Abort,
     alloc: Global,
     disk: &MemDisk,
     call: u64,
-    is_last: bool,
-    wanted: (&str, &str),
+    closed: &Standing,
+    open: &Standing,
 ) -> Result<(), Fail> {
-    for fill in [Fill::Old, Fill::New, Fill::Torn(1), Fill::Torn(0xff), Fill::Torn(0)] {
-        let is_open = is_last && matches!(fill, Fill::New | Fill::Torn(1));
-        let want = if is_open { wanted.1 } else { wanted.0 };
-        if call == 0 || call > disk.calls() {
-            return Err("no such call")?;
-        }
-        let left = shown(alloc, disk.stopped(alloc, call, fill)?)?;
-        same(rt, (call, fill, left.as_str()), (call, fill, want), "a stop within a turn");
+    compare_stop(rt, alloc, disk, (call, Fill::Old), closed)?;
+    compare_stop(rt, alloc, disk, (call, Fill::New), open)?;
+    for byte in 0..=255u8 {
+        let wanted = if byte == 1 { open } else { closed };
+        compare_stop(rt, alloc, disk, (call, Fill::Torn(byte)), wanted)?;
     }
+    Ok(())
+}
+
+fn compare_stop(
+    rt: &impl Abort,
+    alloc: Global,
+    disk: &MemDisk,
+    stop: (u64, Fill),
+    wanted: &Standing,
+) -> Result<(), Fail> {
+    let (call, fill) = stop;
+    if call == 0 || call > disk.calls() {
+        return Err("no such call")?;
+    }
+    let left = opened(alloc, disk.stopped(alloc, call, fill)?)?;
+    let (generation, records) = (wanted.generation, wanted.records);
+    same(
+        rt,
+        (stop, left.generation, left.records),
+        (stop, generation, records),
+        "a generation and records",
+    );
+    same(
+        rt,
+        (stop, left.area.as_slice()),
+        (stop, wanted.area.as_slice()),
+        "what stands",
+    );
     Ok(())
 }
