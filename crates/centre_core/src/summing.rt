@@ -5,7 +5,7 @@ ghost use Rattle.std.specs.Option.{option_map};
 ghost use Rattle.std.specs.Str.{bytes_eq};
 ghost use Rattle.centre_rules.specs.Marks.{has_row};
 ghost use Rattle.centre_rules.specs.Summary.{Summary};
-ghost use Rattle.centre_rules.specs.History.{Entry};
+ghost use Rattle.centre_rules.specs.History.{Entry, IsMoment};
 ghost use Rattle.centre_rules.specs.State.{StandsFor};
 ghost use Rattle.centre_rules.specs.Sums.{account_row, summary_of};
 ghost use Rattle.known_accounts.specs.Supervised.{rows_sum};
@@ -26,6 +26,7 @@ impl Centre {
     /// takes memory for a list of the accounts. The error is want of memory; the vector is then empty.
     pub fn summary(&self, alloc: Global, generation: u64, out: &mut Vec<u8>) -> Result<(), Memory>
         ensures spelled { OnOk result ((b : Summary) (h : List Entry) → IsSpelled b → StandsFor b self.now h → out.new.items ≡ summary_text generation (summary_of b h)) }
+        ensures moment { IsMoment self.now.sum.last }
         ensures refused { OnErr result (out.new.items ≡ []) }
     {
         out.clear();
@@ -39,7 +40,8 @@ impl Centre {
     }
 
     fn put_summary(&self, alloc: Global, generation: u64, out: &mut Vec<u8>) -> Result<(), Memory>
-        ensures { OnOk result ((b : Summary) (h : List Entry) → IsSpelled b → StandsFor b self.now h → out.new.items ≡ out.old.items ++ summary_text generation (summary_of b h)) }
+        ensures spelled { OnOk result ((b : Summary) (h : List Entry) → IsSpelled b → StandsFor b self.now h → out.new.items ≡ out.old.items ++ summary_text generation (summary_of b h)) }
+        ensures moment { IsMoment self.now.sum.last }
     {
         let rows = self.accounts.rows();
         let accounts = rows.accounts(alloc)?;

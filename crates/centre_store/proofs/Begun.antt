@@ -1,6 +1,6 @@
 -- How a run begins over a history.
 use Rattle.std.proofs.Common.{◌≡◌, ℕ, List, [], ◌∷◌, Bool, true, false, inl, inr, refl, sym, ap, subst, ◌∙◌}
-use Rattle.std.specs.Prelude.{if◌then◌else◌, IsOk, is_ok, Result, Ok, Err, IfErr, OnErr}
+use Rattle.std.specs.Prelude.{if◌then◌else◌, IsOk, is_ok, IfSome, Result, Ok, Err, IfErr, OnErr}
 use Rattle.arc_data.specs.declared.event.Event.{Event}
 use Rattle.arc_data.specs.declared.event.Event.TheVariants.{Adopt, Start}
 use Rattle.arc_data.specs.declared.reply.Reply.{Reply}
@@ -12,12 +12,13 @@ use Rattle.arc_io.specs.Crashes.{LeavesOnly}
 use Rattle.arc_io.proofs.Moments.{started, weaker}
 use Rattle.centre_rules.specs.Summary.{Summary}
 use Rattle.centre_rules.specs.Marks.{text}
-use Rattle.centre_rules.specs.History.{Entry, Extends, marks, moment_after}
+use Rattle.centre_rules.specs.History.{Entry, Extends, is_recorded, marks, moment_after}
 use Rattle.centre_rules.specs.Answers.{if_known}
 use Rattle.centre_rules.specs.State.{State, StandsFor}
 use Rattle.centre_core.specs.declared.hall.Stop.{Stop}
+use Rattle.disk_journal.proofs.Steps.{if_map}
 use Rattle.event_codec.specs.Spelling.{spelling}
-use Rattle.centre_store.specs.Given.{StandFor, StandForEither}
+use Rattle.centre_store.specs.Given.{StandFor, StandForEither, HasEither}
 use Rattle.centre_store.specs.Stores.{Stored, HasFailed, StoreStands, Takes, Shows}
 use Rattle.centre_store.specs.Begins.{is_in_force, adopted_after, begun_after, IsOfBegin, StandsWithin}
 use Rattle.centre_store.proofs.Entered.{held}
@@ -83,6 +84,13 @@ within_start b h setup clock areas either =
 -- What the store stands for.
 
 module _ {D : Type 0} (seen : D → DiskSeen) where
+  -- an Adopt of a setup is recorded
+  pub adopt_recorded : (b : Summary) (s : Stored D) (h : List Entry) (setup taken : List ℕ) (clock at : ℕ) (reply : Reply) → taken ≡ setup → IsOk (setup_of setup)
+      → Takes seen b s h clock (record { caller = 0; event = Adopt taken; at = at; reply = reply }) → is_recorded reply ≡ true
+  adopt_recorded b s h setup taken clock at reply same valid takes =
+      let answered : reply ≡ Adopted = takes.reply ∙ ap (λ (t : List ℕ). if_known (is_ok (setup_of t)) Adopted) same ∙ ap (λ v. if_known v Adopted) valid in
+      ap is_recorded answered
+
   pub adopted_stands : (b : Summary) (s : Stored D) (h : List Entry) (setup taken : List ℕ) (clock at : ℕ) (reply : Reply) → taken ≡ setup → IsOk (setup_of setup)
       → is_in_force (text b (marks b h)) setup ≡ false
       → Takes seen b s h clock (record { caller = 0; event = Adopt taken; at = at; reply = reply })
@@ -120,6 +128,30 @@ module _ {D : Type 0} (seen : D → DiskSeen) where
       weaker (seen s.journal.disk) (seen new) (StandsWithin b h setup clock) _ run
       (λ c either. within_adopt b h setup clock c other
       (subst (λ (t : List ℕ). StandForEither b h (spelling (Adopt t) (moment_after b h clock)) c) same either))
+
+-- What a read gives then.
+module _ {D : Type 0} (seen : D → DiskSeen) where
+  pub still_tells : (b : Summary) (s : Stored D) (h : List Entry) (setup : List ℕ) (clock : ℕ) → (HasFailed seen s → ⊥) → StoreStands seen b s h
+      → IfSome (seen s.journal.disk).told (StandsWithin b h setup clock)
+  still_tells b s h setup clock up w =
+      if_map (StandFor b h) (StandsWithin b h setup clock) (seen s.journal.disk).told
+      (recorded_there seen s.journal b h (held seen b s h up w)).area (λ c stands. within_before b h setup clock c stands)
+
+  pub adopt_tells : (b : Summary) (s : Stored D) (new : D) (h : List Entry) (setup taken : List ℕ) (clock : ℕ) → taken ≡ setup
+      → is_in_force s.state.sum.text setup ≡ false → StoreStands seen b s h → HasEither (seen new) b h (spelling (Adopt taken) (moment_after b h clock))
+      → IfSome (seen new).told (StandsWithin b h setup clock)
+  adopt_tells b s new h setup taken clock same is w met =
+      let other : is_in_force (text b (marks b h)) setup ≡ false = ap (λ t. is_in_force t setup) (sym w.centre.same.text) ∙ is in
+      if_map (StandForEither b h (spelling (Adopt taken) (moment_after b h clock))) (StandsWithin b h setup clock) (seen new).told met.area
+      (λ c either. within_adopt b h setup clock c other
+      (subst (λ (t : List ℕ). StandForEither b h (spelling (Adopt t) (moment_after b h clock)) c) same either))
+
+  pub start_tells : (b : Summary) (new : D) (h : List Entry) (setup : List ℕ) (clock : ℕ)
+      → HasEither (seen new) b (adopted_after b h setup clock) (spelling Start (moment_after b (adopted_after b h setup clock) clock))
+      → IfSome (seen new).told (StandsWithin b h setup clock)
+  start_tells b new h setup clock met =
+      if_map (StandForEither b (adopted_after b h setup clock) (spelling Start (moment_after b (adopted_after b h setup clock) clock)))
+      (StandsWithin b h setup clock) (seen new).told met.area (λ c either. within_start b h setup clock c either)
 
 -- in force or not, after the history as in the state
 pub known_force : (b : Summary) (s : State) (h : List Entry) (setup : List ℕ) (v : Bool) → StandsFor b s h → is_in_force s.sum.text setup ≡ v

@@ -12,24 +12,23 @@ use Rattle.centre_core.specs.Setting.{IsSetting}
 use Rattle.centre_core.specs.declared.hall.Stop.{Stop}
 use Rattle.centre_core.specs.declared.hall.Stop.TheVariants.{Down}
 use Rattle.centre_core.specs.declared.ready.Done.{Done}
-use Rattle.disk_journal.specs.OtherArea.{SparesOther}
 use Rattle.disk_journal.specs.declared.journal.Limits.{Limits}
 use Rattle.event_codec.specs.Spelling.{spelling}
 use Rattle.centre_store.specs.Given.{HasEither}
 use Rattle.centre_store.specs.Orders.{IsDownWhereFailed}
 use Rattle.centre_store.specs.Stores.{Stored, HasFailed, StoreStands, Shows, Takes}
-use Rattle.centre_store.specs.StoreHalls.{IsStoreFor, fixed_of, store_seen}
-use Rattle.centre_store.proofs.Readable.{readable_more, spared_tells}
+use Rattle.centre_store.specs.StoreHalls.{IsStoreFor, is_told, fixed_of, store_seen}
+use Rattle.centre_store.proofs.Readable.{readable_more}
 
 module _ {D : Type 0} (seen : D → DiskSeen) (old new : Stored D) where
   -- what no call changes
-  pub fixed_stays : new.at_open ≡ old.at_open → new.journal.limits ≡ old.journal.limits → SparesOther (seen old.journal.disk) (seen new.journal.disk)
+  pub fixed_stays : new.at_open ≡ old.at_open → new.journal.limits ≡ old.journal.limits → is_told (seen new.journal.disk).told ≡ is_told (seen old.journal.disk).told
       → fixed_of seen new ≡ fixed_of seen old
-  fixed_stays at_open limits spared = λ i. record {
+  fixed_stays at_open limits tells = λ i. record {
     at_open = at_open i;
     bytes = ap (λ (l : Limits). l.bytes) limits i;
     records = ap (λ (l : Limits). l.records) limits i;
-    tells = spared_tells spared i;
+    tells = tells i;
   }
 
 -- of halls that keep it

@@ -1,9 +1,12 @@
 pub mod Bodies
 pub mod PastSteps
 pub mod Distinct
-pub mod Written
+pub mod Summed
 pub mod Holding
+pub mod NextSummary
+pub mod Written
 pub mod Entered
+pub mod Checkpoints
 pub mod Ordered
 pub mod Begun
 pub mod Readable
@@ -12,5 +15,6 @@ pub mod PastOnce
 pub mod OpeningOnce
 pub mod OpeningSteps
 pub mod OpeningLoop
-pub mod Opened
 pub mod Recorded
+pub mod Reopened
+pub mod Opened

@@ -1,11 +1,12 @@
 -- In which order an event stops and what it leaves: what is handed on, and what a call that went past shows.
-use Rattle.std.proofs.Common.{◌≡◌, ℕ, inl, inr, sym, ap, subst, ◌∙◌}
+use Rattle.std.proofs.Common.{◌≡◌, ◌⊎◌, ℕ, inl, inr, sym, ap, subst, ◌∙◌}
 use Rattle.std.specs.Prelude.{Result, Ok, Err, OnErr}
 use Rattle.arc_data.specs.declared.event.Event.{Event}
 use Rattle.arc_io.specs.Disks.{DiskSeen}
 use Rattle.centre_core.specs.declared.hall.Stop.{Stop}
 use Rattle.centre_core.specs.declared.hall.Stop.TheVariants.{Memory, Full, Worn}
 use Rattle.centre_store.specs.Bodies.{need_of}
+use Rattle.centre_store.specs.Given.{summed_size}
 use Rattle.centre_store.specs.Stores.{Stored, IsDown, IsSameJournal, LeavesJournal, IsAsBefore}
 use Rattle.centre_store.specs.Orders.{StopsInOrder, IsWornFirst, IsFullThen}
 
@@ -21,6 +22,12 @@ is_stop (Err s) = Unit {0}
 one_stop : {A B : Type 0} (r : Result A Stop) (q : Result B Stop) (stop x : Stop) → r ≡ Err stop → q ≡ Err stop → r ≡ Err x → q ≡ Err x
 one_stop r q stop x of on is = on ∙ ap Err (sym (ap (stop_or stop) of) ∙ ap (stop_or stop) is)
 
+-- of two
+pub one_of_stops : {A B : Type 0} (r : Result A Stop) (q : Result B Stop) (stop x y : Stop) → r ≡ Err stop → q ≡ Err stop → (r ≡ Err x) ⊎ (r ≡ Err y)
+    → (q ≡ Err x) ⊎ (q ≡ Err y)
+one_of_stops r q stop x y of on (inl is) = inl (one_stop r q stop x of on is)
+one_of_stops r q stop x y of on (inr is) = inr (one_stop r q stop y of on is)
+
 no_stop : {A : Type 0} (r : Result A Stop) (a : A) (x : Stop) → r ≡ Ok a → r ≡ Err x → ⊥
 no_stop r a x of is = subst is_stop (sym is ∙ of) tt
 
@@ -33,7 +40,7 @@ module _ {D : Type 0} (seen : D → DiskSeen) (s : Stored D) (event : Event) (cl
     full = λ up few b h w to over.
         elim (full up few b h w to over) [
           | inl memory ↦ inl (one_stop r q stop Memory of on memory)
-          | inr no_room ↦ inr (one_stop r q stop (Full s.journal.used (need_of event) s.journal.records) of on no_room)
+          | inr no_room ↦ inr (one_stop r q stop (Full (summed_size b h) (need_of event) 0) of on no_room)
         ];
   }
 
@@ -45,7 +52,7 @@ module _ {D : Type 0} (seen : D → DiskSeen) (s : Stored D) (event : Event) (cl
     full = λ up few b h w to over.
         elim (full up few b h w to over) [
           | inl memory ↦ absurd (no_stop r a Memory of memory)
-          | inr no_room ↦ absurd (no_stop r a (Full s.journal.used (need_of event) s.journal.records) of no_room)
+          | inr no_room ↦ absurd (no_stop r a (Full (summed_size b h) (need_of event) 0) of no_room)
         ];
   }
 

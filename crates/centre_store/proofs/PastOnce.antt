@@ -1,5 +1,5 @@
 -- Bodies have one past, and where they have none, one first body that breaks it.
-use Rattle.std.proofs.Common.{◌≡◌, ◌≤◌, ◌<◌, ◌+◌, ℕ, List, [], ◌∷◌, ◌++◌, length, take, drop, Some, refl, sym, ap, ◌∙◌, subst, inl, inr, arith, append_assoc, length-append}
+use Rattle.std.proofs.Common.{◌≡◌, ◌≤◌, ◌<◌, ◌+◌, ℕ, List, [], ◌∷◌, ◌++◌, length, take, drop, Option, Some, refl, sym, ap, ◌∙◌, subst, inl, inr, arith, append_assoc, length-append}
 use Rattle.std.proofs.lemmas.List.{take_at, drop_at, take-append-le, take_all, length_push}
 use Rattle.std.proofs.lemmas.Bool.{cases_order}
 use Rattle.arc_data.specs.declared.event.Event.{Event}
@@ -7,6 +7,7 @@ use Rattle.centre_rules.specs.Summary.{Summary}
 use Rattle.centre_rules.specs.History.{Entry}
 use Rattle.centre_rules.specs.Answers.{IsNext, answer}
 use Rattle.disk_journal.specs.Records.{front as bytes_before}
+use Rattle.disk_journal.specs.Standing.{all_of}
 use Rattle.event_codec.specs.Spelling.{spelling, HasSpelling}
 use Rattle.event_codec.proofs.Events.{is_decoded}
 use Rattle.centre_store.specs.Bodies.{body_of}
@@ -95,34 +96,34 @@ no_next base front body past (e ∷ g) before broken p =
     broken e (subst (λ (l : List Entry). IsPast base (front ++ body ∷ []) (e ∷ l)) same p)
 
 -- the first bodies, one more than stand before it
-through : (base : Summary) (bodies : List (List ℕ)) (place : ℕ) (bad : IsBadAt base bodies place) → take (length bad.front + 1) bodies ≡ bad.front ++ bad.body ∷ []
-through base bodies place bad =
+through : (base : Summary) (first : Option (List ℕ)) (bodies : List (List ℕ)) (place : ℕ) (bad : IsBadAt base first bodies place) → take (length bad.front + 1) bodies ≡ bad.front ++ bad.body ∷ []
+through base first bodies place bad =
     ap (take (length bad.front + 1)) (bad.split ∙ sym (append_assoc bad.front (bad.body ∷ []) bad.behind))
     ∙ take_at (bad.front ++ bad.body ∷ []) bad.behind (length bad.front + 1) (length_push bad.front bad.body)
 
-up_to : (base : Summary) (bodies : List (List ℕ)) (place : ℕ) (bad : IsBadAt base bodies place) → take (length bad.front) bodies ≡ bad.front
-up_to base bodies place bad = ap (take (length bad.front)) bad.split ∙ take_at bad.front (bad.body ∷ bad.behind) (length bad.front) refl
+up_to : (base : Summary) (first : Option (List ℕ)) (bodies : List (List ℕ)) (place : ℕ) (bad : IsBadAt base first bodies place) → take (length bad.front) bodies ≡ bad.front
+up_to base first bodies place bad = ap (take (length bad.front)) bad.split ∙ take_at bad.front (bad.body ∷ bad.behind) (length bad.front) refl
 
-within : (base : Summary) (bodies : List (List ℕ)) (place : ℕ) (bad : IsBadAt base bodies place) → length bad.front + 1 ≤ length bodies
-within base bodies place bad = omega (arith, ap length bad.split, length-append bad.front (bad.body ∷ bad.behind))
+within : (base : Summary) (first : Option (List ℕ)) (bodies : List (List ℕ)) (place : ℕ) (bad : IsBadAt base first bodies place) → length bad.front + 1 ≤ length bodies
+within base first bodies place bad = omega (arith, ap length bad.split, length-append bad.front (bad.body ∷ bad.behind))
 
-pub never_bad : (base : Summary) (bodies : List (List ℕ)) (h : List Entry) (place : ℕ) → IsPast base bodies h → IsBadAt base bodies place → ⊥
-never_bad base bodies h place p bad =
-    let g = past_take base (length bad.front + 1) bodies h (within base bodies place bad) p in
-    no_next base bad.front bad.body bad.past g.0 bad.before bad.broken (subst (λ (l : List (List ℕ)). IsPast base l g.0) (through base bodies place bad) g.1)
+pub never_bad : (base : Summary) (first : Option (List ℕ)) (bodies : List (List ℕ)) (h : List Entry) (place : ℕ) → IsPast base bodies h → IsBadAt base first bodies place → ⊥
+never_bad base first bodies h place p bad =
+    let g = past_take base (length bad.front + 1) bodies h (within base first bodies place bad) p in
+    no_next base bad.front bad.body bad.past g.0 bad.before bad.broken (subst (λ (l : List (List ℕ)). IsPast base l g.0) (through base first bodies place bad) g.1)
 
 -- no body before the bad one is bad
-never_earlier : (base : Summary) (bodies : List (List ℕ)) (p q : ℕ) (one : IsBadAt base bodies p) (two : IsBadAt base bodies q) → length one.front < length two.front → ⊥
-never_earlier base bodies p q one two less =
+never_earlier : (base : Summary) (first : Option (List ℕ)) (bodies : List (List ℕ)) (p q : ℕ) (one : IsBadAt base first bodies p) (two : IsBadAt base first bodies q) → length one.front < length two.front → ⊥
+never_earlier base first bodies p q one two less =
     let n = length one.front + 1 in
     let g = past_take base n two.front two.past (omega arith) two.before in
     let same : take n two.front ≡ one.front ++ one.body ∷ [] =
-    sym (ap (take n) two.split ∙ take-append-le n two.front (two.body ∷ two.behind) (omega arith)) ∙ through base bodies p one in
+    sym (ap (take n) two.split ∙ take-append-le n two.front (two.body ∷ two.behind) (omega arith)) ∙ through base first bodies p one in
     no_next base one.front one.body one.past g.0 one.before one.broken (subst (λ (l : List (List ℕ)). IsPast base l g.0) same g.1)
 
-pub one_place : (base : Summary) (bodies : List (List ℕ)) (p q : ℕ) → IsBadAt base bodies p → IsBadAt base bodies q → p ≡ q
-one_place base bodies p q one two = elim (cases_order (length one.front) (length two.front)) [
-  | inl same ↦ let fronts : one.front ≡ two.front = sym (up_to base bodies p one) ∙ ap (λ (n : ℕ). take n bodies) same ∙ up_to base bodies q two in
-      one.at ∙ ap (λ (l : List (List ℕ)). length (bytes_before l)) fronts ∙ sym two.at
-  | inr other ↦ elim other [ inl less ↦ absurd (never_earlier base bodies p q one two less) | inr more ↦ absurd (never_earlier base bodies q p two one more) ]
+pub one_place : (base : Summary) (first : Option (List ℕ)) (bodies : List (List ℕ)) (p q : ℕ) → IsBadAt base first bodies p → IsBadAt base first bodies q → p ≡ q
+one_place base first bodies p q one two = elim (cases_order (length one.front) (length two.front)) [
+  | inl same ↦ let fronts : one.front ≡ two.front = sym (up_to base first bodies p one) ∙ ap (λ (n : ℕ). take n bodies) same ∙ up_to base first bodies q two in
+      one.at ∙ ap (λ (l : List (List ℕ)). length (bytes_before (all_of first l))) fronts ∙ sym two.at
+  | inr other ↦ elim other [ inl less ↦ absurd (never_earlier base first bodies p q one two less) | inr more ↦ absurd (never_earlier base first bodies q p two one more) ]
 ]

@@ -1,6 +1,6 @@
 -- A past with one entry more, and with one fewer.
-use Rattle.std.proofs.Common.{◌≡◌, ◌<◌, ◌+◌, ◌^◌, ℕ, List, [], ◌∷◌, ◌++◌, length, refl, sym, ap, ◌∙◌, arith}
-use Rattle.centre_rules.specs.Summary.{Summary, nothing}
+use Rattle.std.proofs.Common.{◌≡◌, ◌≤◌, ◌<◌, ◌+◌, ◌^◌, ℕ, List, [], ◌∷◌, ◌++◌, length, refl, sym, ap, ◌∙◌, arith}
+use Rattle.centre_rules.specs.Summary.{Summary}
 use Rattle.centre_rules.specs.History.{Entry}
 use Rattle.centre_rules.specs.Answers.{IsNext}
 use Rattle.centre_store.specs.Bodies.{body_of, bodies_of}
@@ -11,8 +11,8 @@ pub no_bodies : bodies_of [] ≡ []
 unfolding bodies_of
 no_bodies = refl
 
-pub no_past : IsPast nothing [] []
-no_past = record { legal = tt; kept = tt; few = omega arith; is = sym no_bodies }
+pub no_past : (base : Summary) → base.recorded ≤ 2 ^ 48 → IsPast base [] []
+no_past base few = record { legal = tt; kept = tt; few = omega (arith, few); is = sym no_bodies }
 
 pub past_more : (base : Summary) (front : List (List ℕ)) (h : List Entry) (e : Entry) (body : List ℕ) → IsPast base front h → IsNext base h e → IsKept e → base.recorded + length h < 2 ^ 48
     → body ≡ body_of e → IsPast base (front ++ body ∷ []) (e ∷ h)

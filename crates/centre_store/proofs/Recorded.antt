@@ -1,31 +1,38 @@
 -- The past of a history's recorded entries, and that areas can be opened again.
-use Rattle.std.proofs.Common.{◌≡◌, ◌≤◌, ◌<◌, ◌+◌, ◌^◌, ℕ, List, [], ◌∷◌, ◌++◌, Bool, true, false, cond, map, reverse, length, None, inl, inr, refl, sym, ap, ◌∙◌, subst, arith}
+use Rattle.std.proofs.Common.{◌≡◌, ◌≤◌, ◌<◌, ◌+◌, ◌^◌, ℕ, List, [], ◌∷◌, ◌++◌, Bool, true, false, cond, map, reverse, length, Option, inl, inr, refl, sym, ap, ◌∙◌, subst, arith, length-append}
 use Rattle.arc_io.specs.Areas.{Areas}
-use Rattle.centre_rules.proofs.Quiet.{legal_recorded}
+use Rattle.centre_laws.proofs.Summed.{summary_tells}
+use Rattle.centre_rules.proofs.Quiet.{marks_recorded, last_recorded, legal_recorded}
 use Rattle.centre_rules.specs.Summary.{Summary}
+use Rattle.centre_rules.specs.Sums.{summary_of}
 use Rattle.centre_rules.specs.History.{Entry, is_recorded, recorded}
 use Rattle.centre_rules.specs.Answers.{IsNext, IsLegal}
-use Rattle.disk_journal.specs.Standing.{StandsForEither}
+use Rattle.disk_journal.specs.Standing.{AreasStand}
 use Rattle.event_codec.specs.Spelling.{spelling}
 use Rattle.centre_store.specs.Bodies.{bodies_of, body_of}
-use Rattle.centre_store.specs.Given.{IsGiven}
+use Rattle.centre_store.specs.Given.{IsKeptAs, StandFor, StandForEither}
 use Rattle.centre_store.specs.Openings.{CanOpen}
 use Rattle.centre_store.specs.Pasts.{AreKept, IsPast}
 use Rattle.centre_store.specs.Stores.{IsNextKept}
-use Rattle.centre_store.proofs.Bodies.{bodies_more}
+use Rattle.centre_store.proofs.Holding.{kept_more}
+use Rattle.centre_store.proofs.Summed.{summary_alike}
 
 recorded_step : (e : Entry) (h : List Entry) (t : Bool) → is_recorded e.reply ≡ t → recorded (recorded h) ≡ recorded h
     → recorded (cond t (e ∷ recorded h) (recorded h)) ≡ cond t (e ∷ recorded h) (recorded h)
 recorded_step e h true is before = ap (λ t. cond t (e ∷ recorded (recorded h)) (recorded (recorded h))) is ∙ ap (λ l. e ∷ l) before
 recorded_step e h false is before = before
 
-recorded_once : (h : List Entry) → recorded (recorded h) ≡ recorded h
+pub recorded_once : (h : List Entry) → recorded (recorded h) ≡ recorded h
 recorded_once [] = refl
 recorded_once (e ∷ h) = recorded_step e h (is_recorded e.reply) refl (recorded_once h)
 
-bodies_recorded : (h : List Entry) → bodies_of h ≡ bodies_of (recorded h)
+pub bodies_recorded : (h : List Entry) → bodies_of h ≡ bodies_of (recorded h)
 unfolding bodies_of
 bodies_recorded h = ap (λ (l : List Entry). reverse (map body_of l)) (sym (recorded_once h))
+
+-- a summary has what is recorded, and nothing of other entries
+pub summary_recorded : (b : Summary) (h : List Entry) → summary_of b h ≡ summary_of b (recorded h)
+summary_recorded b h = summary_alike b h (recorded h) (last_recorded b h) (sym (recorded_once h)) (marks_recorded b h)
 
 -- a legal history whose recorded entries are such as a journal has: they are the past of its bodies
 pub past_recorded : (base : Summary) (h : List Entry) → IsLegal base h → AreKept (recorded h) → base.recorded + length (recorded h) ≤ 2 ^ 48
@@ -37,8 +44,55 @@ past_recorded base h legal kept few = record {
   is = bodies_recorded h;
 }
 
+-- A history in two parts.
+
+-- the recorded entries of one list behind another
+recorded_behind : (e : Entry) (k l : List Entry) (t : Bool) → is_recorded e.reply ≡ t → recorded (k ++ l) ≡ recorded k ++ recorded l
+    → cond t (e ∷ recorded (k ++ l)) (recorded (k ++ l)) ≡ cond t (e ∷ recorded k) (recorded k) ++ recorded l
+recorded_behind e k l true is before = ap (λ (x : List Entry). e ∷ x) before
+recorded_behind e k l false is before = before
+
+pub recorded_both : (k l : List Entry) → recorded (k ++ l) ≡ recorded k ++ recorded l
+recorded_both [] l = refl
+recorded_both (e ∷ k) l = recorded_behind e k l (is_recorded e.reply) refl (recorded_both k l)
+
+pub legal_rest : (b : Summary) (later summed : List Entry) → IsLegal b (later ++ summed) → IsLegal b summed
+legal_rest b [] summed legal = legal
+legal_rest b (e ∷ later) summed legal = legal_rest b later summed legal.1
+
+-- the later ones go on from the summary of the others
+pub legal_over : (b : Summary) (later summed : List Entry) → IsLegal b (later ++ summed) → IsLegal (summary_of b summed) later
+legal_over b later summed legal = (summary_tells b summed later (legal_rest b later summed legal)).legal.1 legal
+
+kept_first : (k l : List Entry) → AreKept (k ++ l) → AreKept k
+kept_first [] l kept = tt
+kept_first (e ∷ k) l kept = (kept.0, kept_first k l kept.1)
+
+-- Areas that stand for the recorded entries of a history, where they are such as a journal has.
+module _ (b : Summary) (h : List Entry) (areas : Areas) (legal : IsLegal b h) (kept : AreKept (recorded h))
+    (few : b.recorded + length (recorded h) ≤ 2 ^ 48) where
+  opens_as : (first : Option (List ℕ)) (bodies : List (List ℕ)) → IsKeptAs b h first bodies → AreasStand areas first bodies → CanOpen areas
+  opens_as first bodies k stands =
+      let parts : recorded h ≡ recorded k.later ++ recorded k.summed = ap recorded k.split ∙ recorded_both k.later k.summed in
+      let count : length (recorded h) ≡ length (recorded k.later) + length (recorded k.summed) =
+      ap length parts ∙ length-append (recorded k.later) (recorded k.summed) in
+      let over : IsLegal (summary_of b k.summed) k.later = legal_over b k.later k.summed (subst (IsLegal b) k.split legal) in
+      let past : IsPast (summary_of b k.summed) (bodies_of k.later) (recorded k.later) =
+      past_recorded (summary_of b k.summed) k.later over (kept_first (recorded k.later) (recorded k.summed) (subst AreKept parts kept))
+      (omega (arith, few, count)) in
+      record {
+        base = summary_of b k.summed;
+        bodies = bodies;
+        past = recorded k.later;
+        gives = (first, k.first_is, stands);
+        is_past = subst (λ (l : List (List ℕ)). IsPast (summary_of b k.summed) l (recorded k.later)) (sym k.bodies_are) past;
+      }
+
+  pub opens_recorded : StandFor b h areas → CanOpen areas
+  opens_recorded (first, bodies, k, stands) = opens_as first bodies k stands
+
 -- The areas that a disk leaves that failed as a record was written.
-module _ (base : Summary) (h : List Entry) (e : Entry) (given : IsGiven base) (legal : IsLegal base h) (kept : AreKept (recorded h))
+module _ (base : Summary) (h : List Entry) (e : Entry) (areas : Areas) (legal : IsLegal base h) (kept : AreKept (recorded h))
     (few : base.recorded + length (recorded h) < 2 ^ 48) (goes : IsNextKept base h e) where
   abbrev last : Entry
   last = record e { caller = 0 }
@@ -49,27 +103,14 @@ module _ (base : Summary) (h : List Entry) (e : Entry) (given : IsGiven base) (l
   with_last : recorded (last ∷ h) ≡ last ∷ recorded h
   with_last = ap (λ (t : Bool). cond t (last ∷ recorded h) (recorded h)) goes.recorded
 
-  past_more : IsPast base (bodies_of h ++ spelling e.event e.at ∷ []) (recorded (last ∷ h))
-  past_more =
+  opens_more : StandFor base (last ∷ h) areas → CanOpen areas
+  opens_more =
       let all : AreKept (recorded (last ∷ h)) =
       subst AreKept (sym with_last) (record { caller = refl; recorded = goes.recorded; spelled = goes.spelled }, kept) in
       let count : length (recorded (last ∷ h)) ≡ length (last ∷ recorded h) = ap length with_last in
-      let within : base.recorded + length (recorded (last ∷ h)) ≤ 2 ^ 48 = omega (arith, few, count) in
-      subst (λ (l : List (List ℕ)). IsPast base l (recorded (last ∷ h))) (bodies_more last h goes.recorded)
-      (past_recorded base (last ∷ h) (next, legal) all within)
+      opens_recorded base (last ∷ h) areas (next, legal) all (omega (arith, few, count))
 
-  pub opens : (areas : Areas) → StandsForEither None (bodies_of h) (spelling e.event e.at) areas → CanOpen areas
-  opens areas (inl stands) = record {
-    base = base;
-    bodies = bodies_of h;
-    past = recorded h;
-    gives = (given, stands);
-    is_past = past_recorded base h legal kept (omega (arith, few));
-  }
-  opens areas (inr stands) = record {
-    base = base;
-    bodies = bodies_of h ++ spelling e.event e.at ∷ [];
-    past = recorded (last ∷ h);
-    gives = (given, stands);
-    is_past = past_more;
-  }
+  pub opens : StandForEither base h (spelling e.event e.at) areas → CanOpen areas
+  opens (first, bodies, k, inl stands) = opens_recorded base h areas legal kept (omega (arith, few)) (first, bodies, k, stands)
+  opens (first, bodies, k, inr stands) =
+      opens_more (first, bodies ++ body_of last ∷ [], kept_more base h last first bodies goes.recorded k, stands)

@@ -1,201 +1,47 @@
--- What a journal holds after a call, and what a disk leaves.
-use Rattle.std.proofs.Common.{◌≡◌, ◌⊎◌, ◌≤◌, ◌<◌, ◌+◌, ◌^◌, inl, inr, ℕ, List, [], ◌∷◌, ◌++◌, length, Option, Some, None, refl, sym, ap, subst, ◌∙◌, arith}
-use Rattle.std.specs.Prelude.{IfSome, Result, Ok, Err}
+-- What the writing of a record does, behind a checkpoint or not, and what a checkpoint does.
+use Rattle.std.proofs.Common.{◌≡◌, ◌⊎◌, ◌≤◌, ◌+◌, ◌^◌, inl, inr, ℕ, List, [], ◌∷◌, ◌++◌, length, true, Option, Some, None, refl, sym, ap, subst, ◌∙◌, arith, length-append}
+use Rattle.std.specs.Prelude.{Result, Ok, Err, OnOk}
 use Rattle.arc_data.specs.declared.event.Event.{Event}
-use Rattle.arc_io.specs.Areas.{Areas, rest}
+use Rattle.arc_io.specs.Areas.{Areas}
+use Rattle.arc_io.specs.Causes.{Rose}
 use Rattle.arc_io.specs.Disks.{DiskSeen}
-use Rattle.arc_io.specs.declared.disk.Area.{Area}
-use Rattle.arc_io.specs.Crashes.{Becomes, LeavesOnly}
-use Rattle.arc_io.proofs.Moments.{joined, started}
-use Rattle.disk_journal.specs.Journal.{Keeps, Holds, Works, HasBodies, IsAtRestIn}
-use Rattle.disk_journal.specs.OtherArea.{SparesOther}
-use Rattle.disk_journal.specs.Behind.{SparesBehind}
-use Rattle.disk_journal.specs.Standing.{StandsForEither, IsDistinct, IsOtherSame, all_of, chosen}
-use Rattle.disk_journal.specs.declared.journal.Journal.{Journal}
-use Rattle.disk_journal.proofs.Appends.{still_moments, still_told}
-use Rattle.disk_journal.proofs.Behind.{spares_still}
-use Rattle.disk_journal.proofs.Steps.{if_map, file_at, still}
-use Rattle.event_codec.specs.Spelling.{spelling}
+use Rattle.arc_io.specs.Crashes.{LeavesOnly}
+use Rattle.arc_io.proofs.Moments.{joined, weaker}
 use Rattle.centre_core.specs.declared.hall.Stop.{Stop}
+use Rattle.centre_core.specs.declared.hall.Stop.TheVariants.{Memory, Down, Full, Worn}
+use Rattle.centre_core.specs.Summing.{IsSpelled}
+use Rattle.centre_rules.specs.History.{Entry, IsMoment, is_recorded}
+use Rattle.centre_rules.specs.State.{State, StandsFor, Plan, entry_of}
+use Rattle.centre_rules.specs.Summary.{Summary}
+use Rattle.centre_rules.specs.Sums.{summary_of}
+use Rattle.disk_journal.specs.Faults.{HasCountsOf}
+use Rattle.disk_journal.specs.Standing.{IsDistinct, size_of}
+use Rattle.disk_journal.specs.Turning.{IsNextTo}
+use Rattle.disk_journal.proofs.Gates.{size-more}
+use Rattle.disk_journal.specs.declared.fault.AppendFault.{AppendFault}
+use Rattle.disk_journal.specs.declared.fault.AppendFault.TheVariants as Append
+use Rattle.disk_journal.specs.declared.journal.Journal.{Journal}
+use Rattle.event_codec.specs.Spelling.{spelling}
+use Rattle.summary_rules.specs.Conditions.{IsSpelling}
+use Rattle.summary_rules.specs.Spelling.{summary_text}
 use Rattle.centre_store.specs.Bodies.{need_of}
-use Rattle.centre_store.specs.Given.{Leaves}
-use Rattle.centre_store.specs.Stores.{Stored, IsSameJournal}
+use Rattle.centre_store.specs.Given.{StandFor, StandForEither, HasRecorded, HoldsRecorded, HasEither, summed_size}
+use Rattle.centre_store.specs.Stores.{IsSameJournal}
+use Rattle.centre_store.specs.Writes.{HaveAll, HaveSome, IsOverAt, IsOverThen, IsFullAt, IsUnwritten, IsWrittenOn, IsSummedUp, IsTurned}
+use Rattle.centre_store.proofs.Summed.{text_long}
+use Rattle.centre_store.proofs.Distinct.{distinct_more}
+use Rattle.centre_store.proofs.Holding.{Adds, Runs, Tells, TurnRuns, TurnTells, Turns, stand_either, recorded_same, recorded_more, recorded_moments, recorded_either}
+use Rattle.centre_store.proofs.Holding.{recorded_turned, turned_moments, turned_there}
+use Rattle.centre_store.proofs.NextSummary.{next_to, next_spelled}
 
--- What is told.
+-- The same but for the room.
 
-either_after : (told now : Option Areas) (summary : Option (List ℕ)) (bodies : List (List ℕ)) (body : List ℕ)
-    → Becomes told now (λ s t. StandsForEither summary bodies body t) → IfSome now (StandsForEither summary bodies body)
-either_after None None summary bodies body is = tt
-either_after None (Some t) summary bodies body is = absurd is
-either_after (Some s) None summary bodies body is = absurd is
-either_after (Some s) (Some t) summary bodies body is = is
+module _ {D : Type 0} where
+  pub same_then : (a b c : Journal D) → IsSameJournal a b → IsSameJournal b c → IsSameJournal a c
+  same_then a b c one two = two ∙ ap (λ (x : Journal D). record x { room = c.room }) one
 
--- this area is chosen, in what is told and in all that a crash may leave
-pub record IsChosenIn (disk : DiskSeen) (area : Area) : Type 0 where
-  pub told : IfSome disk.told (λ s. chosen s ≡ area)
-  pub images : (c : Areas) → disk.may_leave c → chosen c ≡ area
-
-other_step : (area : Area) (s t u : Areas) → chosen s ≡ area → chosen t ≡ area → IsOtherSame s t → IsOtherSame t u → IsOtherSame s u
-other_step area s t u first second one two =
-    let further : rest (chosen s) u ≡ rest (chosen s) t = subst (λ (x : Area). rest x u ≡ rest x t) (second ∙ sym first) two in
-    further ∙ one
-
-other_then : (area : Area) (s t u : Option Areas) → IfSome s (λ x. chosen x ≡ area) → IfSome t (λ x. chosen x ≡ area) → Becomes s t IsOtherSame
-    → Becomes t u IsOtherSame → Becomes s u IsOtherSame
-other_then area None None None first second one two = tt
-other_then area None None (Some u) first second one two = absurd two
-other_then area None (Some t) u first second one two = absurd one
-other_then area (Some s) None u first second one two = absurd one
-other_then area (Some s) (Some t) None first second one two = absurd two
-other_then area (Some s) (Some t) (Some u) first second one two = other_step area s t u first second one two
-
-module _ {D : Type 0} (seen : D → DiskSeen) where
-  -- a journal that is the same but for its room holds the same
-  pub holds_same : (old new : Journal D) (summary : Option (List ℕ)) (bodies : List (List ℕ)) → IsSameJournal old new → Holds seen old summary bodies
-      → Holds seen new summary bodies
-  holds_same old new summary bodies same h = record {
-    used = ap (λ (j : Journal D). j.used) same ∙ h.used;
-    count = ap (λ (j : Journal D). j.records) same ∙ h.count;
-    generation = ap (λ (j : Journal D). j.generation) same ∙ h.generation;
-    few = subst (λ (j : Journal D). j.limits.bytes < 2 ^ 32) (sym same) h.few;
-    met_none = ap (λ (j : Journal D). j.has_failed) same ∙ h.met_none;
-    kept = subst (λ (j : Journal D). Keeps (seen j.disk) j.area summary bodies) (sym same) h.kept;
-  }
-
-  -- a journal that holds bodies works
-  pub works : (j : Journal D) (summary : Option (List ℕ)) (bodies : List (List ℕ)) → Holds seen j summary bodies → Works seen j
-  works j summary bodies h = record {
-    bodies = all_of summary bodies;
-    used = h.used;
-    few = h.few;
-    met_none = h.met_none;
-    file = if_map (IsAtRestIn j.area summary bodies) (HasBodies j.area (all_of summary bodies)) (seen j.disk).told h.kept.file (λ s at. at.at_rest);
-    settled = h.kept.settled;
-  }
-
-module _ {D : Type 0} (seen : D → DiskSeen) where
-  -- after a call of which this is so at any moment
-  pub leaves_after : (old new : D) (summary : Option (List ℕ)) (bodies : List (List ℕ)) (body : List ℕ)
-      → ((d : D) (t : ℕ) (c : Areas) → t ≤ (seen d).moment → (seen d).may_leave c → (seen d).left_since t c)
-      → Becomes (seen old).told (seen new).told (λ s t. StandsForEither summary bodies body t)
-      → LeavesOnly (seen old) (seen new) (StandsForEither summary bodies body)
-      → Leaves (seen new) summary bodies body
-  leaves_after old new summary bodies body counts_now file any_moment = record {
-    file = either_after (seen old).told (seen new).told summary bodies body file;
-    images = λ c now. any_moment.each c (counts_now new (seen old).moment c any_moment.later now);
-  }
-
-  -- where nothing was written
-  pub other_still : (old new : D) → ((d : D) (c : Areas) → (seen d).left_since (seen d).moment c → (seen d).may_leave c) → new ≡ old
-      → SparesOther (seen old) (seen new)
-  other_still old new only_now is = subst (λ (d : D). SparesOther (seen old) (seen d)) (sym is) (record {
-    same = still IsOtherSame (seen old).told (λ s. refl);
-    crash = λ c now. (c, now, refl);
-    any_moment = started (seen old) _ (λ c left. (c, only_now old c left, refl));
-  })
-
-  -- the area of a journal that holds bodies is chosen
-  pub chosen_in : (j : Journal D) (summary : Option (List ℕ)) (bodies : List (List ℕ)) → Holds seen j summary bodies → IsChosenIn (seen j.disk) j.area
-  chosen_in j summary bodies h =
-      let file = h.kept.file in
-      record {
-        told = if_map (IsAtRestIn j.area summary bodies) (λ s. chosen s ≡ j.area) (seen j.disk).told file (λ s at. at.chosen_is);
-        images = λ c left. (file_at (IsAtRestIn j.area summary bodies) (seen j.disk).told c (h.kept.settled c left) file).chosen_is;
-      }
-
-  -- one run after another, over one chosen area
-  pub spares_then : (old mid new : D) (area : Area) → IsChosenIn (seen old) area → IsChosenIn (seen mid) area → SparesOther (seen old) (seen mid)
-      → SparesOther (seen mid) (seen new) → SparesOther (seen old) (seen new)
-  spares_then old mid new area first second one two = record {
-    same = other_then area (seen old).told (seen mid).told (seen new).told first.told second.told one.same two.same;
-    crash = λ c now.
-        let m = two.crash c now in
-        let o = one.crash m.0 m.1 in
-        (o.0, o.1, other_step area o.0 m.0 c (first.images o.0 o.1) (second.images m.0 m.1) o.2 m.2);
-    any_moment = joined (seen old) (seen mid) (seen new) _ _ one.any_moment two.any_moment
-        (λ c q.
-        let o = one.crash q.0 q.1 in
-        (o.0, o.1, other_step area o.0 q.0 c (first.images o.0 o.1) (second.images q.0 q.1) o.2 q.2));
-  }
-
-  -- where nothing was written
-  pub still_leaves : (j : Journal D) (summary : Option (List ℕ)) (bodies : List (List ℕ)) (body : List ℕ)
-      → ((d : D) (t : ℕ) (c : Areas) → t ≤ (seen d).moment → (seen d).may_leave c → (seen d).left_since t c)
-      → ((d : D) (c : Areas) → (seen d).left_since (seen d).moment c → (seen d).may_leave c)
-      → Holds seen j summary bodies → Leaves (seen j.disk) summary bodies body
-  still_leaves j summary bodies body counts_now only_now h =
-      leaves_after j.disk j.disk summary bodies body counts_now (still_told (seen j.disk) j.area summary bodies body h.kept)
-      (still_moments (seen j.disk) j.area summary bodies body h.kept (only_now j.disk))
-
-  pub still_run : (j k : Journal D) (summary : Option (List ℕ)) (bodies : List (List ℕ)) (body : List ℕ) → IsSameJournal j k
-      → ((d : D) (c : Areas) → (seen d).left_since (seen d).moment c → (seen d).may_leave c)
-      → Holds seen j summary bodies → LeavesOnly (seen j.disk) (seen k.disk) (StandsForEither summary bodies body)
-  still_run j k summary bodies body same only_now h =
-      subst (λ (d : D). LeavesOnly (seen j.disk) (seen d) (StandsForEither summary bodies body)) (sym (ap (λ (x : Journal D). x.disk) same))
-      (still_moments (seen j.disk) j.area summary bodies body h.kept (only_now j.disk))
-
-  -- from the journal before its room
-  pub spares_from : (j k : Journal D) (new : D) → IsSameJournal j k → SparesOther (seen k.disk) (seen new) → SparesOther (seen j.disk) (seen new)
-  spares_from j k new same spares = subst (λ (d : D). SparesOther (seen d) (seen new)) (ap (λ (x : Journal D). x.disk) same) spares
-
--- The journal with its room, and a body in other words.
-module _ {D : Type 0} (seen : D → DiskSeen) (j k : Journal D) (summary : Option (List ℕ)) (bodies : List (List ℕ)) (body want : List ℕ)
-    (same : IsSameJournal j k) (is : body ≡ want) (h : Holds seen j summary bodies) (distinct : IsDistinct summary (bodies ++ want ∷ [])) where
-  held : Holds seen k summary bodies
-  held = holds_same seen j k summary bodies same h
-
-  apart : IsDistinct summary (bodies ++ body ∷ [])
-  apart = subst (λ (b : List ℕ). IsDistinct summary (bodies ++ b ∷ [])) (sym is) distinct
-
-  -- its record was added
-  pub written_added : (l : Journal D) → (Holds seen k summary bodies → IsDistinct summary (bodies ++ body ∷ []) → Holds seen l summary (bodies ++ body ∷ []))
-      → Holds seen l summary (bodies ++ want ∷ [])
-  written_added l added = subst (λ (b : List ℕ). Holds seen l summary (bodies ++ b ∷ [])) is (added held apart)
-
-  -- what a crash leaves at any moment
-  pub written_moments : (new : D)
-      → (Holds seen k summary bodies → IsDistinct summary (bodies ++ body ∷ []) → LeavesOnly (seen k.disk) (seen new) (StandsForEither summary bodies body))
-      → LeavesOnly (seen j.disk) (seen new) (StandsForEither summary bodies want)
-  written_moments new run =
-      subst (λ (d : D). LeavesOnly (seen d) (seen new) (StandsForEither summary bodies want)) (ap (λ (x : Journal D). x.disk) same)
-      (subst (λ (b : List ℕ). LeavesOnly (seen k.disk) (seen new) (StandsForEither summary bodies b)) is (run held apart))
-
-  -- what its record leaves
-  pub written_leaves : (new : D)
-      → ((d : D) (t : ℕ) (c : Areas) → t ≤ (seen d).moment → (seen d).may_leave c → (seen d).left_since t c)
-      → (Holds seen k summary bodies → IsDistinct summary (bodies ++ body ∷ []) → LeavesOnly (seen k.disk) (seen new) (StandsForEither summary bodies body))
-      → (Holds seen k summary bodies → IsDistinct summary (bodies ++ body ∷ [])
-      → Becomes (seen k.disk).told (seen new).told (λ s t. StandsForEither summary bodies body t))
-      → Leaves (seen new) summary bodies want
-  written_leaves new counts_now run file =
-      subst (λ (b : List ℕ). Leaves (seen new) summary bodies b) is
-      (leaves_after seen k.disk new summary bodies body counts_now (file held apart) (run held apart))
-
--- Behind the record.
-
--- a body has as many bytes at each moment
-size_stays : (event : Event) (at : ℕ) → length (spelling event at) ≡ length (spelling event 0)
-size_stays event at = refl
-
-module _ {D : Type 0} (seen : D → DiskSeen) where
-  -- over the journal with its room, for the body in other words
-  pub behind_record : (j k : Journal D) (new : D) (body : List ℕ) (event : Event) (at : ℕ) → IsSameJournal j k → body ≡ spelling event at
-      → SparesBehind (k.used + 5 + length body) (seen k.disk) (seen new) → SparesBehind (j.used + need_of event) (seen j.disk) (seen new)
-  behind_record j k new body event at same is spares =
-      let place : k.used + 5 + length body ≡ j.used + need_of event = omega (arith, ap (λ (x : Journal D). x.used) same, ap length is, size_stays event at) in
-      subst (λ (d : D). SparesBehind (j.used + need_of event) (seen d) (seen new)) (ap (λ (x : Journal D). x.disk) same)
-      (subst (λ (m : ℕ). SparesBehind m (seen k.disk) (seen new)) place spares)
-
-  -- over the parts of a store
-  pub behind_event : (old s : Stored D) (new : D) (event made : Event) → s ≡ old → made ≡ event
-      → SparesBehind (s.journal.used + need_of made) (seen s.journal.disk) (seen new) → SparesBehind (old.journal.used + need_of event) (seen old.journal.disk) (seen new)
-  behind_event old s new event made is same spares =
-      subst (λ (x : Stored D). SparesBehind (x.journal.used + need_of event) (seen x.journal.disk) (seen new)) is
-      (subst (λ (e : Event). SparesBehind (s.journal.used + need_of e) (seen s.journal.disk) (seen new)) same spares)
-
-  -- where nothing was written
-  pub behind_still : (old s : Stored D) (m : ℕ) → s ≡ old → SparesBehind m (seen old.journal.disk) (seen s.journal.disk)
-  behind_still old s m is = subst (λ (x : Stored D). SparesBehind m (seen old.journal.disk) (seen x.journal.disk)) (sym is) (spares_still (seen old.journal.disk) m)
+  pub same_back : (a b : Journal D) → IsSameJournal a b → IsSameJournal b a
+  same_back a b same = sym (ap (λ (x : Journal D). record x { room = a.room }) same)
 
 -- the body that was made
 pub body_is : (items piece : List ℕ) (e event : Event) (at moment : ℕ) → piece ≡ items → items ≡ spelling e at → e ≡ event → at ≡ moment → piece ≡ spelling event moment
@@ -205,3 +51,176 @@ body_is items piece e event at moment one two three four = one ∙ two ∙ ap (�
 pub written_over : (r : Result (Unit {0}) Stop) {u : Unit {0}} {one other : Stop} → r ≡ Ok u → (r ≡ Err one) ⊎ (r ≡ Err other) → ⊥
 written_over r is (inl e) = cc
 written_over r is (inr e) = cc
+
+pub ok_map : {T E P Q : Type 0} (r : Result T E) → (P → Q) → OnOk r P → OnOk r Q
+ok_map (Ok x) so p = so p
+ok_map (Err e) so p = tt
+
+-- What a call leaves of a history.
+
+module _ {D : Type 0} (seen : D → DiskSeen) where
+  -- from a journal that is the same but for its room
+  pub run_from : (old k : Journal D) (new : D) (P : Areas → Type 0) → IsSameJournal old k → LeavesOnly (seen k.disk) (seen new) P
+      → LeavesOnly (seen old.disk) (seen new) P
+  run_from old k new P same run = subst (λ (d : D). LeavesOnly (seen d) (seen new) P) (ap (λ (x : Journal D). x.disk) same) run
+
+  -- of those that stand for it, or for it with one more
+  pub run_either : (old new : D) (b : Summary) (h : List Entry) (body : List ℕ) → LeavesOnly (seen old) (seen new) (StandFor b h)
+      → LeavesOnly (seen old) (seen new) (StandForEither b h body)
+  run_either old new b h body run = weaker (seen old) (seen new) (StandForEither b h body) (StandFor b h) run (λ c stands. stand_either b h body c stands)
+
+  -- and then of those that stand for it with one more or without
+  pub run_then : (old mid new : D) (b : Summary) (h : List Entry) (body : List ℕ) → LeavesOnly (seen old) (seen mid) (StandFor b h)
+      → LeavesOnly (seen mid) (seen new) (StandForEither b h body) → LeavesOnly (seen old) (seen new) (StandForEither b h body)
+  run_then old mid new b h body one two =
+      joined (seen old) (seen mid) (seen new) (StandForEither b h body) (StandForEither b h body) (run_either old mid b h body one) two (λ c q. q)
+
+-- The journal with its room.
+module _ {D : Type 0} (seen : D → DiskSeen) (old k : Journal D) (s : State) (same : IsSameJournal old k) where
+  pub all_same : (b : Summary) (h : List Entry) → HaveAll seen old s b h → HaveAll seen k s b h
+  all_same b h all = record { given = all.given; stands = all.stands; holds = recorded_same seen old k b h same all.holds }
+
+  pub some_same : HaveSome seen old s → HaveSome seen k s
+  some_same had = record { base = had.base; history = had.history; all = all_same had.base had.history had.all }
+
+  pub over_same : (need : ℕ) → IsOverAt old need → IsOverAt k need
+  over_same need over = subst (λ (x : Journal D). IsOverAt x need) (sym same) over
+
+  pub then_same : (used need : ℕ) → IsOverThen old used need → IsOverThen k used need
+  then_same used need over = subst (λ (x : Journal D). IsOverThen x used need) (sym same) over
+
+  full_same : (wanted used need records : ℕ) → IsFullAt seen k s wanted used need records → IsFullAt seen old s wanted used need records
+  full_same wanted used need records full = record {
+    used_is = λ b h all. full.used_is b h (all_same b h all);
+    need_is = full.need_is;
+    records_is = full.records_is;
+    now = subst (λ (x : Journal D). IsOverAt x wanted) same full.now;
+    then = subst (λ (x : Journal D). IsOverThen x used wanted) same full.then;
+  }
+
+  -- why nothing was written
+  pub unwritten_same : (at_open wanted : ℕ) (new : Journal D) (stop : Stop) → IsUnwritten seen at_open k new s wanted stop
+      → IsUnwritten seen at_open old new s wanted stop
+  unwritten_same at_open wanted new Memory is = same_then old k new same is
+  unwritten_same at_open wanted new (Down was now) is = is
+  unwritten_same at_open wanted new (Full used need records) is = (same_then old k new same is.0, full_same wanted used need records is.1)
+  unwritten_same at_open wanted new (Worn count) is = is
+
+-- Checkpoints.
+
+-- the text of the next summary, which is in this body, is as long as that of any generation
+pub summed_long : (generation : ℕ) (b : Summary) (h : List Entry) (body : List ℕ) → body ≡ summary_text generation (summary_of b h)
+    → 22 + length body ≡ summed_size b h
+summed_long generation b h body is =
+    let long : length body ≡ length (summary_text 1 (summary_of b h)) = ap length is ∙ text_long generation (summary_of b h) in
+    omega (arith, long)
+
+pub summed_of : {D : Type 0} (j k : Journal D) (used : ℕ) → IsTurned j k used → IsSummedUp k
+summed_of j k used t = record { summary = λ none. omega (arith, none, t.generation); none_behind = t.records }
+
+-- a turn is refused where the disk failed alone
+pub rose_of : (before now : ℕ) (fault : AppendFault) → HasCountsOf ⊥ before now fault → Rose before now
+rose_of before now (Append.Full used need records) never = absurd never
+rose_of before now (Append.DiskFault was is) counts = counts.rose
+
+pub rose_from : (at_open before now : ℕ) → at_open ≤ before → Rose before now → Rose at_open now
+rose_from at_open before now le rose = omega (arith, le, rose)
+
+-- A body is the text of the next summary, whatever the centre stands for: of a journal that has what was recorded, and has no such summary
+-- yet.
+module _ {D : Type 0} (seen : D → DiskSeen) (j : Journal D) (s : State) (body : List ℕ)
+    (is : (b : Summary) (h : List Entry) → IsSpelled b → StandsFor b s h → body ≡ summary_text (j.generation + 1) (summary_of b h))
+    (few : s.entries ≤ 2 ^ 48) (moment : IsMoment s.sum.last) (further : IsSummedUp j → ⊥) (fits : 22 + length body ≤ j.limits.bytes) where
+  pub turn_next : HaveSome seen j s → IsNextTo j.generation body
+  turn_next had =
+      let b = had.base in
+      let h = had.history in
+      subst (IsNextTo j.generation) (sym (is b h had.all.given had.all.stands)) (next_to seen j b h had.all.holds s had.all.stands few further)
+
+  -- it uses so many bytes
+  pub turn_numbers : (k : Journal D) → HaveSome seen j s → Turns seen j k body → k.generation ≡ j.generation + 1 → IsTurned j k (22 + length body)
+  turn_numbers k had turned generation =
+      let holds = had.all.holds in
+      let now = turned holds.0 holds.1 holds.3 in
+      record { generation = generation; used_is = omega (arith, now.used); records = now.count }
+
+  module _ (b : Summary) (h : List Entry) (all : HaveAll seen j s b h) where
+    text : body ≡ summary_text (j.generation + 1) (summary_of b h)
+    text = is b h all.given all.stands
+
+    spelled : IsSpelling (j.generation + 1) (summary_of b h) body
+    spelled = subst (IsSpelling (j.generation + 1) (summary_of b h)) (sym text)
+        (next_spelled seen j b h all.holds s all.stands few further all.given moment
+        (subst (λ (l : List ℕ). 22 + length l ≤ j.limits.bytes) text fits))
+
+    pub turn_has : (k : Journal D) → Turns seen j k body → HoldsRecorded seen k b h
+    turn_has k turned = recorded_turned seen j k b h (j.generation + 1) body spelled turned all.holds
+
+    pub turn_moments : (new : D) → TurnRuns seen j new body → LeavesOnly (seen j.disk) (seen new) (StandFor b h)
+    turn_moments new run = turned_moments seen j new b h (j.generation + 1) body spelled run all.holds
+
+    pub turn_met : (new : D) → ((d : D) (t : ℕ) (c : Areas) → t ≤ (seen d).moment → (seen d).may_leave c → (seen d).left_since t c)
+        → TurnRuns seen j new body → TurnTells seen j new body → HasRecorded (seen new) b h
+    turn_met new counts_now run told = turned_there seen j new b h (j.generation + 1) body spelled counts_now run told all.holds
+
+-- Records.
+
+all_more : (first : Option (List ℕ)) (bodies : List (List ℕ)) (body : List ℕ) → size_of first (bodies ++ body ∷ []) ≡ size_of first bodies + 5 + length body
+all_more None bodies body = size-more bodies body
+all_more (Some summary) bodies body = size-more (summary ∷ bodies) body
+
+-- a body has as many bytes at each moment
+size_stays : (event : Event) (at : ℕ) → length (spelling event at) ≡ length (spelling event 0)
+size_stays event at = refl
+
+-- The journal with its room, then behind a checkpoint or not, and then with the record of an event.
+module _ {D : Type 0} (seen : D → DiskSeen) (old k mid : Journal D) (s : State) (same : IsSameJournal old k) (b : Summary) (h : List Entry)
+    (has : HaveAll seen k s b h → HoldsRecorded seen mid b h) (all : HaveAll seen old s b h) where
+  held : HoldsRecorded seen mid b h
+  held = has (all_same seen old k s same b h all)
+
+  module _ (p : Plan) (body : List ℕ) (is : body ≡ spelling p.event p.at) where
+    pub write_added : (new : Journal D) (caller : ℕ) → is_recorded p.reply ≡ true → Adds seen mid new body → HoldsRecorded seen new b (entry_of caller p ∷ h)
+    write_added new caller recorded added =
+        recorded_more seen mid new b h (entry_of caller p) recorded (subst (λ (l : List ℕ). Adds seen mid new l) is added) held
+
+    pub write_moments : (new : D) → (HaveAll seen k s b h → LeavesOnly (seen k.disk) (seen mid.disk) (StandFor b h)) → Runs seen mid new body
+        → LeavesOnly (seen old.disk) (seen new) (StandForEither b h (spelling p.event p.at))
+    write_moments new first run =
+        run_then seen old.disk mid.disk new b h (spelling p.event p.at)
+        (run_from seen old k mid.disk (StandFor b h) same (first (all_same seen old k s same b h all)))
+        (recorded_moments seen mid new b h p.event p.at (subst (λ (l : List ℕ). Runs seen mid new l) is run) held)
+
+    pub write_met : (new : D) → ((d : D) (t : ℕ) (c : Areas) → t ≤ (seen d).moment → (seen d).may_leave c → (seen d).left_since t c)
+        → Runs seen mid new body → Tells seen mid new body → HasEither (seen new) b h (spelling p.event p.at)
+    write_met new counts_now run told =
+        recorded_either seen mid new b h p.event p.at counts_now (subst (λ (l : List ℕ). Runs seen mid new l) is run)
+        (subst (λ (l : List ℕ). Tells seen mid new l) is told) held
+
+    numbers_of : (new : Journal D) → Adds seen mid new body → HoldsRecorded seen mid b h
+        → (new.generation ≡ mid.generation) × (new.used ≡ mid.used + need_of p.event) × (new.records ≡ mid.records + 1)
+    numbers_of new added (first, bodies, kept, holds) =
+        let apart = subst (λ (l : List ℕ). IsDistinct first (bodies ++ l ∷ [])) (sym is) (distinct_more first bodies p.event p.at holds.kept.distinct) in
+        let now = added first bodies holds apart in
+        let long : length body ≡ length (spelling p.event 0) = ap length is ∙ size_stays p.event p.at in
+        let used : new.used ≡ mid.used + need_of p.event = omega (arith, now.used, holds.used, all_more first bodies body, long) in
+        let records : new.records ≡ mid.records + 1 = omega (arith, now.count, holds.count, length-append bodies (body ∷ [])) in
+        (now.generation ∙ sym holds.generation, used, records)
+
+    pub write_numbers : (new : Journal D) (need : ℕ) → need ≡ need_of p.event → Adds seen mid new body → ((IsOverAt k need → ⊥) → mid ≡ k)
+        → (HaveAll seen k s b h → IsOverAt k need → IsTurned k mid (summed_size b h)) → IsWrittenOn old new (summed_size b h) (need_of p.event)
+    write_numbers new need wanted added still turned =
+        let n = numbers_of new added held in
+        record {
+          behind = λ no.
+              let stays : mid ≡ k = still (λ over. no (subst (IsOverAt old) wanted (subst (λ (x : Journal D). IsOverAt x need) same over))) in
+              let generation : mid.generation ≡ old.generation = ap (λ (x : Journal D). x.generation) (stays ∙ same) in
+              let used : mid.used ≡ old.used = ap (λ (x : Journal D). x.used) (stays ∙ same) in
+              let records : mid.records ≡ old.records = ap (λ (x : Journal D). x.records) (stays ∙ same) in
+              (n.0 ∙ generation, omega (arith, n.1, used), omega (arith, n.2, records));
+          turned = λ over.
+              let t = turned (all_same seen old k s same b h all)
+              (over_same seen old k s same need (subst (IsOverAt old) (sym wanted) over)) in
+              let generation : k.generation ≡ old.generation = ap (λ (x : Journal D). x.generation) same in
+              (omega (arith, n.0, t.generation, generation), omega (arith, n.1, t.used_is), omega (arith, n.2, t.records));
+        }

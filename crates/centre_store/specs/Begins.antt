@@ -1,5 +1,5 @@
 -- How a run begins over a history: with an Adopt of the setup's text, where another text is in force or none, and a Start.
-use Rattle.std.specs.Prelude.{◌≡◌, ◌⊎◌, ◌+◌, ℕ, List, ◌∷◌, Bool, true, false, if◌then◌else◌, Option, Some, None, Result, IsErr}
+use Rattle.std.specs.Prelude.{◌≡◌, ◌⊎◌, ℕ, List, ◌∷◌, Bool, true, false, if◌then◌else◌, Option, Some, None, IfSome, Result, IsErr}
 use Rattle.std.specs.Str.{bytes_eq}
 use Rattle.arc_data.specs.declared.event.Event.{Event}
 use Rattle.arc_data.specs.declared.event.Event.TheVariants.{Adopt, Start}
@@ -11,11 +11,11 @@ use Rattle.centre_core.specs.declared.hall.Stop.{Stop}
 use Rattle.centre_rules.specs.Summary.{Summary}
 use Rattle.centre_rules.specs.Marks.{text}
 use Rattle.centre_rules.specs.History.{Entry, Extends, marks, moment_after}
-use Rattle.disk_journal.specs.Behind.{SparesBehind}
 use Rattle.centre_store.specs.Bodies.{need_of}
-use Rattle.centre_store.specs.Given.{StandFor}
+use Rattle.centre_store.specs.Given.{StandFor, summed_size}
 use Rattle.centre_store.specs.Stores.{Stored, HasFailed, StoreStands, StandsOn, Shows, IsAsBefore}
 use Rattle.centre_store.specs.Orders.{StopsInOrder}
+use Rattle.centre_store.specs.Writes.{IsWrittenOn}
 
 abbrev pub is_in_force : Option (List ℕ) → List ℕ → Bool
 is_in_force None setup = false
@@ -50,9 +50,21 @@ LeavesWithin seen old new setup clock =
     (b : Summary) (h : List Entry) → StoreStands seen b old h → (HasFailed seen old → ⊥)
     → LeavesOnly (seen old.journal.disk) (seen new.journal.disk) (StandsWithin b h setup clock)
 
+-- and so does what a read gives then
+abbrev pub TellsWithin : {D : Type 0} → (D → DiskSeen) → Stored D → Stored D → List ℕ → ℕ → Type 0
+TellsWithin seen old new setup clock =
+    (b : Summary) (h : List Entry) → StoreStands seen b old h → (HasFailed seen old → ⊥)
+    → IfSome (seen new.journal.disk).told (StandsWithin b h setup clock)
+
 -- what the store shows after a stop, which one of the two events met
 abbrev pub ShowsOfBegin : {D : Type 0} → (D → DiskSeen) → Stored D → List ℕ → ℕ → Stop → Type 0
 ShowsOfBegin seen s setup clock stop = (event : Event) × IsOfBegin setup event × Shows seen s stop event clock
+
+-- the journal has the record of the Adopt
+abbrev pub IsAdoptWritten : {D : Type 0} → (D → DiskSeen) → Stored D → Stored D → List ℕ → Type 0
+IsAdoptWritten seen old s setup =
+    (b : Summary) (h : List Entry) → StoreStands seen b old h
+    → IsWrittenOn old.journal s.journal (summed_size b h) (need_of (Adopt setup))
 
 -- An Adopt was to be made and met a stop: the store stands for what it stood for, and is as it was before the call.
 pub record IsUnadopted {A D : Type 0} (seen : D → DiskSeen) (old new : Stored D) (setup : List ℕ) (r : Result A Stop) : Type 0 where
@@ -61,13 +73,13 @@ pub record IsUnadopted {A D : Type 0} (seen : D → DiskSeen) (old new : Stored 
   pub stands : StandsOn seen old new
   pub before : IsAsBefore old new r
 
--- The store between the two events: where there is no Adopt to make, the one before the call; else with the Adopt, behind whose record
--- nothing was written. Its disk has not failed.
+-- The store between the two events: where there is no Adopt to make, the one before the call; else with the Adopt. Its disk has not
+-- failed.
 pub record HasAdopted {D : Type 0} (seen : D → DiskSeen) (old s : Stored D) (setup : List ℕ) (clock : ℕ) : Type 0 where
   pub stands : (b : Summary) (h : List Entry) → StoreStands seen b old h
       → StoreStands seen b s (adopted_after b h setup clock)
   pub same : is_in_force old.state.sum.text setup ≡ true → s ≡ old
-  pub behind : SparesBehind (old.journal.used + need_of (Adopt setup)) (seen old.journal.disk) (seen s.journal.disk)
+  pub written : is_in_force old.state.sum.text setup ≡ false → IsAdoptWritten seen old s setup
   pub limits : s.journal.limits ≡ old.journal.limits
   pub up : HasFailed seen s → ⊥
 

@@ -1,20 +1,35 @@
 -- What an opening shows.
-use Rattle.std.specs.Prelude.{◌≡◌, ◌≢◌, ◌⊎◌, ℕ, List, length, Some, IfSome, Result, Ok, Err}
+use Rattle.std.specs.Prelude.{◌≡◌, ◌⊎◌, ℕ, List, Option, Some, None, IfSome, Result, Ok, Err}
 use Rattle.arc_io.specs.Areas.{Areas}
 use Rattle.arc_io.specs.Disks.{DiskSeen}
+use Rattle.centre_core.specs.Decoding.{IsNoSpelling}
 use Rattle.centre_rules.specs.Summary.{Summary}
-use Rattle.centre_rules.specs.History.{Entry}
+use Rattle.centre_rules.specs.Answers.{IsLegal}
+use Rattle.centre_rules.specs.History.{Entry, IsMoment, last, recorded}
+use Rattle.centre_rules.specs.State.{State}
 use Rattle.disk_journal.specs.Faults.{IsShown, IsOfContent}
 use Rattle.disk_journal.specs.Records.{IsDamaged}
 use Rattle.disk_journal.specs.Standing.{chosen_part, AreasStand}
 use Rattle.disk_journal.specs.declared.fault.OpenFault.{OpenFault}
 use Rattle.disk_journal.specs.declared.fault.OpenFault.TheVariants.{Damaged, Memory}
 use Rattle.disk_journal.specs.declared.journal.OpenRefused.{OpenRefused}
-use Rattle.centre_store.specs.Given.{IsGiven, AreasGive, HoldsRecorded}
-use Rattle.centre_store.specs.Pasts.{IsPast, IsBadAt}
+use Rattle.centre_store.specs.Given.{IsGiven, IsFirst, AreasGive, StandFor, HoldsRecorded}
+use Rattle.centre_store.specs.Pasts.{IsPast, IsBadAt, IsReplayed}
 use Rattle.centre_store.specs.Stores.{Stored, StoreStands}
 
--- the store stands for the past of the bodies that the areas gave over a summary, and its journal has it
+-- what stands first begins as the body of a summary, and spells none; its gate stands at this place
+abbrev pub IsBadFirst : Option (List ℕ) → ℕ → Type 0
+IsBadFirst None place = ⊥
+IsBadFirst (Some body) place = IsNoSpelling body × (place ≡ 16)
+
+-- the store stands for each legal history without quiet entries for which the areas stand, over each summary that areas give, where its last
+-- moment lies before the year 10000
+abbrev pub StandsForAll : {D : Type 0} → (D → DiskSeen) → Stored D → Areas → Type 0
+StandsForAll seen s areas = (b : Summary) (h : List Entry) → IsGiven b → IsLegal b h → IsMoment (last b h) → recorded h ≡ h → StandFor b h areas
+    → StoreStands seen b s h
+
+-- The store stands for the past of the bodies that the areas gave over a summary, and its journal has it. It stands for each
+-- history without quiet entries for which the areas stood, too.
 pub record IsOpened {D : Type 0} (seen : D → DiskSeen) (disk : D) (s : Stored D) : Type 0 where
   pub base : Summary
   pub bodies : List (List ℕ)
@@ -24,34 +39,32 @@ pub record IsOpened {D : Type 0} (seen : D → DiskSeen) (disk : D) (s : Stored 
   pub stands : StoreStands seen base s past
   pub held : HoldsRecorded seen s.journal base past
   pub area : IfSome (seen disk).told (λ a. AreasGive a base bodies)
+  pub every : IfSome (seen disk).told (StandsForAll seen s)
 
--- what a refusal says of the bodies that were read
-abbrev pub IsOfBodies : OpenFault → Summary → List (List ℕ) → Type 0
-IsOfBodies (Damaged place) base bodies = IsBadAt base bodies place
-IsOfBodies Memory base bodies = Unit {0}
-IsOfBodies fault base bodies = ⊥
+-- the centre is that of the bodies behind what stands first, over the summary that it spells
+pub record IsRestored (first : Option (List ℕ)) (bodies : List (List ℕ)) (s : State) : Type 0 where
+  pub base : Summary
+  pub first_is : IsFirst base first
+  pub replayed : IsReplayed base bodies s
 
--- and of all that a journal gave, with so many records: where they are fewer, the first body is that of a summary, which is no spelling
-abbrev pub IsOfAll : OpenFault → Summary → List (List ℕ) → ℕ → Type 0
-IsOfAll (Damaged place) base bodies records =
-    ((records ≡ length bodies) × IsBadAt base bodies place) ⊎ ((records ≢ length bodies) × (place ≡ 16))
-IsOfAll Memory base bodies records = Unit {0}
-IsOfAll fault base bodies records = ⊥
+-- what a refusal says of the bodies behind what stands first, over a summary
+abbrev pub IsOfReplay : OpenFault → Summary → Option (List ℕ) → List (List ℕ) → Type 0
+IsOfReplay (Damaged place) base first bodies = IsBadAt base first bodies place
+IsOfReplay Memory base first bodies = Unit {0}
+IsOfReplay fault base first bodies = ⊥
 
--- The areas begin with the body of a summary, which is no spelling of an event. Its gate stands at this place.
-pub record HasSummaryAt (areas : Areas) (place : ℕ) : Type 0 where
-  pub at : place ≡ 16
-  pub summary : List ℕ
-  pub bodies : List (List ℕ)
-  pub stands : AreasStand areas (Some summary) bodies
+-- what a refusal says of what stands first and of the bodies behind it
+abbrev pub IsOfBodies : OpenFault → Option (List ℕ) → List (List ℕ) → Type 0
+IsOfBodies (Damaged place) first bodies = IsBadFirst first place ⊎ ((base : Summary) × IsFirst base first × IsBadAt base first bodies place)
+IsOfBodies Memory first bodies = Unit {0}
+IsOfBodies fault first bodies = ⊥
 
--- what a refusal says of the areas: that they stand for no bodies, or for a summary first, or give some that have no past over their
--- summary
+-- what a refusal says of the areas: that they stand for no bodies; or that what stands first is no spelling of a summary, or that the bodies
+-- behind it have no past over it
 abbrev pub IsRefused : OpenFault → Areas → Type 0
 IsRefused (Damaged place) areas =
     IsDamaged (chosen_part areas) place
-    ⊎ (HasSummaryAt areas place
-    ⊎ ((base : Summary) × (bodies : List (List ℕ)) × AreasGive areas base bodies × IsBadAt base bodies place))
+    ⊎ ((first : Option (List ℕ)) × (bodies : List (List ℕ)) × AreasStand areas first bodies × IsOfBodies (Damaged place) first bodies)
 IsRefused fault areas = IsShown fault (chosen_part areas)
 
 -- the disk after an opening, which the store has or the refusal gives back

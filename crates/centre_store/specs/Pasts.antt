@@ -1,10 +1,11 @@
 -- The history over a summary for which a list of bodies stands, and where a list stands for none.
-use Rattle.std.specs.Prelude.{◌≡◌, ◌≤◌, ◌+◌, ◌^◌, ℕ, List, [], ◌∷◌, ◌++◌, true, length}
+use Rattle.std.specs.Prelude.{◌≡◌, ◌≤◌, ◌+◌, ◌^◌, ℕ, List, [], ◌∷◌, ◌++◌, true, length, Option}
 use Rattle.centre_rules.specs.Summary.{Summary}
 use Rattle.centre_rules.specs.History.{Entry, is_recorded}
 use Rattle.centre_rules.specs.Answers.{IsLegal}
 use Rattle.centre_rules.specs.State.{State, StandsFor}
 use Rattle.disk_journal.specs.Records.{front as bytes_before}
+use Rattle.disk_journal.specs.Standing.{all_of}
 use Rattle.event_codec.specs.Spelling.{HasSpelling}
 use Rattle.centre_store.specs.Bodies.{bodies_of}
 
@@ -30,15 +31,16 @@ pub record IsPast (base : Summary) (bodies : List (List ℕ)) (h : List Entry) :
 abbrev pub HasNoNext : Summary → List (List ℕ) → List Entry → List ℕ → Type 0
 HasNoNext base front past body = (e : Entry) → IsPast base (front ++ body ∷ []) (e ∷ past) → ⊥
 
--- The first bodies have a past, and no entry goes on from it with the next body. Its gate stands at this place.
-pub record IsBadAt (base : Summary) (bodies : List (List ℕ)) (place : ℕ) : Type 0 where
+-- Of the bodies behind what stands first, the first ones have a past, and no entry goes on from it with the next one. Its gate stands at
+-- this place.
+pub record IsBadAt (base : Summary) (first : Option (List ℕ)) (bodies : List (List ℕ)) (place : ℕ) : Type 0 where
   pub front : List (List ℕ)
   pub body : List ℕ
   pub behind : List (List ℕ)
   pub past : List Entry
   pub split : bodies ≡ front ++ body ∷ behind
   pub before : IsPast base front past
-  pub at : place ≡ length (bytes_before front)
+  pub at : place ≡ length (bytes_before (all_of first front))
   pub broken : HasNoNext base front past body
 
 -- the centre is that of these bodies over the summary

@@ -13,7 +13,7 @@ use Rattle.disk_journal.specs.Faults.{IsOver}
 use Rattle.disk_journal.specs.declared.journal.Journal.{Journal}
 use Rattle.event_codec.specs.Spelling.{HasSpelling, spelling}
 use Rattle.centre_store.specs.Bodies.{need_of}
-use Rattle.centre_store.specs.Given.{HasEither, HoldsRecorded}
+use Rattle.centre_store.specs.Given.{IsGiven, HasRecorded, HasEither, HoldsRecorded, summed_size}
 
 -- the centre's state, the journal over its disk, and the count of the disk's faults when the store was opened
 pub record Stored (D : Type 0) : Type 0 where
@@ -38,21 +38,25 @@ pub record IsTorn (disk : DiskSeen) (b : Summary) (h : List Entry) : Type 0 wher
   pub goes_on : IsNextKept b h entry
   pub leaves : HasEither disk b h (spelling entry.event entry.at)
 
--- The store stands for the history: its centre does, and its journal has the recorded entries. After a fault of the disk
--- the areas may have the record of one entry more, of the event that met the fault.
+-- The store stands for the history over a summary that areas give: its centre does, and its journal has the recorded entries. After a
+-- fault of the disk the areas stand for them, and after one that met an event, for them or for them with the record of that one more.
 pub record StoreStands {D : Type 0} (seen : D → DiskSeen) (b : Summary) (s : Stored D) (h : List Entry) : Type 0 where
+  pub given : IsGiven b
   pub centre : StandsFor b s.state h
-  pub journal : HoldsRecorded seen s.journal b h ⊎ (HasFailed seen s × IsTorn (seen s.journal.disk) b h)
+  pub journal : HoldsRecorded seen s.journal b h
+      ⊎ (HasFailed seen s × (HasRecorded (seen s.journal.disk) b h ⊎ IsTorn (seen s.journal.disk) b h))
 
 -- whatever the store stood for, it stands for
 abbrev pub StandsOn : {D : Type 0} → (D → DiskSeen) → Stored D → Stored D → Type 0
 StandsOn seen old new = (b : Summary) (h : List Entry) → StoreStands seen b old h → StoreStands seen b new h
 
--- every store stands for some history over some beginning, and the count of the disk's faults is at least that at opening
+-- every store stands for some history over some beginning, has at most 2^48 entries, and the count of the disk's faults is at least that
+-- at opening
 pub record IsStored {D : Type 0} (seen : D → DiskSeen) (s : Stored D) : Type 0 where
   pub base : Summary
   pub history : List Entry
   pub stands : StoreStands seen base s history
+  pub few : s.state.entries ≤ 2 ^ 48
   pub later : s.at_open ≤ (seen s.journal.disk).faults
 
 -- from h on, the store stands for the history with this entry, whose moment and reply are those of one thread
@@ -65,17 +69,20 @@ pub record Takes {D : Type 0} (seen : D → DiskSeen) (b : Summary) (s : Stored 
 abbrev pub IsToRecord : Summary → List Entry → Event → ℕ → Type 0
 IsToRecord b h event clock = is_recorded (answer b h event (moment_after b h clock)) ≡ true
 
--- the record of the event would pass a limit of the journal
-abbrev pub IsOverWith : {D : Type 0} → Stored D → Event → Type 0
-IsOverWith s event = IsOver s.journal.used (need_of event) s.journal.records s.journal.limits.bytes s.journal.limits.records
+-- The record of the event would pass a limit of the journal, and so it would behind a checkpoint, where so many bytes are used and there is
+-- no record.
+pub record IsOverWith {D : Type 0} (s : Stored D) (used : ℕ) (event : Event) : Type 0 where
+  pub now : IsOver s.journal.used (need_of event) s.journal.records s.journal.limits.bytes s.journal.limits.records
+  pub then : IsOver used (need_of event) 0 s.journal.limits.bytes s.journal.limits.records
 
--- the journal has no room for the record of the event, which would be recorded; the disk has not failed
+-- The journal has no room for the record of the event, which would be recorded, not even behind a checkpoint, for which these are the
+-- numbers; the disk has not failed.
 pub record IsShownFull {D : Type 0} (seen : D → DiskSeen)
     (s : Stored D) (used need records : ℕ) (event : Event) (clock : ℕ) : Type 0 where
-  pub used_is : used ≡ s.journal.used
+  pub used_is : (b : Summary) (h : List Entry) → StoreStands seen b s h → used ≡ summed_size b h
   pub need_is : need ≡ need_of event
-  pub records_is : records ≡ s.journal.records
-  pub over : IsOverWith s event
+  pub records_is : records ≡ 0
+  pub over : IsOverWith s used event
   pub up : HasFailed seen s → ⊥
   pub to_record : (b : Summary) (h : List Entry) → StoreStands seen b s h → IsToRecord b h event clock
 

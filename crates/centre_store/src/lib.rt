@@ -1,12 +1,13 @@
 //! The store: a centre whose recorded events stand in a journal. What a call has answered outlives every crash.
 #![tactic(auto)]
 
+mod checkpoint;
 mod hall;
 mod laws;
 mod open;
 mod store;
 mod submit;
 
-pub use laws::{law_one_opening, law_torn_opens};
+pub use laws::{law_one_opening, law_recorded_opens, law_torn_opens};
 pub use open::entry_in;
 pub use store::Store;

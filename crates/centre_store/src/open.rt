@@ -1,31 +1,32 @@
 // How a store is opened: the recorded events are read and taken in again, one after another.
-ghost use Rattle.std.specs.Prelude.{◌≡◌, ◌≤◌, ◌<◌, ◌↔◌, ◌^◌, ◌++◌, [], ◌∷◌, ℕ, List, true, false, length, OnOk, IfOk, IfErr, IfSome, IfNone, IsTrue};
+ghost use Rattle.std.specs.Prelude.{◌≡◌, ◌≤◌, ◌<◌, ◌↔◌, ◌^◌, ◌++◌, [], ◌∷◌, ℕ, List, Option, true, false, length, take, drop, OnOk, IfOk, IfErr, IfSome, IfNone, IsTrue};
 ghost use Rattle.arc_io.specs.Areas.{Areas};
 ghost use Rattle.arc_io.specs.Crashes.{Becomes, IsQuiet, LeavesOnly};
-ghost use Rattle.centre_rules.specs.Summary.{Summary, nothing};
+ghost use Rattle.centre_rules.specs.Summary.{Summary};
 ghost use Rattle.centre_rules.specs.History.{Entry, is_recorded};
 ghost use Rattle.centre_rules.specs.State.{StandsFor, entry_of};
 ghost use Rattle.disk_journal.specs.Faults.{IsOfContent, HasCounts};
 ghost use Rattle.disk_journal.specs.OtherArea.{SparesOther};
-ghost use Rattle.disk_journal.specs.Records.{size};
-ghost use Rattle.disk_journal.specs.Standing.{GoesOn};
+ghost use Rattle.disk_journal.specs.Records.{size, front as bytes_before};
+ghost use Rattle.disk_journal.specs.Standing.{GoesOn, all_of};
 ghost use Rattle.event_codec.specs.Spelling.{HasSpelling, spelling};
 ghost use Rattle.centre_store.specs.Pasts.{IsPast, HasNoNext, IsReplayed};
-ghost use Rattle.centre_store.specs.Openings.{IsOpened, IsRefused, IsOfAll, IsOfBodies, disk_of};
+ghost use Rattle.centre_store.specs.Openings.{IsOpened, IsRefused, IsRestored, IsOfReplay, IsOfBodies, disk_of};
 
 use crate::store::Store;
 use arc_data::Memory;
 use arc_io::Disk;
-use centre_core::{Centre, Ready};
+use centre_core::{Centre, Ready, decode_summary};
 use disk_journal::{Bodies, Journal, Limits, OpenFault, OpenRefused};
 use event_codec::decode;
 use std::alloc::Global;
 
 impl<D: Disk> Store<D> {
-    /// Opens the journal of both areas (at most `limits.bytes` bytes, below 2^32, and `limits.records` records), and takes its events in again.
-    /// An area of at most 17 bytes is a new one. Damaged comes, besides the journal's own cases, where a body is no spelling of an event,
-    /// as that of a summary is none, or its event would be quiet after those before it, or its moment is less than the one before; its
-    /// place is that of the first such body's gate. The other faults are the journal's.
+    /// Opens the journal of both areas (at most `limits.bytes` bytes in an area, below 2^32, and `limits.records` records behind its summary),
+    /// and takes its events in again, over the summary where it has one. An area of at most 17 bytes is a new one. Damaged comes, besides
+    /// the journal's own cases, where a first body that begins as that of a summary spells none, or another one is no spelling of an event,
+    /// or its event would be quiet after those before it, or its moment is less than the one before; its place is that of the first such
+    /// body's gate. The other faults are the journal's.
     pub fn open(alloc: Global, disk: D, limits: Limits) -> Result<Store<D>, OpenRefused<D>>
         requires few { limits.bytes < 2 ^ 32 }
 
@@ -68,29 +69,45 @@ impl<D: Disk> Store<D> {
     }
 }
 
-// The centre of the events of all these bodies, where so many are those of records.
+// The centre of the events of all these bodies. Where so many are those of records, and fewer than all, the first one is that of a summary.
 fn replay_all(alloc: Global, bodies: &Bodies, records: u64) -> Result<Centre, OpenFault>
     requires fits { size bodies.now < 2 ^ 64 }
-    ensures all { OnOk result (records ≡ length bodies.now) }
-    ensures replayed { IfOk result (IsReplayed nothing bodies.now) }
-    ensures broken { IfErr result (λ f. IsOfAll f nothing bodies.now records) }
+    ensures restored { IfOk result (λ centre. (first : Option (List ℕ)) (behind : List (List ℕ)) → bodies.now ≡ all_of first behind
+        → records ≡ length behind → IsRestored first behind centre) }
+    ensures broken { IfErr result (λ f. (first : Option (List ℕ)) (behind : List (List ℕ)) → bodies.now ≡ all_of first behind
+        → records ≡ length behind → IsOfBodies f first behind) }
 {
-    if bodies.count() as u64 != records {
-        return Err(OpenFault::Damaged { at: 16 });
+    let count = bodies.count();
+    if count as u64 == records || count == 0 {
+        return replay(alloc, bodies, 0, Centre::empty(alloc), 16);
     }
-    replay(alloc, bodies)
+    let summary = bodies.at(0);
+    match decode_summary(alloc, summary) {
+        Ok(Some((centre, _))) => replay(alloc, bodies, 1, centre, 21 + summary.len() as u64),
+        Ok(None) => Err(OpenFault::Damaged { at: 16 }),
+        Err(Memory) => Err(OpenFault::Memory),
+    }
 }
 
-// The centre of the events of these bodies.
-fn replay(alloc: Global, bodies: &Bodies) -> Result<Centre, OpenFault>
+// The centre with the events of the bodies from this one on, of which the gate stands at this place.
+fn replay(
+    alloc: Global,
+    bodies: &Bodies,
+    from: usize,
+    centre: Centre,
+    at: u64,
+) -> Result<Centre, OpenFault>
     requires fits { size bodies.now < 2 ^ 64 }
-    ensures replayed { IfOk result (IsReplayed nothing bodies.now) }
-    ensures broken { IfErr result (λ f. IsOfBodies f nothing bodies.now) }
+    requires within { from ≤ length bodies.now }
+    requires place { at ≡ length (bytes_before (take from bodies.now)) }
+    ensures replayed { IfOk result (λ restored. (base : Summary) → StandsFor base centre [] → base.recorded ≤ 2 ^ 48
+        → IsReplayed base (drop from bodies.now) restored) }
+    ensures broken { IfErr result (λ f. (base : Summary) (first : Option (List ℕ)) → StandsFor base centre [] → base.recorded ≤ 2 ^ 48
+        → take from bodies.now ≡ all_of first [] → IsOfReplay f base first (drop from bodies.now)) }
 {
-    let mut centre = Centre::empty(alloc);
-    let mut at = 16;
-    let count = bodies.count();
-    for i in 0..count {
+    let mut centre = centre;
+    let mut at = at;
+    for i in from..bodies.count() {
         let body = bodies.at(i);
         match take_in(&mut centre, alloc, body) {
             Ok(true) => at += 5 + body.len() as u64,

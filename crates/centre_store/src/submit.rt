@@ -7,26 +7,24 @@ ghost use Rattle.arc_io.specs.Crashes.{LeavesOnly};
 ghost use Rattle.centre_rules.specs.Summary.{Summary};
 ghost use Rattle.centre_rules.specs.History.{Entry, moment_after, is_recorded, IsMoment};
 ghost use Rattle.centre_rules.specs.Answers.{answer_over};
-ghost use Rattle.centre_rules.specs.State.{Grows};
+ghost use Rattle.centre_rules.specs.State.{Grows, entry_of};
 ghost use Rattle.centre_core.specs.Runs.{IsSubmitted};
 ghost use Rattle.centre_core.specs.Setting.{IsSetting};
-ghost use Rattle.disk_journal.specs.Journal.{Holds};
-ghost use Rattle.disk_journal.specs.OtherArea.{SparesOther};
-ghost use Rattle.disk_journal.specs.Behind.{SparesBehind};
-ghost use Rattle.disk_journal.specs.Standing.{StandsForEither};
 ghost use Rattle.event_codec.specs.Spelling.{IsKept, HasSpelling, spelling};
 ghost use Rattle.centre_store.specs.Bodies.{need_of};
-ghost use Rattle.centre_store.specs.Given.{StandForEither, Leaves, HasEither};
+ghost use Rattle.centre_store.specs.Given.{StandForEither, HoldsRecorded, HasEither, summed_size};
+ghost use Rattle.centre_store.specs.StoreHalls.{is_told};
 ghost use Rattle.centre_store.specs.Stores.{HasFailed, IsStored, StoreStands, StandsOn, Takes, Shows};
 ghost use Rattle.centre_store.specs.Stores.{IsSameJournal, LeavesJournal, IsAsBefore};
 ghost use Rattle.centre_store.specs.Orders.{IsDownWhereFailed, IsWornFirst, IsFullThen, StopsInOrder};
-ghost use Rattle.centre_store.specs.Writes.{IsOverAt, IsUnwritten};
-ghost use Rattle.centre_store.specs.Begins.{begun_after, adopted_after, is_in_force, LeavesWithin, ShowsOfBegin, BeginsInOrder};
+ghost use Rattle.centre_store.specs.Writes.{HaveAll, HaveSome, IsOverAt, IsOverThen, IsWrittenOn, IsUnwritten};
+ghost use Rattle.centre_store.specs.Begins.{begun_after, adopted_after, is_in_force, IsAdoptWritten, LeavesWithin, TellsWithin, ShowsOfBegin, BeginsInOrder};
 
+use crate::checkpoint::make_room;
 use crate::store::Store;
 use arc_data::{Blob, Event};
 use arc_io::Disk;
-use centre_core::{Done, Ready, Setup, Stop};
+use centre_core::{Centre, Done, Ready, Setup, Stop};
 use disk_journal::{AppendFault, Journal};
 use event_codec::encode;
 use std::alloc::Global;
@@ -59,7 +57,8 @@ impl<D: Disk> Store<D> {
 
         // A crash at any moment of the call leaves the records from before it, with those of its entries up to some one.
         ensures any_moment { LeavesWithin D.seen self.old self.new setup clock }
-        ensures spared { SparesOther (D.seen self.old.journal.disk) (D.seen self.new.journal.disk) }
+        ensures met { TellsWithin D.seen self.old self.new setup clock }
+        ensures tells { is_told (D.seen self.new.journal.disk).told ≡ is_told (D.seen self.old.journal.disk).told }
         ensures at_open { self.new.at_open ≡ self.old.at_open }
         ensures limits { self.new.journal.limits ≡ self.old.journal.limits }
         ensures later { (D.seen self.old.journal.disk).faults ≤ (D.seen self.new.journal.disk).faults }
@@ -72,8 +71,9 @@ impl<D: Disk> Store<D> {
 
     /// Submits an event of a caller at a reading of the clock (seconds since 1970). The order of its stops: Down where the disk has failed
     /// since the opening; Worn from 281,474,976,710,656 entries on; Memory; Full where the event is to be recorded and its record would
-    /// pass a limit of the journal; Down where the disk fails now. After Memory, Full and Worn all is as before. After Down the event
-    /// may stand in the journal or not, until the store is closed and opened again.
+    /// pass a limit of the journal, behind a checkpoint too, which is made first where that helps; Down where the disk fails now. After
+    /// Memory, Full and Worn all is as before. After Down the event may stand in the journal or not, until the store is closed and opened
+    /// again.
     pub fn submit(
         &mut self,
         alloc: Global,
@@ -97,6 +97,8 @@ impl<D: Disk> Store<D> {
         ensures entries { OnErr result (self.new.state.entries ≡ self.old.state.entries) }
         ensures sum { OnErr result (self.new.state.sum ≡ self.old.state.sum) }
         ensures unwritten { LeavesJournal self.old.journal self.new.journal result }
+        ensures written { IfOk result (λ d. (b : Summary) (h : List Entry) → StoreStands D.seen b self.old h → is_recorded d.reply ≡ true
+            → IsWrittenOn self.old.journal self.new.journal (summed_size b h) (need_of event)) }
         ensures quiet { IfOk result (λ d. is_recorded d.reply ≡ false → IsSameJournal self.old.journal self.new.journal) }
 
         // When each stop comes, want of memory aside.
@@ -112,8 +114,7 @@ impl<D: Disk> Store<D> {
         ensures met { (b : Summary) (h : List Entry) → StoreStands D.seen b self.old h
             → (HasFailed D.seen self.old → ⊥)
             → HasEither (D.seen self.new.journal.disk) b h (spelling event (moment_after b h clock)) }
-        ensures spared { SparesOther (D.seen self.old.journal.disk) (D.seen self.new.journal.disk) }
-        ensures behind { OnOk result (SparesBehind (self.old.journal.used + need_of event) (D.seen self.old.journal.disk) (D.seen self.new.journal.disk)) }
+        ensures tells { is_told (D.seen self.new.journal.disk).told ≡ is_told (D.seen self.old.journal.disk).told }
         ensures at_open { self.new.at_open ≡ self.old.at_open }
         ensures limits { self.new.journal.limits ≡ self.old.journal.limits }
         ensures text { self.new.state.sum.text ≡ self.old.state.sum.text }
@@ -131,6 +132,8 @@ impl<D: Disk> Store<D> {
         ensures stored { IsStored D.seen self.old }
         ensures adopted { OnOk result ((b : Summary) (h : List Entry) → StoreStands D.seen b self.old h
             → StoreStands D.seen b self.new (adopted_after b h setup.now clock)) }
+        ensures written { OnOk result (is_in_force self.old.state.sum.text setup.now ≡ false
+            → IsAdoptWritten D.seen self.old self.new setup.now) }
         ensures text { OnOk result (self.new.state.sum.text ≡ Some setup.now) }
         ensures stop { OnErr result (StandsOn D.seen self.old self.new) }
         ensures cause { IfErr result (λ s. ShowsOfBegin D.seen self.new setup.now clock s) }
@@ -142,9 +145,8 @@ impl<D: Disk> Store<D> {
         ensures in_force { is_in_force self.old.state.sum.text setup.now ≡ true → self.new ≡ self.old }
         ensures adopts { IsErr result → (HasFailed D.seen self.old → ⊥) → is_in_force self.old.state.sum.text setup.now ≡ false }
         ensures any_moment { LeavesWithin D.seen self.old self.new setup.now clock }
-        ensures spared { SparesOther (D.seen self.old.journal.disk) (D.seen self.new.journal.disk) }
-        ensures behind { OnOk result (SparesBehind (self.old.journal.used + need_of (Event.Adopt setup.now)) (D.seen self.old.journal.disk) (D.seen self.new.journal.disk)) }
-        ensures area { self.new.journal.area ≡ self.old.journal.area }
+        ensures met { TellsWithin D.seen self.old self.new setup.now clock }
+        ensures tells { is_told (D.seen self.new.journal.disk).told ≡ is_told (D.seen self.old.journal.disk).told }
         ensures at_open { self.new.at_open ≡ self.old.at_open }
         ensures limits { self.new.journal.limits ≡ self.old.journal.limits }
         ensures later { (D.seen self.old.journal.disk).faults ≤ (D.seen self.new.journal.disk).faults }
@@ -190,6 +192,8 @@ impl<D: Disk> Store<D> {
         ensures entries { OnErr result (self.new.state.entries ≡ self.old.state.entries) }
         ensures sum { OnErr result (self.new.state.sum ≡ self.old.state.sum) }
         ensures unwritten { LeavesJournal self.old.journal self.new.journal result }
+        ensures written { IfOk result (λ d. (b : Summary) (h : List Entry) → StoreStands D.seen b self.old h → is_recorded d.reply ≡ true
+            → IsWrittenOn self.old.journal self.new.journal (summed_size b h) (need_of event)) }
         ensures quiet { IfOk result (λ d. is_recorded d.reply ≡ false → IsSameJournal self.old.journal self.new.journal) }
 
         ensures down { IsDownWhereFailed D.seen self.new result }
@@ -203,9 +207,7 @@ impl<D: Disk> Store<D> {
         ensures met { (b : Summary) (h : List Entry) → StoreStands D.seen b self.old h
             → (HasFailed D.seen self.old → ⊥)
             → HasEither (D.seen self.new.journal.disk) b h (spelling event (moment_after b h clock)) }
-        ensures spared { SparesOther (D.seen self.old.journal.disk) (D.seen self.new.journal.disk) }
-        ensures behind { OnOk result (SparesBehind (self.old.journal.used + need_of event) (D.seen self.old.journal.disk) (D.seen self.new.journal.disk)) }
-        ensures area { self.new.journal.area ≡ self.old.journal.area }
+        ensures tells { is_told (D.seen self.new.journal.disk).told ≡ is_told (D.seen self.old.journal.disk).told }
         ensures at_open { self.new.at_open ≡ self.old.at_open }
         ensures limits { self.new.journal.limits ≡ self.old.journal.limits }
         ensures later { (D.seen self.old.journal.disk).faults ≤ (D.seen self.new.journal.disk).faults }
@@ -219,7 +221,14 @@ impl<D: Disk> Store<D> {
         if ready.quiet() {
             return Ok(self.centre.apply(ready));
         }
-        match write(&mut self.journal, &mut self.body, self.at_open, &ready) {
+        match write(
+            alloc,
+            &mut self.journal,
+            &mut self.body,
+            self.at_open,
+            &self.centre,
+            &ready,
+        ) {
             Ok(()) => Ok(self.centre.apply(ready)),
             Err(stop) => {
                 ready.discard();
@@ -229,7 +238,7 @@ impl<D: Disk> Store<D> {
     }
 
     // Down where the disk has failed since the opening.
-    fn check_disk(&self) -> Result<(), Stop>
+    pub(crate) fn check_disk(&self) -> Result<(), Stop>
         ensures stored { IsStored D.seen self.now }
         ensures up { OnOk result (HasFailed D.seen self.now → ⊥) }
         ensures down { IfErr result (λ s. s ≡ Stop.Down self.now.at_open (D.seen self.now.journal.disk).faults) }
@@ -252,59 +261,57 @@ impl<D: Disk> Store<D> {
     }
 }
 
-// Writes the record of what is ready, and has it on the disk. Its body is made in the vector.
+// Writes the record of what is ready, behind a checkpoint where it needs one, and has it on the disk. Its body is made in the vector. All
+// memory is taken before the first call of the disk.
 fn write<D: Disk>(
+    alloc: Global,
     journal: &mut Journal<D>,
     body: &mut Vec<u8>,
     at_open: u64,
+    centre: &Centre,
     ready: &Ready,
 ) -> Result<(), Stop>
-    requires holds { (summary : Option (List ℕ)) × (bodies : List (List ℕ)) × Holds D.seen journal.old summary bodies }
+    requires had { HaveSome D.seen journal.old centre.now }
+    requires few { centre.now.entries < 2 ^ 48 }
     requires formed { IsWellFormed ready.now.event }
     requires kept { IsKept ready.now.event }
+    requires recorded { is_recorded ready.now.reply ≡ true }
     requires later { at_open ≤ (D.seen journal.old.disk).faults }
     requires up { Rose at_open (D.seen journal.old.disk).faults → ⊥ }
 
-    ensures added { OnOk result ((summary : Option (List ℕ)) (bodies : List (List ℕ)) → Holds D.seen journal.old summary bodies
-        → Holds D.seen journal.new summary (bodies ++ spelling ready.now.event ready.now.at ∷ [])) }
+    ensures added { OnOk result ((b : Summary) (h : List Entry) (caller : ℕ) → HaveAll D.seen journal.old centre.now b h
+        → HoldsRecorded D.seen journal.new b (entry_of caller ready.now ∷ h)) }
+    ensures written { OnOk result ((b : Summary) (h : List Entry) → HaveAll D.seen journal.old centre.now b h
+        → IsWrittenOn journal.old journal.new (summed_size b h) (need_of ready.now.event)) }
     ensures up { OnOk result (Rose at_open (D.seen journal.new.disk).faults → ⊥) }
-    ensures stop { IfErr result (IsUnwritten D.seen at_open journal.old journal.new (need_of ready.now.event)) }
-    ensures full { IsOverAt journal.old (need_of ready.now.event)
-        → (result ≡ Err Stop.Memory) ⊎ (result ≡ Err (Stop.Full journal.old.used (need_of ready.now.event) journal.old.records)) }
+    ensures stop { IfErr result (IsUnwritten D.seen at_open journal.old journal.new centre.now (need_of ready.now.event)) }
+    ensures full { (b : Summary) (h : List Entry) → HaveAll D.seen journal.old centre.now b h
+        → IsOverAt journal.old (need_of ready.now.event)
+        → IsOverThen journal.old (summed_size b h) (need_of ready.now.event)
+        → (result ≡ Err Stop.Memory) ⊎ (result ≡ Err (Stop.Full (summed_size b h) (need_of ready.now.event) 0)) }
 
-    ensures any_moment { (summary : Option (List ℕ)) (bodies : List (List ℕ)) → Holds D.seen journal.old summary bodies
+    ensures any_moment { (b : Summary) (h : List Entry) → HaveAll D.seen journal.old centre.now b h
         → LeavesOnly (D.seen journal.old.disk) (D.seen journal.new.disk)
-        (StandsForEither summary bodies (spelling ready.now.event ready.now.at)) }
-    ensures met { (summary : Option (List ℕ)) (bodies : List (List ℕ)) → Holds D.seen journal.old summary bodies
-        → Leaves (D.seen journal.new.disk) summary bodies (spelling ready.now.event ready.now.at) }
-    ensures spared { SparesOther (D.seen journal.old.disk) (D.seen journal.new.disk) }
-    ensures behind { OnOk result (SparesBehind (journal.old.used + need_of ready.now.event) (D.seen journal.old.disk) (D.seen journal.new.disk)) }
+        (StandForEither b h (spelling ready.now.event ready.now.at)) }
+    ensures met { (b : Summary) (h : List Entry) → HaveAll D.seen journal.old centre.now b h
+        → HasEither (D.seen journal.new.disk) b h (spelling ready.now.event ready.now.at) }
     ensures spelled { HasSpelling ready.now.event ready.now.at }
-    ensures area { journal.new.area ≡ journal.old.area }
+    ensures tells { is_told (D.seen journal.new.disk).told ≡ is_told (D.seen journal.old.disk).told }
     ensures limits { journal.new.limits ≡ journal.old.limits }
     ensures later { (D.seen journal.old.disk).faults ≤ (D.seen journal.new.disk).faults }
     ensures met_none { OnOk result ((D.seen journal.new.disk).faults ≡ (D.seen journal.old.disk).faults) }
 {
-    let at = ready.at();
-    let Ok(()) = encode(ready.event(), at, body) else {
+    let Ok(()) = encode(ready.event(), ready.at(), body) else {
         return Err(Stop::Memory);
     };
-    let Ok(()) = journal.reserve(5 + body.len() as u64) else {
+    let need = 5 + body.len() as u64;
+    let Ok(()) = journal.reserve(need) else {
         return Err(Stop::Memory);
     };
+    make_room(alloc, journal, at_open, centre, need)?;
     match journal.append(body) {
         Ok(()) => Ok(()),
-        Err(
-            AppendFault::Full {
-                used,
-                need,
-                records,
-            },
-        ) => Err(Stop::Full {
-            used,
-            need,
-            records,
-        }),
+        Err(AppendFault::Full { .. }) => unreachable!(),
         Err(AppendFault::DiskFault { .. }) => Err(Stop::Down {
             at_open,
             now: journal.disk().faults(),

@@ -11,7 +11,7 @@ use Rattle.centre_core.specs.declared.hall.Stop.{Stop}
 use Rattle.centre_core.specs.declared.hall.Stop.TheVariants.{Memory, Down, Full, Worn}
 use Rattle.disk_journal.specs.Faults.{IsOver}
 use Rattle.centre_store.specs.Bodies.{need_of}
-use Rattle.centre_store.specs.Given.{HasNumbers}
+use Rattle.centre_store.specs.Given.{summed_size}
 use Rattle.centre_store.specs.Stores.{IsToRecord}
 use Rattle.line_gate.specs.Entries.{Entry, Extends, made_by}
 use Rattle.line_gate.specs.declared.view.View.{View}
@@ -70,17 +70,18 @@ pub record Makes (t : Terms) (p q : PassSeen) (clock : ℕ) (e : Entry) : Type 0
 
 -- What a pass shows after a stop of an event at a reading of the clock.
 
--- over this base the journal has the records of what the pass has seen, and the event would be recorded
-pub record IsFullAfter (t : Terms) (since : List Entry) (used records : ℕ) (event : Event) (clock : ℕ) (b : Summary) (base : List Entry)
+-- over this base a checkpoint of what the pass has seen uses so many bytes, and the event would be recorded
+pub record IsFullAfter (t : Terms) (since : List Entry) (used : ℕ) (event : Event) (clock : ℕ) (b : Summary) (base : List Entry)
     : Type 0 where
-  pub numbers : HasNumbers b (since ++ base) used records
+  pub used_is : used ≡ summed_size b (since ++ base)
   pub to_record : IsToRecord b (since ++ base) event clock
 
--- the event's record would pass a limit of the journal
+-- the event's record would pass a limit of the journal, behind a checkpoint too
 pub record IsShownFull (t : Terms) (since : List Entry) (used need records : ℕ) (event : Event) (clock : ℕ) : Type 0 where
   pub need_is : need ≡ need_of event
-  pub over : IsOver used need records t.limits.bytes t.limits.records
-  pub after : (b : Summary) (base : List Entry) → t.stood b base → IsFullAfter t since used records event clock b base
+  pub records_is : records ≡ 0
+  pub over : IsOver used need 0 t.limits.bytes t.limits.records
+  pub after : (b : Summary) (base : List Entry) → t.stood b base → IsFullAfter t since used event clock b base
 
 -- the disk has failed since the store was opened, as the pass was told; the history has so many entries
 abbrev pub PassShows : Terms → PassSeen → Stop → Event → ℕ → Type 0

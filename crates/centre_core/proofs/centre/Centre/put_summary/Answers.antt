@@ -17,8 +17,8 @@ use Rattle.centre_core.proofs.centre.Centre.put_summary.Goals as goal
 pub put_kept-requires : goal.put_kept-requires
 put_kept-requires c a = ap (λ (xs : List (List ℕ)). list_any (λ x. bytes_eq x a) xs) c.deref.ensures.value ∙ c.in_ok-accounts.ensures.all a
 
-pub returns : goal.returns
-returns c b h spelled stands =
+pub returns-clause-spelled : goal.returns-clause-spelled
+returns-clause-spelled c b h spelled stands =
     let inside = c.self.inside in
     let xs = c.in_ok-accounts.accounts.items in
     let state : State = the_view inside in

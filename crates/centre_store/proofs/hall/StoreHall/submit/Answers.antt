@@ -11,7 +11,7 @@ returns-clause-kept g c =
       ready = subst IsSetting (sym met.text) c.requires.ready;
       text = ap (λ (t : Option (List ℕ)). unwrap_or t []) met.text;
       caller = refl;
-      fixed = fixed_stays g.D.Disk.seen c.args.self.now c.submit.new.self met.at_open met.limits met.spared;
+      fixed = fixed_stays g.D.Disk.seen c.args.self.now c.submit.new.self met.at_open met.limits met.tells;
       count = omega arith;
       told = met.later;
     }

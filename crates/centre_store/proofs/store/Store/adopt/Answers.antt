@@ -1,12 +1,15 @@
-use Rattle.std.proofs.Common.{◌≡◌, ◌∙◌, List, ℕ, rules, inr, refl, ap, subst, sym}
+use Rattle.std.proofs.Common.{◌≡◌, ◌∙◌, List, ℕ, rules, inr, refl, subst, sym}
 use Rattle.std.specs.Prelude.{false, Err, IfErr, IsOk}
 use Rattle.arc_data.specs.declared.event.Event.TheVariants.{Adopt, Start}
 use Rattle.alarm_rules.specs.Setups.{setup_of}
 use Rattle.centre_store.specs.Begins.{is_in_force}
+use Rattle.centre_store.specs.Bodies.{need_of}
+use Rattle.centre_store.specs.Given.{summed_size}
+use Rattle.centre_store.specs.Orders.{StopsInOrder}
 use Rattle.centre_store.specs.Stores.{Shows}
-use Rattle.centre_store.proofs.Begun.{still_within, adopt_within, adopted_stands, known_force, cause_of}
-use Rattle.centre_store.proofs.Ordered.{before_on}
-use Rattle.centre_store.proofs.Written.{behind_still, behind_event}
+use Rattle.centre_store.specs.Writes.{IsWrittenOn}
+use Rattle.centre_store.proofs.Begun.{still_within, still_tells, adopt_within, adopt_tells, adopt_recorded, adopted_stands, known_force, cause_of}
+use Rattle.centre_store.proofs.Ordered.{order_on, before_on}
 use Rattle.centre_store.proofs.store.Store.adopt.Goals as goal
 
 pub returns-in_err-check_disk-clause-cause : goal.returns-in_err-check_disk-clause-cause
@@ -61,18 +64,50 @@ returns-clause-adopted g c b h w =
     c.in_ok-enter.field-0.at c.in_ok-enter.field-0.reply same valid
     (known_force b c.args.self.now.state h c.args.setup.now false w.centre is) (c.in_ok-enter.ensures.done b h 0 w)
 
-pub returns-then-has_in_force-clause-behind : goal.returns-then-has_in_force-clause-behind
-returns-then-has_in_force-clause-behind g c = behind_still g.D.Disk.seen c.args.self.now c.args.self.now _ refl
-
-pub returns-clause-behind : goal.returns-clause-behind
-returns-clause-behind g c =
-    let same : c.in-Ok.text ≡ c.args.setup.now = c.in-Ok.ensures ∙ c.text-bytes.ensures.value in
-    behind_event g.D.Disk.seen c.args.self.now c.args.self.now c.enter.new.self.journal.disk (Adopt c.args.setup.now) (Adopt c.in-Ok.text) refl
-    (ap Adopt same) c.in_ok-enter.ensures.behind
-
 pub returns-in_err-enter-clause-before : goal.returns-in_err-enter-clause-before
 returns-in_err-enter-clause-before g c =
     let result = c.from_residual-in_err-enter.result in
     let on : result ≡ Err c.in_err-enter.field-0.0 = search rules in
     before_on c.args.self.now c.enter.new.self result c.in_err-enter.field-0.0 on
     c.in_err-enter.ensures.entries c.in_err-enter.ensures.sum c.in_err-enter.ensures.unwritten
+
+pub returns-then-has_in_force-clause-met : goal.returns-then-has_in_force-clause-met
+returns-then-has_in_force-clause-met g c b h w up = still_tells g.D.Disk.seen b c.args.self.now h c.args.setup.now c.args.clock up w
+
+pub returns-in_err-check_count-clause-met : goal.returns-in_err-check_count-clause-met
+returns-in_err-check_count-clause-met g c b h w up = still_tells g.D.Disk.seen b c.args.self.now h c.args.setup.now c.args.clock up w
+
+pub returns-in_default-clause-met : goal.returns-in_default-clause-met
+returns-in_default-clause-met g c b h w up = still_tells g.D.Disk.seen b c.args.self.now h c.args.setup.now c.args.clock up w
+
+pub returns-in_err-enter-clause-met : goal.returns-in_err-enter-clause-met
+returns-in_err-enter-clause-met g c b h w up =
+    let same : c.in-Ok.text ≡ c.args.setup.now = c.in-Ok.ensures ∙ c.text-bytes.ensures.value in
+    let is : is_in_force c.args.self.now.state.sum.text c.args.setup.now ≡ false = sym c.has_in_force.ensures ∙ c.if-has_in_force.false in
+    adopt_tells g.D.Disk.seen b c.args.self.now c.enter.new.self.journal.disk h
+    c.args.setup.now c.in-Ok.text c.args.clock same is w (c.enter.ensures.met b h w up)
+
+pub returns-clause-met : goal.returns-clause-met
+returns-clause-met g c b h w up =
+    let same : c.in-Ok.text ≡ c.args.setup.now = c.in-Ok.ensures ∙ c.text-bytes.ensures.value in
+    let is : is_in_force c.args.self.now.state.sum.text c.args.setup.now ≡ false = sym c.has_in_force.ensures ∙ c.if-has_in_force.false in
+    adopt_tells g.D.Disk.seen b c.args.self.now c.enter.new.self.journal.disk h
+    c.args.setup.now c.in-Ok.text c.args.clock same is w (c.enter.ensures.met b h w up)
+
+pub returns-clause-written : goal.returns-clause-written
+returns-clause-written g c other b h w =
+    let same : c.in-Ok.text ≡ c.args.setup.now = c.in-Ok.ensures ∙ c.text-bytes.ensures.value in
+    let valid : IsOk (setup_of c.args.setup.now) = subst (λ (t : List ℕ). IsOk (setup_of t)) c.text-bytes.ensures.value c.text-bytes.ensures.valid in
+    let recorded = adopt_recorded g.D.Disk.seen b c.enter.new.self h c.args.setup.now c.in-Ok.text c.args.clock
+    c.in_ok-enter.field-0.at c.in_ok-enter.field-0.reply same valid (c.in_ok-enter.ensures.done b h 0 w) in
+    subst (λ (t : List ℕ). IsWrittenOn c.args.self.now.journal c.enter.new.self.journal (summed_size b h) (need_of (Adopt t))) same
+    (c.in_ok-enter.ensures.written b h w recorded)
+
+pub returns-in_err-enter-clause-order : goal.returns-in_err-enter-clause-order
+returns-in_err-enter-clause-order g c other =
+    let same : c.in-Ok.text ≡ c.args.setup.now = c.in-Ok.ensures ∙ c.text-bytes.ensures.value in
+    let result = c.from_residual-in_err-enter.result in
+    let on : result ≡ Err c.in_err-enter.field-0.0 = search rules in
+    subst (λ (t : List ℕ). StopsInOrder g.D.Disk.seen c.args.self.now (Adopt t) c.args.clock result) same
+    (order_on g.D.Disk.seen c.args.self.now (Adopt c.in-Ok.text) c.args.clock _ result c.in_err-enter.field-0.0 refl on
+    c.in_err-enter.ensures.worn c.in_err-enter.ensures.full)

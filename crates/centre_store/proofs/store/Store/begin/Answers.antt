@@ -1,11 +1,9 @@
-use Rattle.std.proofs.Common.{◌≡◌, inr, refl, rules, subst, sym}
-use Rattle.std.specs.Prelude.{Err}
+use Rattle.std.proofs.Common.{◌≡◌, inl, inr, refl, rules}
+use Rattle.std.specs.Prelude.{Err, IsErr}
 use Rattle.arc_data.specs.declared.event.Event.TheVariants.{Adopt, Start}
 use Rattle.arc_io.proofs.Moments.{joined}
 use Rattle.centre_store.specs.Begins.{adopted_after, StandsWithin}
-use Rattle.centre_store.specs.Stores.{Stored, HasFailed}
-use Rattle.centre_store.proofs.Begun.{within_start, started_stands, on_err}
-use Rattle.centre_store.proofs.Entered.{spares_both}
+use Rattle.centre_store.proofs.Begun.{within_start, start_tells, started_stands, on_err}
 use Rattle.centre_store.proofs.Ordered.{order_on, order_past, before_on}
 use Rattle.centre_store.proofs.store.Store.begin.Goals as goal
 
@@ -29,28 +27,6 @@ returns-clause-any_moment g c b h w up =
     cc))
     (λ x e. within_start b h c.args.setup c.args.clock x e)
 
-pub returns-in_err-enter-clause-spared : goal.returns-in_err-enter-clause-spared
-returns-in_err-enter-clause-spared g c =
-    let s = c.adopt.ensures.stored in
-    let now : HasFailed g.D.Disk.seen c.adopt.new.self → ⊥ = λ f.
-    let e = c.in_ok-adopt.ensures.down.0 f in
-    cc in
-    let up : HasFailed g.D.Disk.seen c.args.self.now → ⊥ = λ f. now (subst (λ (x : Stored g.row.D.Denot). HasFailed g.D.Disk.seen x) (sym (c.adopt.ensures.already f)) f) in
-    spares_both g.D.Disk.seen s.base c.args.self.now c.adopt.new.self c.enter.new.self.journal.disk s.history
-    (adopted_after s.base s.history c.args.setup c.args.clock) s.stands up (c.in_ok-adopt.ensures.adopted s.base s.history s.stands) now c.adopt.ensures.area
-    c.adopt.ensures.spared c.enter.ensures.spared
-
-pub returns-clause-spared : goal.returns-clause-spared
-returns-clause-spared g c =
-    let s = c.adopt.ensures.stored in
-    let now : HasFailed g.D.Disk.seen c.adopt.new.self → ⊥ = λ f.
-    let e = c.in_ok-adopt.ensures.down.0 f in
-    cc in
-    let up : HasFailed g.D.Disk.seen c.args.self.now → ⊥ = λ f. now (subst (λ (x : Stored g.row.D.Denot). HasFailed g.D.Disk.seen x) (sym (c.adopt.ensures.already f)) f) in
-    spares_both g.D.Disk.seen s.base c.args.self.now c.adopt.new.self c.enter.new.self.journal.disk s.history
-    (adopted_after s.base s.history c.args.setup c.args.clock) s.stands up (c.in_ok-adopt.ensures.adopted s.base s.history s.stands) now c.adopt.ensures.area
-    c.adopt.ensures.spared c.enter.ensures.spared
-
 pub returns-clause-begun : goal.returns-clause-begun
 returns-clause-begun g c b h w =
     started_stands g.D.Disk.seen b c.enter.new.self (adopted_after b h c.args.setup c.args.clock) c.args.clock
@@ -70,7 +46,7 @@ returns-in_err-enter-clause-order g c up =
         adopted = record {
           stands = c.in_ok-adopt.ensures.adopted;
           same = c.adopt.ensures.in_force;
-          behind = c.in_ok-adopt.ensures.behind;
+          written = c.in_ok-adopt.ensures.written;
           limits = c.adopt.ensures.limits;
           up = λ f.
               let e = c.in_ok-adopt.ensures.down.0 f in
@@ -93,7 +69,7 @@ returns-clause-order g c up = record {
     adopted = record {
       stands = c.in_ok-adopt.ensures.adopted;
       same = c.adopt.ensures.in_force;
-      behind = c.in_ok-adopt.ensures.behind;
+      written = c.in_ok-adopt.ensures.written;
       limits = c.adopt.ensures.limits;
       up = λ f.
           let e = c.in_ok-adopt.ensures.down.0 f in
@@ -109,3 +85,37 @@ pub returns-in_err-enter-clause-stop : goal.returns-in_err-enter-clause-stop
 returns-in_err-enter-clause-stop g c =
     on_err c.from_residual-in_err-enter.result
     (λ b h w. inr (c.in_err-enter.ensures.stop b (adopted_after b h c.args.setup c.args.clock) (c.in_ok-adopt.ensures.adopted b h w)))
+
+pub returns-in_err-enter-clause-met : goal.returns-in_err-enter-clause-met
+returns-in_err-enter-clause-met g c b h w up =
+    start_tells g.D.Disk.seen b c.enter.new.self.journal.disk h c.args.setup c.args.clock
+    (c.enter.ensures.met b (adopted_after b h c.args.setup c.args.clock) (c.in_ok-adopt.ensures.adopted b h w)
+    (λ f.
+    let e = c.in_ok-adopt.ensures.down.0 f in
+    cc))
+
+pub returns-clause-met : goal.returns-clause-met
+returns-clause-met g c b h w up =
+    start_tells g.D.Disk.seen b c.enter.new.self.journal.disk h c.args.setup c.args.clock
+    (c.enter.ensures.met b (adopted_after b h c.args.setup c.args.clock) (c.in_ok-adopt.ensures.adopted b h w)
+    (λ f.
+    let e = c.in_ok-adopt.ensures.down.0 f in
+    cc))
+
+pub returns-in_err-adopt-clause-order : goal.returns-in_err-adopt-clause-order
+returns-in_err-adopt-clause-order g c up =
+    let result = c.from_residual.result in
+    let on : result ≡ Err c.in_err-adopt.field-0.0 = search rules in
+    let stopped : IsErr result = search rules in
+    record {
+      adopt = λ other.
+          let o = c.in_err-adopt.ensures.order other in
+          order_on g.D.Disk.seen c.args.self.now (Adopt c.args.setup) c.args.clock _ result c.in_err-adopt.field-0.0 refl on o.worn o.full;
+      start = inl (record {
+        other = c.in_err-adopt.ensures.adopts refl up;
+        stopped = stopped;
+        stands = c.in_err-adopt.ensures.stop;
+        before = before_on c.args.self.now c.adopt.new.self result c.in_err-adopt.field-0.0 on
+            c.in_err-adopt.ensures.before.entries c.in_err-adopt.ensures.before.sum c.in_err-adopt.ensures.before.unwritten;
+      });
+    }
