@@ -13,7 +13,6 @@ use Rattle.centre_rules.specs.Summary.{Summary}
 use Rattle.centre_store.specs.Begins.{begun_after, IsOfBegin}
 use Rattle.centre_store.specs.Given.{HoldsRecorded}
 use Rattle.centre_store.specs.Openings.{IsOpened, IsRefused}
-use Rattle.centre_store.specs.Pasts.{AreKept}
 use Rattle.centre_store.specs.Stores.{Stored, StoreStands}
 use Rattle.desk_session.specs.Desks as Desk
 use Rattle.disk_journal.specs.Faults.{HasCounts, IsOfContent}
@@ -32,8 +31,7 @@ use Rattle.arc_script.specs.Halting.{closing}
 use Rattle.arc_script.specs.Pages.{counted_line}
 use Rattle.arc_script.specs.Playing.{IsNewDesk}
 use Rattle.centre_store.specs.StoreHalls.{is_told}
-use Rattle.arc_script.specs.Standing.{IsReadable}
-use Rattle.arc_script.specs.Steps.{Keeps, Step}
+use Rattle.arc_script.specs.Steps.{Place, Step}
 use Rattle.arc_script.specs.Tallies.{count_of, is_closed, is_repeat}
 use Rattle.arc_script.specs.declared.script.Script.{Script}
 use Rattle.arc_script.specs.declared.script_end.Tally.{Tally}
@@ -41,7 +39,7 @@ use Rattle.arc_script.proofs.Begun.{Adds, adds_begun, adds_again, readable_begun
 use Rattle.arc_script.proofs.Counts.{grows_none}
 use Rattle.arc_script.proofs.Ended.{recorded_in}
 use Rattle.arc_script.proofs.Opening.{taken_none}
-use Rattle.arc_script.proofs.Reopening.{keeps_recorded, kept_recorded}
+use Rattle.arc_script.proofs.Reopening.{GoesOnFrom, goes_on_from}
 use Rattle.centre_store.proofs.Readable.{spared_tells}
 
 -- Lines and desks that were made anew, behind more of the script.
@@ -109,18 +107,12 @@ made_anew {D = D} seen script closed script' s mid s' disk before disk_is closed
     }
 
 module _ {D : Type 0} (seen : D → DiskSeen) (script script' : Script) (s mid s' : Stored D) (anew : IsAnew seen script script' s mid s') (moment : ℕ)
-    (b : Begun D) (before : List Asked) (count : ℕ) (h : List Entry) (between : Between seen b before count h script s)
-    (held : HoldsRecorded seen s.journal b.base h) (set : clock_of before ≡ Some moment) where
-  abbrev past : List Entry
-  past = anew.opened.past
+    (b : Begun D) (place : Place) (count : ℕ) (h : List Entry) (between : Between seen b place count h script s)
+    (held : HoldsRecorded seen s.journal place.base h) (set : clock_of place.asked ≡ Some moment) where
+  from : GoesOnFrom seen (Tells (seen b.disk)) place.base h mid
+  from = goes_on_from seen b place.base h s mid between.store.stands.centre.legal between.store.readable between.store.tells held anew.opened
 
-  base_is : anew.opened.base ≡ b.base
-  base_is = anew.opened.given ∙ sym between.store.given
-
-  keeps : Keeps (Tells (seen b.disk)) b.base h past
-  keeps = keeps_recorded seen b h s mid between.store.stands.centre.legal between.store.readable between.store.tells held anew.opened base_is
-
-  setup_is : script'.setup ≡ b.setup
+  setup_is : script'.setup ≡ place.setup
   setup_is = anew.setup ∙ between.setup
 
   limits_are : s'.journal.limits ≡ b.limits
@@ -130,9 +122,9 @@ module _ {D : Type 0} (seen : D → DiskSeen) (script script' : Script) (s mid s
   later = let first = between.store.later in let second = anew.later in omega (arith, first, second)
 
   abbrev step_of : ℕ → List Entry → List ℕ → Step
-  step_of number entries text = record { number = number; asked = Reopen; entries = entries; sent = 0; text = text }
+  step_of number entries text = record { number = number; asked = Reopen; entries = entries; base = from.anew; sent = 0; text = text }
 
-  counts : (number : ℕ) (x : List Entry) (text : List ℕ) (adds : Adds past x)
+  counts : (number : ℕ) (x : List Entry) (text : List ℕ) (adds : Adds from.kept x)
       → CountsMore (step_of number adds.entries text) script.tally script'.tally
   counts number x text adds =
       subst (λ (t : Tally). CountsMore (step_of number adds.entries text) script.tally t) (sym anew.tally) (record {
@@ -141,31 +133,23 @@ module _ {D : Type 0} (seen : D → DiskSeen) (script script' : Script) (s mid s
         closed = grows_none (count_of is_closed adds.entries) script.tally.closed adds.closed;
       })
 
-  readable_past : IsReadable b.base past
-  readable_past =
-      let before = between.store.readable in
-      (before.0, (before.1.0, subst AreKept (sym (kept_recorded past anew.opened.is_past.kept)) anew.opened.is_past.kept))
-
-  pub opened_stands : StoreStands seen b.base mid past
-  opened_stands = subst (λ (base : Summary). StoreStands seen base mid past) base_is anew.opened.stands
-
   carried : (number : ℕ) (p p' : PortSeen) → IsMoment moment
-      → StoreStands seen b.base s' (begun_after b.base past b.setup moment)
-      → s'.state.sum.text ≡ Some b.setup → p'.written ≡ append_known p.written (counted_line s'.state.sum.recorded)
-      → CarriedOut seen b before count number h Reopen script.tally script' s' p p'
+      → StoreStands seen from.anew s' (begun_after from.anew from.kept place.setup moment)
+      → s'.state.sum.text ≡ Some place.setup → p'.written ≡ append_known p.written (counted_line s'.state.sum.recorded)
+      → CarriedOut seen b place count number h Reopen script.tally script' s' p p'
   carried number p p' fits stands text put =
-      let x = begun_after b.base past b.setup moment in
-      let adds = adds_begun b.base b.setup moment past in
-      let count_is : s'.state.sum.recorded ≡ b.base.recorded + length (recorded x) = stands.centre.recorded in
-      let said = counted_line (b.base.recorded + length (recorded x)) in
+      let x = begun_after from.anew from.kept place.setup moment in
+      let adds = adds_begun from.anew place.setup moment from.kept in
+      let count_is : s'.state.sum.recorded ≡ from.anew.recorded + length (recorded x) = stands.centre.recorded in
+      let said = counted_line (from.anew.recorded + length (recorded x)) in
       record {
         step = step_of number adds.entries said;
         history = x;
         number_is = refl;
         asked_is = refl;
         is = record {
-          kept = past;
-          keeps = keeps;
+          kept = from.kept;
+          keeps = from.keeps;
           clock = moment;
           set = set;
           is = refl;
@@ -183,13 +167,12 @@ module _ {D : Type 0} (seen : D → DiskSeen) (script script' : Script) (s mid s
             moment = subst (λ (c : Option ℕ). IfSome c IsMoment) (sym anew.clock) between.clock.moment;
             once = (moment, set);
           };
-          set = subst (λ (c : Option ℕ). IfSome c (λ last. s'.state.sum.text ≡ Some b.setup))
+          set = subst (λ (c : Option ℕ). IfSome c (λ last. s'.state.sum.text ≡ Some place.setup))
               (sym (anew.clock ∙ between.clock.is ∙ set)) text;
-          taken = taken_anew b.setup (count + length (spelling Reopen)) before script'.lines.items script'.desks.items anew.lines anew.desks;
+          taken = taken_anew place.setup (count + length (spelling Reopen)) place.asked script'.lines.items script'.desks.items anew.lines anew.desks;
           store = record {
-            given = between.store.given;
             stands = stands;
-            readable = readable_begun b.base b.setup moment past fits stands.centre.legal readable_past;
+            readable = readable_begun from.anew place.setup moment from.kept fits stands.centre.legal from.readable;
             tells = anew.tells ∙ between.store.tells;
             limits_are = limits_are;
             later = later;
@@ -197,23 +180,23 @@ module _ {D : Type 0} (seen : D → DiskSeen) (script script' : Script) (s mid s
         };
       }
 
-  stopped : (stop : Stop) (x : List Entry) → StoreStands seen b.base s' x → BegunAgain stop b.base b.setup moment past x
-      → HasShown seen s' stop moment (IsOfBegin b.setup)
-      → StoppedAt seen b before h Reopen stop script.tally script'.tally s'
+  stopped : (stop : Stop) (x : List Entry) → StoreStands seen from.anew s' x → BegunAgain stop from.anew place.setup moment from.kept x
+      → HasShown seen s' stop moment (IsOfBegin place.setup)
+      → StoppedAt seen b place h Reopen stop script.tally script'.tally s'
   stopped stop x stands until cause =
-      let adds = adds_again stop b.base b.setup moment past x until in
+      let adds = adds_again stop from.anew place.setup moment from.kept x until in
       record {
         waiting = [];
         partial = step_of 0 adds.entries [];
         history = x;
         clock = moment;
         came = inl (record {
-          kept = past;
-          keeps = keeps;
+          kept = from.kept;
+          keeps = from.keeps;
           clock = moment;
           set = set;
           until = until;
-          by = record { added = adds.is; sent = refl };
+          by = record { added = adds.is; base = refl; sent = refl };
         });
         set = set;
         cause = cause;
@@ -230,14 +213,14 @@ module _ {D : Type 0} (seen : D → DiskSeen) (script script' : Script) (s mid s
       → StoreStands seen base s' (begun_after base k script'.setup moment))
       → OnOk r (s'.state.sum.text ≡ Some script'.setup)
       → OnOk r (p'.written ≡ append_known p.written (counted_line s'.state.sum.recorded))
-      → OnOk r ((b : Begun D) (before : List Asked) (count number : ℕ) (h : List Entry) → Between seen b before count h script s
-      → HoldsRecorded seen s.journal b.base h → clock_of before ≡ Some moment
-      → CarriedOut seen b before count number h Reopen script.tally script' s' p p')
-  carried_on (Ok done) p p' fits begun text put = λ b before count number h between held set.
+      → OnOk r ((b : Begun D) (place : Place) (count number : ℕ) (h : List Entry) → Between seen b place count h script s
+      → HoldsRecorded seen s.journal place.base h → clock_of place.asked ≡ Some moment
+      → CarriedOut seen b place count number h Reopen script.tally script' s' p p')
+  carried_on (Ok done) p p' fits begun text put = λ b place count number h between held set.
       let same = anew.setup ∙ between.setup in
-      carried seen script script' s mid s' anew moment b before count h between held set number p p' fits
-      (subst (λ (l : List ℕ). StoreStands seen b.base s' (begun_after b.base anew.opened.past l moment)) same
-      (begun b.base anew.opened.past (opened_stands seen script script' s mid s' anew moment b before count h between held set)))
+      let on = from seen script script' s mid s' anew moment b place count h between held set in
+      carried seen script script' s mid s' anew moment b place count h between held set number p p' fits
+      (subst (λ (l : List ℕ). StoreStands seen on.anew s' (begun_after on.anew on.kept l moment)) same (begun on.anew on.kept on.stands))
       (text ∙ ap Some same) put
   carried_on (Err stop) p p' fits begun text put = tt
 
@@ -245,15 +228,16 @@ module _ {D : Type 0} (seen : D → DiskSeen) (script script' : Script) (s mid s
       → IfErr r (λ stop. (base : Summary) (k : List Entry) → StoreStands seen base mid k
       → (x : List Entry) × StoreStands seen base s' x × BegunAgain stop base script'.setup moment k x)
       → IfErr r (λ stop. HasShown seen s' stop moment (IsOfBegin script'.setup))
-      → IfErr r (λ stop. (b : Begun D) (before : List Asked) (count : ℕ) (h : List Entry) → Between seen b before count h script s
-      → HoldsRecorded seen s.journal b.base h → clock_of before ≡ Some moment
-      → StoppedAt seen b before h Reopen stop script.tally script'.tally s')
+      → IfErr r (λ stop. (b : Begun D) (place : Place) (count : ℕ) (h : List Entry) → Between seen b place count h script s
+      → HoldsRecorded seen s.journal place.base h → clock_of place.asked ≡ Some moment
+      → StoppedAt seen b place h Reopen stop script.tally script'.tally s')
   stopped_on (Ok done) stops cause = tt
-  stopped_on (Err stop) stops cause = λ b before count h between held set.
+  stopped_on (Err stop) stops cause = λ b place count h between held set.
       let same = anew.setup ∙ between.setup in
-      let at = stops b.base anew.opened.past (opened_stands seen script script' s mid s' anew moment b before count h between held set) in
-      stopped seen script script' s mid s' anew moment b before count h between held set stop at.0 at.1
-      (subst (λ (l : List ℕ). BegunAgain stop b.base l moment anew.opened.past at.0) same at.2)
+      let on = from seen script script' s mid s' anew moment b place count h between held set in
+      let at = stops on.anew on.kept on.stands in
+      stopped seen script script' s mid s' anew moment b place count h between held set stop at.0 at.1
+      (subst (λ (l : List ℕ). BegunAgain stop on.anew l moment on.kept at.0) same at.2)
       (subst (λ (l : List ℕ). HasShown seen s' stop moment (IsOfBegin l)) same cause)
 
 -- The journal was not opened again.
@@ -262,12 +246,12 @@ shut : {D : Type 0} (seen : D → DiskSeen) (script : Script) (s : Stored D) (r 
     → Becomes (seen s.journal.disk).told (seen r.disk).told GoesOn
     → LeavesOnly (seen s.journal.disk) (seen r.disk) (λ c. (d : Areas) × (seen s.journal.disk).may_leave d × GoesOn d c)
     → (IsOfContent r.fault → IsQuiet (seen s.journal.disk) (seen r.disk))
-    → (b : Begun D) (before : List Asked) (count : ℕ) (h : List Entry) → Between seen b before count h script s
-    → HoldsRecorded seen s.journal b.base h → ShutAt seen b h r.fault r.disk
-shut seen script s r later shown counts told any_moment unwritten b before count h between held = record {
+    → (b : Begun D) (place : Place) (count : ℕ) (h : List Entry) → Between seen b place count h script s
+    → HoldsRecorded seen s.journal place.base h → ShutAt seen b place.base h r.fault r.disk
+shut seen script s r later shown counts told any_moment unwritten b place count h between held = record {
   closed = s.journal.disk;
   later = (let first = between.store.later in omega (arith, first, later));
-  area = recorded_in seen b.base s h s.journal.disk held refl;
+  area = recorded_in seen place.base s h s.journal.disk held refl;
   unopened = record { shown = shown; counts = counts; told = told; any_moment = any_moment; unwritten = unwritten };
 }
 
@@ -277,11 +261,11 @@ pub shut_on : {A D : Type 0} (seen : D → DiskSeen) (script : Script) (s : Stor
     → Becomes (seen disk).told (seen refused.disk).told GoesOn
     → LeavesOnly (seen disk) (seen refused.disk) (λ c. (d : Areas) × (seen disk).may_leave d × GoesOn d c)
     → (IsOfContent refused.fault → IsQuiet (seen disk) (seen refused.disk))
-    → IfErr r (λ o. (b : Begun D) (before : List Asked) (count : ℕ) (h : List Entry) → Between seen b before count h script s
-    → HoldsRecorded seen s.journal b.base h → ShutAt seen b h o.fault o.disk)
+    → IfErr r (λ o. (b : Begun D) (place : Place) (count : ℕ) (h : List Entry) → Between seen b place count h script s
+    → HoldsRecorded seen s.journal place.base h → ShutAt seen b place.base h o.fault o.disk)
 shut_on {A} {D} seen script s disk refused r is disk_is later shown counts told any_moment unwritten =
-    let at = λ (o : OpenRefused D). (b : Begun D) (before : List Asked) (count : ℕ) (h : List Entry) → Between seen b before count h script s
-    → HoldsRecorded seen s.journal b.base h → ShutAt seen b h o.fault o.disk in
+    let at = λ (o : OpenRefused D). (b : Begun D) (place : Place) (count : ℕ) (h : List Entry) → Between seen b place count h script s
+    → HoldsRecorded seen s.journal place.base h → ShutAt seen b place.base h o.fault o.disk in
     subst (λ (q : Result A (OpenRefused D)). IfErr q at) (sym is)
     (shut seen script s refused later
     (subst (λ d. IfSome (seen d).told (IsRefused refused.fault)) disk_is shown)

@@ -38,11 +38,12 @@ use Rattle.arc_script.proofs.Taken.{fed_after, feed_hit, feed_miss, message_hit,
 
 -- The step.
 
-step_of : (number : ℕ) (asked : Asked) (letter line sent : ℕ) (turns : List Turn) → Step
-step_of number asked letter line sent turns = record {
+step_of : (base : Summary) (number : ℕ) (asked : Asked) (letter line sent : ℕ) (turns : List Turn) → Step
+step_of base number asked letter line sent turns = record {
   number = number;
   asked = asked;
   entries = entries_of line_turns turns;
+  base = base;
   sent = sent;
   text = head_of letter line ++ listed (replies_of turns) ++ 10 ∷ [];
 }
@@ -66,10 +67,10 @@ counts_step place line bytes h x turns more sent t t' s fed counts sent_is entri
 
 feeds_of : (place : Place) (number letter line : ℕ) (asked : Asked) (bytes : List ℕ) (h x : List Entry)
     (turns : List Turn) → FeedsLine place line bytes h x turns []
-    → Feeds place letter line bytes h x (step_of number asked letter line (length turns) turns)
+    → Feeds place letter line bytes h x (step_of place.base number asked letter line (length turns) turns)
 unfolding step_of
 feeds_of place number letter line asked bytes h x turns fed =
-    record { turns = turns; fed = fed; entries = refl; sent = refl; text = refl }
+    record { turns = turns; fed = fed; entries = refl; base = refl; sent = refl; text = refl }
 
 pub carried : {D : Type 0} (seen : D → DiskSeen) (s' : Stored D) (base : Summary) (setup : List ℕ)
     (moment number letter line : ℕ) (asked : Asked) (before : List Asked) (bytes : List ℕ) (h : List Entry) (t t' : Tally) (p p' : PortSeen)
@@ -80,7 +81,7 @@ pub carried : {D : Type 0} (seen : D → DiskSeen) (s' : Stored D) (base : Summa
 unfolding step_of
 carried seen s' base setup moment number letter line asked before bytes h t t' p p' written at set w put =
     let turns = w.turns in
-    let s = step_of number asked letter line (length turns) turns in
+    let s = step_of base number asked letter line (length turns) turns in
     let same : w.fed.clock ≡ moment = ap (λ (o : Option ℕ). unwrap_or o 0) (sym w.fed.set ∙ set) in
     let fits : IsMoment w.fed.clock = subst IsMoment (sym same) at in
     let listed_is : replied written ≡ listed (replies_of turns) =
@@ -113,7 +114,7 @@ pub finished : {D : Type 0} (seen : D → DiskSeen) (s' : Stored D) (base : Summ
     → Halted seen base (λ x s. CameSoFar base seen s' setup moment letter line before bytes h stop x s) t t' s'
 unfolding step_of
 finished seen s' base setup moment letter line asked before bytes h t t' written stop is set w =
-    let s = step_of 0 asked letter line (length w.turns) w.turns in
+    let s = step_of base 0 asked letter line (length w.turns) w.turns in
     record {
       partial = s;
       history = w.history;
@@ -130,13 +131,13 @@ pub halted_at : {D : Type 0} (seen : D → DiskSeen) (s' : Stored D) (base : Sum
     → Halted seen base (λ x s. CameSoFar base seen s' setup moment letter line before bytes h stop x s) t t' s'
 unfolding step_of
 halted_at seen s' base setup moment letter line asked before bytes h t t' stop set w =
-    let s = step_of 0 asked letter line w.sent w.turns in
+    let s = step_of base 0 asked letter line w.sent w.turns in
     record {
       partial = s;
       history = w.history;
       came = inl (
         w.more,
-        record { turns = w.turns; fed = w.fed; entries = refl; sent = w.sent_is },
+        record { turns = w.turns; fed = w.fed; entries = refl; base = refl; sent = w.sent_is },
         w.cause,
       );
       stands = w.stands;

@@ -1,22 +1,23 @@
 -- One line that was carried out or stopped over a store, as a step of its script.
-use Rattle.std.proofs.Common.{◌≡◌, ◌≤◌, ◌∷◌, ◌⊎◌, ℕ, List, Option, Some, IfSome, inl, inr, sym, subst, ◌∙◌}
+use Rattle.std.proofs.Common.{◌≡◌, ◌≤◌, ◌+◌, ◌∷◌, ◌⊎◌, ℕ, List, Option, Some, IfSome, inl, inr, length, sym, subst, ◌∙◌}
 use Rattle.alarm_rules.specs.Setups.{meaning}
 use Rattle.arc_io.specs.Disks.{DiskSeen}
 use Rattle.arc_io.specs.Seen.{PortSeen}
 use Rattle.centre_core.specs.declared.hall.Stop.{Stop}
 use Rattle.centre_core.specs.declared.hall.Stop.TheVariants.{Memory}
 use Rattle.centre_rules.specs.History.{Entry, IsMoment}
-use Rattle.centre_store.specs.Stores.{Stored}
-use Rattle.script_lines.specs.Lines.{Asked}
+use Rattle.centre_rules.specs.Summary.{Summary}
+use Rattle.centre_store.specs.Stores.{Stored, StoreStands}
+use Rattle.script_lines.specs.Lines.{Asked, Time, Feed, Message, Command, Reopen, spelling}
 use Rattle.arc_script.specs.Begun.{Begun}
-use Rattle.arc_script.specs.Between.{Between, CarriedOut, IsClock, StoppedAt}
-use Rattle.arc_script.specs.Carrying.{Carried, Halted, HaveTakenWith}
+use Rattle.arc_script.specs.Between.{Between, CarriedOut, IsClock, IsStoreSoFar, StoppedAt}
+use Rattle.arc_script.specs.Carrying.{Carried, Halted, HaveTaken, HaveTakenWith}
 use Rattle.arc_script.specs.Causes.{HasShown, Submits}
 use Rattle.arc_script.specs.Ends.{Tells, CameTo}
 use Rattle.arc_script.specs.Fed.{clock_of}
 use Rattle.arc_script.specs.Playing.{moment_at}
 use Rattle.centre_store.specs.StoreHalls.{is_told}
-use Rattle.arc_script.specs.Steps.{placed, IsStepOf}
+use Rattle.arc_script.specs.Steps.{Place, Step, IsStepOf}
 use Rattle.arc_script.specs.declared.script.Script.{Script}
 use Rattle.arc_script.proofs.Wanting.{clock_with}
 
@@ -38,14 +39,36 @@ clock_behind clock before asked moment fits set is =
       once = (moment, behind);
     }
 
-module _ {D : Type 0} (seen : D → DiskSeen) (b : Begun D) (before : List Asked) (count : ℕ) (h : List Entry) (asked : Asked) (moment : ℕ)
-    (script script' : Script) (s s' : Stored D) (between : Between seen b before count h script s) (stays : Stays seen script script' s s')
-    (fits : IsMoment moment) (set : moment_at (clock_of before) asked ≡ Some moment) where
+-- All lines but an `X` leave the summary as it was.
+
+abbrev pub IsOverStore : Asked → Type 0
+IsOverStore Reopen = ⊥
+IsOverStore asked = Unit {0}
+
+step_over : (Told : Type 0) (place : Place) (h x : List Entry) (s : Step) (asked : Asked) → IsOverStore asked → IsStepOf Told place h x s asked
+    → s.base ≡ place.base
+step_over Told place h x s (Time moment) over is = is.base
+step_over Told place h x s (Feed line digits) over is = is.base
+step_over Told place h x s (Message line body) over is = is.base
+step_over Told place h x s (Command desk text) over is = is.base
+step_over Told place h x s Reopen over is = absurd over
+
+came_over : (stop : Stop) (Told : Type 0) (place : Place) (waiting : List (List ℕ)) (h x : List Entry) (s : Step) (asked : Asked) → IsOverStore asked
+    → CameTo stop Told place waiting h x s asked → s.base ≡ place.base
+came_over stop Told place waiting h x s (Time moment) over came = came.1.base
+came_over stop Told place waiting h x s (Feed line digits) over came = came.base
+came_over stop Told place waiting h x s (Message line body) over came = came.base
+came_over stop Told place waiting h x s (Command desk text) over came = came.1.base
+came_over stop Told place waiting h x s Reopen over came = absurd over
+
+module _ {D : Type 0} (seen : D → DiskSeen) (b : Begun D) (place : Place) (count : ℕ) (h : List Entry) (asked : Asked) (moment : ℕ)
+    (script script' : Script) (s s' : Stored D) (between : Between seen b place count h script s) (stays : Stays seen script script' s s')
+    (fits : IsMoment moment) (set : moment_at (clock_of place.asked) asked ≡ Some moment) (over : IsOverStore asked) where
   pub carried_out : (number : ℕ) (p p' : PortSeen)
-      → Carried seen b.base (λ x st. IsStepOf (Tells (seen b.disk)) (placed b.base b.setup before) h x st asked) number asked script.tally script'.tally p p' s'
-      → HaveTakenWith (meaning b.setup) count before asked script'.lines.items script'.desks.items
-      → script'.clock ≡ Some moment → s'.state.sum.text ≡ Some b.setup
-      → CarriedOut seen b before count number h asked script.tally script' s' p p'
+      → Carried seen place.base (λ x st. IsStepOf (Tells (seen b.disk)) place h x st asked) number asked script.tally script'.tally p p' s'
+      → HaveTakenWith (meaning place.setup) count place.asked asked script'.lines.items script'.desks.items
+      → script'.clock ≡ Some moment → s'.state.sum.text ≡ Some place.setup
+      → CarriedOut seen b place count number h asked script.tally script' s' p p'
   carried_out number p p' out taken clock text = record {
     step = out.step;
     history = out.history;
@@ -57,36 +80,39 @@ module _ {D : Type 0} (seen : D → DiskSeen) (b : Begun D) (before : List Asked
     between = record {
       setup = stays.setup ∙ between.setup;
       limits = stays.limits ∙ between.limits;
-      clock = clock_behind script'.clock before asked moment fits set clock;
-      set = subst (λ (c : Option ℕ). IfSome c (λ last. s'.state.sum.text ≡ Some b.setup)) (sym clock) text;
-      taken = taken;
-      store = record {
-        given = between.store.given;
-        stands = out.stands;
-        readable = out.readable;
-        tells = stays.tells ∙ between.store.tells;
-        limits_are = stays.journal ∙ between.store.limits_are;
-        later = subst (λ (n : ℕ). (seen b.disk).faults ≤ n) (sym stays.at_open) between.store.later;
-      };
+      clock = subst (λ (a : Asked). IsClock script'.clock (a ∷ place.asked)) (sym out.asked_is)
+          (clock_behind script'.clock place.asked asked moment fits set clock);
+      set = subst (λ (c : Option ℕ). IfSome c (λ last. s'.state.sum.text ≡ Some place.setup)) (sym clock) text;
+      taken = subst (λ (a : Asked). HaveTaken (meaning place.setup) (count + length (spelling asked)) (a ∷ place.asked) script'.lines.items script'.desks.items)
+          (sym out.asked_is) taken;
+      store = subst (λ (base : Summary). IsStoreSoFar seen b base out.history s')
+          (sym (step_over (Tells (seen b.disk)) place h out.history out.step asked over out.is)) (record {
+            stands = out.stands;
+            readable = out.readable;
+            tells = stays.tells ∙ between.store.tells;
+            limits_are = stays.journal ∙ between.store.limits_are;
+            later = subst (λ (n : ℕ). (seen b.disk).faults ≤ n) (sym stays.at_open) between.store.later;
+          });
     };
   }
 
   pub stopped_at : (stop : Stop) (waiting : List (List ℕ))
-      → Halted seen b.base (λ x st.
-      (CameTo stop (Tells (seen b.disk)) (placed b.base b.setup before) waiting h x st asked × HasShown seen s' stop moment (Submits b.setup before moment waiting asked))
-      ⊎ ((stop ≡ Memory) × IsStepOf (Tells (seen b.disk)) (placed b.base b.setup before) h x st asked)) script.tally script'.tally s'
-      → StoppedAt seen b before h asked stop script.tally script'.tally s'
+      → Halted seen place.base (λ x st.
+      (CameTo stop (Tells (seen b.disk)) place waiting h x st asked × HasShown seen s' stop moment (Submits place.setup place.asked moment waiting asked))
+      ⊎ ((stop ≡ Memory) × IsStepOf (Tells (seen b.disk)) place h x st asked)) script.tally script'.tally s'
+      → StoppedAt seen b place h asked stop script.tally script'.tally s'
   stopped_at stop waiting out =
-      elim out.came as (λ came. StoppedAt seen b before h asked stop script.tally script'.tally s') [
+      elim out.came as (λ came. StoppedAt seen b place h asked stop script.tally script'.tally s') [
         | inl until ↦ record {
           waiting = waiting;
           partial = out.partial;
           history = out.history;
           clock = moment;
           came = inl until.0;
-          set = clock_with before asked moment set;
+          set = clock_with place.asked asked moment set;
           cause = until.1;
-          stands = out.stands;
+          stands = subst (λ (base : Summary). StoreStands seen base s' out.history)
+              (sym (came_over stop (Tells (seen b.disk)) place waiting h out.history out.partial asked over until.0)) out.stands;
           limits_are = stays.journal ∙ between.store.limits_are;
           later = subst (λ (n : ℕ). (seen b.disk).faults ≤ n) (sym stays.at_open) between.store.later;
           counts = out.counts.more;
@@ -97,9 +123,10 @@ module _ {D : Type 0} (seen : D → DiskSeen) (b : Begun D) (before : List Asked
           history = out.history;
           clock = moment;
           came = inr (whole.0, inr whole.1);
-          set = clock_with before asked moment set;
+          set = clock_with place.asked asked moment set;
           cause = inl whole.0;
-          stands = out.stands;
+          stands = subst (λ (base : Summary). StoreStands seen base s' out.history)
+              (sym (step_over (Tells (seen b.disk)) place h out.history out.partial asked over whole.1)) out.stands;
           limits_are = stays.journal ∙ between.store.limits_are;
           later = subst (λ (n : ℕ). (seen b.disk).faults ≤ n) (sym stays.at_open) between.store.later;
           counts = out.counts.more;

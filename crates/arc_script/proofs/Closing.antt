@@ -17,6 +17,7 @@ use Rattle.centre_laws.proofs.Numbering.{rise}
 use Rattle.centre_laws.proofs.Replies.{answer_may, may_answer}
 use Rattle.centre_rules.proofs.Steps.{incidents_step}
 use Rattle.centre_store.specs.Given.{IsGiven}
+use Rattle.arc_script.proofs.GivenSummaries.{given_ascends}
 use Rattle.centre_rules.specs.Answers.{answer, if_known, knows_operator, IsLegal}
 use Rattle.centre_rules.specs.Cases.{has_number, incidents, opened, Ascends, Incident}
 use Rattle.centre_rules.specs.Desks.{close_of, close_when, holds, numbered}
@@ -169,7 +170,7 @@ close_found false operator number n f is = absurd cc
 
 -- the numbers of the open incidents rise
 numbers : (base : Summary) → IsGiven base → (h : List Entry) → Ascends 0 (incidents base (marks base h)) (opened base (marks base h))
-numbers base given h = rise base h (subst (λ (s : Summary). Ascends 0 s.incidents s.opened) (sym given) (omega arith))
+numbers base given h = rise base h (given_ascends base given)
 
 closes_one : (base : Summary) → IsGiven base → (b : Bool) (operator : List ℕ) (number n : ℕ) (h : List Entry)
     → if_known b (close_of operator number (numbered number (incidents base (marks base h)))) ≡ Closed n

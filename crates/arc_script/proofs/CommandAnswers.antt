@@ -52,11 +52,11 @@ pub halted_first : {D : Type 0} (seen : D → DiskSeen) (s : Stored D) (base : S
     → r ≡ Err Memory → StoreStands seen base s h → IsReadable base h
     → Halted seen base (λ x k. CameSoFar base seen s setup clock desk before text h stop x k) t t s
 halted_first seen s base setup clock desk before text h t stop r at memory stands readable =
-    let partial : Step = record { number = 0; asked = Command desk text; entries = []; sent = 0; text = [] } in
+    let partial : Step = record { number = 0; asked = Command desk text; entries = []; base = base; sent = 0; text = [] } in
     record {
       partial = partial;
       history = h;
-      came = inl (refl, record { added = refl; sent = refl }, inl (stop_is stop r at memory));
+      came = inl (refl, record { added = refl; base = refl; sent = refl }, inl (stop_is stop r at memory));
       stands = stands;
       readable = readable;
       counts = record {

@@ -75,18 +75,19 @@ command_counts base s s' t t' h x step entries before behind counted w entries_i
           ∙ ap (λ (n : ℕ). record t { sent = t'.sent; repeats = n; closed = t'.closed }) (sym repeats);
     }
 
-step_of : (number desk : ℕ) (text reply : List ℕ) (entries : List Entry) → Step
-step_of number desk text reply entries = record {
+step_of : (base : Summary) (number desk : ℕ) (text reply : List ℕ) (entries : List Entry) → Step
+step_of base number desk text reply entries = record {
   number = number;
   asked = Command desk text;
   entries = entries;
+  base = base;
   sent = 0;
   text = head_of 68 desk ++ 32 ∷ reply;
 }
 
 commands_of : (base : Summary) (setup : List ℕ) (clock number desk : ℕ) (before : List Asked) (text : List ℕ) (lines : List (List ℕ)) (h x : List Entry) (turn : Turn)
     → clock_of before ≡ Some clock → lines ≡ desk_read desk before → Turned base setup (acts_over (meaning setup) None lines) clock text h x turn
-    → Commands (placed base setup before) desk text h x (step_of number desk text turn.reply (option_to_list turn.entry))
+    → Commands (placed base setup before) desk text h x (step_of base number desk text turn.reply (option_to_list turn.entry))
 unfolding step_of
 commands_of base setup clock number desk before text lines h x turn set same w =
     let here = subst (λ (ls : List (List ℕ)). Turned base setup (acts_over (meaning setup) None ls) clock text h x turn) same w in
@@ -100,6 +101,7 @@ commands_of base setup clock number desk before text lines h x turn set same w =
       reading = here.reading;
       entries = refl;
       added = here.added;
+      base = refl;
       sent = refl;
       text = refl;
     }
@@ -114,7 +116,7 @@ unfolding step_of
 commanded seen s s' base setup clock number desk before text lines h t t' p q p' set same stands w head closings =
     let a = w.answers in
     let entries = option_to_list a.turn.entry in
-    let step = step_of number desk text a.turn.reply entries in
+    let step = step_of base number desk text a.turn.reply entries in
     let counted = counted_turn base a.readable.0 setup (acts_over (meaning setup) None lines) clock text h a.history a.turn a.turned in
     record {
       step = step;
@@ -134,7 +136,7 @@ commanded seen s s' base setup clock number desk before text lines h t t' p q p'
 abbrev pub CameSoFar : {D : Type 0} → Summary → (D → DiskSeen) → Stored D → List ℕ → ℕ → ℕ → List Asked → List ℕ → List Entry
     → Stop → List Entry → Step → Type 0
 CameSoFar base seen s' setup clock desk before text h stop x s =
-    ((x ≡ h) × AddedBy h x s × HasShown seen s' stop clock (IsOfCommand setup before desk text))
+    ((x ≡ h) × AddedBy base h x s × HasShown seen s' stop clock (IsOfCommand setup before desk text))
     ⊎ ((stop ≡ Memory) × Commands (placed base setup before) desk text h x s)
 
 -- the desk had answered, and memory was wanted for it
@@ -146,7 +148,7 @@ pub unsaid_all : {D : Type 0} (seen : D → DiskSeen) (s s' : Stored D) (base : 
 unfolding step_of
 unsaid_all seen s s' base setup clock desk before text lines h t t' set same stands a closings =
     let entries = option_to_list a.turn.entry in
-    let step = step_of 0 desk text a.turn.reply entries in
+    let step = step_of base 0 desk text a.turn.reply entries in
     let counted = counted_turn base a.readable.0 setup (acts_over (meaning setup) None lines) clock text h a.history a.turn a.turned in
     record {
       partial = step;
@@ -157,9 +159,9 @@ unsaid_all seen s s' base setup clock desk before text lines h t t' set same sta
       counts = command_counts base s.state s'.state t t' h a.history step entries stands.centre a.stands.centre counted closings refl refl;
     }
 
-none_added : (h : List Entry) (desk : ℕ) (text : List ℕ) → AddedBy h h (step_of 0 desk text [] [])
+none_added : (base : Summary) (h : List Entry) (desk : ℕ) (text : List ℕ) → AddedBy base h h (step_of base 0 desk text [] [])
 unfolding step_of
-none_added h desk text = record { added = refl; sent = refl }
+none_added base h desk text = record { added = refl; base = refl; sent = refl }
 
 none_counted : (base : Summary) (h : List Entry) → IsCounted base h h []
 none_counted base h = record { repeats = refl; closed = omega arith }
@@ -172,11 +174,11 @@ pub halted_before : {D : Type 0} (seen : D → DiskSeen) (s s' : Stored D) (base
     → Halted seen base (λ x s. CameSoFar base seen s' setup clock desk before text h stop x s) t t' s'
 unfolding step_of
 halted_before seen s s' base setup clock desk before text h t t' stop was stands readable shown closings =
-    let step = step_of 0 desk text [] [] in
+    let step = step_of base 0 desk text [] [] in
     record {
       partial = step;
       history = h;
-      came = inl (refl, none_added h desk text, shown);
+      came = inl (refl, none_added base h desk text, shown);
       stands = stands;
       readable = readable;
       counts = command_counts base s.state s'.state t t' h h step [] was.centre stands.centre (none_counted base h) closings refl refl;

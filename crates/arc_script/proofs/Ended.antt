@@ -1,6 +1,5 @@
 -- What is handed back of a script: what the area holds, the tally, and what was played.
-use Rattle.std.proofs.Common.{◌≡◌, ◌≤◌, ◌+◌, ◌-◌, ◌++◌, ◌∷◌, ℕ, List, [], Option, Some, None, IfSome, Bool, false, filter, map, length, inr, refl, sym, ap, subst, ◌∙◌, append-nil, length-append, arith}
-use Rattle.arc_io.specs.Areas.{Areas}
+use Rattle.std.proofs.Common.{◌≡◌, ◌≤◌, ◌+◌, ◌-◌, ◌++◌, ◌∷◌, ℕ, List, [], Option, Some, None, Bool, false, filter, map, length, refl, sym, ap, subst, ◌∙◌, append-nil, length-append, arith}
 use Rattle.arc_io.specs.Disks.{DiskSeen}
 use Rattle.arc_io.specs.Seen.{PortSeen}
 use Rattle.arc_data.specs.declared.incident.Incident.{Incident}
@@ -20,7 +19,7 @@ use Rattle.arc_script.specs.Ends.{Played}
 use Rattle.arc_script.specs.Fed.{clock_of}
 use Rattle.arc_script.specs.Halting.{Halts, Whole, closing}
 use Rattle.arc_script.specs.Playing.{moment_at}
-use Rattle.arc_script.specs.Steps.{Step, asked_after}
+use Rattle.arc_script.specs.Steps.{Step, asked_after, base_after}
 use Rattle.arc_script.specs.Tallies.{IsTally, told, count_of, entries_of, is_closed, is_repeat, sent_by}
 use Rattle.arc_script.specs.Texts.{MayFollow, counted, is_passed, line_limit, numbered_from}
 use Rattle.arc_script.specs.declared.script.Script.{Script}
@@ -42,14 +41,15 @@ open_count xs = length-map (map begun xs) incident_of ∙ length-map xs begun
 
 -- the tally at the end
 pub tally_is : {D : Type 0} (base : Summary) (s : Stored D) (past h : List Entry) (steps : List Step) (t t' : Tally) (opened_before : ℕ)
-    → opened_before ≡ opened base (marks base past) → CountsSteps steps t → StandsFor base s.state h
+    → opened_before ≡ opened base (marks base past) → CountsSteps steps t → StandsFor (base_after base steps) s.state h
     → t' ≡ closing t opened_before s.state.sum → IsTally base past steps h t'
 tally_is base s past h steps t t' opened_before before counts stands is =
+    let end = base_after base steps in
     subst (λ (k : Tally). IsTally base past steps h k) (sym is) (record {
       sent = counts.sent;
       repeats = counts.repeats;
       closed = counts.closed;
-      opened = ap (λ n. n - opened_before) stands.same.opened ∙ ap (λ n. opened base (marks base h) - n) before;
+      opened = ap (λ n. n - opened_before) stands.same.opened ∙ ap (λ n. opened end (marks end h) - n) before;
       recorded = omega (arith, stands.recorded);
       total = sym (open_count s.state.sum.incidents) ∙ ap length stands.same.incidents;
     })
@@ -100,8 +100,8 @@ may_follow clock (first ∷ before) a moment is set = tt
 module _ {D : Type 0} (seen : D → DiskSeen) (b : Begun D) (lines : List (List ℕ)) (script : Script) (s : Stored D) (p : PortSeen)
     (so : SoFar seen b lines script s p) (disk : D) (tally : Tally) (disk_is : disk ≡ s.journal.disk)
     (tally_as : tally ≡ closing script.tally script.opened_before s.state.sum) where
-  area : HasRecorded (seen disk) b.base so.history
-  area = recorded_in seen b.base s so.history disk so.held disk_is
+  area : HasRecorded (seen disk) (base_after b.base so.steps) so.history
+  area = recorded_in seen (base_after b.base so.steps) s so.history disk so.held disk_is
 
   counts : IsTally b.base b.past so.steps so.history tally
   counts = tally_is b.base s b.past so.history so.steps script.tally tally script.opened_before so.opened_before so.counts so.between.store.stands.centre tally_as

@@ -8,6 +8,7 @@ use Rattle.arc_io.specs.Disks.{DiskSeen}
 use Rattle.arc_io.specs.Seen.{PortSeen}
 use Rattle.centre_core.specs.declared.hall.Stop.{Stop}
 use Rattle.centre_rules.specs.History.{Entry}
+use Rattle.centre_rules.specs.State.{StandsFor}
 use Rattle.centre_rules.specs.Summary.{Summary}
 use Rattle.centre_store.specs.Given.{HoldsRecorded}
 use Rattle.centre_store.specs.Stores.{Stored, StoreStands, HasFailed}
@@ -18,12 +19,12 @@ use Rattle.arc_script.specs.Begun.{Begun}
 use Rattle.arc_script.specs.Between.{Between, CarriedOut, StoppedAt, ShutAt, SoFar, size_of}
 use Rattle.arc_script.specs.Ends.{Tells, Played}
 use Rattle.arc_script.specs.Halting.{Halts, closing}
-use Rattle.arc_script.specs.Steps.{placed, Step, IsStepOf, asked_after, output_of}
+use Rattle.arc_script.specs.Steps.{Place, placed, Step, IsStepOf, AreSteps, asked_after, base_after, output_of}
 use Rattle.arc_script.specs.Texts.{AreOf, IsPlayable, counted, is_passed, numbered_from}
 use Rattle.arc_script.specs.declared.script.Script.{Script}
 use Rattle.arc_script.specs.declared.script_end.ScriptEnd.TheVariants.{Refused, Stopped, WriteFault}
 use Rattle.arc_script.specs.declared.script_end.Tally.{Tally}
-use Rattle.arc_script.proofs.Behind.{asked_last, of_last, are_last, output_last}
+use Rattle.arc_script.proofs.Behind.{of_last, are_last, base_last, end_of, output_last, place_last}
 use Rattle.arc_script.proofs.Counted.{counted_next, is_played}
 use Rattle.arc_script.proofs.Ended.{recorded_in, tally_is, counts_last}
 use Rattle.arc_script.proofs.Sizes.{size_last}
@@ -60,7 +61,7 @@ module _ {D : Type 0} (seen : D → DiskSeen) (b : Begun D) (lines : List (List 
 
   -- it was stopped
   pub stopped : (more : List (List ℕ)) (stop : Stop) (script' : Script) (s' : Stored D) (disk : D) (tally : Tally)
-      → StoppedAt seen b (asked_after [] so.steps) so.history asked stop script.tally script'.tally s' → script'.opened_before ≡ script.opened_before
+      → StoppedAt seen b (end_of b so.steps) so.history asked stop script.tally script'.tally s' → script'.opened_before ≡ script.opened_before
       → disk ≡ s'.journal.disk → tally ≡ closing script'.tally script'.opened_before s'.state.sum
       → Halts seen b lines (lines ++ line ∷ more) (Stopped stop) p disk tally
   stopped more stop script' s' disk tally at kept disk_is tally_as = record {
@@ -86,14 +87,15 @@ module _ {D : Type 0} (seen : D → DiskSeen) (b : Begun D) (lines : List (List 
       handed = disk_is;
       output = so.written;
       counts = tally_is b.base s' b.past at.history (so.steps ++ at.partial ∷ []) script'.tally tally script'.opened_before (kept ∙ so.opened_before)
-          (counts_last so.steps at.partial script.tally script'.tally so.counts at.counts) at.stands.centre tally_as;
+          (counts_last so.steps at.partial script.tally script'.tally so.counts at.counts)
+          (subst (λ (base : Summary). StandsFor base s'.state at.history) (sym (base_last b.base so.steps at.partial)) at.stands.centre) tally_as;
     };
     more = [];
     front = sym (append-nil (counted lines));
   }
 
   -- the journal was not opened again
-  pub shut : (more : List (List ℕ)) (fault : OpenFault) (disk : D) (tally : Tally) → asked ≡ Reopen → ShutAt seen b so.history fault disk
+  pub shut : (more : List (List ℕ)) (fault : OpenFault) (disk : D) (tally : Tally) → asked ≡ Reopen → ShutAt seen b (base_after b.base so.steps) so.history fault disk
       → tally ≡ closing script.tally script.opened_before s.state.sum → Halts seen b lines (lines ++ line ∷ more) (Refused fault) p disk tally
   shut more fault disk tally is at tally_as = record {
     played = before_line more;
@@ -117,7 +119,7 @@ module _ {D : Type 0} (seen : D → DiskSeen) (b : Begun D) (lines : List (List 
 
   -- It was carried out.
   module _ (script' : Script) (s' : Stored D) (q q' : PortSeen) (none : q.written ≡ Some [])
-      (out : CarriedOut seen b (asked_after [] so.steps) (size_of lines) number so.history asked script.tally script' s' q q')
+      (out : CarriedOut seen b (end_of b so.steps) (size_of lines) number so.history asked script.tally script' s' q q')
       (kept : script'.opened_before ≡ script.opened_before) (up : HasFailed seen s' → ⊥) where
     abbrev steps : List Step
     steps = so.steps ++ out.step ∷ []
@@ -128,8 +130,15 @@ module _ {D : Type 0} (seen : D → DiskSeen) (b : Begun D) (lines : List (List 
     of : AreOf [] (counted lines ++ (number, line) ∷ []) steps
     of = of_last [] (counted lines) so.steps (number, line) out.step so.of out.number_is playable
 
-    held : HoldsRecorded seen s'.journal b.base out.history
-    held = held_up seen b.base s' out.history out.between.store.stands up
+    stands : StoreStands seen (base_after b.base steps) s' out.history
+    stands = subst (λ (base : Summary). StoreStands seen base s' out.history) (sym (base_last b.base so.steps out.step)) out.between.store.stands
+
+    held : HoldsRecorded seen s'.journal (base_after b.base steps) out.history
+    held = held_up seen (base_after b.base steps) s' out.history stands up
+
+    are : AreSteps (Tells (seen b.disk)) (placed b.base b.setup []) b.past out.history steps
+    are = are_last (Tells (seen b.disk)) (placed b.base b.setup []) b.past so.history out.history so.steps out.step so.are
+        (subst (λ (a : Asked). IsStepOf (Tells (seen b.disk)) (end_of b so.steps) so.history out.history out.step a) (sym out.asked_is) out.is)
 
     -- what the page has
     pub text_is : (text : List ℕ) → q'.written ≡ Some text → text ≡ out.step.text
@@ -144,12 +153,11 @@ module _ {D : Type 0} (seen : D → DiskSeen) (b : Begun D) (lines : List (List 
       steps = steps;
       history = out.history;
       of = subst (λ (l : List (ℕ × List ℕ)). AreOf [] l steps) (sym (counted_next lines line [] passed)) of;
-      are = are_last (Tells (seen b.disk)) b.base b.setup [] b.past so.history out.history so.steps out.step so.are
-          (subst (λ (a : Asked). IsStepOf (Tells (seen b.disk)) (placed b.base b.setup (asked_after [] so.steps)) so.history out.history out.step a) (sym out.asked_is) out.is);
-      between = subst (λ (n : ℕ). Between seen b (asked_after [] steps) n out.history script' s')
+      are = are;
+      between = subst (λ (n : ℕ). Between seen b (end_of b steps) n out.history script' s')
           (ap (λ (l : List ℕ). size_of lines + length l) (sym spelled) ∙ sym (size_last lines line))
-          (subst (λ (before : List Asked). Between seen b before (size_of lines + length (spelling asked)) out.history script' s')
-          (ap (λ (a : Asked). a ∷ asked_after [] so.steps) (sym out.asked_is) ∙ sym (asked_last [] so.steps out.step)) out.between);
+          (subst (λ (place : Place). Between seen b place (size_of lines + length (spelling asked)) out.history script' s')
+          (place_last (placed b.base b.setup []) so.steps out.step) out.between);
       held = held;
       counts = counts_last so.steps out.step script.tally script'.tally so.counts out.counts;
       opened_before = kept ∙ so.opened_before;
@@ -171,8 +179,7 @@ module _ {D : Type 0} (seen : D → DiskSeen) (b : Begun D) (lines : List (List 
         history = out.history;
         split = counted_next lines line more passed ∙ sym (append_assoc (counted lines) ((number, line) ∷ []) (behind more));
         of = of;
-        are = are_last (Tells (seen b.disk)) b.base b.setup [] b.past so.history out.history so.steps out.step so.are
-            (subst (λ (a : Asked). IsStepOf (Tells (seen b.disk)) (placed b.base b.setup (asked_after [] so.steps)) so.history out.history out.step a) (sym out.asked_is) out.is);
+        are = are;
       };
       ends = (
         rose_since b.port.write_faults p.write_faults p'.write_faults so.writes rose,
@@ -185,9 +192,9 @@ module _ {D : Type 0} (seen : D → DiskSeen) (b : Begun D) (lines : List (List 
           output = put ∙ ap (λ k. append_known k (take n text)) so.written
               ∙ ap (λ l. append_known (append_known b.port.written (output_of so.steps)) (take n l)) (text_is text is)
               ∙ known_both b.port.written (output_of so.steps) (take n out.step.text);
-          area = recorded_in seen b.base s' out.history disk held disk_is;
+          area = recorded_in seen (base_after b.base steps) s' out.history disk held disk_is;
           counts = tally_is b.base s' b.past out.history steps script'.tally tally script'.opened_before (kept ∙ so.opened_before)
-              (counts_last so.steps out.step script.tally script'.tally so.counts out.counts) out.between.store.stands.centre tally_as;
+              (counts_last so.steps out.step script.tally script'.tally so.counts out.counts) stands.centre tally_as;
         },
       );
       more = (number, line) ∷ [];

@@ -30,6 +30,7 @@ pub mod Asking
 pub mod Transcripts
 pub mod Carry
 pub mod Opening
+pub mod GivenSummaries
 pub mod Reopening
 pub mod Begun
 pub mod Anew

@@ -23,6 +23,7 @@ use Rattle.arc_script.specs.declared.script.Script.{Script}
 use Rattle.arc_script.specs.declared.script_end.ScriptEnd.{ScriptEnd}
 use Rattle.arc_script.specs.declared.script_end.ScriptEnd.TheVariants.{BadScript, Refused, Stopped, WriteFault}
 use Rattle.arc_script.specs.declared.script_end.Tally.{Tally}
+use Rattle.arc_script.proofs.Behind.{end_of}
 use Rattle.arc_script.proofs.Asking.{asks_played, next_line, playable}
 use Rattle.arc_script.proofs.Ended.{bad}
 use Rattle.arc_script.proofs.Further.{cut_off, further, shut, stopped}
@@ -55,7 +56,7 @@ module _ {D : Type 0} (seen : D → DiskSeen) (script : Script) (s : Stored D) (
       let there : moment_at (clock_of (asked_after [] so.steps)) a ≡ Some moment =
       ap (λ (c : Option ℕ). moment_at c a) (sym so.between.clock.is) ∙ set in
       stopped seen b lines script s p so typed a (asks_played typed a asks) (playable_here b lines typed asks so) more Memory script s disk tally
-      (nothing_done seen b (asked_after [] so.steps) (size_of lines) so.history a script s moment script.tally there so.between) refl
+      (nothing_done seen b (end_of b so.steps) (size_of lines) so.history a script s moment script.tally there so.between) refl
       closed.disk_is closed.tally_is
 
   -- it was stopped
@@ -63,7 +64,7 @@ module _ {D : Type 0} (seen : D → DiskSeen) (script : Script) (s : Stored D) (
       → script'.opened_before ≡ script.opened_before → IsClosed script' s' disk tally → HaltsHere seen a script s p (Stopped stop) p disk tally
   stop_halts stop script' s' disk tally stops kept closed = λ b lines more typed asks may so.
       stopped seen b lines script s p so typed a (asks_played typed a asks) (playable_here b lines typed asks so) more stop script' s' disk tally
-      (stops b (asked_after [] so.steps) (size_of lines) so.history so.between (next_here b lines typed asks may so) so.held) kept
+      (stops b (end_of b so.steps) (size_of lines) so.history so.between (next_here b lines typed asks may so) so.held) kept
       closed.disk_is closed.tally_is
 
   -- the journal was not opened again
@@ -71,16 +72,16 @@ module _ {D : Type 0} (seen : D → DiskSeen) (script : Script) (s : Stored D) (
       → tally ≡ closing script.tally script.opened_before s.state.sum → HaltsHere seen a script s p (Refused fault) p disk tally
   shut_halts fault disk tally is shuts tally_is = λ b lines more typed asks may so.
       shut seen b lines script s p so typed a (asks_played typed a asks) (playable_here b lines typed asks so) more fault disk tally is
-      (shuts b (asked_after [] so.steps) (size_of lines) so.history so.between (next_here b lines typed asks may so) so.held) tally_is
+      (shuts b (end_of b so.steps) (size_of lines) so.history so.between (next_here b lines typed asks may so) so.held) tally_is
 
   -- It was carried out, with this page.
   module _ (script' : Script) (s' : Stored D) (q q' : PortSeen) (text : List ℕ) (none : q.written ≡ Some []) (page : q'.written ≡ Some text)
       (kept : script'.opened_before ≡ script.opened_before) (up : HasFailed seen s' → ⊥)
       (carries : Carries seen moment a script script' s s' q q') where
     out_here : (b : Begun D) (lines : List (List ℕ)) (typed : List ℕ) → Asks typed a → MayComeNext lines typed → (so : SoFar seen b lines script s p)
-        → CarriedOut seen b (asked_after [] so.steps) (size_of lines) (1 + length lines) so.history a script.tally script' s' q q'
+        → CarriedOut seen b (end_of b so.steps) (size_of lines) (1 + length lines) so.history a script.tally script' s' q q'
     out_here b lines typed asks may so =
-        carries b (asked_after [] so.steps) (size_of lines) (1 + length lines) so.history so.between (next_here b lines typed asks may so) so.held
+        carries b (end_of b so.steps) (size_of lines) (1 + length lines) so.history so.between (next_here b lines typed asks may so) so.held
 
     -- and that was written
     pub goes_further : {T E : Type 0} (p' : PortSeen) (done : T) (r : Result T E) → r ≡ Ok done → Puts p p' r text

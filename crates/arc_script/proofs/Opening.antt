@@ -18,6 +18,7 @@ use Rattle.arc_script.specs.Carrying.{HasRead, HaveTaken}
 use Rattle.arc_script.specs.Playing.{IsNewDesk}
 use Rattle.centre_store.specs.StoreHalls.{is_told}
 use Rattle.arc_script.specs.declared.script.Script.{Script}
+use Rattle.arc_script.proofs.GivenSummaries.{given_moment}
 use Rattle.arc_script.proofs.Reopening.{kept_recorded}
 
 all_at : {A : Type 0} (P : A → Type 0) (xs : List A) (i : ℕ) → All P xs → IfSome (slice_get xs i) P
@@ -39,16 +40,11 @@ taken_none setup lines desks new_lines new_desks = record {
   read = λ i. new_read setup (slice_get desks i) 0 (all_at IsNewDesk desks i new_desks);
 }
 
--- the last moment of a summary that areas give
-given_moment : (base : Summary) → IsGiven base → IsMoment base.last
-given_moment base is = subst (λ (s : Summary). IsMoment s.last) (sym is) (omega arith)
-
 -- what a store that was opened stands for
 pub store_opened : {D : Type 0} (seen : D → DiskSeen) (b : Begun D) (s : Stored D) (o : IsOpened seen b.disk s) → o.base ≡ b.base
     → is_told (seen s.journal.disk).told ≡ is_told (seen b.disk).told → s.journal.limits ≡ b.limits → (seen b.disk).faults ≤ s.at_open
-    → IsStoreSoFar seen b o.past s
+    → IsStoreSoFar seen b b.base o.past s
 store_opened seen b s o same tells limits later = record {
-  given = subst IsGiven same o.given;
   stands = subst (λ (base : Summary). StoreStands seen base s o.past) same o.stands;
   readable =
       let given = subst IsGiven same o.given in
@@ -69,7 +65,7 @@ begins_with seen disk s o = record { bodies = o.bodies; given = o.given; is_past
 pub so_far_none : {D : Type 0} (seen : D → DiskSeen) (b : Begun D) (script : Script) (s : Stored D) → script.setup ≡ b.setup → script.limits ≡ b.limits
     → All (Line.TookStream []) script.lines.items → All IsNewDesk script.desks.items → script.clock ≡ None
     → script.opened_before ≡ s.state.sum.opened → script.tally.sent ≡ 0 → script.tally.repeats ≡ 0 → script.tally.closed ≡ 0
-    → IsStoreSoFar seen b b.past s → HoldsRecorded seen s.journal b.base b.past → SoFar seen b [] script s b.port
+    → IsStoreSoFar seen b b.base b.past s → HoldsRecorded seen s.journal b.base b.past → SoFar seen b [] script s b.port
 so_far_none seen b script s setup limits new_lines new_desks none opened sent repeats closed store held = record {
   steps = [];
   history = b.past;

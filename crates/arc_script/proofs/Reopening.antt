@@ -1,60 +1,107 @@
 -- What the journal keeps of a history, and what opening it again gives.
-use Rattle.std.proofs.Common.{◌≡◌, ◌≤◌, ◌+◌, ◌∷◌, ◌^◌, ℕ, List, [], true, cond, map, length, Option, Some, None, IfSome, inr, refl, sym, ap, subst, ◌∙◌}
-use Rattle.std.proofs.lemmas.List.{length-map, length-reverse}
+use Rattle.std.proofs.Common.{◌≡◌, ◌≤◌, ◌+◌, ◌∷◌, ◌^◌, ℕ, List, [], true, cond, length, Option, Some, None, IfSome, refl, sym, ap, subst, ◌∙◌, arith}
 use Rattle.arc_io.specs.Areas.{Areas}
 use Rattle.arc_io.specs.Disks.{DiskSeen}
 use Rattle.centre_rules.specs.Answers.{IsLegal}
-use Rattle.centre_rules.specs.History.{Entry, recorded}
+use Rattle.centre_rules.proofs.Quiet.{last_recorded, legal_recorded}
+use Rattle.centre_rules.specs.History.{Entry, IsMoment, last, recorded}
 use Rattle.centre_rules.specs.Summary.{Summary}
-use Rattle.centre_store.proofs.Holding.{given_are, recorded_there}
-use Rattle.centre_store.proofs.PastOnce.{one_past}
-use Rattle.centre_store.proofs.Recorded.{past_recorded}
-use Rattle.centre_store.specs.Bodies.{bodies_of, body_of}
-use Rattle.centre_store.specs.Given.{AreasGive, HoldsRecorded, StandFor}
+use Rattle.centre_store.proofs.Holding.{recorded_there}
+use Rattle.centre_store.proofs.Readable.{last_moment}
+use Rattle.centre_store.proofs.Recorded.{bodies_recorded, past_recorded, recorded_both, recorded_once}
+use Rattle.centre_store.proofs.Reopened.{summary_recorded}
+use Rattle.centre_store.specs.Bodies.{bodies_of}
+use Rattle.centre_store.specs.Given.{HoldsRecorded, IsFirst, IsGiven, StandFor}
 use Rattle.centre_store.specs.Openings.{IsOpened}
 use Rattle.centre_store.specs.Pasts.{AreKept, IsPast}
-use Rattle.centre_store.specs.Stores.{Stored}
+use Rattle.centre_store.specs.Stores.{Stored, StoreStands}
 use Rattle.arc_script.specs.Begun.{Begun}
 use Rattle.arc_script.specs.Ends.{Tells}
 use Rattle.centre_store.specs.StoreHalls.{is_told}
 use Rattle.arc_script.specs.Standing.{IsReadable}
 use Rattle.arc_script.specs.Steps.{Keeps}
+use Rattle.arc_script.proofs.GivenSummaries.{given_moment}
+use Rattle.std.proofs.lemmas.Bool.{false≢true}
 
 -- what was kept is recorded
 pub kept_recorded : (h : List Entry) → AreKept h → recorded h ≡ h
 kept_recorded [] kept = refl
 kept_recorded (e ∷ h) kept = ap (λ t. cond t (e ∷ recorded h) (recorded h)) kept.0.recorded ∙ ap (λ l. e ∷ l) (kept_recorded h kept.1)
 
-bodies_count : (h : List Entry) → length (bodies_of h) ≡ length (recorded h)
-unfolding bodies_of
-bodies_count h = length-reverse (map body_of (recorded h)) ∙ length-map (recorded h) body_of
+-- what the areas stand for is what is recorded
+stand_recorded : (base : Summary) (h : List Entry) (areas : Areas) → StandFor base h areas → StandFor base (recorded h) areas
+stand_recorded base h areas stand =
+    let x = stand.2 in (
+      stand.0,
+      stand.1,
+      record {
+        later = recorded x.later;
+        summed = recorded x.summed;
+        split = ap recorded x.split ∙ recorded_both x.later x.summed;
+        first_is = subst (λ (s : Summary). IsFirst s stand.0) (summary_recorded base x.summed) x.first_is;
+        bodies_are = x.bodies_are ∙ bodies_recorded x.later;
+      },
+      stand.3,
+    )
 
--- a history whose bodies are those of a past
-same_past : (base : Summary) (h past : List Entry) → IsLegal base h → IsReadable base h → IsPast base (bodies_of h) past → past ≡ recorded h
-same_past base h past legal readable is =
-    let count : length (recorded h) ≡ length past =
-    sym (bodies_count h) ∙ ap length is.is ∙ bodies_count past ∙ ap length (kept_recorded past is.kept) in
-    let few : base.recorded + length (recorded h) ≤ 2 ^ 48 = subst (λ (n : ℕ). base.recorded + n ≤ 2 ^ 48) (sym count) is.few in
-    one_past base (bodies_of h) (bodies_of h) past (recorded h) refl is (past_recorded base h legal readable.1.1 few)
+-- the histories for which a store stands that was opened over areas: each whose entries the areas have
+abbrev Every : {D : Type 0} → (D → DiskSeen) → Stored D → Areas → Type 0
+Every seen s areas =
+    (b : Summary) (k : List Entry) → IsGiven b → IsLegal b k → IsMoment (last b k) → recorded k ≡ k → StandFor b k areas → StoreStands seen b s k
 
-told_same : (told : Option Areas) (base b : Summary) (bodies : List (List ℕ)) (h : List Entry) → is_told told ≡ true
-    → IfSome told (λ a. AreasGive a base bodies) → IfSome told (StandFor b h) → bodies ≡ bodies_of h
-told_same None base b bodies h is area file = absurd (cc)
-told_same (Some a) base b bodies h is area file = given_are base b bodies h a area file
+-- A store that was opened over areas that stand for the recorded entries of a history over a summary: over that summary it stands for these
+-- entries, whatever summary the areas give now.
+told_again : {D : Type 0} (seen : D → DiskSeen) (base : Summary) (h : List Entry) (areas : Areas) (disk : D) (s : Stored D) (o : IsOpened seen disk s)
+    → IsLegal base h → IsReadable base h → StandFor base h areas → Every seen s areas
+    → IsPast base (bodies_of (recorded h)) (recorded h) × StoreStands seen base s (recorded h)
+told_again seen base h areas disk s o legal readable stand every =
+    let moment : IsMoment (last base (recorded h)) = subst IsMoment (last_recorded base h) (last_moment base h readable.1) in
+    let stands = every base (recorded h) readable.0 (legal_recorded base h legal) moment (recorded_once h) (stand_recorded base h areas stand) in
+    let few : base.recorded + length (recorded h) ≤ 2 ^ 48 = omega (arith, stands.centre.entries, o.stands.centre.entries, o.is_past.few) in (
+      subst (λ (l : List (List ℕ)). IsPast base l (recorded h)) (bodies_recorded h) (past_recorded base h legal readable.1.1 few),
+      stands,
+    )
+
+-- What a script goes on from over a journal that was opened again: a summary, and what is kept of a history over another.
+pub record GoesOnFrom {D : Type 0} (seen : D → DiskSeen) (Told : Type 0) (base : Summary) (h : List Entry) (s : Stored D) : Type 0 where
+  pub anew : Summary
+  pub kept : List Entry
+  pub keeps : Keeps Told base anew h kept
+  pub stands : StoreStands seen anew s kept
+  pub readable : IsReadable anew kept
+
+-- by whether the disk tells what it holds
+goes_on_as : {D : Type 0} (seen : D → DiskSeen) (Told : Type 0) (base : Summary) (h : List Entry) (disk : D) (s : Stored D) (o : IsOpened seen disk s)
+    (told : Option Areas) → (Told → is_told told ≡ true) → IsLegal base h → IsReadable base h → IfSome told (StandFor base h)
+    → IfSome told (Every seen s) → GoesOnFrom seen Told base h s
+goes_on_as seen Told base h disk s o None known legal readable stand every = record {
+  anew = o.base;
+  kept = o.past;
+  keeps = record {
+    given = o.given;
+    past = subst (λ (l : List (List ℕ)). IsPast o.base l o.past) o.is_past.is o.is_past;
+    same = λ told. absurd (false≢true (known told));
+  };
+  stands = o.stands;
+  readable = (o.given, (given_moment o.base o.given, subst AreKept (sym (kept_recorded o.past o.is_past.kept)) o.is_past.kept));
+}
+goes_on_as seen Told base h disk s o (Some areas) known legal readable stand every =
+    let again = told_again seen base h areas disk s o legal readable stand every in
+    let kept = readable.1.1 in
+    record {
+      anew = base;
+      kept = recorded h;
+      keeps = record { given = readable.0; past = again.0; same = λ told. (refl, refl) };
+      stands = again.1;
+      readable = (readable.0, (readable.1.0, subst AreKept (sym (kept_recorded (recorded h) kept)) kept));
+    }
 
 is_true : (o : Option Areas) (areas : Areas) → o ≡ Some areas → is_told o ≡ true
 is_true o areas is = ap is_told is
 
--- opening the journal of a history again gives its recorded entries
-pub keeps_recorded : {D : Type 0} (seen : D → DiskSeen) (b : Begun D) (h : List Entry) (s s' : Stored D) → IsLegal b.base h → IsReadable b.base h
-    → is_told (seen s.journal.disk).told ≡ is_told (seen b.disk).told → HoldsRecorded seen s.journal b.base h
-    → (o : IsOpened seen s.journal.disk s') → o.base ≡ b.base → Keeps (Tells (seen b.disk)) b.base h o.past
-keeps_recorded seen b h s s' legal readable tells holds o base_is =
-    let past : IsPast b.base o.bodies o.past = subst (λ (base : Summary). IsPast base o.bodies o.past) base_is o.is_past in record {
-      past = subst (λ (l : List (List ℕ)). IsPast b.base l o.past) o.is_past.is past;
-      same = λ told.
-          let bodies : o.bodies ≡ bodies_of h =
-          told_same (seen s.journal.disk).told o.base b.base o.bodies h (tells ∙ is_true (seen b.disk).told told.0 told.1) o.area
-          (recorded_there seen s.journal b.base h holds).area in
-          same_past b.base h o.past legal readable (subst (λ (l : List (List ℕ)). IsPast b.base l o.past) bodies past);
-    }
+pub goes_on_from : {D : Type 0} (seen : D → DiskSeen) (b : Begun D) (base : Summary) (h : List Entry) (s s' : Stored D) → IsLegal base h → IsReadable base h
+    → is_told (seen s.journal.disk).told ≡ is_told (seen b.disk).told → HoldsRecorded seen s.journal base h → IsOpened seen s.journal.disk s'
+    → GoesOnFrom seen (Tells (seen b.disk)) base h s'
+goes_on_from seen b base h s s' legal readable tells holds o =
+    goes_on_as seen (Tells (seen b.disk)) base h s.journal.disk s' o (seen s.journal.disk).told
+    (λ told. tells ∙ is_true (seen b.disk).told told.0 told.1) legal readable (recorded_there seen s.journal base h holds).area o.every

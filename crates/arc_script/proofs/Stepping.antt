@@ -20,10 +20,10 @@ use Rattle.arc_script.specs.Ends.{Tells, AddedBy, CameTo}
 use Rattle.arc_script.specs.Fed.{clock_of}
 use Rattle.arc_script.specs.Playing.{TickStops, Ticked, moment_at}
 use Rattle.arc_script.specs.Standing.{IsReadable}
-use Rattle.arc_script.specs.Steps.{placed, Step, Commands, IsStepOf, before_tick}
+use Rattle.arc_script.specs.Steps.{Place, placed, Step, Commands, IsStepOf, before_tick}
 use Rattle.arc_script.specs.declared.script.Script.{Script}
 use Rattle.arc_script.specs.declared.script_end.Tally.{Tally}
-use Rattle.arc_script.proofs.Carry.{Stays, carried_out, stopped_at}
+use Rattle.arc_script.proofs.Carry.{IsOverStore, Stays, carried_out, stopped_at}
 use Rattle.arc_script.proofs.Timing.{time_carried, time_stopped, time_taken}
 use Rattle.arc_script.proofs.Wanting.{clock_with}
 
@@ -46,15 +46,15 @@ module _ {D : Type 0} (seen : D → DiskSeen) (script script' : Script) (s s' : 
       → Ticked seen base (before_tick script.clock base script.setup at h) at s' p p')
       → OnOk r (s'.state.sum.text ≡ Some script.setup) → OnOk r (script'.clock ≡ Some at)
       → OnOk r (Carries seen moment a script script' s s' p p')
-  time_carries p p' (Ok done) ticked text clock = λ b before count number h between next holds.
+  time_carries p p' (Ok done) ticked text clock = λ b place count number h between next holds.
       let tally : script'.tally ≡ script.tally = ap (λ (k : Script). k.tally) rest in
-      let there = subst (λ (n : ℕ). Ticked seen b.base (before_tick script.clock b.base script.setup n h) n s' p p') same
-      (ticked b.base h between.store.stands) in
-      let out = time_carried seen b before count h moment script script' s s' between fits tally number p p' there in
-      let set : clock_of (Time moment ∷ before) ≡ Some moment = refl in
-      subst (λ (k : Asked). CarriedOut seen b before count number h k script.tally script' s' p p') (sym whose)
-      (carried_out seen b before count h (Time moment) moment script script' s s' between stays fits set number p p' out
-      (time_taken b.setup count moment before script script' between.taken rest) (clock ∙ ap Some same) (text ∙ ap Some between.setup))
+      let there = subst (λ (n : ℕ). Ticked seen place.base (before_tick script.clock place.base script.setup n h) n s' p p') same
+      (ticked place.base h between.store.stands) in
+      let out = time_carried seen b place count h moment script script' s s' between fits tally number p p' there in
+      let set : clock_of (Time moment ∷ place.asked) ≡ Some moment = refl in
+      subst (λ (k : Asked). CarriedOut seen b place count number h k script.tally script' s' p p') (sym whose)
+      (carried_out seen b place count h (Time moment) moment script script' s s' between stays fits set tt number p p' out
+      (time_taken place.setup count moment place.asked script script' between.taken rest) (clock ∙ ap Some same) (text ∙ ap Some between.setup))
   time_carries p p' (Err stop) ticked text clock = tt
 
   pub time_stops : (r : Result (Unit {0}) Stop)
@@ -63,13 +63,13 @@ module _ {D : Type 0} (seen : D → DiskSeen) (script script' : Script) (s s' : 
       → IfErr r (λ stop. HasShown seen s' stop at (IsOfTime script.clock script.setup))
       → IfErr r (λ stop. Stops seen moment a script script' s s' stop)
   time_stops (Ok done) stops shown = tt
-  time_stops (Err stop) stops shown = λ b before count h between next holds.
+  time_stops (Err stop) stops shown = λ b place count h between next holds.
       let tally : script'.tally ≡ script.tally = ap (λ (k : Script). k.tally) rest in
-      let there = subst (λ (n : ℕ). TickStops seen script.clock b.base script.setup n h stop s') same
-      (stops b.base h between.store.stands) in
+      let there = subst (λ (n : ℕ). TickStops seen script.clock place.base script.setup n h stop s') same
+      (stops place.base h between.store.stands) in
       let by = subst (λ (n : ℕ). HasShown seen s' stop n (IsOfTime script.clock script.setup)) same shown in
-      subst (λ (k : Asked). StoppedAt seen b before h k stop script.tally script'.tally s') (sym whose)
-      (time_stopped seen b before count h moment script script' s s' between fits tally stop stays there by)
+      subst (λ (k : Asked). StoppedAt seen b place h k stop script.tally script'.tally s') (sym whose)
+      (time_stopped seen b place count h moment script script' s s' between fits tally stop stays there by)
 
 -- The other lines over the store.
 
@@ -82,12 +82,12 @@ CameSoFar base seen Told setup moment before asked h s' stop x st =
     ⊎ ((stop ≡ Memory) × IsStepOf Told (placed base setup before) h x st asked)
 
 module _ {D : Type 0} (seen : D → DiskSeen) (script script' : Script) (s s' : Stored D) (a : Asked) (moment : ℕ) (stays : Stays seen script script' s s')
-    (fits : IsMoment moment) where
-  next_with : (b : Begun D) (before : List Asked) (count : ℕ) (h : List Entry) → Between seen b before count h script s
-      → IsNext (meaning b.setup) moment count before a script.lines.items script.desks.items
-      → IsNext (meaning script.setup) moment count before a script.lines.items script.desks.items
-  next_with b before count h between next =
-      subst (λ (l : List ℕ). IsNext (meaning l) moment count before a script.lines.items script.desks.items) (sym between.setup) next
+    (fits : IsMoment moment) (over : IsOverStore a) where
+  next_with : (b : Begun D) (place : Place) (count : ℕ) (h : List Entry) → Between seen b place count h script s
+      → IsNext (meaning place.setup) moment count place.asked a script.lines.items script.desks.items
+      → IsNext (meaning script.setup) moment count place.asked a script.lines.items script.desks.items
+  next_with b place count h between next =
+      subst (λ (l : List ℕ). IsNext (meaning l) moment count place.asked a script.lines.items script.desks.items) (sym between.setup) next
 
   pub line_carries : (p p' : PortSeen) (r : Result (Unit {0}) Stop) → script'.clock ≡ Some moment
       → ((Told : Type 0) → OnOk r ((base : Summary) (before : List Asked) (count number : ℕ) (h : List Entry)
@@ -98,13 +98,13 @@ module _ {D : Type 0} (seen : D → DiskSeen) (script script' : Script) (s s' : 
       → HaveTakenWith (meaning script.setup) count before a script'.lines.items script'.desks.items)
       → s'.state.sum.text ≡ Some script.setup
       → OnOk r (Carries seen moment a script script' s s' p p')
-  line_carries p p' (Ok done) clock fed took text = λ b before count number h between next holds.
-      let n = next_with b before count h between next in
-      let out = subst (λ (l : List ℕ). Carried seen b.base (λ x st. IsStepOf (Tells (seen b.disk)) (placed b.base l before) h x st a) number a
-      script.tally script'.tally p p' s') between.setup (fed (Tells (seen b.disk)) b.base before count number h n between.store.stands between.store.readable) in
-      let taken = subst (λ (l : List ℕ). HaveTakenWith (meaning l) count before a script'.lines.items script'.desks.items) between.setup
-      (took before count n) in
-      carried_out seen b before count h a moment script script' s s' between stays fits next.set number p p' out taken clock
+  line_carries p p' (Ok done) clock fed took text = λ b place count number h between next holds.
+      let n = next_with b place count h between next in
+      let out = subst (λ (l : List ℕ). Carried seen place.base (λ x st. IsStepOf (Tells (seen b.disk)) (placed place.base l place.asked) h x st a) number a
+      script.tally script'.tally p p' s') between.setup (fed (Tells (seen b.disk)) place.base place.asked count number h n between.store.stands between.store.readable) in
+      let taken = subst (λ (l : List ℕ). HaveTakenWith (meaning l) count place.asked a script'.lines.items script'.desks.items) between.setup
+      (took place.asked count n) in
+      carried_out seen b place count h a moment script script' s s' between stays fits next.set over number p p' out taken clock
       (text ∙ ap Some between.setup)
   line_carries p p' (Err stop) clock fed took text = tt
 
@@ -115,13 +115,13 @@ module _ {D : Type 0} (seen : D → DiskSeen) (script script' : Script) (s s' : 
       → Halted seen base (λ x st. CameSoFar base seen Told script.setup moment before a h s' stop x st) script.tally script'.tally s'))
       → IfErr r (λ stop. Stops seen moment a script script' s s' stop)
   line_stops (Ok done) stops = tt
-  line_stops (Err stop) stops = λ b before count h between next holds.
+  line_stops (Err stop) stops = λ b place count h between next holds.
       let Told = Tells (seen b.disk) in
-      let n = next_with b before count h between next in
-      let out = subst (λ (l : List ℕ). Halted seen b.base (λ x st. CameSoFar b.base seen Told l moment before a h s' stop x st)
-      script.tally script'.tally s') between.setup (stops Told b.base before count h n between.store.stands between.store.readable) in
-      elim out.came as (λ came. StoppedAt seen b before h a stop script.tally script'.tally s') [
-        | inl until ↦ stopped_at seen b before count h a moment script script' s s' between stays fits next.set stop until.0 (record {
+      let n = next_with b place count h between next in
+      let out = subst (λ (l : List ℕ). Halted seen place.base (λ x st. CameSoFar place.base seen Told l moment place.asked a h s' stop x st)
+      script.tally script'.tally s') between.setup (stops Told place.base place.asked count h n between.store.stands between.store.readable) in
+      elim out.came as (λ came. StoppedAt seen b place h a stop script.tally script'.tally s') [
+        | inl until ↦ stopped_at seen b place count h a moment script script' s s' between stays fits next.set over stop until.0 (record {
           partial = out.partial;
           history = out.history;
           came = inl (until.1, until.2);
@@ -129,7 +129,7 @@ module _ {D : Type 0} (seen : D → DiskSeen) (script script' : Script) (s s' : 
           readable = out.readable;
           counts = out.counts;
         })
-        | inr whole ↦ stopped_at seen b before count h a moment script script' s s' between stays fits next.set stop [] (record {
+        | inr whole ↦ stopped_at seen b place count h a moment script script' s s' between stays fits next.set over stop [] (record {
           partial = out.partial;
           history = out.history;
           came = inr whole;
@@ -146,16 +146,16 @@ still_ok r (Ok done) P is holds = subst (λ (k : Result (Unit {0}) Stop). OnOk k
 still_ok r (Err stop) P is holds = tt
 
 -- it was carried out, and memory is said to be wanted
-failed_at : {D : Type 0} (seen : D → DiskSeen) (b : Begun D) (before : List Asked) (count number : ℕ) (h : List Entry) (a : Asked) (moment : ℕ)
-    (stop : Stop) (t : Tally) (script' : Script) (s' : Stored D) (p p' : PortSeen) → stop ≡ Memory → moment_at (clock_of before) a ≡ Some moment
-    → CarriedOut seen b before count number h a t script' s' p p' → StoppedAt seen b before h a stop t script'.tally s'
-failed_at seen b before count number h a moment stop t script' s' p p' is set out = record {
+failed_at : {D : Type 0} (seen : D → DiskSeen) (b : Begun D) (place : Place) (count number : ℕ) (h : List Entry) (a : Asked) (moment : ℕ)
+    (stop : Stop) (t : Tally) (script' : Script) (s' : Stored D) (p p' : PortSeen) → stop ≡ Memory → moment_at (clock_of place.asked) a ≡ Some moment
+    → CarriedOut seen b place count number h a t script' s' p p' → StoppedAt seen b place h a stop t script'.tally s'
+failed_at seen b place count number h a moment stop t script' s' p p' is set out = record {
   waiting = [];
   partial = out.step;
   history = out.history;
   clock = moment;
   came = inr (is, inr out.is);
-  set = clock_with before a moment set;
+  set = clock_with place.asked a moment set;
   cause = inl is;
   stands = out.between.store.stands;
   limits_are = out.between.store.limits_are;
@@ -171,15 +171,15 @@ still_stops seen moment a script script' s s' p p' r (Ok done) how carries stops
 still_stops seen moment a script script' s s' p p' r (Err stop) how carries stops =
     elim how as (λ k. Stops seen moment a script script' s s' stop) [
       | inl is ↦ subst (λ (k : Result (Unit {0}) Stop). IfErr k (λ other. Stops seen moment a script script' s s' other)) is stops
-      | inr both ↦ λ b before count h between next holds.
+      | inr both ↦ λ b place count h between next holds.
           let out = subst (λ (k : Result (Unit {0}) Stop). OnOk k (Carries seen moment a script script' s s' p p')) both.0 carries in
-          failed_at seen b before count 0 h a moment stop script.tally script' s' p p' both.1 next.set (out b before count 0 h between next holds)
+          failed_at seen b place count 0 h a moment stop script.tally script' s' p p' both.1 next.set (out b place count 0 h between next holds)
     ]
 
 -- a command that was stopped added nothing
 pub command_came : {D : Type 0} (seen : D → DiskSeen) (Told : Type 0) (base : Summary) (setup : List ℕ) (moment : ℕ) (before : List Asked) (desk : ℕ) (text : List ℕ)
     (h : List Entry) (s' : Stored D) (stop : Stop) (t t' : Tally)
-    → Halted seen base (λ x st. ((x ≡ h) × AddedBy h x st
+    → Halted seen base (λ x st. ((x ≡ h) × AddedBy base h x st
     × HasShown seen s' stop moment (IsOfCommand setup before desk text))
     ⊎ ((stop ≡ Memory) × Commands (placed base setup before) desk text h x st)) t t' s'
     → Halted seen base (λ x st. CameSoFar base seen Told setup moment before (Command desk text) h s' stop x st) t t' s'
@@ -211,26 +211,26 @@ set_before before a moment is set = ap (moment_at (clock_of before)) (sym is) �
 
 pub reopen_carries : {D E : Type 0} (seen : D → DiskSeen) (moment : ℕ) (a : Asked) (script script' : Script) (s : Stored D) (p p' : PortSeen)
     (r : Result (Stored D × Result (Unit {0}) Stop) E) → a ≡ Reopen
-    → IfOk r (λ x. OnOk x.1 ((b : Begun D) (before : List Asked) (count number : ℕ) (h : List Entry) → Between seen b before count h script s
-    → HoldsRecorded seen s.journal b.base h → clock_of before ≡ Some moment
-    → CarriedOut seen b before count number h Reopen script.tally script' x.0 p p'))
+    → IfOk r (λ x. OnOk x.1 ((b : Begun D) (place : Place) (count number : ℕ) (h : List Entry) → Between seen b place count h script s
+    → HoldsRecorded seen s.journal place.base h → clock_of place.asked ≡ Some moment
+    → CarriedOut seen b place count number h Reopen script.tally script' x.0 p p'))
     → IfOk r (λ x. OnOk x.1 (Carries seen moment a script script' s x.0 p p'))
-reopen_carries seen moment a script script' s p p' (Ok x) is out = on_ok_weaker x.1 (λ all b before count number h between next holds.
-    subst (λ (k : Asked). CarriedOut seen b before count number h k script.tally script' x.0 p p') (sym is)
-    (all b before count number h between holds (set_before before a moment is next.set))) out
+reopen_carries seen moment a script script' s p p' (Ok x) is out = on_ok_weaker x.1 (λ all b place count number h between next holds.
+    subst (λ (k : Asked). CarriedOut seen b place count number h k script.tally script' x.0 p p') (sym is)
+    (all b place count number h between holds (set_before place.asked a moment is next.set))) out
 reopen_carries seen moment a script script' s p p' (Err e) is out = tt
 
 pub reopen_stops : {D E : Type 0} (seen : D → DiskSeen) (moment : ℕ) (a : Asked) (script script' : Script) (s : Stored D)
     (r : Result (Stored D × Result (Unit {0}) Stop) E) → a ≡ Reopen
-    → IfOk r (λ x. IfErr x.1 (λ stop. (b : Begun D) (before : List Asked) (count : ℕ) (h : List Entry) → Between seen b before count h script s
-    → HoldsRecorded seen s.journal b.base h → clock_of before ≡ Some moment
-    → StoppedAt seen b before h Reopen stop script.tally script'.tally x.0))
+    → IfOk r (λ x. IfErr x.1 (λ stop. (b : Begun D) (place : Place) (count : ℕ) (h : List Entry) → Between seen b place count h script s
+    → HoldsRecorded seen s.journal place.base h → clock_of place.asked ≡ Some moment
+    → StoppedAt seen b place h Reopen stop script.tally script'.tally x.0))
     → IfOk r (λ x. IfErr x.1 (λ stop. Stops seen moment a script script' s x.0 stop))
 reopen_stops {D} seen moment a script script' s (Ok x) is out =
-    IfErr-weaker x.1 (λ stop. (b : Begun D) (before : List Asked) (count : ℕ) (h : List Entry) → Between seen b before count h script s
-    → HoldsRecorded seen s.journal b.base h → clock_of before ≡ Some moment
-    → StoppedAt seen b before h Reopen stop script.tally script'.tally x.0) (λ stop. Stops seen moment a script script' s x.0 stop)
-    (λ stop all b before count h between next holds.
-    subst (λ (k : Asked). StoppedAt seen b before h k stop script.tally script'.tally x.0) (sym is)
-    (all b before count h between holds (set_before before a moment is next.set))) out
+    IfErr-weaker x.1 (λ stop. (b : Begun D) (place : Place) (count : ℕ) (h : List Entry) → Between seen b place count h script s
+    → HoldsRecorded seen s.journal place.base h → clock_of place.asked ≡ Some moment
+    → StoppedAt seen b place h Reopen stop script.tally script'.tally x.0) (λ stop. Stops seen moment a script script' s x.0 stop)
+    (λ stop all b place count h between next holds.
+    subst (λ (k : Asked). StoppedAt seen b place h k stop script.tally script'.tally x.0) (sym is)
+    (all b place count h between holds (set_before place.asked a moment is next.set))) out
 reopen_stops seen moment a script script' s (Err e) is out = tt

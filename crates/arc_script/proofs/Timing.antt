@@ -20,7 +20,7 @@ use Rattle.arc_script.specs.Ends.{Tells, BegunUntil, CameFor}
 use Rattle.arc_script.specs.Fed.{clock_of}
 use Rattle.arc_script.specs.Playing.{TickStops, Ticked}
 use Rattle.arc_script.specs.Standing.{IsReadable}
-use Rattle.arc_script.specs.Steps.{placed, Step, IsStepOf, before_tick, entry_after}
+use Rattle.arc_script.specs.Steps.{Place, Step, IsStepOf, before_tick, entry_after}
 use Rattle.arc_script.specs.Tallies.{count_of, is_closed, is_repeat}
 use Rattle.arc_script.specs.declared.script.Script.{Script}
 use Rattle.arc_script.specs.declared.script_end.Tally.{Tally}
@@ -51,6 +51,7 @@ step_of base number moment clock setup h entries = record {
   number = number;
   asked = Time moment;
   entries = entries;
+  base = base;
   sent = 0;
   text = codes "T " ++ line_of (entry_after base (before_tick clock base setup moment h) Tick moment).reply;
 }
@@ -77,39 +78,39 @@ time_taken setup count moment before script script' taken rest =
     subst (λ (k : Script). HaveTakenWith (meaning setup) count before (Time moment) k.lines.items k.desks.items) (sym rest)
     (record { fed = more.fed; few = more.few; read = more.read })
 
-module _ {D : Type 0} (seen : D → DiskSeen) (b : Begun D) (before : List Asked) (count : ℕ) (h : List Entry) (moment : ℕ) (script script' : Script)
-    (s s' : Stored D) (between : Between seen b before count h script s) (fits : IsMoment moment) (same : script'.tally ≡ script.tally) where
-  first_is : before_tick script.clock b.base script.setup moment h ≡ before_tick (clock_of before) b.base b.setup moment h
+module _ {D : Type 0} (seen : D → DiskSeen) (b : Begun D) (place : Place) (count : ℕ) (h : List Entry) (moment : ℕ) (script script' : Script)
+    (s s' : Stored D) (between : Between seen b place count h script s) (fits : IsMoment moment) (same : script'.tally ≡ script.tally) where
+  first_is : before_tick script.clock place.base script.setup moment h ≡ before_tick (clock_of place.asked) place.base place.setup moment h
   first_is =
-      ap (λ (c : Option ℕ). before_tick c b.base script.setup moment h) between.clock.is
-      ∙ ap (λ (l : List ℕ). before_tick (clock_of before) b.base l moment h) between.setup
+      ap (λ (c : Option ℕ). before_tick c place.base script.setup moment h) between.clock.is
+      ∙ ap (λ (l : List ℕ). before_tick (clock_of place.asked) place.base l moment h) between.setup
 
   pub time_carried : (number : ℕ) (p p' : PortSeen)
-      → Ticked seen b.base (before_tick script.clock b.base script.setup moment h) moment s' p p'
-      → Carried seen b.base (λ x st. IsStepOf (Tells (seen b.disk)) (placed b.base b.setup before) h x st (Time moment)) number (Time moment)
+      → Ticked seen place.base (before_tick script.clock place.base script.setup moment h) moment s' p p'
+      → Carried seen place.base (λ x st. IsStepOf (Tells (seen b.disk)) place h x st (Time moment)) number (Time moment)
       script.tally script'.tally p p' s'
   time_carried number p p' ticked =
-      let t = subst (λ (x : List Entry). Ticked seen b.base x moment s' p p') first_is ticked in
-      let adds = adds_tick (clock_of before) b.base b.setup moment h in
-      let st = step_of b.base number moment (clock_of before) b.setup h adds.entries in
+      let t = subst (λ (x : List Entry). Ticked seen place.base x moment s' p p') first_is ticked in
+      let adds = adds_tick (clock_of place.asked) place.base place.setup moment h in
+      let st = step_of place.base number moment (clock_of place.asked) place.setup h adds.entries in
       record {
         step = st;
-        history = ticked_by b.base (clock_of before) b.setup moment h;
+        history = ticked_by place.base (clock_of place.asked) place.setup moment h;
         number_is = refl;
         asked_is = refl;
-        is = record { is = refl; added = adds.is; sent = refl; text = refl };
+        is = record { is = refl; added = adds.is; base = refl; sent = refl; text = refl };
         stands = t.stands;
-        readable = readable_tick (clock_of before) b.base b.setup moment h fits t.stands.centre.legal between.store.readable;
+        readable = readable_tick (clock_of place.asked) place.base place.setup moment h fits t.stands.centre.legal between.store.readable;
         text = t.text;
         counts = counts_none st script.tally script'.tally refl adds.repeats adds.closed same;
       }
 
-  stop_with : (stop : Stop) → Stays seen script script' s s' → HasShown seen s' stop moment (IsOfTime (clock_of before) b.setup)
-      → (x : List Entry) → StoreStands seen b.base s' x → (adds : Adds h x)
-      → CameFor stop (Tells (seen b.disk)) (placed b.base b.setup before) [] h x (step_of b.base 0 moment (clock_of before) b.setup h adds.entries) (Time moment)
-      → StoppedAt seen b before h (Time moment) stop script.tally script'.tally s'
+  stop_with : (stop : Stop) → Stays seen script script' s s' → HasShown seen s' stop moment (IsOfTime (clock_of place.asked) place.setup)
+      → (x : List Entry) → StoreStands seen place.base s' x → (adds : Adds h x)
+      → CameFor stop (Tells (seen b.disk)) place [] h x (step_of place.base 0 moment (clock_of place.asked) place.setup h adds.entries) (Time moment)
+      → StoppedAt seen b place h (Time moment) stop script.tally script'.tally s'
   stop_with stop stays shown x stands adds came =
-      let st = step_of b.base 0 moment (clock_of before) b.setup h adds.entries in
+      let st = step_of place.base 0 moment (clock_of place.asked) place.setup h adds.entries in
       record {
         waiting = [];
         partial = st;
@@ -124,22 +125,22 @@ module _ {D : Type 0} (seen : D → DiskSeen) (b : Begun D) (before : List Asked
         counts = (counts_none st script.tally script'.tally refl adds.repeats adds.closed same).more;
       }
 
-  pub time_stopped : (stop : Stop) → Stays seen script script' s s' → TickStops seen script.clock b.base script.setup moment h stop s'
+  pub time_stopped : (stop : Stop) → Stays seen script script' s s' → TickStops seen script.clock place.base script.setup moment h stop s'
       → HasShown seen s' stop moment (IsOfTime script.clock script.setup)
-      → StoppedAt seen b before h (Time moment) stop script.tally script'.tally s'
+      → StoppedAt seen b place h (Time moment) stop script.tally script'.tally s'
   time_stopped stop stays stops shown =
-      let by = subst (λ (l : List ℕ). HasShown seen s' stop moment (IsOfTime (clock_of before) l)) between.setup
+      let by = subst (λ (l : List ℕ). HasShown seen s' stop moment (IsOfTime (clock_of place.asked) l)) between.setup
       (subst (λ (c : Option ℕ). HasShown seen s' stop moment (IsOfTime c script.setup)) between.clock.is shown) in
-      elim stops.came as (λ came. StoppedAt seen b before h (Time moment) stop script.tally script'.tally s') [
+      elim stops.came as (λ came. StoppedAt seen b place h (Time moment) stop script.tally script'.tally s') [
         | inl until ↦
-            let begun = subst (λ (l : List ℕ). BegunUntil (clock_of before) b.base l moment h stops.history) between.setup
-            (subst (λ (c : Option ℕ). BegunUntil c b.base script.setup moment h stops.history) between.clock.is until) in
-            let adds = adds_until (clock_of before) b.base b.setup moment h stops.history begun in
-            stop_with stop stays by stops.history stops.stands adds (inl (begun, record { added = adds.is; sent = refl }))
+            let begun = subst (λ (l : List ℕ). BegunUntil (clock_of place.asked) place.base l moment h stops.history) between.setup
+            (subst (λ (c : Option ℕ). BegunUntil c place.base script.setup moment h stops.history) between.clock.is until) in
+            let adds = adds_until (clock_of place.asked) place.base place.setup moment h stops.history begun in
+            stop_with stop stays by stops.history stops.stands adds (inl (begun, record { added = adds.is; base = refl; sent = refl }))
         | inr whole ↦
-            let is : stops.history ≡ ticked_by b.base (clock_of before) b.setup moment h =
-            whole.1 ∙ ap (λ (x : List Entry). entry_after b.base x Tick moment ∷ x) first_is in
-            let adds = subst (Adds h) (sym is) (adds_tick (clock_of before) b.base b.setup moment h) in
+            let is : stops.history ≡ ticked_by place.base (clock_of place.asked) place.setup moment h =
+            whole.1 ∙ ap (λ (x : List Entry). entry_after place.base x Tick moment ∷ x) first_is in
+            let adds = subst (Adds h) (sym is) (adds_tick (clock_of place.asked) place.base place.setup moment h) in
             stop_with stop stays by stops.history stops.stands adds
-            (inr (whole.0, inr (record { is = is; added = adds.is; sent = refl; text = refl })))
+            (inr (whole.0, inr (record { is = is; added = adds.is; base = refl; sent = refl; text = refl })))
       ]

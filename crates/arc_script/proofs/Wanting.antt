@@ -3,20 +3,21 @@ use Rattle.std.proofs.Common.{◌≡◌, ◌+◌, ◌∷◌, ℕ, List, [], Some
 use Rattle.arc_io.specs.Disks.{DiskSeen}
 use Rattle.centre_core.specs.declared.hall.Stop.TheVariants.{Memory}
 use Rattle.centre_rules.specs.History.{Entry}
+use Rattle.centre_rules.specs.Summary.{Summary}
 use Rattle.centre_store.specs.Stores.{Stored}
 use Rattle.script_lines.specs.Lines.{Asked, Time, Feed, Message, Command, Reopen}
 use Rattle.arc_script.specs.Begun.{Begun}
 use Rattle.arc_script.specs.Between.{Between, StoppedAt}
 use Rattle.arc_script.specs.Fed.{clock_of}
 use Rattle.arc_script.specs.Playing.{moment_at}
-use Rattle.arc_script.specs.Steps.{Step}
+use Rattle.arc_script.specs.Steps.{Place, Step}
 use Rattle.arc_script.specs.Tallies.{told}
 use Rattle.arc_script.specs.declared.script.Script.{Script}
 use Rattle.arc_script.specs.declared.script_end.Tally.{Tally}
 
 -- a step of no entries
-abbrev none : Asked → Step
-none asked = record { number = 0; asked = asked; entries = []; sent = 0; text = [] }
+abbrev none : Summary → Asked → Step
+none base asked = record { number = 0; asked = asked; entries = []; base = base; sent = 0; text = [] }
 
 -- the clock behind the line is that at its moment
 pub clock_with : (before : List Asked) (asked : Asked) (moment : ℕ) → moment_at (clock_of before) asked ≡ Some moment → clock_of (asked ∷ before) ≡ Some moment
@@ -29,16 +30,16 @@ clock_with before Reopen moment set = set
 same : (n : ℕ) → told n ≡ told (n + 0)
 same n = let e : n ≡ n + 0 = omega arith in ap told e
 
-pub nothing_done : {D : Type 0} (seen : D → DiskSeen) (b : Begun D) (before : List Asked) (count : ℕ) (h : List Entry) (asked : Asked) (script : Script)
-    (s : Stored D) (moment : ℕ) (t : Tally) → moment_at (clock_of before) asked ≡ Some moment → Between seen b before count h script s
-    → StoppedAt seen b before h asked Memory t t s
-nothing_done seen b before count h asked script s moment t set between = record {
+pub nothing_done : {D : Type 0} (seen : D → DiskSeen) (b : Begun D) (place : Place) (count : ℕ) (h : List Entry) (asked : Asked) (script : Script)
+    (s : Stored D) (moment : ℕ) (t : Tally) → moment_at (clock_of place.asked) asked ≡ Some moment → Between seen b place count h script s
+    → StoppedAt seen b place h asked Memory t t s
+nothing_done seen b place count h asked script s moment t set between = record {
   waiting = [];
-  partial = none asked;
+  partial = none place.base asked;
   history = h;
   clock = moment;
-  came = inr (refl, inl (refl, record { added = refl; sent = refl }));
-  set = clock_with before asked moment set;
+  came = inr (refl, inl (refl, record { added = refl; base = refl; sent = refl }));
+  set = clock_with place.asked asked moment set;
   cause = inl refl;
   stands = between.store.stands;
   limits_are = between.store.limits_are;

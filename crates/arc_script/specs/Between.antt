@@ -9,7 +9,8 @@ use Rattle.arc_text.specs.Lines.{is_feed}
 use Rattle.centre_core.specs.declared.hall.Stop.{Stop}
 use Rattle.centre_rules.specs.Cases.{opened}
 use Rattle.centre_rules.specs.History.{Entry, IsMoment, marks}
-use Rattle.centre_store.specs.Given.{IsGiven, HasRecorded, HoldsRecorded}
+use Rattle.centre_rules.specs.Summary.{Summary}
+use Rattle.centre_store.specs.Given.{HasRecorded, HoldsRecorded}
 use Rattle.centre_store.specs.Stores.{Stored, StoreStands}
 use Rattle.disk_journal.specs.declared.fault.OpenFault.{OpenFault}
 use Rattle.script_lines.specs.Lines.{Asked, spelling}
@@ -21,7 +22,7 @@ use Rattle.arc_script.specs.Ends.{Tells, IsUnopened, CameFor}
 use Rattle.arc_script.specs.Fed.{clock_of}
 use Rattle.centre_store.specs.StoreHalls.{is_told}
 use Rattle.arc_script.specs.Standing.{IsReadable}
-use Rattle.arc_script.specs.Steps.{Step, placed, IsStepOf, AreSteps, asked_after, output_of}
+use Rattle.arc_script.specs.Steps.{Place, placed, Step, IsStepOf, AreSteps, base_after, place_after, output_of}
 use Rattle.arc_script.specs.Tallies.{count_of, entries_of, is_closed, is_repeat, sent_by, told}
 use Rattle.arc_script.specs.Texts.{AreOf, counted}
 use Rattle.arc_script.specs.declared.script.Script.{Script}
@@ -53,24 +54,24 @@ pub record IsReady (clock : Option ℕ) (setup : List ℕ) (text : Option (List 
   pub moment : IfSome clock IsMoment
   pub set : IfSome clock (λ last. text ≡ Some setup)
 
--- The store stands for the history over a summary that areas give. It was opened later, with these limits, over a disk that tells as much.
-pub record IsStoreSoFar {D : Type 0} (seen : D → DiskSeen) (b : Begun D) (h : List Entry) (s : Stored D) : Type 0 where
-  pub given : IsGiven b.base
-  pub stands : StoreStands seen b.base s h
-  pub readable : IsReadable b.base h
+-- The store stands for a history over a summary, from which it can go on. It was opened later, with these limits, over a disk that tells as
+-- much.
+pub record IsStoreSoFar {D : Type 0} (seen : D → DiskSeen) (b : Begun D) (base : Summary) (h : List Entry) (s : Stored D) : Type 0 where
+  pub stands : StoreStands seen base s h
+  pub readable : IsReadable base h
   pub tells : is_told (seen s.journal.disk).told ≡ is_told (seen b.disk).told
   pub limits_are : s.journal.limits ≡ b.limits
   pub later : (seen b.disk).faults ≤ s.at_open
 
--- behind what was asked so far, in so many bytes: lines, desks, the clock and the store
-pub record Between {D : Type 0} (seen : D → DiskSeen) (b : Begun D) (before : List Asked) (count : ℕ) (h : List Entry) (script : Script)
+-- where a line stands, behind so many bytes of what was asked so far: lines, desks, the clock and the store
+pub record Between {D : Type 0} (seen : D → DiskSeen) (b : Begun D) (place : Place) (count : ℕ) (h : List Entry) (script : Script)
     (s : Stored D) : Type 0 where
-  pub setup : script.setup ≡ b.setup
+  pub setup : script.setup ≡ place.setup
   pub limits : script.limits ≡ b.limits
-  pub clock : IsClock script.clock before
-  pub set : IfSome script.clock (λ last. s.state.sum.text ≡ Some b.setup)
-  pub taken : HaveTaken (meaning b.setup) count before script.lines.items script.desks.items
-  pub store : IsStoreSoFar seen b h s
+  pub clock : IsClock script.clock place.asked
+  pub set : IfSome script.clock (λ last. s.state.sum.text ≡ Some place.setup)
+  pub taken : HaveTaken (meaning place.setup) count place.asked script.lines.items script.desks.items
+  pub store : IsStoreSoFar seen b place.base h s
 
 -- what was counted over steps so far
 pub record CountsSteps (steps : List Step) (t : Tally) : Type 0 where
@@ -85,68 +86,69 @@ pub record SoFar {D : Type 0} (seen : D → DiskSeen) (b : Begun D) (lines : Lis
   pub history : List Entry
   pub of : AreOf [] (counted lines) steps
   pub are : AreSteps (Tells (seen b.disk)) (placed b.base b.setup []) b.past history steps
-  pub between : Between seen b (asked_after [] steps) (size_of lines) history script s
-  pub held : HoldsRecorded seen s.journal b.base history
+  pub between : Between seen b (place_after (placed b.base b.setup []) steps) (size_of lines) history script s
+  pub held : HoldsRecorded seen s.journal (base_after b.base steps) history
   pub counts : CountsSteps steps script.tally
   pub opened_before : script.opened_before ≡ opened b.base (marks b.base b.past)
   pub written : p.written ≡ append_known b.port.written (output_of steps)
   pub writes : b.port.write_faults ≤ p.write_faults
 
 -- A line that asks for this was carried out: its step, and its output on a page.
-pub record CarriedOut {D : Type 0} (seen : D → DiskSeen) (b : Begun D) (before : List Asked) (count number : ℕ) (h : List Entry)
+pub record CarriedOut {D : Type 0} (seen : D → DiskSeen) (b : Begun D) (place : Place) (count number : ℕ) (h : List Entry)
     (asked : Asked)
     (t : Tally) (script : Script) (s : Stored D) (p p' : PortSeen) : Type 0 where
   pub step : Step
   pub history : List Entry
   pub number_is : step.number ≡ number
   pub asked_is : step.asked ≡ asked
-  pub is : IsStepOf (Tells (seen b.disk)) (placed b.base b.setup before) h history step asked
+  pub is : IsStepOf (Tells (seen b.disk)) place h history step asked
   pub text : p'.written ≡ append_known p.written step.text
   pub counts : CountsMore step t script.tally
-  pub between : Between seen b (asked ∷ before) (count + length (spelling asked)) history script s
+  pub between : Between seen b (place_after place (step ∷ [])) (count + length (spelling asked)) history script s
 
 -- It was stopped: how far it came, which is counted, and what the store shows.
-pub record StoppedAt {D : Type 0} (seen : D → DiskSeen) (b : Begun D) (before : List Asked) (h : List Entry) (asked : Asked) (stop : Stop)
+pub record StoppedAt {D : Type 0} (seen : D → DiskSeen) (b : Begun D) (place : Place) (h : List Entry) (asked : Asked) (stop : Stop)
     (t t' : Tally) (s : Stored D) : Type 0 where
   pub waiting : List (List ℕ)
   pub partial : Step
   pub history : List Entry
   pub clock : ℕ
-  pub came : CameFor stop (Tells (seen b.disk)) (placed b.base b.setup before) waiting h history partial asked
-  pub set : clock_of (asked ∷ before) ≡ Some clock
-  pub cause : HasShown seen s stop clock (Submits b.setup before clock waiting asked)
-  pub stands : StoreStands seen b.base s history
+  pub came : CameFor stop (Tells (seen b.disk)) place waiting h history partial asked
+  pub set : clock_of (asked ∷ place.asked) ≡ Some clock
+  pub cause : HasShown seen s stop clock (Submits place.setup place.asked clock waiting asked)
+  pub stands : StoreStands seen partial.base s history
   pub limits_are : s.journal.limits ≡ b.limits
   pub later : (seen b.disk).faults ≤ s.at_open
   pub counts : CountsMore partial t t'
 
 -- The journal was not opened again.
-pub record ShutAt {D : Type 0} (seen : D → DiskSeen) (b : Begun D) (h : List Entry) (fault : OpenFault) (disk : D) : Type 0 where
+pub record ShutAt {D : Type 0} (seen : D → DiskSeen) (b : Begun D) (base : Summary) (h : List Entry) (fault : OpenFault) (disk : D)
+    : Type 0 where
   pub closed : D
   pub later : (seen b.disk).faults ≤ (seen closed).faults
-  pub area : HasRecorded (seen closed) b.base h
+  pub area : HasRecorded (seen closed) base h
   pub unopened : IsUnopened fault (seen closed) (seen disk)
 
 -- behind each script that comes to this line it is carried out
 abbrev pub Carries : {D : Type 0} → (D → DiskSeen) → ℕ → Asked → Script → Script → Stored D → Stored D → PortSeen → PortSeen → Type 0
 Carries {D} seen moment asked script script' s s' p p' =
-    (b : Begun D) (before : List Asked) (count number : ℕ) (h : List Entry) → Between seen b before count h script s
-    → IsNext (meaning b.setup) moment count before asked script.lines.items script.desks.items
-    → HoldsRecorded seen s.journal b.base h
-    → CarriedOut seen b before count number h asked script.tally script' s' p p'
+    (b : Begun D) (place : Place) (count number : ℕ) (h : List Entry) → Between seen b place count h script s
+    → IsNext (meaning place.setup) moment count place.asked asked script.lines.items script.desks.items
+    → HoldsRecorded seen s.journal place.base h
+    → CarriedOut seen b place count number h asked script.tally script' s' p p'
 
 -- or it is stopped
 abbrev pub Stops : {D : Type 0} → (D → DiskSeen) → ℕ → Asked → Script → Script → Stored D → Stored D → Stop → Type 0
 Stops {D} seen moment asked script script' s s' stop =
-    (b : Begun D) (before : List Asked) (count : ℕ) (h : List Entry) → Between seen b before count h script s
-    → IsNext (meaning b.setup) moment count before asked script.lines.items script.desks.items
-    → HoldsRecorded seen s.journal b.base h
-    → StoppedAt seen b before h asked stop script.tally script'.tally s'
+    (b : Begun D) (place : Place) (count : ℕ) (h : List Entry) → Between seen b place count h script s
+    → IsNext (meaning place.setup) moment count place.asked asked script.lines.items script.desks.items
+    → HoldsRecorded seen s.journal place.base h
+    → StoppedAt seen b place h asked stop script.tally script'.tally s'
 
 -- or the journal is not opened again
 abbrev pub Shuts : {D : Type 0} → (D → DiskSeen) → ℕ → Asked → Script → Stored D → OpenFault → D → Type 0
 Shuts {D} seen moment asked script s fault disk =
-    (b : Begun D) (before : List Asked) (count : ℕ) (h : List Entry) → Between seen b before count h script s
-    → IsNext (meaning b.setup) moment count before asked script.lines.items script.desks.items
-    → HoldsRecorded seen s.journal b.base h
-    → ShutAt seen b h fault disk
+    (b : Begun D) (place : Place) (count : ℕ) (h : List Entry) → Between seen b place count h script s
+    → IsNext (meaning place.setup) moment count place.asked asked script.lines.items script.desks.items
+    → HoldsRecorded seen s.journal place.base h
+    → ShutAt seen b place.base h fault disk

@@ -30,7 +30,8 @@ use Rattle.session_rules.specs.Turns.{entries_of}
 use Rattle.arc_script.specs.Begun.{Begun}
 use Rattle.arc_script.specs.Causes.{HasShown, Submits, IsSentFor}
 use Rattle.arc_script.specs.Fed.{clock_of}
-use Rattle.arc_script.specs.Steps.{Place, placed, Step, Keeps, FeedsLine, IsStepOf, AreSteps, asked_after, output_of}
+use Rattle.arc_script.specs.Steps.{Place, placed, Step, Keeps, FeedsLine, IsStepOf, AreSteps}
+use Rattle.arc_script.specs.Steps.{asked_after, base_after, place_after, output_of}
 use Rattle.arc_script.specs.Tallies.{IsTally, no_tally}
 use Rattle.arc_script.specs.Texts.{AreOf, IsPlayable, counted}
 use Rattle.arc_script.specs.declared.script_end.ScriptEnd.{ScriptEnd}
@@ -67,7 +68,7 @@ pub record IsWhole {D : Type 0} {lines : List (ℕ × List ℕ)} (seen : D → D
     (p' : PortSeen) (disk' : D) (tally : Tally) : Type 0 where
   pub none_behind : played.behind ≡ []
   pub output : p'.written ≡ append_known b.port.written (output_of played.steps)
-  pub area : HasRecorded (seen disk') b.base played.history
+  pub area : HasRecorded (seen disk') (base_after b.base played.steps) played.history
   pub counts : IsTally b.base b.past played.steps played.history tally
 
 -- the next line, of this number, asks for nothing; the output is that of the lines before it
@@ -78,7 +79,7 @@ pub record IsBad {D : Type 0} {lines : List (ℕ × List ℕ)} (seen : D → Dis
   pub next : played.behind ≡ (number, line) ∷ more
   pub wrong : (asked : Asked) → IsPlayable (asked_after [] played.steps) line asked → ⊥
   pub output : p'.written ≡ append_known b.port.written (output_of played.steps)
-  pub area : HasRecorded (seen disk') b.base played.history
+  pub area : HasRecorded (seen disk') (base_after b.base played.steps) played.history
   pub counts : IsTally b.base b.past played.steps played.history tally
 
 -- the output of the last step was cut short: it lacks a byte at least. All that the step recorded stands.
@@ -90,7 +91,7 @@ pub record IsCutOff {D : Type 0} {lines : List (ℕ × List ℕ)} (seen : D → 
   pub split : played.steps ≡ front ++ last ∷ []
   pub short : count < length last.text
   pub output : p'.written ≡ append_known b.port.written (output_of front ++ take count last.text)
-  pub area : HasRecorded (seen disk') b.base played.history
+  pub area : HasRecorded (seen disk') (base_after b.base played.steps) played.history
   pub counts : IsTally b.base b.past played.steps played.history tally
 
 -- How far a line came that was stopped: the history that it left, from h on. A `T` may have begun the run, or adopted its setup, before; so
@@ -101,10 +102,12 @@ pub record FedUntil (stop : Stop) (place : Place) (line : ℕ) (bytes : List ℕ
   pub turns : List Turn
   pub fed : FeedsLine place line bytes h x turns waiting
   pub entries : s.entries ≡ entries_of line_turns turns
+  pub base : s.base ≡ place.base
   pub sent : IsSentFor stop (length turns) s.sent
 
-pub record AddedBy (h x : List Entry) (s : Step) : Type 0 where
+pub record AddedBy (over : Summary) (h x : List Entry) (s : Step) : Type 0 where
   pub added : x ≡ reverse s.entries ++ h
+  pub base : s.base ≡ over
   pub sent : s.sent ≡ 0
 
 -- how far the beginning of a run came, which may have adopted its setup, or ended; none begins where a clock was set before
@@ -119,25 +122,26 @@ BegunAgain stop base setup moment h x =
 
 pub record ReopenedUntil (stop : Stop) (Told : Type 0) (place : Place) (h x : List Entry) (s : Step) : Type 0 where
   pub kept : List Entry
-  pub keeps : Keeps Told place.base h kept
+  pub keeps : Keeps Told place.base s.base h kept
   pub clock : ℕ
   pub set : clock_of place.asked ≡ Some clock
-  pub until : BegunAgain stop place.base place.setup clock kept x
-  pub by : AddedBy kept x s
+  pub until : BegunAgain stop s.base place.setup clock kept x
+  pub by : AddedBy s.base kept x s
 
 abbrev pub CameTo : Stop → Type 0 → Place → List (List ℕ) → List Entry → List Entry → Step → Asked → Type 0
 CameTo stop Told place waiting h x s (Time moment) =
-    BegunUntil (clock_of place.asked) place.base place.setup moment h x × AddedBy h x s
+    BegunUntil (clock_of place.asked) place.base place.setup moment h x × AddedBy place.base h x s
 CameTo stop Told place waiting h x s (Feed line digits) = FedUntil stop place line (bytes_spelled digits) waiting h x s
 CameTo stop Told place waiting h x s (Message line body) = FedUntil stop place line (frame_of body) waiting h x s
-CameTo stop Told place waiting h x s (Command desk text) = (x ≡ h) × AddedBy h x s
+CameTo stop Told place waiting h x s (Command desk text) = (x ≡ h) × AddedBy place.base h x s
 CameTo stop Told place waiting h x s Reopen = ReopenedUntil stop Told place h x s
 
 -- How far it came that was stopped for this. Where memory was wanted it may have done nothing yet, as an `X` that has not closed the store,
 -- or all but its output.
 abbrev pub CameFor : Stop → Type 0 → Place → List (List ℕ) → List Entry → List Entry → Step → Asked → Type 0
 CameFor stop Told place waiting h x s asked =
-    CameTo stop Told place waiting h x s asked ⊎ ((stop ≡ Memory) × (((x ≡ h) × AddedBy h x s) ⊎ IsStepOf Told place h x s asked))
+    CameTo stop Told place waiting h x s asked
+    ⊎ ((stop ≡ Memory) × (((x ≡ h) × AddedBy place.base h x s) ⊎ IsStepOf Told place h x s asked))
 
 -- The next line was stopped. It has no output, and what it recorded before stands: the store that showed the stop, for an event of this
 -- line at the moment that is set, stands for it, and its disk is handed back. So the area stands for it, and after a fault of the disk for
@@ -155,11 +159,11 @@ pub record IsHalted {D : Type 0} {lines : List (ℕ × List ℕ)} (seen : D → 
   pub last : Stored D
   pub next : played.behind ≡ (number, line) ∷ more
   pub asks : IsPlayable (asked_after [] played.steps) line asked
-  pub came : CameFor stop (Tells (seen b.disk)) (placed b.base b.setup (asked_after [] played.steps)) waiting played.history history
+  pub came : CameFor stop (Tells (seen b.disk)) (place_after (placed b.base b.setup []) played.steps) waiting played.history history
       partial asked
   pub set : clock_of (asked ∷ asked_after [] played.steps) ≡ Some clock
   pub cause : HasShown seen last stop clock (Submits b.setup (asked_after [] played.steps) clock waiting asked)
-  pub stands : StoreStands seen b.base last history
+  pub stands : StoreStands seen partial.base last history
   pub limits_are : last.journal.limits ≡ b.limits
   pub later : (seen b.disk).faults ≤ last.at_open
   pub handed : disk' ≡ last.journal.disk
@@ -183,7 +187,7 @@ pub record IsShut {D : Type 0} {lines : List (ℕ × List ℕ)} (seen : D → Di
   pub asks : IsPlayable (asked_after [] played.steps) line Reopen
   pub closed : D
   pub later : (seen b.disk).faults ≤ (seen closed).faults
-  pub area : HasRecorded (seen closed) b.base played.history
+  pub area : HasRecorded (seen closed) (base_after b.base played.steps) played.history
   pub unopened : IsUnopened fault (seen closed) (seen disk')
   pub output : p'.written ≡ append_known b.port.written (output_of played.steps)
   pub counts : IsTally b.base b.past played.steps played.history tally

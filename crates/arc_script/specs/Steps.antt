@@ -13,6 +13,7 @@ use Rattle.centre_rules.specs.History.{Entry, moment_after, recorded}
 use Rattle.centre_rules.specs.Summary.{Summary}
 use Rattle.centre_store.specs.Begins.{begun_after}
 use Rattle.centre_store.specs.Bodies.{bodies_of}
+use Rattle.centre_store.specs.Given.{IsGiven}
 use Rattle.centre_store.specs.Pasts.{IsPast}
 use Rattle.dc09_frame.specs.Frames.{bodies, frame_of}
 use Rattle.desk_session.specs.Events.{acts_over}
@@ -33,12 +34,13 @@ pub record Place : Type 0 where
 abbrev pub placed : Summary → List ℕ → List Asked → Place
 placed base setup asked = record { base = base; setup = setup; asked = asked }
 
--- A line that was carried out: its number, what it asks for, the entries that it added to the history (the oldest first), how many whole
--- frames it fed to a line, and its line of output.
+-- A line that was carried out: its number, what it asks for, the entries that it added to the history (the oldest first), the summary over
+-- which the history stands behind it, how many whole frames it fed to a line, and its line of output.
 pub record Step : Type 0 where
   pub number : ℕ
   pub asked : Asked
   pub entries : List Entry
+  pub base : Summary
   pub sent : ℕ
   pub text : List ℕ
 
@@ -60,6 +62,7 @@ pub record Ticks (place : Place) (moment : ℕ) (h x : List Entry) (s : Step) : 
   pub is : x ≡ entry_after place.base (before_tick (clock_of place.asked) place.base place.setup moment h) Tick moment
       ∷ before_tick (clock_of place.asked) place.base place.setup moment h
   pub added : x ≡ reverse s.entries ++ h
+  pub base : s.base ≡ place.base
   pub sent : s.sent ≡ 0
   pub text : s.text ≡ codes "T "
       ++ line_of (entry_after place.base (before_tick (clock_of place.asked) place.base place.setup moment h) Tick moment).reply
@@ -96,6 +99,7 @@ pub record Feeds (place : Place) (letter line : ℕ) (bytes : List ℕ) (h x : L
   pub turns : List Turn
   pub fed : FeedsLine place line bytes h x turns []
   pub entries : s.entries ≡ entries_of line_turns turns
+  pub base : s.base ≡ place.base
   pub sent : s.sent ≡ length turns
   pub text : s.text ≡ head_of letter line ++ listed (replies_of turns) ++ 10 ∷ []
 
@@ -111,24 +115,28 @@ pub record Commands (place : Place) (desk : ℕ) (given : List ℕ) (h x : List 
   pub reading : IfSome turn.reading (λ r. r ≡ clock)
   pub entries : s.entries ≡ option_to_list turn.entry
   pub added : x ≡ reverse s.entries ++ h
+  pub base : s.base ≡ place.base
   pub sent : s.sent ≡ 0
   pub text : s.text ≡ head_of 68 desk ++ 32 ∷ turn.reply
 
--- `X`: what the journal keeps of the history is its recorded entries. From these a run begins, with the same setup. Of a disk that does
--- not tell what it holds no more is known than that it keeps a past.
-pub record Keeps (Told : Type 0) (base : Summary) (h kept : List Entry) : Type 0 where
-  pub past : IsPast base (bodies_of kept) kept
-  pub same : Told → kept ≡ recorded h
+-- `X`: the journal is closed and opened again, and gives a summary, and recorded entries over it. From these a run begins, with the same
+-- setup. Meanwhile the journal may have put a summary in the place of older entries; no later answer shows that. So where the disk tells
+-- what it holds, the history goes on over the same summary, from its recorded entries. Of another disk no more is known than that it gives
+-- a summary, and keeps a past over it.
+pub record Keeps (Told : Type 0) (base base' : Summary) (h kept : List Entry) : Type 0 where
+  pub given : IsGiven base'
+  pub past : IsPast base' (bodies_of kept) kept
+  pub same : Told → (base' ≡ base) × (kept ≡ recorded h)
 
 pub record Reopens (Told : Type 0) (place : Place) (h x : List Entry) (s : Step) : Type 0 where
   pub kept : List Entry
-  pub keeps : Keeps Told place.base h kept
+  pub keeps : Keeps Told place.base s.base h kept
   pub clock : ℕ
   pub set : clock_of place.asked ≡ Some clock
-  pub is : x ≡ begun_after place.base kept place.setup clock
+  pub is : x ≡ begun_after s.base kept place.setup clock
   pub added : x ≡ reverse s.entries ++ kept
   pub sent : s.sent ≡ 0
-  pub text : s.text ≡ codes "X recorded " ++ decimal (place.base.recorded + length (recorded x)) ++ 10 ∷ []
+  pub text : s.text ≡ codes "X recorded " ++ decimal (s.base.recorded + length (recorded x)) ++ 10 ∷ []
 
 -- the step of a line that stands there and asks for this, from the history h on, to x
 abbrev pub IsStepOf : Type 0 → Place → List Entry → List Entry → Step → Asked → Type 0
@@ -138,16 +146,25 @@ IsStepOf Told place h x s (Message line body) = Feeds place 77 line (frame_of bo
 IsStepOf Told place h x s (Command desk text) = Commands place desk text h x s
 IsStepOf Told place h x s Reopen = Reopens Told place h x s
 
--- The steps stand behind one another, from h on, to x.
-abbrev pub AreSteps : Type 0 → Place → List Entry → List Entry → List Step → Type 0
-AreSteps Told place h x [] = x ≡ h
-AreSteps Told place h x (s ∷ steps) =
-    (mid : List Entry) × IsStepOf Told place h mid s s.asked × AreSteps Told (record place { asked = s.asked ∷ place.asked }) mid x steps
-
 -- what was asked in these steps and before them, the newest first
 abbrev pub asked_after : List Asked → List Step → List Asked
 asked_after before [] = before
 asked_after before (s ∷ steps) = asked_after (s.asked ∷ before) steps
+
+-- the summary over which the history stands behind these steps
+abbrev pub base_after : Summary → List Step → Summary
+base_after base [] = base
+base_after base (s ∷ steps) = base_after s.base steps
+
+-- where a line stands behind these steps
+abbrev pub place_after : Place → List Step → Place
+place_after place steps = record place { base = base_after place.base steps; asked = asked_after place.asked steps }
+
+-- The steps stand behind one another, from h on, to x.
+abbrev pub AreSteps : Type 0 → Place → List Entry → List Entry → List Step → Type 0
+AreSteps Told place h x [] = x ≡ h
+AreSteps Told place h x (s ∷ steps) =
+    (mid : List Entry) × IsStepOf Told place h mid s s.asked × AreSteps Told (place_after place (s ∷ [])) mid x steps
 
 -- their output
 abbrev pub output_of : List Step → List ℕ

@@ -7,7 +7,7 @@ use Rattle.arc_data.specs.declared.reply.Reply.TheVariants.{Closed}
 use Rattle.centre_rules.specs.Cases.{opened, incidents}
 use Rattle.centre_rules.specs.History.{Entry, marks, recorded}
 use Rattle.centre_rules.specs.Summary.{Summary}
-use Rattle.arc_script.specs.Steps.{Step}
+use Rattle.arc_script.specs.Steps.{Step, base_after}
 use Rattle.arc_script.specs.declared.script_end.Tally.{Tally}
 
 abbrev pub is_repeat : Reply → Bool
@@ -39,15 +39,16 @@ told count = min count (2 ^ 64 - 1)
 abbrev pub GrowsBy : ℕ → ℕ → ℕ → Type 0
 GrowsBy more t t' = (n : ℕ) → t ≡ told n → t' ≡ told (n + more)
 
--- The tally of steps from a past on, to a history: the frames that were fed, the replies Repeat and the replies Closed of the steps, and
--- the incidents that were opened; and of the history at the end its recorded entries, those of the summary counted, and its open incidents.
+-- The tally of steps from a past over a summary on, to a history over the summary behind them: the frames that were fed, the replies Repeat
+-- and the replies Closed of the steps, and the incidents that were opened; and of the history at the end its recorded entries, those of its
+-- summary counted, and its open incidents.
 pub record IsTally (base : Summary) (past : List Entry) (steps : List Step) (x : List Entry) (t : Tally) : Type 0 where
   pub sent : t.sent ≡ told (sent_by steps)
   pub repeats : t.repeats ≡ told (count_of is_repeat (entries_of steps))
   pub closed : t.closed ≡ told (count_of is_closed (entries_of steps))
-  pub opened : t.opened ≡ opened base (marks base x) - opened base (marks base past)
-  pub recorded : t.recorded ≡ base.recorded + length (recorded x)
-  pub total : t.total ≡ length (incidents base (marks base x))
+  pub opened : t.opened ≡ opened (base_after base steps) (marks (base_after base steps) x) - opened base (marks base past)
+  pub recorded : t.recorded ≡ (base_after base steps).recorded + length (recorded x)
+  pub total : t.total ≡ length (incidents (base_after base steps) (marks (base_after base steps) x))
 
 -- of a script whose journal was not opened
 abbrev pub no_tally : Tally

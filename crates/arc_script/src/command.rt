@@ -51,7 +51,7 @@ pub(crate) fn command<D: Disk>(
     ensures stop { IfErr result.1 (λ stop. (base : Summary) (before : List Asked) (clock count : ℕ) (h : List Entry)
         → IsNext (meaning script.old.setup) clock count before (Command desk text.now) script.old.lines.items script.old.desks.items
         → page_seen page.old ≡ blank clock → StoreStands D.seen base store h → IsReadable base h
-        → Halted D.seen base (λ x s. ((x ≡ h) × AddedBy h x s
+        → Halted D.seen base (λ x s. ((x ≡ h) × AddedBy base h x s
         × HasShown D.seen result.0 stop clock (IsOfCommand script.old.setup before desk text.now))
         ⊎ ((stop ≡ Stop.Memory) × Commands (placed base script.old.setup before) desk text.now h x s))
         script.old.tally script.new.tally result.0) }

@@ -6,7 +6,7 @@ ghost use Rattle.centre_rules.specs.Summary.{Summary};
 ghost use Rattle.centre_store.specs.Begins.{begun_after, IsOfBegin};
 ghost use Rattle.centre_store.specs.Given.{HoldsRecorded};
 ghost use Rattle.centre_store.specs.Stores.{StoreStands};
-ghost use Rattle.script_lines.specs.Lines.{Asked, Reopen};
+ghost use Rattle.script_lines.specs.Lines.{Reopen};
 ghost use Rattle.arc_script.specs.Begun.{Begun};
 ghost use Rattle.arc_script.specs.Between.{Between, CarriedOut, ShutAt, StoppedAt};
 ghost use Rattle.arc_script.specs.Causes.{HasShown};
@@ -15,6 +15,7 @@ ghost use Rattle.arc_script.specs.Fed.{clock_of};
 ghost use Rattle.arc_script.specs.Halting.{closing};
 ghost use Rattle.arc_script.specs.PageWords.{page_seen};
 ghost use Rattle.arc_script.specs.Pages.{counted_line};
+ghost use Rattle.arc_script.specs.Steps.{Place};
 ghost use Rattle.centre_store.specs.StoreHalls.{is_told};
 
 use crate::begin::begin;
@@ -36,19 +37,19 @@ pub(crate) fn reopen<D: Disk>(
     page: &mut Page,
 ) -> Result<(Store<D>, Result<(), Stop>), OpenRefused<D>>
     requires clock { moment < 253_402_300_800 }
-    ensures carried { IfOk result (λ r. OnOk r.1 ((b : Begun D) (before : List Asked) (count number : ℕ) (h : List Entry)
-        → Between D.seen b before count h script.old store
-        → HoldsRecorded D.seen store.journal b.base h → clock_of before ≡ Some moment
-        → CarriedOut D.seen b before count number h Reopen
+    ensures carried { IfOk result (λ r. OnOk r.1 ((b : Begun D) (place : Place) (count number : ℕ) (h : List Entry)
+        → Between D.seen b place count h script.old store
+        → HoldsRecorded D.seen store.journal place.base h → clock_of place.asked ≡ Some moment
+        → CarriedOut D.seen b place count number h Reopen
         script.old.tally script.new r.0 (page_seen page.old) (page_seen page.new))) }
-    ensures stop { IfOk result (λ r. IfErr r.1 (λ stop. (b : Begun D) (before : List Asked) (count : ℕ) (h : List Entry)
-        → Between D.seen b before count h script.old store
-        → HoldsRecorded D.seen store.journal b.base h → clock_of before ≡ Some moment
-        → StoppedAt D.seen b before h Reopen stop script.old.tally script.new.tally r.0)) }
-    ensures shut { IfErr result (λ r. (b : Begun D) (before : List Asked) (count : ℕ) (h : List Entry)
-        → Between D.seen b before count h script.old store
-        → HoldsRecorded D.seen store.journal b.base h
-        → ShutAt D.seen b h r.fault r.disk) }
+    ensures stop { IfOk result (λ r. IfErr r.1 (λ stop. (b : Begun D) (place : Place) (count : ℕ) (h : List Entry)
+        → Between D.seen b place count h script.old store
+        → HoldsRecorded D.seen store.journal place.base h → clock_of place.asked ≡ Some moment
+        → StoppedAt D.seen b place h Reopen stop script.old.tally script.new.tally r.0)) }
+    ensures shut { IfErr result (λ r. (b : Begun D) (place : Place) (count : ℕ) (h : List Entry)
+        → Between D.seen b place count h script.old store
+        → HoldsRecorded D.seen store.journal place.base h
+        → ShutAt D.seen b place.base h r.fault r.disk) }
     ensures closed { script.new.tally ≡ closing script.old.tally script.old.opened_before store.state.sum }
     ensures rest { (script.new.setup ≡ script.old.setup) × (script.new.clock ≡ script.old.clock)
         × (script.new.number ≡ script.old.number) × (script.new.opened_before ≡ script.old.opened_before) }

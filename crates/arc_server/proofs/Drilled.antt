@@ -12,7 +12,7 @@ use Rattle.arc_io.specs.declared.disk.Area.{Area}
 use Rattle.arc_io.specs.declared.disk.Area.TheVariants.{A, B}
 use Rattle.arc_script.specs.Begun.{Begun}
 use Rattle.arc_script.specs.Ends.{IsScript, IsTranscript, Tells}
-use Rattle.arc_script.specs.Steps.{Place, placed, Step, Keeps, IsStepOf, AreSteps}
+use Rattle.arc_script.specs.Steps.{Place, placed, Step, Keeps, IsStepOf, AreSteps, place_after}
 use Rattle.arc_script.specs.Tallies.{IsTally}
 use Rattle.arc_script.specs.Texts.{AreOf, counted}
 use Rattle.arc_script.specs.declared.script_end.ScriptEnd.{ScriptEnd}
@@ -34,8 +34,8 @@ use Rattle.arc_server.specs.DrillRuns.{IsDrilled}
 
 -- steps over a disk that tells what it holds
 
-told_keeps : {Told : Type 0} {base : Summary} {h kept : List Entry} → Told → Keeps Told base h kept → Keeps (Unit {0}) base h kept
-told_keeps known keeps = record { past = keeps.past; same = λ u. keeps.same known }
+told_keeps : {Told : Type 0} {base base' : Summary} {h kept : List Entry} → Told → Keeps Told base base' h kept → Keeps (Unit {0}) base base' h kept
+told_keeps known keeps = record { given = keeps.given; past = keeps.past; same = λ u. keeps.same known }
 
 told_step : {Told : Type 0} (place : Place) (h x : List Entry) (s : Step) (asked : Asked)
     → Told → IsStepOf Told place h x s asked → IsStepOf (Unit {0}) place h x s asked
@@ -60,7 +60,7 @@ told_steps place h x [] known are = are
 told_steps place h x (s ∷ steps) known are = (
   are.0,
   told_step place h are.0 s s.asked known are.1,
-  told_steps (record place { asked = s.asked ∷ place.asked }) are.0 x steps known are.2,
+  told_steps (place_after place (s ∷ [])) are.0 x steps known are.2,
 )
 
 -- all of a known input was read
@@ -81,13 +81,17 @@ empty_stands =
     let short : length (chosen_part empty) ≡ 0 = ap length (empty_part (chosen empty)) in
     (few_not_live (chosen_part empty) (omega (arith, short)), inl (omega (arith, short), refl))
 
--- and have no past
+-- so they give no summary, and no past
 new_past : {D : Type 0} (seen : D → DiskSeen) (disk : D) (base : Summary) (past : List Entry) → (seen disk).told ≡ Some (record { a = []; b = [] })
-    → BeginsWith (seen disk) base past → past ≡ []
+    → BeginsWith (seen disk) base past → (base ≡ nothing) × (past ≡ [])
 new_past seen disk base past is begins =
     let empty : Areas = record { a = []; b = [] } in
     let gives : AreasGive empty base begins.bodies = subst (λ (o : Option Areas). IfSome o (λ s. AreasGive s base begins.bodies)) is begins.area in
-    (one_opening empty).pasts base nothing begins.bodies [] past [] gives (refl, empty_stands) begins.is_past no_past
+    let none : AreasGive empty nothing [] = (None, refl, empty_stands) in
+    let one = one_opening empty in (
+      (one.bases base nothing begins.bodies [] gives none).0,
+      one.pasts base nothing begins.bodies [] past [] gives none begins.is_past (no_past nothing (omega arith)),
+    )
 
 drilled_by : {D : Type 0} (seen : D → DiskSeen) (n : ℕ) (b : Begun D) (p' : PortSeen) (disk' : D) (tally : Tally) → b.setup ≡ drill_setup
     → b.port.left ≡ Some (drill_text n) → (seen b.disk).told ≡ Some (record { a = []; b = [] }) → BeginsWith (seen b.disk) b.base b.past
@@ -97,7 +101,7 @@ drilled_by seen n b p' disk' tally under left is begins t =
     let history = t.played.history in
     let whole = t.ends.2 in
     let Told : Type 0 = Tells (seen b.disk) in
-    let none : b.past ≡ [] = new_past seen b.disk b.base b.past is begins in
+    let none : (b.base ≡ nothing) × (b.past ≡ []) = new_past seen b.disk b.base b.past is begins in
     let read : drill_text n ≡ t.read = all_read (drill_text n) t.read b.port.left p'.left left t.taken t.ends.0.left in
     let lines_are : counted (lines_read p'.ended t.read) ≡ counted (lines (drill_text n)) =
     ap (λ (e : Bool). counted (lines_read e t.read)) t.ends.0.ended ∙ ap (λ (l : List ℕ). counted (lines l)) (sym read) in
@@ -108,11 +112,11 @@ drilled_by seen n b p' disk' tally under left is begins t =
       history = history;
       of = subst (λ (l : List (ℕ × List ℕ)). AreOf [] l steps) front t.played.of;
       are = told_steps (placed nothing drill_setup []) [] history steps (record { a = []; b = [] }, is)
-          (subst (λ (base : Summary). AreSteps Told (placed base drill_setup []) [] history steps) begins.given
-          (subst (λ (h : List Entry). AreSteps Told (placed b.base drill_setup []) h history steps) none
+          (subst (λ (base : Summary). AreSteps Told (placed base drill_setup []) [] history steps) none.0
+          (subst (λ (h : List Entry). AreSteps Told (placed b.base drill_setup []) h history steps) none.1
           (subst (λ (setup : List ℕ). AreSteps Told (placed b.base setup []) b.past history steps) under t.played.are)));
-      counts = subst (λ (base : Summary). IsTally base [] steps history tally) begins.given
-          (subst (λ (h : List Entry). IsTally b.base h steps history tally) none whole.counts);
+      counts = subst (λ (base : Summary). IsTally base [] steps history tally) none.0
+          (subst (λ (h : List Entry). IsTally b.base h steps history tally) none.1 whole.counts);
     }
 
 -- a script that was done, under the drill's setup and over the drill's port

@@ -18,7 +18,10 @@ kept_there : {D : Type 0} {seen : D → DiskSeen} {b : Summary} (s : Stored D) {
 kept_there {D} {seen} {b} s {h} entry stands since =
     elim stands.journal as (λ j. EndsWith entry (seen s.journal.disk) b h) [
       | inl holds ↦ inl (recorded_there seen s.journal b h holds)
-      | inr torn ↦ inr (rose_from entry s.at_open (seen s.journal.disk).faults since torn.0, torn.1)
+      | inr failed ↦ elim failed.1 as (λ left. EndsWith entry (seen s.journal.disk) b h) [
+        | inl there ↦ inl there
+        | inr torn ↦ inr (rose_from entry s.at_open (seen s.journal.disk).faults since failed.0, torn)
+      ]
     ]
 
 -- the disk that a store hands back, of a run that had no more faults at its entry than the store at its opening

@@ -68,7 +68,7 @@ returns-in-Feed-clause-carried g c =
     ap (λ (k : Script). k.clock) rest ∙ ap (moment_at script.clock) (sym is) ∙ c.requires.at in
     subst (λ (k : Asked). OnOk c.feed.result.1 (Carries seen c.args.moment k script after c.args.store c.feed.result.0 (page_seen c.args.page.now)
     (page_seen c.feed.new.page))) (sym is)
-    (line_carries seen script after c.args.store c.feed.result.0 a c.args.moment stays c.requires.moment (page_seen c.args.page.now)
+    (line_carries seen script after c.args.store c.feed.result.0 a c.args.moment stays c.requires.moment tt (page_seen c.args.page.now)
     (page_seen c.feed.new.page) c.feed.result.1 set (λ Told. c.feed.ensures.fed) c.feed.ensures.took c.feed.ensures.set)
 
 pub returns-in-Feed-clause-stop : goal.returns-in-Feed-clause-stop
@@ -87,7 +87,7 @@ returns-in-Feed-clause-stop g c =
     let a = Feed c.in-Feed.line c.in-Feed.digits.now in
     let is : asked c.args.wanted ≡ a = ap asked c.in-Feed.is in
     subst (λ (k : Asked). IfErr c.feed.result.1 (λ stop. Stops seen c.args.moment k script after c.args.store c.feed.result.0 stop)) (sym is)
-    (line_stops seen script after c.args.store c.feed.result.0 a c.args.moment stays c.requires.moment c.feed.result.1
+    (line_stops seen script after c.args.store c.feed.result.0 a c.args.moment stays c.requires.moment tt c.feed.result.1
     (λ Told. c.feed.ensures.stop))
 
 pub returns-in-Message-clause-carried : goal.returns-in-Message-clause-carried
@@ -109,7 +109,7 @@ returns-in-Message-clause-carried g c =
     ap (λ (k : Script). k.clock) rest ∙ ap (moment_at script.clock) (sym is) ∙ c.requires.at in
     subst (λ (k : Asked). OnOk c.message.result.1 (Carries seen c.args.moment k script after c.args.store c.message.result.0 (page_seen c.args.page.now)
     (page_seen c.message.new.page))) (sym is)
-    (line_carries seen script after c.args.store c.message.result.0 a c.args.moment stays c.requires.moment (page_seen c.args.page.now)
+    (line_carries seen script after c.args.store c.message.result.0 a c.args.moment stays c.requires.moment tt (page_seen c.args.page.now)
     (page_seen c.message.new.page) c.message.result.1 set (λ Told. c.message.ensures.fed) c.message.ensures.took c.message.ensures.set)
 
 pub returns-in-Message-clause-stop : goal.returns-in-Message-clause-stop
@@ -128,7 +128,7 @@ returns-in-Message-clause-stop g c =
     let a = Message c.in-Message.line c.in-Message.body.now in
     let is : asked c.args.wanted ≡ a = ap asked c.in-Message.is in
     subst (λ (k : Asked). IfErr c.message.result.1 (λ stop. Stops seen c.args.moment k script after c.args.store c.message.result.0 stop)) (sym is)
-    (line_stops seen script after c.args.store c.message.result.0 a c.args.moment stays c.requires.moment c.message.result.1
+    (line_stops seen script after c.args.store c.message.result.0 a c.args.moment stays c.requires.moment tt c.message.result.1
     (λ Told. c.message.ensures.stop))
 
 pub returns-in-Command-clause-carried : goal.returns-in-Command-clause-carried
@@ -150,7 +150,7 @@ returns-in-Command-clause-carried g c =
     ap (λ (k : Script). k.clock) rest ∙ ap (moment_at script.clock) (sym is) ∙ c.requires.at in
     subst (λ (k : Asked). OnOk c.command.result.1 (Carries seen c.args.moment k script after c.args.store c.command.result.0 (page_seen c.args.page.now)
     (page_seen c.command.new.page))) (sym is)
-    (line_carries seen script after c.args.store c.command.result.0 a c.args.moment stays c.requires.moment (page_seen c.args.page.now)
+    (line_carries seen script after c.args.store c.command.result.0 a c.args.moment stays c.requires.moment tt (page_seen c.args.page.now)
     (page_seen c.command.new.page) c.command.result.1 set
     (λ Told. on_ok_weaker c.command.result.1 (λ all base before count number h next stands readable.
     all base before c.args.moment count number h next c.requires.blank stands readable) c.command.ensures.answered)
@@ -172,7 +172,7 @@ returns-in-Command-clause-stop g c =
     let a = Command c.in-Command.desk c.in-Command.text.now in
     let is : asked c.args.wanted ≡ a = ap asked c.in-Command.is in
     subst (λ (k : Asked). IfErr c.command.result.1 (λ stop. Stops seen c.args.moment k script after c.args.store c.command.result.0 stop)) (sym is)
-    (line_stops seen script after c.args.store c.command.result.0 a c.args.moment stays c.requires.moment c.command.result.1
+    (line_stops seen script after c.args.store c.command.result.0 a c.args.moment stays c.requires.moment tt c.command.result.1
     (λ Told. IfErr-weaker c.command.result.1 _ _ (λ stop all base before count h next stands readable.
     command_came seen Told base script.setup c.args.moment before c.in-Command.desk c.in-Command.text.now h c.command.result.0 stop script.tally after.tally
     (all base before c.args.moment count h next c.requires.blank stands readable)) c.command.ensures.stop))
