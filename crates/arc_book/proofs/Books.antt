@@ -7,10 +7,7 @@ use Rattle.arc_io.specs.Seen.{PortSeen}
 use Rattle.arc_io.specs.Told.{OnlyReads, OnlyWrites}
 use Rattle.arc_io.proofs.Frames.{writes_more}
 use Rattle.arc_io.proofs.KnownMore.{known_none}
-use Rattle.book_lines.specs.Books.{book_of}
-use Rattle.book_lines.proofs.BookLemmas.{book_none}
 use Rattle.book_lines.specs.declared.options.Options.{Options}
-use Rattle.centre_store.proofs.PastSteps.{no_past}
 use Rattle.disk_journal.specs.Faults.{IsShown, IsOfFront}
 use Rattle.disk_journal.specs.declared.fault.OpenFault.{OpenFault}
 use Rattle.disk_journal.specs.declared.fault.OpenFault.TheVariants as Open
@@ -18,33 +15,30 @@ use Rattle.arc_book.specs.Compiled.{IsCompiled, IsEnd, EndsRefused, BeginsWith, 
 use Rattle.arc_book.specs.Statuses.{IsTold, IsOfArea, IsWritten, last_line}
 use Rattle.arc_book.specs.declared.status.Status.{Status}
 use Rattle.arc_book.specs.declared.status.Status.TheVariants.{Done, Usage, ReadFault, WriteFault, Journal, Memory, Spent}
-use Rattle.arc_book.proofs.Alone.{shown_alone}
+use Rattle.arc_book.specs.Portions.{area_book}
 use Rattle.arc_book.proofs.Pages.{unwritten, put_out, failed_on}
+use Rattle.arc_book.proofs.Portions.{begun, book_begun}
 
-begins_none : (all : Option (List ℕ)) → IfSome all (BeginsWith [])
+begins_none : (all : Option (List ℕ)) → IfSome all (BeginsWith begun)
 begins_none None = tt
 begins_none (Some bytes) = inl refl
 
 -- nothing was touched
 pub nothing_told : (o : Options) (all : Option (List ℕ)) (s k : PortSeen) → IsTold o Memory all s s k k
 nothing_told o all s k = record {
-  bodies = [];
-  past = [];
-  is_past = no_past;
+  told = begun;
   area = begins_none all;
-  written = sym (known_none k.written) ∙ ap (append_known k.written) (sym (book_none o) ∙ sym (append-nil (book_of o [])));
+  written = sym (known_none k.written) ∙ ap (append_known k.written) (sym (book_begun o) ∙ sym (append-nil (area_book o begun)));
   causes = tt;
   reads = record { rest = refl };
   writes = record { rest = refl };
 }
 
 -- an area of which no record was told
-pub none_compiled : (o : Options) (status : Status) (all : Option (List ℕ)) (s s' k : PortSeen) → IfSome all (IsEnd status [] []) → HasText status k.written k.written [] (book_of o [])
+pub none_compiled : (o : Options) (status : Status) (all : Option (List ℕ)) (s s' k : PortSeen) → IfSome all (IsEnd status begun) → HasText status k.written k.written [] (area_book o begun)
     → HasCauses status s s' k k → OnlyReads s s' → IsCompiled o status all s s' k k []
 none_compiled o status all s s' k ended text causes reads = record {
-  bodies = [];
-  past = [];
-  is_past = no_past;
+  told = begun;
   ended = ended;
   text = text;
   causes = causes;
@@ -56,15 +50,15 @@ none_compiled o status all s s' k ended text causes reads = record {
 pub fresh_compiled : (o : Options) (all : Option (List ℕ)) (s s' k : PortSeen) → IfSome all (λ bytes. length bytes ≤ 17) → OnlyReads s s' → IsCompiled o Done all s s' k k []
 fresh_compiled o all s s' k short reads = none_compiled o Done all s s' k (stands all short) (unwritten o k.written) tt reads
   where
-    stands : (all : Option (List ℕ)) → IfSome all (λ bytes. length bytes ≤ 17) → IfSome all (IsEnd Done [] [])
+    stands : (all : Option (List ℕ)) → IfSome all (λ bytes. length bytes ≤ 17) → IfSome all (IsEnd Done begun)
     stands None short = tt
     stands (Some bytes) short = inl (short, refl)
 
-refused : (all : Option (List ℕ)) (fault : OpenFault) → IsOfFront fault → IfSome all (IsShown fault) → IfSome all (EndsRefused fault [] [])
+refused : (all : Option (List ℕ)) (fault : OpenFault) → IsOfFront fault → IfSome all (IsShown fault) → IfSome all (EndsRefused fault begun)
 refused None fault front shown = tt
 refused (Some bytes) (Open.DiskFault was is) front shown = absurd front
-refused (Some bytes) (Open.NotJournal byte) front shown = (shown_alone (Open.NotJournal byte) bytes shown, refl)
-refused (Some bytes) (Open.WrongVersion found) front shown = (shown_alone (Open.WrongVersion found) bytes shown, refl)
+refused (Some bytes) (Open.NotJournal byte) front shown = (shown, refl)
+refused (Some bytes) (Open.WrongVersion found) front shown = (shown, refl)
 refused (Some bytes) (Open.Damaged place) front shown = absurd front
 refused (Some bytes) Open.Memory front shown = absurd front
 
@@ -83,12 +77,10 @@ if_some None so p = tt
 if_some (Some bytes) so p = so bytes p
 
 module _ (o : Options) (all : Option (List ℕ)) (s s' k0 k k' : PortSeen) (page : List ℕ) (writes : OnlyWrites k k') where
-  told_as : (status : Status) (c : IsCompiled o status all s s' k0 k page) → IfSome all (IsOfArea status c.bodies c.past)
-      → IsWritten status k0.written k'.written (book_of o c.past) → HasCauses status s s' k0 k' → IsTold o status all s s' k0 k'
+  told_as : (status : Status) (c : IsCompiled o status all s s' k0 k page) → IfSome all (IsOfArea status c.told)
+      → IsWritten status k0.written k'.written (area_book o c.told) → HasCauses status s s' k0 k' → IsTold o status all s s' k0 k'
   told_as status c area written causes = record {
-    bodies = c.bodies;
-    past = c.past;
-    is_past = c.is_past;
+    told = c.told;
     area = area;
     written = written;
     causes = causes;
@@ -99,14 +91,14 @@ module _ (o : Options) (all : Option (List ℕ)) (s s' k0 k k' : PortSeen) (page
   -- the page and the last line were put
   pub told_whole : (status : Status) → IsCompiled o status all s s' k0 k page → (status ≡ WriteFault → ⊥) → k'.written ≡ append_known k.written (page ++ last_line status)
       → IsTold o status all s s' k0 k'
-  told_whole Done c other put = told_as Done c c.ended (put_out k0.written k.written k'.written page [] (book_of o c.past) c.text put) tt
-  told_whole Usage c other put = told_as Usage c c.ended (put_out k0.written k.written k'.written page [] (book_of o c.past) c.text put) tt
-  told_whole ReadFault c other put = told_as ReadFault c c.ended (put_out k0.written k.written k'.written page [] (book_of o c.past) c.text put) c.causes
+  told_whole Done c other put = told_as Done c c.ended (put_out k0.written k.written k'.written page [] (area_book o c.told) c.text put) tt
+  told_whole Usage c other put = told_as Usage c c.ended (put_out k0.written k.written k'.written page [] (area_book o c.told) c.text put) tt
+  told_whole ReadFault c other put = told_as ReadFault c c.ended (put_out k0.written k.written k'.written page [] (area_book o c.told) c.text put) c.causes
   told_whole WriteFault c other put = absurd (other refl)
   told_whole (Journal fault) c other put =
-      told_as (Journal fault) c c.ended (put_out k0.written k.written k'.written page (last_line (Journal fault)) (book_of o c.past) c.text put) tt
-  told_whole Memory c other put = told_as Memory c c.ended (put_out k0.written k.written k'.written page [] (book_of o c.past) c.text put) tt
-  told_whole Spent c other put = told_as Spent c c.ended (put_out k0.written k.written k'.written page [] (book_of o c.past) c.text put) tt
+      told_as (Journal fault) c c.ended (put_out k0.written k.written k'.written page (last_line (Journal fault)) (area_book o c.told) c.text put) tt
+  told_whole Memory c other put = told_as Memory c c.ended (put_out k0.written k.written k'.written page [] (area_book o c.told) c.text put) tt
+  told_whole Spent c other put = told_as Spent c c.ended (put_out k0.written k.written k'.written page [] (area_book o c.told) c.text put) tt
 
   text_but : (status : Status) → (status ≡ WriteFault → ⊥) → (text : List ℕ) → HasText status k0.written k.written page text → IsWrittenBut k0.written k.written page text
   text_but Done other text has = has
@@ -121,12 +113,10 @@ module _ (o : Options) (all : Option (List ℕ)) (s s' k0 k k' : PortSeen) (page
   pub told_front : (status : Status) → IsCompiled o status all s s' k0 k page → (status ≡ WriteFault → ⊥) → IsFrontWritten k.written k'.written (page ++ last_line status)
       → Rose k.write_faults k'.write_faults → IsTold o WriteFault all s s' k0 k'
   told_front status c other front rose =
-      let f = failed_on k0.written k.written k'.written page (last_line status) (book_of o c.past) (text_but status other (book_of o c.past) c.text) front in
+      let f = failed_on k0.written k.written k'.written page (last_line status) (area_book o c.told) (text_but status other (area_book o c.told) c.text) front in
       record {
-        bodies = c.bodies;
-        past = c.past;
-        is_past = c.is_past;
-        area = if_some {P = IsEnd status c.bodies c.past} all (λ bytes is. tt) c.ended;
+        told = c.told;
+        area = if_some {P = IsEnd status c.told} all (λ bytes is. tt) c.ended;
         written = (status, f);
         causes = omega (arith, c.later, rose);
         reads = c.reads;
@@ -136,11 +126,9 @@ module _ (o : Options) (all : Option (List ℕ)) (s s' k0 k k' : PortSeen) (page
 -- a write had failed before
 pub told_short : (o : Options) (all : Option (List ℕ)) (s s' k0 k : PortSeen) (page : List ℕ) → IsCompiled o WriteFault all s s' k0 k page → IsTold o WriteFault all s s' k0 k
 told_short o all s s' k0 k page c = record {
-  bodies = c.bodies;
-  past = c.past;
-  is_past = c.is_past;
-  area = if_some {P = IsEnd WriteFault c.bodies c.past} all (λ bytes is. tt) c.ended;
-  written = (Done, subst (IsFrontWritten k0.written k.written) (sym (append-nil (book_of o c.past))) c.text);
+  told = c.told;
+  area = if_some {P = IsEnd WriteFault c.told} all (λ bytes is. tt) c.ended;
+  written = (Done, subst (IsFrontWritten k0.written k.written) (sym (append-nil (area_book o c.told))) c.text);
   causes = c.causes;
   reads = c.reads;
   writes = c.writes;

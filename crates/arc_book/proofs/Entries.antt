@@ -18,7 +18,7 @@ use Rattle.centre_rules.specs.Carrying.{carried_by}
 use Rattle.centre_rules.specs.History.{Entry, marks}
 use Rattle.centre_rules.specs.Marks.{Mark}
 use Rattle.centre_rules.specs.State.{State, StandsFor, Same, Plan, entry_of}
-use Rattle.centre_rules.specs.Summary.{Summary, nothing}
+use Rattle.centre_rules.specs.Summary.{Summary}
 use Rattle.centre_rules.proofs.Sames.{force_same, raised_same}
 use Rattle.centre_rules.proofs.Steps.{incidents_begin}
 
@@ -29,24 +29,24 @@ carried_same w Tick at = raised_same w at
 carried_same w e at = refl
 
 -- the incidents that are open behind a history, as a centre has them that stands for it
-pub opened_told : (s : State) (past : List Entry) → StandsFor nothing s past → s.sum.incidents ≡ open_after past
-opened_told s past stands = sym (incidents_begin s.sum) ∙ stands.same.incidents
+pub opened_told : (base : Summary) (s : State) (past : List Entry) → StandsFor base s past → s.sum.incidents ≡ open_after base past
+opened_told base s past stands = sym (incidents_begin s.sum) ∙ stands.same.incidents
 
-module _ (o : Options) (s t : State) (past : List Entry) (plan : Plan) (stands : StandsFor nothing s past) (of : plan.of ≡ s)
-    (behind : StandsFor nothing t (entry_of 0 plan ∷ past)) where
-  count : s.entries + 1 ≡ length past + 1
-  count = let entries : s.entries ≡ length past = stands.entries ∙ omega arith in omega (arith, entries)
+module _ (o : Options) (base : Summary) (s t : State) (past : List Entry) (plan : Plan) (stands : StandsFor base s past) (of : plan.of ≡ s)
+    (behind : StandsFor base t (entry_of 0 plan ∷ past)) where
+  count : s.entries + 1 ≡ base.recorded + length past + 1
+  count = omega (arith, stands.entries)
 
-  signals : carried_by s.sum [] plan.event plan.at ≡ carried_by nothing (marks nothing past) plan.event plan.at
+  signals : carried_by s.sum [] plan.event plan.at ≡ carried_by base (marks base past) plan.event plan.at
   signals = carried_same stands.same plan.event plan.at
 
   -- what is asked for, and its line
   pub entry_told : (verdict : Bool) → chosen o s.sum.incidents t.sum.incidents (carried_by s.sum [] plan.event plan.at) (s.entries + 1) plan.at plan.event plan.reply ≡ verdict
-      → line_if verdict (told o (s.entries + 1) plan.at s.sum.incidents (carried_by s.sum [] plan.event plan.at) plan.event plan.reply) ≡ entry_line o past (entry_of 0 plan)
+      → line_if verdict (told o (s.entries + 1) plan.at s.sum.incidents (carried_by s.sum [] plan.event plan.at) plan.event plan.reply) ≡ entry_line o base past (entry_of 0 plan)
   entry_told verdict is =
-      let before : s.sum.incidents ≡ open_after past = opened_told s past stands in
-      let after : t.sum.incidents ≡ open_after (entry_of 0 plan ∷ past) = opened_told t (entry_of 0 plan ∷ past) behind in
-      let n : s.entries + 1 ≡ length past + 1 = count in
+      let before : s.sum.incidents ≡ open_after base past = opened_told base s past stands in
+      let after : t.sum.incidents ≡ open_after base (entry_of 0 plan ∷ past) = opened_told base t (entry_of 0 plan ∷ past) behind in
+      let n : s.entries + 1 ≡ base.recorded + length past + 1 = count in
       let carried = signals in
       ap (λ (b : Bool). line_if b (told o (s.entries + 1) plan.at s.sum.incidents (carried_by s.sum [] plan.event plan.at) plan.event plan.reply)) (sym is)
       ∙ (λ i. line_if (chosen o (before i) (after i) (carried i) (n i) plan.at plan.event plan.reply) (told o (n i) plan.at (before i) (carried i) plan.event plan.reply))

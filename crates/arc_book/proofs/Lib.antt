@@ -1,4 +1,5 @@
-pub mod Alone
+pub mod Portions
+pub mod Helds
 pub mod Tapes
 pub mod Intakes
 pub mod Fronts

@@ -3,14 +3,14 @@ use Rattle.std.proofs.Common.{◌≡◌, ◌+◌, ℕ, List, [], ◌++◌, lengt
 use Rattle.std.proofs.Math.Seq.{take-append-add}
 use Rattle.std.specs.Io.KnownBytes.{append_known}
 use Rattle.arc_io.proofs.KnownMore.{known_both, known_none}
-use Rattle.book_lines.specs.Books.{book_of}
 use Rattle.book_lines.specs.declared.options.Options.{Options}
 use Rattle.arc_book.specs.Compiled.{IsFrontWritten, IsWrittenBut, IsTurned}
-use Rattle.book_lines.proofs.BookLemmas.{book_none}
+use Rattle.arc_book.specs.Portions.{area_book}
+use Rattle.arc_book.proofs.Portions.{begun, book_begun}
 
 -- nothing is written, and nothing is to be
-pub unwritten : (o : Options) (known : Option (List ℕ)) → IsWrittenBut known known [] (book_of o [])
-unwritten o known = ([], sym (known_none known), sym (book_none o))
+pub unwritten : (o : Options) (known : Option (List ℕ)) → IsWrittenBut known known [] (area_book o begun)
+unwritten o known = ([], sym (known_none known), sym (book_begun o))
 
 -- a line more on the page, and then the page is turned
 pub turned_on : (before now after : Option (List ℕ)) (page line page' text : List ℕ) → IsWrittenBut before now page text → IsTurned now after (page ++ line) page'

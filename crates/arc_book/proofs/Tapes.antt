@@ -3,15 +3,12 @@ use Rattle.std.proofs.Common.{◌≡◌, ◌≢◌, ◌⊎◌, ◌≤◌, ◌<�
 use Rattle.std.specs.Prelude.{IfSome}
 use Rattle.std.specs.Io.KnownBytes.{prepend_known}
 use Rattle.arc_io.proofs.KnownMore.{known_taken}
-use Rattle.centre_rules.specs.History.{Entry}
-use Rattle.centre_rules.specs.Summary.{nothing}
-use Rattle.centre_store.specs.Pasts.{IsPast, IsBadAt, HasNoNext}
 use Rattle.disk_journal.specs.Records.{front as bytes_before, bytes_of, IsWhole, IsDamaged, MayStandAt, Stands}
 use Rattle.disk_journal.specs.declared.fault.OpenFault.{OpenFault}
 use Rattle.disk_journal.specs.declared.fault.OpenFault.TheVariants as Open
 use Rattle.disk_journal.proofs.Gates.{front-more, sizes-more, length-front, size-more}
-use Rattle.arc_book.proofs.Alone.{damaged_alone, bad_alone}
 use Rattle.arc_book.specs.Compiled.{BeginsWith, EndsAt, EndsRefused}
+use Rattle.arc_book.specs.Portions.{Portion, bodies_told, HasNoNextIn}
 use Rattle.arc_book.specs.Tapes.{IsReadTo, IsBodyAhead, IsBrokenAhead}
 
 pub some_is : {A : Type 0} (x y : A) → Some x ≡ Some y → x ≡ y
@@ -37,11 +34,11 @@ stands_at all bodies gate place rest r closed =
     told (λ bytes. Stands bytes bodies) all rest (bytes_before bodies ++ gate ∷ []) r.is
     (λ bytes behind some some' is. inr (record { gate = gate; behind = behind; closed = closed; sizes = r.sizes; is = gated bodies gate behind bytes is }))
 
-pub begins_at : (all : Option (List ℕ)) (bodies : List (List ℕ)) (gate place : ℕ) (rest : Option (List ℕ)) → IsReadTo all bodies gate place rest
-    → IfSome all (BeginsWith bodies)
-begins_at all bodies gate place rest r =
-    told (BeginsWith bodies) all rest (bytes_before bodies ++ gate ∷ []) r.is
-    (λ bytes behind some some' is. inr (gate ∷ behind, gated bodies gate behind bytes is))
+pub begins_at : (all : Option (List ℕ)) (p : Portion) (gate place : ℕ) (rest : Option (List ℕ)) → IsReadTo all (bodies_told p) gate place rest
+    → IfSome all (BeginsWith p)
+begins_at all p gate place rest r =
+    told (BeginsWith p) all rest (bytes_before (bodies_told p) ++ gate ∷ []) r.is
+    (λ bytes behind some some' is. inr (gate ∷ behind, gated (bodies_told p) gate behind bytes is))
 
 pub spent_at : (all : Option (List ℕ)) (bodies : List (List ℕ)) (gate place : ℕ) (rest : Option (List ℕ)) → IsReadTo all bodies gate place rest → 2 ^ 40 ≤ place
     → IfSome all (λ bytes. 2 ^ 40 ≤ length bytes)
@@ -49,15 +46,15 @@ spent_at all bodies gate place rest r far =
     told (λ bytes. 2 ^ 40 ≤ length bytes) all rest (bytes_before bodies ++ gate ∷ []) r.is
     (λ bytes behind some some' is. omega (arith, far, r.at, ap length (gated bodies gate behind bytes is), length-append (bytes_before bodies) (gate ∷ behind)))
 
-pub both_far : (all : Option (List ℕ)) (bodies : List (List ℕ)) → IfSome all (BeginsWith bodies) → IfSome all (λ bytes. 2 ^ 40 ≤ length bytes)
-    → IfSome all (λ bytes. BeginsWith bodies bytes × (2 ^ 40 ≤ length bytes))
-both_far None bodies p q = tt
-both_far (Some bytes) bodies p q = (p, q)
+pub both_far : (all : Option (List ℕ)) (p : Portion) → IfSome all (BeginsWith p) → IfSome all (λ bytes. 2 ^ 40 ≤ length bytes)
+    → IfSome all (λ bytes. BeginsWith p bytes × (2 ^ 40 ≤ length bytes))
+both_far None p x y = tt
+both_far (Some bytes) p x y = (x, y)
 
 -- so far that no more is read
-pub spent_end : (all : Option (List ℕ)) (bodies : List (List ℕ)) (gate place : ℕ) (rest : Option (List ℕ)) → IsReadTo all bodies gate place rest → 2 ^ 40 ≤ place
-    → IfSome all (λ bytes. BeginsWith bodies bytes × (2 ^ 40 ≤ length bytes))
-spent_end all bodies gate place rest r far = both_far all bodies (begins_at all bodies gate place rest r) (spent_at all bodies gate place rest r far)
+pub spent_end : (all : Option (List ℕ)) (p : Portion) (gate place : ℕ) (rest : Option (List ℕ)) → IsReadTo all (bodies_told p) gate place rest → 2 ^ 40 ≤ place
+    → IfSome all (λ bytes. BeginsWith p bytes × (2 ^ 40 ≤ length bytes))
+spent_end all p gate place rest r far = both_far all p (begins_at all p gate place rest r) (spent_at all (bodies_told p) gate place rest r far)
 
 lacks_ahead : (place : ℕ) (rest : Option (List ℕ)) (behind : List ℕ) → rest ≡ Some behind → IsBrokenAhead place rest → IsWhole place behind → ⊥
 lacks_ahead place None behind is broken whole = absurd (never behind (sym is))
@@ -84,27 +81,27 @@ damaged_at all bodies gate place rest r opened broken =
       broken = lacks;
     })
 
-pub ends_broken : (all : Option (List ℕ)) (bodies : List (List ℕ)) (past : List Entry) (gate place : ℕ) (rest : Option (List ℕ)) → IsReadTo all bodies gate place rest → gate ≡ 1
-    → IsBrokenAhead place rest → IfSome all (EndsAt bodies past)
-ends_broken all bodies past gate place rest r opened broken =
-    told (EndsAt bodies past) all rest (bytes_before bodies ++ gate ∷ []) r.is
+pub ends_broken : (all : Option (List ℕ)) (p : Portion) (gate place : ℕ) (rest : Option (List ℕ)) → IsReadTo all (bodies_told p) gate place rest → gate ≡ 1
+    → IsBrokenAhead place rest → IfSome all (EndsAt p)
+ends_broken all p gate place rest r opened broken =
+    told (EndsAt p) all rest (bytes_before (bodies_told p) ++ gate ∷ []) r.is
     (λ bytes behind some some' is.
     let lacking = lacks_ahead place rest behind some' broken in
     record {
       rest = behind;
-      is = gated bodies gate behind bytes is ∙ ap (λ g. bytes_before bodies ++ g ∷ behind) opened;
+      is = gated (bodies_told p) gate behind bytes is ∙ ap (λ g. bytes_before (bodies_told p) ++ g ∷ behind) opened;
       lacks = inl (subst (λ (n : ℕ). IsWhole n behind → ⊥) r.at lacking);
     })
 
 -- the end at an open gate behind which no whole record stands
-pub broken_end : (all : Option (List ℕ)) (bodies : List (List ℕ)) (past : List Entry) (gate place : ℕ) (rest : Option (List ℕ)) → IsReadTo all bodies gate place rest → gate ≡ 1
-    → IsBrokenAhead place rest → IfSome all (EndsRefused (Open.Damaged place) bodies past)
-broken_end all bodies past gate place rest r opened broken =
-    refused_both all (damaged_at all bodies gate place rest r opened broken) (ends_broken all bodies past gate place rest r opened broken)
+pub broken_end : (all : Option (List ℕ)) (p : Portion) (gate place : ℕ) (rest : Option (List ℕ)) → IsReadTo all (bodies_told p) gate place rest → gate ≡ 1
+    → IsBrokenAhead place rest → IfSome all (EndsRefused (Open.Damaged place) p)
+broken_end all p gate place rest r opened broken =
+    refused_both all (damaged_at all (bodies_told p) gate place rest r opened broken) (ends_broken all p gate place rest r opened broken)
   where
-    refused_both : (all : Option (List ℕ)) → IfSome all (λ bytes. IsDamaged bytes place) → IfSome all (EndsAt bodies past) → IfSome all (EndsRefused (Open.Damaged place) bodies past)
-    refused_both None p q = tt
-    refused_both (Some bytes) p q = (damaged_alone bytes place p, q)
+    refused_both : (all : Option (List ℕ)) → IfSome all (λ bytes. IsDamaged bytes place) → IfSome all (EndsAt p) → IfSome all (EndsRefused (Open.Damaged place) p)
+    refused_both None damaged ends = tt
+    refused_both (Some bytes) damaged ends = (inl damaged, ends)
 
 -- one record more was read
 pub read_on : (all : Option (List ℕ)) (bodies : List (List ℕ)) (body : List ℕ) (gate place next : ℕ) (before rest : Option (List ℕ)) → IsReadTo all bodies 1 place before
@@ -117,38 +114,23 @@ read_on all bodies body gate place next before rest r ahead step = record {
       ∙ ap (λ l. prepend_known l rest) (append_assoc (bytes_before bodies) (1 ∷ []) (bytes_of body ++ gate ∷ []) ∙ sym (front-more bodies body (gate ∷ [])));
 }
 
--- the end at a record whose body no entry has
-pub ends_bad : (all : Option (List ℕ)) (bodies : List (List ℕ)) (past : List Entry) (body : List ℕ) (gate next : ℕ) (rest : Option (List ℕ))
-    → IsReadTo all (bodies ++ body ∷ []) gate next rest → HasNoNext nothing bodies past body → IfSome all (EndsAt bodies past)
-ends_bad all bodies past body gate next rest r bad =
-    told (EndsAt bodies past) all rest (bytes_before (bodies ++ body ∷ []) ++ gate ∷ []) r.is
+-- the end at a record with whose body nothing goes on
+pub ends_bad : (all : Option (List ℕ)) (p : Portion) (body : List ℕ) (gate next : ℕ) (rest : Option (List ℕ)) → IsReadTo all (bodies_told p ++ body ∷ []) gate next rest
+    → HasNoNextIn p body → IfSome all (EndsAt p)
+ends_bad all p body gate next rest r bad =
+    told (EndsAt p) all rest (bytes_before (bodies_told p ++ body ∷ []) ++ gate ∷ []) r.is
     (λ bytes behind some some' is. record {
       rest = bytes_of body ++ gate ∷ behind;
-      is = gated (bodies ++ body ∷ []) gate behind bytes is ∙ front-more bodies body (gate ∷ behind);
+      is = gated (bodies_told p ++ body ∷ []) gate behind bytes is ∙ front-more (bodies_told p) body (gate ∷ behind);
       lacks = inr (body, gate ∷ behind, refl, bad);
     })
 
-bad_at : (bodies behind : List (List ℕ)) (body : List ℕ) (past : List Entry) (place : ℕ) → IsPast nothing bodies past → place ≡ length (bytes_before bodies)
-    → HasNoNext nothing bodies past body → IsBadAt nothing ((bodies ++ body ∷ []) ++ behind) place
-bad_at bodies behind body past place p at bad = record {
-  front = bodies;
-  body = body;
-  behind = behind;
-  past = past;
-  split = append_assoc bodies (body ∷ []) behind;
-  before = p;
-  at = at;
-  broken = bad;
-}
-
 -- what a reading behind a bad body finds is a refusal of the area
-pub bad_end : (all : Option (List ℕ)) (bodies : List (List ℕ)) (past : List Entry) (body : List ℕ) (fault : OpenFault) (place : ℕ)
-    → IfSome all (EndsAt bodies past) → IsPast nothing bodies past → place ≡ length (bytes_before bodies) → HasNoNext nothing bodies past body
-    → ((fault ≡ Open.Damaged place) × ((behind : List (List ℕ)) × IfSome all (λ bytes. Stands bytes ((bodies ++ body ∷ []) ++ behind))))
+pub bad_end : (all : Option (List ℕ)) (p : Portion) (body : List ℕ) (fault : OpenFault) (place : ℕ) → IfSome all (EndsAt p) → place ≡ length (bytes_before (bodies_told p))
+    → ((fault ≡ Open.Damaged place) × ((behind : List (List ℕ)) × IfSome all (λ bytes. Stands bytes ((bodies_told p ++ body ∷ []) ++ behind))))
     ⊎ ((q : ℕ) × (fault ≡ Open.Damaged q) × IfSome all (λ bytes. IsDamaged bytes q))
-    → IfSome all (EndsRefused fault bodies past)
-bad_end None bodies past body fault place ends p at bad found = tt
-bad_end (Some bytes) bodies past body fault place ends p at bad (inl f) =
-    subst (λ (x : OpenFault). EndsRefused x bodies past bytes) (sym f.0) (bad_alone bytes bodies f.1.0 body past place p at f.1.1 (bad_at bodies f.1.0 body past place p at bad), ends)
-bad_end (Some bytes) bodies past body fault place ends p at bad (inr f) =
-    subst (λ (x : OpenFault). EndsRefused x bodies past bytes) (sym f.1) (damaged_alone bytes f.0 f.2, ends)
+    → IfSome all (EndsRefused fault p)
+bad_end None p body fault place ends at found = tt
+bad_end (Some bytes) p body fault place ends at (inl f) =
+    subst (λ (x : OpenFault). EndsRefused x p bytes) (sym f.0) (inr (at, ((bodies_told p ++ body ∷ []) ++ f.1.0, f.1.1)), ends)
+bad_end (Some bytes) p body fault place ends at (inr f) = subst (λ (x : OpenFault). EndsRefused x p bytes) (sym f.1) (inl f.2, ends)

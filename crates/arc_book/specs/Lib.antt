@@ -1,7 +1,9 @@
 pub use Rattle.arc_io.specs.Told
 pub use Rattle.book_lines.specs.Books
-pub use Rattle.centre_store.specs.Openings
+pub use Rattle.centre_core.specs.Decoding
+pub use Rattle.centre_store.specs.Pasts
 pub mod Tapes
+pub mod Portions
 pub mod Taken
 pub mod Compiled
 pub mod Statuses

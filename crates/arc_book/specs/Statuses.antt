@@ -3,14 +3,11 @@ use Rattle.std.specs.Prelude.{◌≡◌, ℕ, List, [], ◌++◌, Option, IfSome
 use Rattle.std.specs.Io.KnownBytes.{append_known}
 use Rattle.arc_io.specs.Seen.{PortSeen}
 use Rattle.arc_io.specs.Told.{OnlyReads, OnlyWrites}
-use Rattle.book_lines.specs.Books.{book_of}
 use Rattle.book_lines.specs.declared.options.Options.{Options}
-use Rattle.centre_rules.specs.History.{Entry}
-use Rattle.centre_rules.specs.Summary.{nothing}
-use Rattle.centre_store.specs.Pasts.{IsPast}
 use Rattle.disk_journal.specs.declared.fault.OpenFault.{OpenFault}
 use Rattle.disk_journal.specs.declared.fault.OpenFault.TheVariants as Open
 use Rattle.arc_book.specs.Compiled.{IsEnd, IsFrontWritten, HasCauses}
+use Rattle.arc_book.specs.Portions.{Portion, area_book}
 use Rattle.arc_book.specs.declared.status.Status.{Status}
 use Rattle.arc_book.specs.declared.status.Status.TheVariants.{Done, Usage, ReadFault, WriteFault, Journal, Memory, Spent}
 
@@ -49,23 +46,21 @@ last_line (Journal fault) = fault_text fault
 last_line status = []
 
 -- what the area's bytes are; where a write failed, nothing is said of them
-abbrev pub IsOfArea : Status → List (List ℕ) → List Entry → List ℕ → Type 0
-IsOfArea WriteFault bodies past bytes = Unit {0}
-IsOfArea status bodies past bytes = IsEnd status bodies past bytes
+abbrev pub IsOfArea : Status → Portion → List ℕ → Type 0
+IsOfArea WriteFault told bytes = Unit {0}
+IsOfArea status told bytes = IsEnd status told bytes
 
 -- The book and its last line are written, and where a write failed, a front of them.
 abbrev pub IsWritten : Status → Option (List ℕ) → Option (List ℕ) → List ℕ → Type 0
 IsWritten WriteFault before after book = (other : Status) × IsFrontWritten before after (book ++ last_line other)
 IsWritten status before after book = after ≡ append_known before (book ++ last_line status)
 
--- The book of an area, from a source to a sink. The first bodies have a past, the one history for which they stand; what is written is its
--- book, as the options ask for it. Done is answered where the area stands for just these bodies, and a refusal where it stands for none.
+-- The book of an area, from a source to a sink: what is written is the book of a portion of it, as the options ask for it. Done is answered
+-- where that is the whole area, and a refusal where the area is the one of no history.
 pub record IsTold (options : Options) (status : Status) (all : Option (List ℕ)) (s s' k k' : PortSeen) : Type 0 where
-  pub bodies : List (List ℕ)
-  pub past : List Entry
-  pub is_past : IsPast nothing bodies past
-  pub area : IfSome all (λ bytes. IsOfArea status bodies past bytes)
-  pub written : IsWritten status k.written k'.written (book_of options past)
+  pub told : Portion
+  pub area : IfSome all (IsOfArea status told)
+  pub written : IsWritten status k.written k'.written (area_book options told)
   pub causes : HasCauses status s s' k k'
   pub reads : OnlyReads s s'
   pub writes : OnlyWrites k k'

@@ -1,13 +1,13 @@
--- What taking a body in makes of a past, a centre and a page.
+-- What taking a body in makes of a portion, a centre and a page.
 use Rattle.std.specs.Prelude.{◌≡◌, ℕ, List, [], ◌∷◌, ◌++◌}
-use Rattle.book_lines.specs.Books.{entry_line}
+use Rattle.book_lines.specs.Summaries.{summary_line}
 use Rattle.book_lines.specs.declared.choice.Verdict.{Verdict}
 use Rattle.book_lines.specs.declared.choice.Verdict.TheVariants.{Told, LeftOut, Opens}
 use Rattle.book_lines.specs.declared.options.Options.{Options}
-use Rattle.centre_rules.specs.History.{Entry}
 use Rattle.centre_rules.specs.State.{State, StandsFor}
-use Rattle.centre_rules.specs.Summary.{nothing}
-use Rattle.centre_store.specs.Pasts.{IsPast}
+use Rattle.centre_rules.specs.Summary.{Summary}
+use Rattle.summary_rules.specs.Conditions.{IsSpelling}
+use Rattle.arc_book.specs.Portions.{Portion, bodies_told, area_book}
 
 -- what stands on a page once a verdict is known: the line as well, but where it is not told in any case
 abbrev pub put_by : Verdict → List ℕ → List ℕ → List ℕ
@@ -15,10 +15,19 @@ put_by Told page line = page ++ line
 put_by LeftOut page line = page
 put_by (Opens number) page line = page ++ line
 
--- an entry goes on from the past with the body; the centre stands for it, and its line is put on the page where the options ask for it
-pub record IsTakenUp (o : Options) (bodies : List (List ℕ)) (past : List Entry) (body : List ℕ) (centre : State) (page page' : List ℕ)
-    : Type 0 where
-  pub entry : Entry
-  pub is_past : IsPast nothing (bodies ++ body ∷ []) (entry ∷ past)
-  pub stands : StandsFor nothing centre (entry ∷ past)
-  pub line : page' ≡ page ++ entry_line o past entry
+-- the portion goes on with the body; the centre stands for it, and what its book has more is put on the page
+pub record IsTakenUp (o : Options) (p : Portion) (body : List ℕ) (centre : State) (page page' : List ℕ) : Type 0 where
+  pub next : Portion
+  pub is : bodies_told next ≡ bodies_told p ++ body ∷ []
+  pub stands : StandsFor next.base centre next.past
+  pub line : List ℕ
+  pub book : area_book o next ≡ area_book o p ++ line
+  pub put : page' ≡ page ++ line
+
+-- the body spells a summary; the centre stands for it, and its line is put on the page
+pub record IsSummedUp (o : Options) (body : List ℕ) (centre : State) (page page' : List ℕ) : Type 0 where
+  pub generation : ℕ
+  pub base : Summary
+  pub spelling : IsSpelling generation base body
+  pub stands : StandsFor base centre []
+  pub put : page' ≡ page ++ summary_line o base

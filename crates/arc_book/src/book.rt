@@ -13,10 +13,11 @@ use arc_io::{Sink, Source, put};
 use book_lines::{Options, Page};
 use std::alloc::Global;
 
-/// Writes the book of an area, the bytes of which the source gives: a line of each record that the options ask for, the oldest first. The
-/// records are those for which the bytes stand. Where they stand for none, the records are those before the first that lacks, and a last line says why the area is
-/// refused, as the status does. Memory is taken for the accounts and the open incidents, for the longest record, and for some pages, and not
-/// for the records.
+/// Writes the book of an area, the bytes of which the source gives: a line of each record that the options ask for, the oldest first. Where
+/// the area begins with a summary, its line is the first one, if the options ask for it, and the numbers of the records go on from its own.
+/// The records are those for which the bytes stand. Where they stand for none, the records are those before the first that lacks, and a last
+/// line says why the area is refused, as the status does. Memory is taken for the accounts and the open incidents, for the longest record or
+/// the summary, and for some pages, and not for the records.
 pub fn book<S: Source, K: Sink>(
     alloc: Global,
     options: &Options,

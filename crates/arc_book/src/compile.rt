@@ -1,5 +1,5 @@
-// Telling an area: its records are read one after the other, each is taken in by a centre, and its line is put on a page.
-ghost use Rattle.std.specs.Prelude.{◌≡◌, ◌≤◌, ◌<◌, ◌+◌, ◌^◌, ◌++◌, [], ◌∷◌, ℕ, List, Option, true, false, length, take, is_some, IfOk, MatchResult, OnOk, OnErr};
+// Telling an area: its bodies are read one after the other, each is taken in by a centre, and its line is put on a page.
+ghost use Rattle.std.specs.Prelude.{◌≡◌, ◌≤◌, ◌<◌, ◌+◌, ◌^◌, ◌++◌, [], ◌∷◌, ℕ, List, Option, true, false, length, take, is_some, slice_index, IfOk, MatchOption, MatchResult, OnErr};
 ghost use Rattle.std.specs.Io.KnownBytes.{append_known};
 ghost use Rattle.arc_io.specs.Causes.{HasCause, Rose};
 ghost use Rattle.arc_io.specs.Told.{OnlyReads, OnlyWrites};
@@ -10,30 +10,37 @@ ghost use Rattle.arc_data.specs.declared.incident.Incident.{Incident};
 ghost use Rattle.book_lines.specs.Asked.{AreInRange};
 ghost use Rattle.book_lines.specs.Books.{line_if};
 ghost use Rattle.book_lines.specs.Choices.{chosen, decided};
+ghost use Rattle.book_lines.specs.Summaries.{holdings};
 ghost use Rattle.book_lines.specs.Telling.{told};
 ghost use Rattle.centre_rules.specs.Carrying.{carried_by};
-ghost use Rattle.centre_rules.specs.History.{Entry, is_recorded};
+ghost use Rattle.centre_rules.specs.History.{is_recorded};
 ghost use Rattle.centre_rules.specs.State.{StandsFor};
-ghost use Rattle.centre_rules.specs.Summary.{nothing};
-ghost use Rattle.centre_store.specs.Pasts.{IsPast, HasNoNext};
+ghost use Rattle.centre_core.specs.Decoding.{IsNoSpelling};
+ghost use Rattle.centre_rules.specs.Summary.{Summary, nothing};
+ghost use Rattle.centre_store.specs.Pasts.{HasNoNext};
+ghost use Rattle.disk_journal.specs.Records.{front as bytes_before};
+ghost use Rattle.summary_rules.specs.Conditions.{IsSpelling};
 ghost use Rattle.arc_book.specs.Compiled.{IsCompiled, IsScanned, IsTurned, IsFrontWritten};
 ghost use Rattle.arc_book.specs.Tapes.{ahead, IsReadTo};
-ghost use Rattle.arc_book.specs.Taken.{IsTakenUp, put_by};
+ghost use Rattle.arc_book.specs.Portions.{Portion, bodies_told, HasNoNextIn};
+ghost use Rattle.arc_book.specs.Taken.{IsTakenUp, IsSummedUp, put_by};
 
 use crate::status::Status;
-use crate::tape::{Front, Next, Tape};
+use crate::tape::{FIRST, Front, Next, TAG, Tape};
 use arc_data::Memory;
 use arc_io::{Failed, ReadEnd, Sink, Source, put};
-use book_lines::{Options, Page, Verdict, choose, put_line};
-use centre_core::{Centre, Ready};
+use book_lines::{Held, Options, Page, Verdict, choose, put_line, put_summary};
+use centre_core::{Centre, Ready, decode_summary};
 use centre_store::entry_in;
 use disk_journal::OpenFault;
 use std::alloc::Global;
+use summary_codec::summary_read;
 
 // A page with more bytes is written out.
 const FULL: usize = 65_536;
 
-/// Tells an area of which nothing was read: writes the line of each record up to the end, but for those that are left on the page.
+/// Tells an area of which nothing was read: writes the line of a summary that it begins with and of each record up to the end, but for those
+/// that are left on the page.
 pub(crate) fn compile<S: Source, K: Sink>(
     alloc: Global,
     options: &Options,
@@ -61,7 +68,7 @@ pub(crate) fn compile<S: Source, K: Sink>(
     }
 }
 
-// Tells the records from the first one on.
+// Tells all from the first body on.
 fn walk<S: Source, K: Sink>(
     alloc: Global,
     options: &Options,
@@ -90,7 +97,7 @@ fn walk<S: Source, K: Sink>(
             Err(ReadEnd::Failed) => return Status::ReadFault,
             Err(ReadEnd::Memory) => return Status::Memory,
         }
-        match take_up(alloc, options, centre, page, &tape.body) {
+        match take_in(alloc, options, centre, page, place, &tape.body) {
             Ok(true) => {}
             Ok(false) => return scan(source, tape, place),
             Err(Memory) => return Status::Memory,
@@ -99,6 +106,87 @@ fn walk<S: Source, K: Sink>(
             return Status::WriteFault;
         };
     }
+}
+
+// Takes the body in whose gate stands at a place: at the front of the area that of a summary, where it begins as one, and otherwise that of a
+// record. False where nothing goes on with it.
+#[tactic(auto, using(crate::proofs::Portions::sum_taken, crate::proofs::Portions::sum_bad, crate::proofs::Portions::entry_taken, crate::proofs::Portions::entry_bad))]
+fn take_in(
+    alloc: Global,
+    options: &Options,
+    centre: &mut Centre,
+    page: &mut Page,
+    place: u64,
+    body: &[u8],
+) -> Result<bool, Memory>
+    requires range { AreInRange options.now }
+    requires room { length page.old ≤ 65536 }
+    ensures taken { IfOk result (λ taken. taken ≡ true → (p : Portion) → place ≡ length (bytes_before (bodies_told p)) → StandsFor p.base centre.old p.past
+        → IsTakenUp options.now p body.now centre.new page.old page.new) }
+    ensures bad { IfOk result (λ taken. taken ≡ false → (p : Portion) → place ≡ length (bytes_before (bodies_told p)) → StandsFor p.base centre.old p.past
+        → HasNoNextIn p body.now) }
+    ensures kept { IfOk result (λ taken. taken ≡ false → page.new ≡ page.old) }
+    ensures failed { OnErr result (page.new ≡ page.old) }
+{
+    if is_summary(place, body) {
+        sum_up(alloc, options, centre, page, body)
+    } else {
+        take_up(alloc, options, centre, page, body)
+    }
+}
+
+// Whether the body whose gate stands at this place is to be that of a summary.
+fn is_summary(place: u64, body: &[u8]) -> bool
+    ensures summary { result ≡ true → (place ≡ 16) × (slice_index body.now 0 ≡ 11) }
+    ensures other { result ≡ false → place ≡ 16 → slice_index body.now 0 ≡ 11 → ⊥ }
+{
+    place == FIRST && matches!(body, [TAG, ..])
+}
+
+// Has the centre go on from the summary of a body, and puts its line on the page where the options ask for it. False where the body spells
+// none.
+#[tactic(auto, using(crate::proofs::Helds::moment_held, crate::proofs::Helds::summed_so))]
+fn sum_up(
+    alloc: Global,
+    options: &Options,
+    centre: &mut Centre,
+    page: &mut Page,
+    body: &[u8],
+) -> Result<bool, Memory>
+    requires range { AreInRange options.now }
+    requires room { length page.old ≤ 65536 }
+    ensures taken { IfOk result (λ taken. taken ≡ true → IsSummedUp options.now body.now centre.new page.old page.new) }
+    ensures bad { IfOk result (λ taken. taken ≡ false → IsNoSpelling body.now) }
+    ensures kept { IfOk result (λ taken. taken ≡ false → page.new ≡ page.old) }
+    ensures failed { OnErr result (page.new ≡ page.old) }
+{
+    let Some(held) = held_in(alloc, body)? else {
+        return Ok(false);
+    };
+    let Some((summed, _)) = decode_summary(alloc, body)? else {
+        return Ok(false);
+    };
+    *centre = summed;
+    put_summary(page, options, &held);
+    Ok(true)
+}
+
+// What the summary of a body holds, which a centre does not tell. None only where the body spells no summary.
+#[tactic(auto, using(crate::proofs::Helds::none_so, crate::proofs::Helds::held_so))]
+fn held_in(alloc: Global, body: &[u8]) -> Result<Option<Held>, Memory>
+    ensures { IfOk result (λ found. MatchOption found (IsNoSpelling body.now)
+        (λ held. (generation : ℕ) (s : Summary) → IsSpelling generation s body.now → held ≡ holdings s)) }
+{
+    let Some(read) = summary_read(alloc, body)? else {
+        return Ok(None);
+    };
+    Ok(Some(Held {
+        recorded: read.head.recorded,
+        last: read.head.last,
+        accounts: read.rows.len() as u64,
+        opened: read.head.opened,
+        still_open: read.incidents.len() as u64,
+    }))
 }
 
 // Takes the event of a body in, and puts the line of its record on the page where the options ask for it. False where no entry goes on with
@@ -112,10 +200,10 @@ fn take_up(
 ) -> Result<bool, Memory>
     requires range { AreInRange options.now }
     requires room { length page.old ≤ 65536 }
-    ensures taken { IfOk result (λ taken. taken ≡ true → (bodies : List (List ℕ)) (past : List Entry) → IsPast nothing bodies past
-        → StandsFor nothing centre.old past → IsTakenUp options.now bodies past body.now centre.new page.old page.new) }
-    ensures bad { IfOk result (λ taken. taken ≡ false → (bodies : List (List ℕ)) (past : List Entry) → IsPast nothing bodies past
-        → StandsFor nothing centre.old past → HasNoNext nothing bodies past body.now) }
+    ensures taken { IfOk result (λ taken. taken ≡ true → (p : Portion) → StandsFor p.base centre.old p.past
+        → IsTakenUp options.now p body.now centre.new page.old page.new) }
+    ensures bad { IfOk result (λ taken. taken ≡ false → (p : Portion) → StandsFor p.base centre.old p.past
+        → HasNoNext p.base p.bodies p.past body.now) }
     ensures kept { IfOk result (λ taken. taken ≡ false → page.new ≡ page.old) }
     ensures failed { OnErr result (page.new ≡ page.old) }
 {

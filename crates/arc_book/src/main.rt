@@ -1,5 +1,6 @@
-//! The station's book. `arc-book` reads the bytes of a journal's area on its standard input, and writes a line for each of its records, or
-//! for those that its words ask for. It opens no file, so it takes a copy of a journal, or one that is in use, and can't harm it.
+//! The station's book. `arc-book` reads the bytes of a journal's area on its standard input, and writes a line for a summary that it begins
+//! with and for each of its records, or for those that its words ask for. It opens no file, so it takes a copy of a journal, or one that is
+//! in use, and can't harm it.
 #![tactic(auto)]
 
 use arc_data::Txt;

@@ -14,13 +14,14 @@ use arc_io::{ReadEnd, Source};
 use disk_journal::{OpenFault, check_front};
 use std::alloc::Global;
 
-// The most bytes that a body may have, but the first one of a journal where it begins with this byte, as that of a summary.
+// The most bytes that a body may have, but the first one of a journal where it is that of a summary.
 const MOST: u32 = 4_194_400;
 
-const TAG: u8 = 11;
+/// The first byte of the body of a summary.
+pub(crate) const TAG: u8 = 11;
 
-// Where the first gate of an area stands.
-const FIRST: u64 = 16;
+/// Where the first gate of an area stands.
+pub(crate) const FIRST: u64 = 16;
 
 // No record is read whose gate stands at this place or behind it.
 const LIMIT: u64 = 1 << 40;

@@ -1,6 +1,7 @@
 -- Books that go on from one another.
 use Rattle.std.specs.Prelude.{◌≡◌, ℕ, ◌+◌, ◌++◌, List, Some, None}
 use Rattle.centre_rules.specs.History.{Entry}
+use Rattle.centre_rules.specs.Summary.{Summary}
 use Rattle.book_lines.specs.Books.{book_of}
 use Rattle.book_lines.specs.declared.options.Options.{Options}
 use Rattle.book_lines.specs.declared.options.Place.TheVariants.{Number}
@@ -18,4 +19,6 @@ beginning n o = record o { since = Some (Number n); until = None }
 
 -- A book up to a record, and behind it the book from the next one on, are the whole book.
 abbrev pub BooksGoOn : Type 0
-BooksGoOn = (o : Options) (n : ℕ) (h : List Entry) → book_of (ending n o) h ++ book_of (beginning (n + 1) o) h ≡ book_of (whole o) h
+BooksGoOn =
+    (o : Options) (base : Summary) (n : ℕ) (h : List Entry)
+    → book_of (ending n o) base h ++ book_of (beginning (n + 1) o) base h ≡ book_of (whole o) base h

@@ -8,6 +8,7 @@ pub mod Telling
 pub mod Asked
 pub mod Choices
 pub mod Books
+pub mod Summaries
 pub mod Laws
 pub mod GoOn
 pub mod WordsFor

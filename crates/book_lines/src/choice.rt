@@ -68,8 +68,8 @@ fn is_asked(
         && is_of_operator(&options.operator, event)
 }
 
-// Whether the record is not before the place where the book begins.
-fn is_since(clock: &Clock, since: &Option<Place>, number: u64, at: u64) -> bool
+/// Whether the record is not before the place where the book begins.
+pub(crate) fn is_since(clock: &Clock, since: &Option<Place>, number: u64, at: u64) -> bool
     requires near { IsNear clock.now }
     requires place { IfSome since.now IsPlace }
     requires moment { IsMoment at }
@@ -82,8 +82,8 @@ fn is_since(clock: &Clock, since: &Option<Place>, number: u64, at: u64) -> bool
     }
 }
 
-// Whether the record is not behind the place where the book ends.
-fn is_until(clock: &Clock, until: &Option<Place>, number: u64, at: u64) -> bool
+/// Whether the record is not behind the place where the book ends.
+pub(crate) fn is_until(clock: &Clock, until: &Option<Place>, number: u64, at: u64) -> bool
     requires near { IsNear clock.now }
     requires place { IfSome until.now IsPlace }
     requires moment { IsMoment at }

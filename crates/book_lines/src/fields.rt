@@ -88,8 +88,8 @@ pub(crate) fn put_fields(
     }
 }
 
-// Puts the fields up to the details of a record that is no operator's.
-fn put_own(page: &mut Page, what: &[u8], account: &[u8])
+/// Puts the fields up to the details of a record that is no operator's.
+pub(crate) fn put_own(page: &mut Page, what: &[u8], account: &[u8])
     requires what { length what.now ≤ 20 }
     requires account { length account.now ≤ 32 }
     requires room { length page.old ≤ 67000 }

@@ -1,4 +1,5 @@
-//! The lines of a station's book: what a record was, in words or in fields, and which records a book is asked for.
+//! The lines of a station's book: what a record was, or what a summary holds, in words or in fields, and which records a
+//! book is asked for.
 #![tactic(auto)]
 
 mod choice;
@@ -8,6 +9,7 @@ pub mod laws;
 mod names;
 mod options;
 mod page;
+mod summary;
 mod words;
 mod writing;
 
@@ -15,4 +17,5 @@ pub use choice::{Verdict, choose};
 pub use clock::Clock;
 pub use options::{Options, Place};
 pub use page::Page;
+pub use summary::{Held, put_summary};
 pub use writing::put_line;

@@ -54,9 +54,9 @@ pub fn put_line(
     page.put(b"\n");
 }
 
-// Puts the date and the time of a moment by a clock.
+/// Puts the date and the time of a moment by a clock.
 #[tactic(auto, unfolding(crate::specs::Clocks::moment_text))]
-fn put_moment(page: &mut Page, clock: &Clock, at: u64)
+pub(crate) fn put_moment(page: &mut Page, clock: &Clock, at: u64)
     requires near { IsNear clock.now }
     requires moment { IsMoment at }
     requires room { length page.old ≤ 66000 }

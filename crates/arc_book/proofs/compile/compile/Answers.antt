@@ -1,10 +1,12 @@
-use Rattle.std.proofs.Common.{◌≤◌, ℕ, List, length, Option, Ok, Err, sym, ap, subst, ◌∙◌}
+use Rattle.std.proofs.Common.{[], ◌≤◌, ℕ, List, length, Option, Ok, Err, sym, ap, subst, ◌∙◌}
 use Rattle.std.specs.Prelude.{IfSome}
 use Rattle.std.specs.Io.KnownBytes.{prepend_known}
 use Rattle.arc_io.proofs.KnownMore.{prepend_none}
 use Rattle.disk_journal.specs.Faults.{IsShown}
 use Rattle.arc_book.specs.Compiled.{IsCompiled}
+use Rattle.arc_book.specs.Tapes.{ahead, IsReadTo}
 use Rattle.arc_book.specs.declared.status.Status.TheVariants.{Done, ReadFault, Journal, Memory}
+use Rattle.arc_book.proofs.Walks.{walked_on}
 use Rattle.arc_book.proofs.Books.{fresh_compiled, refused_compiled, unread_compiled, unkept_compiled}
 use Rattle.arc_book.proofs.compile.compile.Goals as goal
 
@@ -42,3 +44,16 @@ returns-in-Err-Memory-clause-compiled g c =
     let s' = g.S.Ends.seen c.open.new.source in
     let k = g.K.Ends.seen c.args.sink.now in
     subst (IsCompiled c.args.options.now Memory s.left s s' k k) (sym c.requires.empty) (unkept_compiled c.args.options.now s.left s s' k c.open.ensures.others)
+
+pub returns-in-Ok-Journal-clause-compiled : goal.returns-in-Ok-Journal-clause-compiled
+returns-in-Ok-Journal-clause-compiled g c =
+    let s = g.S.Ends.seen c.args.source.now in
+    let t = g.S.Ends.seen c.open.new.source in
+    let s' = g.S.Ends.seen c.walk.new.source in
+    let k = g.K.Ends.seen c.args.sink.now in
+    let k' = g.K.Ends.seen c.walk.new.sink in
+    let tape = c.open.new.self in
+    let all = ap (λ (u : List ℕ). prepend_known u s.left) c.requires.fresh ∙ sym (prepend_none s.left) in
+    let read = (c.in-Ok-Journal.ensures.journal c.in-Ok-Journal.field-0-is).1 in
+    walked_on c.args.options.now c.walk.result s.left s t s' k k' c.walk.new.page c.open.ensures.others c.open.ensures.later
+    (c.walk.ensures.compiled s.left (subst (λ (o : Option (List ℕ)). IsReadTo o [] tape.gate tape.at (ahead tape.intake t.left)) all read))

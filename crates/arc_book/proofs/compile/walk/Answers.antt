@@ -1,14 +1,12 @@
 use Rattle.std.proofs.Common.{◌++◌, ◌∷◌, [], ℕ, List, length, Err, refl, sym, ap, subst, arith}
 use Rattle.arc_io.proofs.Frames.{reads_more, writes_more}
-use Rattle.book_lines.specs.Books.{book_of}
-use Rattle.centre_rules.specs.Summary.{nothing}
-use Rattle.centre_store.specs.Pasts.{HasNoNext}
-use Rattle.centre_store.proofs.PastSteps.{no_past}
 use Rattle.arc_book.specs.Compiled.{IsCompiled, IsWrittenBut}
+use Rattle.arc_book.specs.Portions.{bodies_told, HasNoNextIn, area_book}
 use Rattle.arc_book.specs.Taken.{IsTakenUp}
 use Rattle.arc_book.specs.Tapes.{ahead}
 use Rattle.arc_book.specs.declared.status.Status.TheVariants.{Memory}
 use Rattle.arc_book.proofs.Pages.{unwritten}
+use Rattle.arc_book.proofs.Portions.{begun}
 use Rattle.arc_book.proofs.Walks.{closed_walk, broken_walk, spent_walk, failed_walk, memory_walk, bad_walk, more_walk, write_walk}
 use Rattle.arc_book.proofs.compile.walk.Goals as goal
 
@@ -17,12 +15,10 @@ records-init g c =
     let known = (g.K.Ends.seen c.args.sink.now).written in
     record {
       walks = λ all r. record {
-        bodies = [];
-        past = [];
-        is_past = no_past;
+        told = begun;
         read = r;
         stands = c.requires.begun;
-        text = subst (λ (p : List ℕ). IsWrittenBut known known p (book_of c.args.options.now [])) (sym c.requires.empty) (unwritten c.args.options.now known);
+        text = subst (λ (p : List ℕ). IsWrittenBut known known p (area_book c.args.options.now begun)) (sym c.requires.empty) (unwritten c.args.options.now known);
       };
       short = omega (arith, ap length c.requires.empty);
       not_ended = c.requires.ended;
@@ -81,12 +77,12 @@ returns-in-Ok-false-clause-compiled g c all r =
     let s' = g.S.Ends.seen c.scan.new.source in
     let k0 = g.K.Ends.seen c.args.sink.now in
     let k = g.K.Ends.seen c.records.sink in
-    let read = c.in-Ok-Body.ensures.body c.in-Ok-Body.field-0-is all w.bodies w.read in
-    let bad = subst (HasNoNext nothing w.bodies w.past) c.deref.ensures.value (c.in-Ok-false.ensures.bad c.in-Ok-false.field-0-test w.bodies w.past w.is_past w.stands) in
+    let read = c.in-Ok-Body.ensures.body c.in-Ok-Body.field-0-is all (bodies_told w.told) w.read in
+    let bad = subst (HasNoNextIn w.told) c.deref.ensures.value (c.in-Ok-false.ensures.bad c.in-Ok-false.field-0-test w.told w.read.at w.stands) in
     subst (IsCompiled c.args.options.now c.scan.result all s s' k0 k) (sym (c.in-Ok-false.ensures.kept c.in-Ok-false.field-0-test))
     (bad_walk c.args.options.now all t.gate t.at (ahead t.intake (g.S.Ends.seen c.records.source).left) s s' k0 k c.records.centre c.records.page w inv.write_faults
     (reads_more (reads_more inv.reads c.next.ensures.others) c.scan.ensures.others) inv.writes c.scan.result u.body.items u.gate u.at (ahead u.intake (g.S.Ends.seen c.next.new.source).left) read bad
-    (c.scan.ensures.shown all (w.bodies ++ u.body.items ∷ []) read) (λ is. omega (arith, inv.read_faults, c.next.ensures.later, c.scan.ensures.failed is)))
+    (c.scan.ensures.shown all (bodies_told w.told ++ u.body.items ∷ []) read) (λ is. omega (arith, inv.read_faults, c.next.ensures.later, c.scan.ensures.failed is)))
 
 pub returns-in-Err-clause-compiled : goal.returns-in-Err-clause-compiled
 returns-in-Err-clause-compiled g c all r =
@@ -111,11 +107,11 @@ records-preserved g c =
     record {
       walks = λ all r.
           let w = inv.walks all r in
-          let read = c.in-Ok-Body.ensures.body c.in-Ok-Body.field-0-is all w.bodies w.read in
-          let taken = subst (λ (b : List ℕ). IsTakenUp c.args.options.now w.bodies w.past b c.take_up.new.centre c.records.page c.take_up.new.page) c.deref.ensures.value
-          (c.in-Ok-true.ensures.taken c.in-Ok-true.field-0-test w.bodies w.past w.is_past w.stands) in
-          more_walk c.args.options.now all t.gate t.at u.gate u.at (ahead t.intake (g.S.Ends.seen c.records.source).left) (ahead u.intake (g.S.Ends.seen c.next.new.source).left) k0 k k' c.records.centre c.take_up.new.centre
-          c.records.page c.take_up.new.page u.body.items w read taken c.turn.new.page c.in-Ok.ensures.text;
+          let read = c.in-Ok-Body.ensures.body c.in-Ok-Body.field-0-is all (bodies_told w.told) w.read in
+          let taken = subst (λ (b : List ℕ). IsTakenUp c.args.options.now w.told b c.take_in.new.centre c.records.page c.take_in.new.page) c.deref.ensures.value
+          (c.in-Ok-true.ensures.taken c.in-Ok-true.field-0-test w.told w.read.at w.stands) in
+          more_walk c.args.options.now all t.gate t.at u.gate u.at (ahead t.intake (g.S.Ends.seen c.records.source).left) (ahead u.intake (g.S.Ends.seen c.next.new.source).left) k0 k k' c.records.centre c.take_in.new.centre
+          c.records.page c.take_in.new.page u.body.items w read taken c.turn.new.page c.in-Ok.ensures.text;
       short = c.turn.ensures.short;
       not_ended = (c.in-Ok-Body.ensures.on c.in-Ok-Body.field-0-is).0;
       read_faults = omega (arith, inv.read_faults, c.next.ensures.later);
@@ -133,9 +129,9 @@ returns-in_default-clause-compiled g c all r =
     let k = g.K.Ends.seen c.records.sink in
     let k' = g.K.Ends.seen c.turn.new.sink in
     let w = inv.walks all r in
-    let read = c.in-Ok-Body.ensures.body c.in-Ok-Body.field-0-is all w.bodies w.read in
-    let taken = subst (λ (b : List ℕ). IsTakenUp c.args.options.now w.bodies w.past b c.take_up.new.centre c.records.page c.take_up.new.page) c.deref.ensures.value
-    (c.in-Ok-true.ensures.taken c.in-Ok-true.field-0-test w.bodies w.past w.is_past w.stands) in
-    write_walk c.args.options.now all t.gate t.at u.gate u.at (ahead t.intake (g.S.Ends.seen c.records.source).left) (ahead u.intake (g.S.Ends.seen c.next.new.source).left) k0 k k' c.records.centre c.take_up.new.centre
-    c.records.page c.take_up.new.page u.body.items w read taken c.turn.new.page c.in_default.ensures.text (reads_more inv.reads c.next.ensures.others) (writes_more inv.writes c.turn.ensures.others)
+    let read = c.in-Ok-Body.ensures.body c.in-Ok-Body.field-0-is all (bodies_told w.told) w.read in
+    let taken = subst (λ (b : List ℕ). IsTakenUp c.args.options.now w.told b c.take_in.new.centre c.records.page c.take_in.new.page) c.deref.ensures.value
+    (c.in-Ok-true.ensures.taken c.in-Ok-true.field-0-test w.told w.read.at w.stands) in
+    write_walk c.args.options.now all t.gate t.at u.gate u.at (ahead t.intake (g.S.Ends.seen c.records.source).left) (ahead u.intake (g.S.Ends.seen c.next.new.source).left) k0 k k' c.records.centre c.take_in.new.centre
+    c.records.page c.take_in.new.page u.body.items w read taken c.turn.new.page c.in_default.ensures.text (reads_more inv.reads c.next.ensures.others) (writes_more inv.writes c.turn.ensures.others)
     (omega (arith, inv.write_faults, c.turn.ensures.cause.later)) (omega (arith, inv.write_faults, c.in_default.ensures.cause.failed))
