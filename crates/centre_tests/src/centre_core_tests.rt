@@ -7,10 +7,10 @@ ghost use Rattle.centre_rules.specs.Summary.{Summary};
 ghost use Rattle.centre_rules.specs.History.{Entry, IsMoment};
 ghost use Rattle.centre_rules.specs.Answers.{if_known};
 
-mod decoding;
+pub(crate) mod decoding;
 mod storm;
-mod summaries;
-mod words;
+pub(crate) mod summaries;
+pub(crate) mod words;
 
 use crate::account_numbers::account_of;
 use crate::same::{holds, same};

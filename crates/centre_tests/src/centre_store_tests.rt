@@ -1,7 +1,12 @@
 // What no clause says of the store: that calls succeed, with worked bytes, at its limits, and after each stop and each fault.
 
+mod checkpoints;
 mod opening;
+mod schedules;
+mod stops;
 mod submitting;
+mod summed;
+mod told;
 mod wild;
 
 use arc_io::MemDisk;

@@ -27,25 +27,38 @@ const BEAT: &[u8] = b"\nA2C80013\"NULL\"0000L0#8080[]\r";
 
 const ACKNOWLEDGEMENT: &[u8] = b"\n62AA0012\"ACK\"0000L0#8080[]\r";
 
-// A gate before a store in memory on which a run has begun. Its journal takes so many records.
-fn blank(rt: &impl Abort, alloc: Global, records: u64) -> Blank<MemDisk> {
+// How many bytes and records a journal has room for.
+#[derive(Clone, Copy)]
+struct Room {
+    bytes: u32,
+    records: u64,
+}
+
+// Room for all that a test records.
+const AMPLE: Room = Room {
+    bytes: 1_000,
+    records: 9,
+};
+
+// A gate before a store in memory on which a run has begun, with a journal of this room.
+fn blank(rt: &impl Abort, alloc: Global, room: Room) -> Blank<MemDisk> {
     let limits = Limits {
-        bytes: 1_000,
-        records,
+        bytes: u64::from(room.bytes),
+        records: room.records,
     };
     let disk = MemDisk::new(alloc, Vec::new(alloc));
     blank_of(rt, alloc, disk, limits, SETUP)
 }
 
-// A worker's three links, which have one input, the calls of its door that fail, how many links it is to serve, and how many records
-// the journal takes.
+// A worker's three links, which have one input, the calls of its door that fail, how many links it is to serve, and the room
+// of the journal.
 #[derive(Clone, Copy)]
 struct Case<'a> {
     side: Side,
     input: &'a [u8],
     failing: &'a [u64],
     sessions: u32,
-    records: u64,
+    room: Room,
 }
 
 fn port(rt: &impl Abort, alloc: Global, case: &Case) -> MemPort
@@ -108,7 +121,7 @@ fn check<R: Abort + Wait>(
 ) {
     let (end, entries, count) = wanted;
     let mut door = door_of(rt, alloc, case);
-    let blank = blank(rt, alloc, case.records);
+    let blank = blank(rt, alloc, case.room);
     let told = work(rt, alloc, blank, &mut door, case);
     compare_links(rt, door, count, answer);
     same(rt, told, (Worked { end, refused: 0 }, entries), "the end");
@@ -131,7 +144,7 @@ fn a_line_worker_serves_as_many_as_are_asked(rt: HostRuntime) {
         input: BEAT,
         failing: &[],
         sessions: 2,
-        records: 9,
+        room: AMPLE,
     };
     let wanted = (WorkerEnd::Quota, 4, 2);
     check(&rt, rt.alloc(), &case, wanted, ACKNOWLEDGEMENT);
@@ -146,13 +159,13 @@ fn compare_behind<R: Abort + Wait>(rt: &R, alloc: Global, failing: (&[u64], &[u6
         input: BEAT,
         failing: &[],
         sessions: 2,
-        records: 9,
+        room: AMPLE,
     };
     let first = failing_port(alloc, BEAT, reads, writes).expect(rt, "memory");
     let second = port(rt, alloc, &case);
     let ports = Vec::from_array(alloc, [first, second]).expect(rt, "memory");
     let mut door = doors::door_of(rt, alloc, ports, Vec::new(alloc));
-    let blank = blank(rt, alloc, case.records);
+    let blank = blank(rt, alloc, case.room);
     let told = work(rt, alloc, blank, &mut door, &case);
     let worked = Worked {
         end: WorkerEnd::Quota,
@@ -186,7 +199,7 @@ fn a_desk_worker_serves_until_its_door_ends(rt: HostRuntime) {
         input: b"login ann 1234\nnext\nquit\n",
         failing: &[],
         sessions: 4,
-        records: 9,
+        room: AMPLE,
     };
     let wanted = (WorkerEnd::DoorEnded, 5, 3);
     let answers = b"ok ann\nnone waiting\nbye\n";
@@ -200,29 +213,41 @@ fn a_door_that_fails_ends_its_worker(rt: HostRuntime) {
         input: BEAT,
         failing: &[3],
         sessions: 9,
-        records: 9,
+        room: AMPLE,
     };
     let end = WorkerEnd::DoorFault { before: 0, now: 1 };
     check(&rt, rt.alloc(), &case, (end, 4, 2), ACKNOWLEDGEMENT);
 }
 
-// The journal has its first 17 bytes, an Adopt and a Start. A heartbeat would take 19 bytes.
-#[test]
-fn a_full_journal_stops_a_worker(rt: HostRuntime) {
-    let case = Case {
+// How many bytes of an area a summary of the Adopt and the Start uses: 22, and 94 of the summary.
+const SUMMED: u64 = 116;
+
+// A heartbeat, where the journal has an Adopt, a Start, and no room for a third record: it would take 19 bytes behind a summary.
+fn beat_within(bytes: u32) -> Case<'static> {
+    Case {
         side: Side::Lines,
         input: BEAT,
         failing: &[],
-        sessions: 9,
-        records: 2,
-    };
+        sessions: 1,
+        room: Room { bytes, records: 2 },
+    }
+}
+
+#[test]
+fn a_full_journal_stops_a_worker(rt: HostRuntime) {
     let full = Stop::Full {
-        used: 88,
+        used: SUMMED,
         need: 19,
-        records: 2,
+        records: 0,
     };
     let wanted = (WorkerEnd::Stopped(full), 2, 1);
-    check(&rt, rt.alloc(), &case, wanted, b"");
+    check(&rt, rt.alloc(), &beat_within(134), wanted, b"");
+}
+
+#[test]
+fn a_worker_goes_on_behind_a_checkpoint(rt: HostRuntime) {
+    let wanted = (WorkerEnd::Quota, 3, 1);
+    check(&rt, rt.alloc(), &beat_within(135), wanted, ACKNOWLEDGEMENT);
 }
 
 // A ticker at a gate of its name. What came of it, and how many entries the store has then.
@@ -252,16 +277,16 @@ fn tick<R: Wait, D: Disk + Drop>(
     tick_at::<R, D, Brand>(rt, alloc, blank, pulse)
 }
 
-// A ticker at a gate before a store whose journal takes so many records: why it stopped, and how many entries the store has then. None of
-// its Ticks was refused.
+// A ticker at a gate before a store with a journal of this room: why it stopped, and how many entries the store has then. None of its
+// Ticks was refused.
 fn compare_ticks<R: Abort + Wait>(
     rt: &R,
     alloc: Global,
-    records: u64,
+    room: Room,
     pulse: &mut ListPulse,
     wanted: (Option<Stop>, u64),
 ) {
-    let blank = blank(rt, alloc, records);
+    let blank = blank(rt, alloc, room);
     let (ticked, entries) = tick(rt, alloc, blank, pulse);
     let Ticked { stop, refused } = ticked;
     same(rt, (stop, entries), wanted, "the end");
@@ -272,22 +297,41 @@ fn compare_ticks<R: Abort + Wait>(
 fn a_ticker_ticks_until_its_pulse_ends(rt: HostRuntime) {
     let moments = [BEGIN + 1, BEGIN + 2].to_vec(rt.alloc());
     let mut pulse = ListPulse::new(moments.expect(&rt, "memory"));
-    compare_ticks(&rt, rt.alloc(), 9, &mut pulse, (None, 4));
+    compare_ticks(&rt, rt.alloc(), AMPLE, &mut pulse, (None, 4));
 }
 
-// The journal has its first 17 bytes, an Adopt and a Start. The first Tick raises nothing, and the second one, which would raise an
-// incident, would take 14 bytes.
+// Three moments, of which the second raises an incident.
+fn three_moments(rt: &impl Abort, alloc: Global) -> ListPulse {
+    let moments = [BEGIN + 1, BEGIN + 61, BEGIN + 62].to_vec(alloc);
+    ListPulse::new(moments.expect(rt, "memory"))
+}
+
+// The journal has an Adopt, a Start, and no room for a third record. The first Tick raises nothing, and the second one would take 14 bytes
+// behind a summary.
 #[test]
 fn a_full_journal_stops_the_ticker(rt: HostRuntime) {
-    let moments = [BEGIN + 1, BEGIN + 61, BEGIN + 62].to_vec(rt.alloc());
-    let mut pulse = ListPulse::new(moments.expect(&rt, "memory"));
-    let full = Stop::Full {
-        used: 88,
-        need: 14,
+    let mut pulse = three_moments(&rt, rt.alloc());
+    let room = Room {
+        bytes: 129,
         records: 2,
     };
-    compare_ticks(&rt, rt.alloc(), 2, &mut pulse, (Some(full), 3));
+    let full = Stop::Full {
+        used: SUMMED,
+        need: 14,
+        records: 0,
+    };
+    compare_ticks(&rt, rt.alloc(), room, &mut pulse, (Some(full), 3));
     let flag = AtomicBool::new(false);
     let next = pulse.next(&rt, &flag);
     same(&rt, next, Some(BEGIN + 62), "left in the pulse");
+}
+
+#[test]
+fn a_ticker_goes_on_behind_a_checkpoint(rt: HostRuntime) {
+    let mut pulse = three_moments(&rt, rt.alloc());
+    let room = Room {
+        bytes: 130,
+        records: 2,
+    };
+    compare_ticks(&rt, rt.alloc(), room, &mut pulse, (None, 5));
 }

@@ -7,7 +7,7 @@ mod threads;
 
 use crate::stores::blank_of;
 use arc_io::MemDisk;
-use disk_journal::SHIPPED;
+use disk_journal::{Limits, SHIPPED};
 use line_gate::Blank;
 use std::alloc::Global;
 use std::process::Abort;
@@ -16,4 +16,11 @@ use std::process::Abort;
 fn blank(rt: &impl Abort, alloc: Global, setup: &[u8], failing: Vec<u64>) -> Blank<MemDisk> {
     let disk = MemDisk::new(alloc, failing);
     blank_of(rt, alloc, disk, SHIPPED, setup)
+}
+
+// The same over a sound disk, with a journal that has room for so many records.
+fn short_blank(rt: &impl Abort, alloc: Global, setup: &[u8], records: u64) -> Blank<MemDisk> {
+    let disk = MemDisk::new(alloc, Vec::new(alloc));
+    let limits = Limits { records, ..SHIPPED };
+    blank_of(rt, alloc, disk, limits, setup)
 }

@@ -1,5 +1,5 @@
 // Whole scripts over a disk and a port in memory, byte for byte. Many more are played over the program, by tools/check/script.
-ghost use Rattle.std.specs.Prelude.{◌≡◌, false};
+ghost use Rattle.std.specs.Prelude.{◌≡◌, ◌<◌, ◌^◌, false};
 
 use crate::same::same;
 use accounts::Setup;
@@ -19,14 +19,15 @@ operator ann 1234
 operator bob 5678
 ";
 
-// What the outside does: the bytes of the area, the calls of the disk, of the source and of the sink that fail, and how many records the
-// journal has room for.
+// What the outside does: the bytes of the area, the calls of the disk, of the source and of the sink that fail, and how many bytes and
+// records the journal has room for.
 #[derive(Clone, Copy)]
 struct Outside<'a> {
     area: &'a [u8],
     disk: &'a [u64],
     reads: &'a [u64],
     writes: &'a [u64],
+    bytes: u32,
     records: u64,
 }
 
@@ -35,8 +36,20 @@ const NOTHING_FAILS: Outside<'static> = Outside {
     disk: &[],
     reads: &[],
     writes: &[],
+    bytes: 1_048_576,
     records: 1000,
 };
+
+impl Outside<'_> {
+    fn limits(&self) -> Limits
+        ensures { result.bytes < 2 ^ 32 }
+    {
+        Limits {
+            bytes: u64::from(self.bytes),
+            records: self.records,
+        }
+    }
+}
 
 // What a script left: how it ended, and the port.
 #[derive(Drop)]
@@ -51,7 +64,7 @@ fn play_over(rt: &impl Abort, alloc: Global, script: &[u8], outside: Outside) ->
     let mut port = port.expect(rt, "memory");
     // A script has its own clock, and reads none of the port's.
     port.clock = ListClock::new(Vec::new(alloc));
-    let ended = run_over(rt, alloc, disk, &mut port, outside.records);
+    let ended = run_over(rt, alloc, disk, &mut port, outside.limits());
     Played { ended, port }
 }
 
@@ -62,21 +75,18 @@ fn disk_of(rt: &impl Abort, alloc: Global, outside: Outside) -> MemDisk {
     MemDisk::of(alloc, area, Vec::new(alloc), failing).expect(rt, "memory")
 }
 
-// Runs the script that a port gives over a disk, with room for so many records.
+// Runs the script that a port gives over a disk, with a journal of these limits.
 fn run_over<D: Disk + Drop, P: Port>(
     rt: &impl Abort,
     alloc: Global,
     disk: D,
     port: &mut P,
-    records: u64,
+    limits: Limits,
 ) -> ScriptEnded<D>
-    requires { (P.seen port.old).ended ≡ false }
+    requires fresh { (P.seen port.old).ended ≡ false }
+    requires few { limits.bytes < 2 ^ 32 }
 {
     let setup = Setup::read(alloc, SETUP).expect(rt, "a setup");
-    let limits = Limits {
-        bytes: 1_048_576,
-        records,
-    };
     run_script(alloc, disk, setup, port, limits)
 }
 
@@ -102,8 +112,19 @@ fn play(rt: &impl Abort, alloc: Global, rows: &str, remark: usize, tally: Tally)
     let (mut script, output) = parts_of(rt, alloc, rows);
     let size = script.len().saturating_add(remark);
     script.resize(size, b'#').expect(rt, "memory");
-    let ran = play_over(rt, alloc, &script, NOTHING_FAILS);
-    compare(rt, &ran, ScriptEnd::Done, &output);
+    play_to_the_end(rt, alloc, NOTHING_FAILS, &script, &output, tally);
+}
+
+fn play_to_the_end(
+    rt: &impl Abort,
+    alloc: Global,
+    outside: Outside,
+    script: &[u8],
+    output: &[u8],
+    tally: Tally,
+) {
+    let ran = play_over(rt, alloc, script, outside);
+    compare(rt, &ran, ScriptEnd::Done, output);
     same(rt, ran.ended.tally, tally, "the tally");
     drop(ran);
 }
@@ -143,17 +164,32 @@ X > X recorded 11
 D 8 list > D 8 denied
 ";
 
+const OF_A_DAY: Tally = Tally {
+    sent: 6,
+    repeats: 2,
+    recorded: 11,
+    opened: 3,
+    closed: 1,
+    total: 2,
+};
+
 #[test]
 fn a_day_is_played(rt: HostRuntime) {
-    let tally = Tally {
-        sent: 6,
-        repeats: 2,
-        recorded: 11,
-        opened: 3,
-        closed: 1,
-        total: 2,
-    };
-    play(&rt, rt.alloc(), A_DAY, 0, tally);
+    play(&rt, rt.alloc(), A_DAY, 0, OF_A_DAY);
+}
+
+// The same day over journals that have room for so few records that checkpoints are made between: nothing else is said.
+#[test]
+fn a_day_is_played_with_checkpoints(rt: HostRuntime) {
+    let alloc = rt.alloc();
+    let (script, output) = parts_of(&rt, alloc, A_DAY);
+    for records in 1..12u64 {
+        let few = Outside {
+            records,
+            ..NOTHING_FAILS
+        };
+        play_to_the_end(&rt, alloc, few, &script, &output, OF_A_DAY);
+    }
 }
 
 const SIXTEEN_LINES_AND_EIGHT_DESKS: &str = "\
@@ -244,17 +280,7 @@ fn cut_by_the_port(rt: &impl Abort, alloc: Global) {
 }
 
 fn cut_by_the_journal(rt: &impl Abort, alloc: Global) {
-    let full = Outside {
-        records: 2,
-        ..NOTHING_FAILS
-    };
-    let stop = Stop::Full {
-        used: 121,
-        need: 14,
-        records: 2,
-    };
-    let end = ScriptEnd::Stopped(stop);
-    cut(rt, alloc, full, THREE, end, b"T raised 0\n");
+    cut_by_its_limits(rt, alloc);
     let failing = Outside {
         disk: &[23],
         ..NOTHING_FAILS
@@ -267,6 +293,39 @@ fn cut_by_the_journal(rt: &impl Abort, alloc: Global) {
     };
     let end = ScriptEnd::Refused(OpenFault::NotJournal { byte: 0 });
     cut(rt, alloc, foreign, b"T 1\n", end, b"");
+}
+
+// The journal has an Adopt of 90 bytes and a Start of 14, and no room for a third record. The summary of both has 127 bytes, and that of
+// nothing has 43.
+fn cut_by_its_limits(rt: &impl Abort, alloc: Global) {
+    let behind_summary = Outside {
+        bytes: 163,
+        records: 2,
+        ..NOTHING_FAILS
+    };
+    let output = b"T raised 0\nX recorded 3\nT raised 0\n";
+    cut(rt, alloc, behind_summary, THREE, ScriptEnd::Done, output);
+    let full = Outside {
+        bytes: 162,
+        ..behind_summary
+    };
+    let stop = Stop::Full {
+        used: 149,
+        need: 14,
+        records: 0,
+    };
+    let end = ScriptEnd::Stopped(stop);
+    cut(rt, alloc, full, THREE, end, b"T raised 0\n");
+    let none = Outside {
+        records: 0,
+        ..NOTHING_FAILS
+    };
+    let stop = Stop::Full {
+        used: 65,
+        need: 90,
+        records: 0,
+    };
+    cut(rt, alloc, none, THREE, ScriptEnd::Stopped(stop), b"");
 }
 
 const WORKED: &[u8] = b"\

@@ -16,7 +16,7 @@ const ONE: &str = "\
 0;start;started
 0;message;taken";
 
-const ONE_BYTES: &str = "\
+pub(crate) const ONE_BYTES: &str = "\
 0b 0000000000000001 000000003b9aca00 0000000000000003 0000000000000001
 01 000000003b9aca00
 01 0000000d 6163636f756e7420313233340a
@@ -38,7 +38,7 @@ const TWO: &str = "\
 30;opening;taken
 61;tick;raised 1";
 
-const TWO_BYTES: &str = "\
+pub(crate) const TWO_BYTES: &str = "\
 0b 0000000000000009 000000003b9aca3d 0000000000000009 0000000000000003
 01 000000003b9aca00
 01 00000034 6163636f756e74203939393920626561742036300a6163636f756e7420313233340a6f70657261746f7220616e6e20313233340a
@@ -71,7 +71,7 @@ pub(super) fn digits_of(rt: &impl Abort, alloc: Global, bytes: &[u8]) -> String 
 }
 
 // The digits of rows, without what stands between.
-fn joined(rt: &impl Abort, alloc: Global, rows: &str) -> String {
+pub(crate) fn joined(rt: &impl Abort, alloc: Global, rows: &str) -> String {
     let mut digits = String::new(alloc);
     for word in rows.split_whitespace() {
         digits.push_str(word).expect(rt, "memory");

@@ -2,34 +2,55 @@
 ghost use Rattle.std.specs.Prelude.{◌≡◌, ◌≤◌, true, length};
 ghost use Rattle.arc_data.specs.Digits.{is_run, is_capital_hex, is_name};
 ghost use Rattle.arc_data.specs.WellFormed.{IsWellFormed};
+ghost use Rattle.centre_core.specs.Runs.{IsSubmitted};
 
 use arc_data::{Blob, CloseCode, Event, Outcome, Reply, Step, Token, Txt};
 use std::alloc::Global;
 use std::process::Abort;
 use test_fixtures::messages::{account, burglary, message};
 
-/// The event of a word: `adopt` of a setup whose account 1234 has no interval, one of 60 seconds, or is lacking, of one without operators,
-/// or of one with the account 9999 before it; a message, an opening or a heartbeat of that account, a message of that other one; an order of the operator ann on incident 1; `start`, `tick` and `list`.
-pub(super) fn event_of(rt: &impl Abort, alloc: Global, word: &str) -> Event
+/// The event of a word: `adopt` and the word of a setup; `start`; or what is submitted.
+pub(crate) fn event_of(rt: &impl Abort, alloc: Global, word: &str) -> Event
     ensures { IsWellFormed result }
 {
     match word {
-        "adopt" => adopt(rt, alloc, b"account 1234\noperator ann 1234\n"),
-        "adopt beat" => adopt(rt, alloc, b"account 1234 beat 60\noperator ann 1234\n"),
-        "adopt other" => adopt(rt, alloc, b"account 5678\noperator ann 1234\n"),
-        "adopt one" => adopt(rt, alloc, b"account 1234\n"),
-        "adopt two" => adopt(
-            rt,
-            alloc,
-            b"account 9999 beat 60\naccount 1234\noperator ann 1234\n",
-        ),
+        "start" => Event::Start,
+        "adopt" => adopt(rt, alloc, setup_of(rt, "plain")),
+        _ => match word.strip_prefix("adopt ") {
+            Some(setup) => adopt(rt, alloc, setup_of(rt, setup)),
+            None => submitted_of(rt, alloc, word),
+        },
+    }
+}
+
+/// The text of a setup, whose account 1234 has no interval (`plain`), or one of 60 seconds (`beat`), or is lacking (`other`); one without
+/// operators (`one`); and one with the account 9999 before it (`two`).
+pub(crate) fn setup_of(rt: &impl Abort, word: &str) -> &'static [u8]
+    ensures { length result.now ≤ 4194304 }
+{
+    match word {
+        "plain" => b"account 1234\noperator ann 1234\n",
+        "beat" => b"account 1234 beat 60\noperator ann 1234\n",
+        "other" => b"account 5678\noperator ann 1234\n",
+        "one" => b"account 1234\n",
+        "two" => b"account 9999 beat 60\naccount 1234\noperator ann 1234\n",
+        _ => panic!(rt; "no such setup"),
+    }
+}
+
+/// What is submitted, by a word: a message, an opening or a heartbeat of the account 1234, a message of the account 9999; an order of the
+/// operator ann on incident 1; `tick` and `list`.
+pub(crate) fn submitted_of(rt: &impl Abort, alloc: Global, word: &str) -> Event
+    ensures formed { IsWellFormed result }
+    ensures submitted { IsSubmitted result }
+{
+    match word {
         "opening" => {
             message(alloc, account(), 2, Token::AdmCid, b"1401 00 001").expect(rt, "memory")
         }
         "message other" => burglary(alloc, other(), 1).expect(rt, "memory"),
         "message" => burglary(alloc, account(), 1).expect(rt, "memory"),
         "beat" => Event::Beat { account: account() },
-        "start" => Event::Start,
         "tick" => Event::Tick,
         "list" => Event::List,
         _ => order(rt, word),
@@ -37,7 +58,8 @@ pub(super) fn event_of(rt: &impl Abort, alloc: Global, word: &str) -> Event
 }
 
 fn order(rt: &impl Abort, word: &str) -> Event
-    ensures { IsWellFormed result }
+    ensures formed { IsWellFormed result }
+    ensures submitted { IsSubmitted result }
 {
     let (operator, number) = (operator(), 1);
     match word {
@@ -81,7 +103,7 @@ fn operator() -> Txt
 }
 
 /// The answer's name, and of a Tick also how many signals it raised.
-pub(super) fn answer_of(reply: &Reply) -> &'static str {
+pub(crate) fn answer_of(reply: &Reply) -> &'static str {
     match reply {
         Reply::Adopted => "adopted",
         Reply::Started => "started",

@@ -16,7 +16,7 @@ fn disk_of(rt: &impl Abort, alloc: Global, bytes: &[u8]) -> MemDisk {
 }
 
 // What opening the area tells: how many entries are recorded, or why it was refused.
-fn told(rt: &impl Abort, alloc: Global, disk: MemDisk) -> String {
+pub(super) fn told(rt: &impl Abort, alloc: Global, disk: MemDisk) -> String {
     match Store::open(alloc, disk, SHIPPED) {
         Ok(store) => {
             let count = store.centre().recorded();

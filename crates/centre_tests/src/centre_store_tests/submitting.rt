@@ -1,148 +1,28 @@
 // Beginning and submitting: the bytes of the journal, its limits, further runs, stops and faults.
-ghost use Rattle.std.specs.Prelude.{◌<◌, ◌^◌, IsTrue};
-ghost use Rattle.arc_data.specs.WellFormed.{IsWellFormed};
-ghost use Rattle.centre_core.specs.Runs.{IsSubmitted};
-ghost use Rattle.centre_core.specs.Setting.{IsSetting};
 
+use super::told::{numbered, play, play_parts, submitted};
 use super::{AREA, failing_disk};
 use crate::same::same;
-use arc_data::{Event, Reply, Token};
+use arc_data::Token;
 use arc_io::{Area, Fill, MemDisk};
-use centre_core::{Done, Setup, Stop};
 use centre_store::Store;
 use disk_journal::{Limits, SHIPPED};
 use std::alloc::Global;
-use std::fmt::Display;
 use std::process::Abort;
-use test_fixtures::messages::{account, message};
-use test_fixtures::moments::BEGIN;
 use test_fixtures::stores::{opened, recorded};
 
-// What is told to each part `words=answer` of a row, over the store of a disk. The disk at the end.
-fn play(rt: &impl Abort, alloc: Global, disk: MemDisk, limits: Limits, row: &str) -> MemDisk
-    requires { limits.bytes < 2 ^ 32 }
-{
-    let mut store = opened(alloc, disk, limits).expect(rt, "opened");
-    play_parts(rt, alloc, &mut store, row);
-    store.close()
-}
-
-fn play_parts(rt: &impl Abort, alloc: Global, store: &mut Store<MemDisk>, row: &str) {
-    for part in row.split(';') {
-        play_part(rt, alloc, store, part);
-    }
-}
-
-fn play_part(rt: &impl Abort, alloc: Global, store: &mut Store<MemDisk>, part: &str) {
-    let (words, want) = part.split_once('=').expect(rt, "an answer");
-    let told = told(rt, alloc, store, words);
-    same(rt, told.as_str(), want, part);
-}
-
-// What a store says to `begin` and `begin other`, which name a setup; `recorded`, `list`, or a sequence, that of a message; and `faults`,
-// how many its disk had when it was opened, and whether it had more since.
-fn told(rt: &impl Abort, alloc: Global, store: &mut Store<MemDisk>, words: &str) -> String {
-    match words {
-        "begin" => begun(rt, alloc, store, b"account 1234\n"),
-        "begin other" => begun(rt, alloc, store, b"account 1234\naccount ABC\n"),
-        "recorded" => text_of(rt, alloc, store.centre().recorded()),
-        "faults" => faults_of(rt, alloc, store),
-        "list" => submitted(rt, alloc, store, Event::List),
-        _ => {
-            let seq = words.parse().expect(rt, "a sequence");
-            let event = numbered(rt, alloc, Token::AdmCid, seq, b"1131 01 001");
-            submitted(rt, alloc, store, event)
-        }
-    }
-}
-
-fn text_of<T: Display + Drop>(rt: &impl Abort, alloc: Global, told: T) -> String {
-    format!(in alloc; "{told}").expect(rt, "memory")
-}
-
-fn faults_of(rt: &impl Abort, alloc: Global, store: &Store<MemDisk>) -> String {
-    let (at_open, has_failed) = (store.at_open(), store.has_failed());
-    format!(in alloc; "{at_open} {has_failed}").expect(rt, "memory")
-}
-
-fn begun(rt: &impl Abort, alloc: Global, store: &mut Store<MemDisk>, text: &[u8]) -> String {
-    let setup = Setup::read(alloc, text).expect(rt, "a setup");
-    match store.begin(alloc, setup, BEGIN) {
-        Ok(()) => text_of(rt, alloc, "begun"),
-        Err(stop) => named(rt, alloc, stop),
-    }
-}
-
-fn submitted(rt: &impl Abort, alloc: Global, store: &mut Store<MemDisk>, event: Event) -> String
-    requires formed { IsWellFormed event }
-    requires submitted { IsSubmitted event }
-{
-    assert!(rt; has_begun(store), "not begun");
-    match store.submit(alloc, 7, event, BEGIN) {
-        Ok(done) => answered(rt, alloc, &done),
-        Err(stop) => named(rt, alloc, stop),
-    }
-}
-
-fn answered(rt: &impl Abort, alloc: Global, done: &Done) -> String {
-    let (caller, word) = (done.caller, word_of(&done.reply));
-    format!(in alloc; "{caller} {word}").expect(rt, "memory")
-}
-
-// The stop with its numbers, and a first fault of the disk as `down`.
-fn named(rt: &impl Abort, alloc: Global, stop: Stop) -> String {
-    match stop {
-        Stop::Down { at_open: 0, now: 1 } => text_of(rt, alloc, "down"),
-        _ => format!(in alloc; "{stop:?}").expect(rt, "memory"),
-    }
-}
-
-// A setup is in force.
-fn has_begun(store: &Store<MemDisk>) -> bool
-    ensures { IsTrue result → IsSetting store.now.state.sum.text }
-{
-    match store.centre().setup() {
-        Some(setup) => {
-            let _text = setup.text();
-            true
-        }
-        None => false,
-    }
-}
-
-fn word_of(reply: &Reply) -> &'static str {
-    match reply {
-        Reply::Taken => "taken",
-        Reply::Repeat { .. } => "repeat",
-        Reply::Listed(_) => "listed",
-        _ => "another reply",
-    }
-}
-
-// A message with this sequence and content.
-fn numbered(rt: &impl Abort, alloc: Global, token: Token, seq: u16, content: &[u8]) -> Event
-    ensures formed { IsWellFormed result }
-    ensures submitted { IsSubmitted result }
-{
-    assert!(rt; seq <= 9999 && content.len() <= 4095, "a message");
-    message(alloc, account(), seq, token, content).expect(rt, "memory")
-}
-
-// A journal of three records is full of them, and answers what is quiet.
-const FULL: &str = "\
-begin=begun;1=7 taken;2=Full { used: 100, need: 38, records: 3 };list=7 listed;1=7 repeat;\
-begin other=Full { used: 100, need: 43, records: 3 };begin=Full { used: 100, need: 14, records: 3 };\
-2=Full { used: 100, need: 38, records: 3 };recorded=3";
+// A journal of three records answers what is quiet, and makes no checkpoint for it.
+const THREE: &str = "begin=begun;1=7 taken;list=7 listed;1=7 repeat;since=0;recorded=3";
 
 #[test]
-fn writes_byte_for_byte_and_is_full_of_records(rt: HostRuntime) {
+fn writes_byte_for_byte(rt: HostRuntime) {
     let alloc = rt.alloc();
     let limits = Limits {
         records: 3,
         ..SHIPPED
     };
     let disk = MemDisk::new(alloc, Vec::new(alloc));
-    let disk = play(&rt, alloc, disk, limits, FULL);
+    let disk = play(&rt, alloc, disk, limits, THREE);
     // Six calls for the opening of a new area, and four for each record.
     same(&rt, disk.calls(), 18, "calls");
     same(&rt, disk.bytes(Area::A), AREA, "the first area");
@@ -150,9 +30,10 @@ fn writes_byte_for_byte_and_is_full_of_records(rt: HostRuntime) {
     drop(disk);
 }
 
-// Behind 260 messages of 4,000 bytes there is no room for another one, but for a short one.
+// Behind 260 messages of 4,000 bytes there is no room for another one, but for a short one; and for another one behind a summary, which has
+// the last 32 of them.
 #[test]
-fn is_full_of_bytes(rt: HostRuntime) {
+fn has_room_for_bytes_behind_a_summary(rt: HostRuntime) {
     let alloc = rt.alloc();
     let limits = Limits {
         bytes: 1_048_576,
@@ -165,13 +46,38 @@ fn is_full_of_bytes(rt: HostRuntime) {
 }
 
 fn fill(rt: &impl Abort, alloc: Global, store: &mut Store<MemDisk>) {
-    play_part(rt, alloc, store, "begin=begun");
+    play_parts(rt, alloc, store, "begin=begun");
     for seq in 1..261u16 {
         compare_filled(rt, alloc, store, seq, "7 taken");
     }
-    let full = "Full { used: 1047082, need: 4027, records: 262 }";
-    compare_filled(rt, alloc, store, 261, full);
-    play_parts(rt, alloc, store, "list=7 listed;262=7 taken");
+    play_parts(rt, alloc, store, "list=7 listed;262=7 taken;since=0");
+    compare_filled(rt, alloc, store, 261, "7 taken");
+    play_parts(rt, alloc, store, "since=263;recorded=264");
+}
+
+// The last 32 of 33 messages of 4,000 bytes stand in a summary of 128,635 bytes; a message of 4,000 bytes would take 4,027.
+#[test]
+fn is_full_of_the_bytes_of_a_summary(rt: HostRuntime) {
+    let alloc = rt.alloc();
+    let limits = Limits {
+        bytes: 132_683,
+        ..SHIPPED
+    };
+    let disk = MemDisk::new(alloc, Vec::new(alloc));
+    let mut store = opened(alloc, disk, limits).expect(&rt, "opened");
+    fill_summary(&rt, alloc, &mut store);
+    drop(store);
+}
+
+fn fill_summary(rt: &impl Abort, alloc: Global, store: &mut Store<MemDisk>) {
+    play_parts(rt, alloc, store, "begin=begun");
+    for seq in 1..33u16 {
+        compare_filled(rt, alloc, store, seq, "7 taken");
+    }
+    let full = "Full { used: 128657, need: 4027, records: 0 }";
+    compare_filled(rt, alloc, store, 33, full);
+    play_parts(rt, alloc, store, "since=0;checkpoint=made;since=34");
+    compare_filled(rt, alloc, store, 33, full);
 }
 
 // What is told to a message of 4,000 bytes, an event of code NN with a long text.

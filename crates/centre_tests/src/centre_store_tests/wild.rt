@@ -4,7 +4,8 @@ ghost use Rattle.std.specs.Prelude.{◌≡◌, ◌<◌, ◌⊎◌, ℕ, IfOk, If
 ghost use Rattle.centre_core.specs.Setting.{IsSetting};
 ghost use Rattle.disk_journal.specs.Faults.{IsOfContent};
 
-use super::opening::{append, area_of};
+use super::opening::append;
+use super::summed::area_in_words;
 use crate::same::{holds, same};
 use arc_data::{Blob, Reply};
 use arc_io::WildDisk;
@@ -44,6 +45,17 @@ fn begun(alloc: Global, store: &mut Store<WildDisk>) -> Result<(), Stop>
     }
 }
 
+// Makes a checkpoint, or answers that there is no memory for it. The disk is never down.
+fn summed_up(alloc: Global, store: &mut Store<WildDisk>) -> Result<(), Stop>
+    requires setting { IsSetting store.old.state.sum.text }
+    requires at_open { store.old.at_open ≡ 0 }
+    ensures setting { IsSetting store.new.state.sum.text }
+    ensures at_open { store.new.at_open ≡ 0 }
+    ensures up { IfErr result (λ stop. (at_open now : ℕ) → stop ≡ Stop.Down at_open now → ⊥) }
+{
+    store.checkpoint(alloc)
+}
+
 // Submits an alarm, or answers that there is no memory for it. The disk is never down.
 fn submitted(alloc: Global, store: &mut Store<WildDisk>) -> Result<Done, Stop>
     requires setting { IsSetting store.old.state.sum.text }
@@ -56,12 +68,15 @@ fn submitted(alloc: Global, store: &mut Store<WildDisk>) -> Result<Done, Stop>
     }
 }
 
-// What a store answers to a run that begins over it, and to an alarm.
+// What a store answers to a run that begins over it, a checkpoint, and an alarm.
 fn worked(alloc: Global, store: &mut Store<WildDisk>) -> &'static str
     requires { store.old.at_open ≡ 0 }
 {
     let Ok(()) = begun(alloc, store) else {
         return "not begun";
+    };
+    let Ok(()) = summed_up(alloc, store) else {
+        return "not summed up";
     };
     match submitted(alloc, store) {
         Ok(done) => word_of(&done.reply),
@@ -91,18 +106,24 @@ fn told(rt: &impl Abort, alloc: Global, disk: WildDisk) -> String {
     }
 }
 
-// A disk of which each read gives these bytes from their front, whatever is asked for, and which says this length.
+// A disk of which each read gives these bytes from their front, whatever is asked for, and which says this length of both areas.
 fn wild_disk(rt: &impl Abort, alloc: Global, bytes: &[u8], length: u64) -> WildDisk {
+    let reads = [bytes, bytes, bytes, bytes, bytes, bytes];
+    wild_disk_of(rt, alloc, &reads, (length, length))
+}
+
+// A disk whose reads give these bytes one after the other, and which says these lengths.
+fn wild_disk_of(rt: &impl Abort, alloc: Global, bytes: &[&[u8]], lengths: (u64, u64)) -> WildDisk {
     let mut reads = Vec::new(alloc);
-    for _ in 0..6u8 {
+    for bytes in bytes {
         let copy = Blob::of(alloc, bytes).expect(rt, "memory");
         reads.push(copy).expect(rt, "memory");
     }
-    let lengths = [length, length].to_vec(alloc).expect(rt, "memory");
+    let lengths = [lengths.0, lengths.1].to_vec(alloc).expect(rt, "memory");
     WildDisk::new(reads, lengths)
 }
 
-// Records by their letters, the length that the disk says, and what it tells.
+// An area in words, the length that the disk says of both, and what it tells.
 const DISKS: &str = "\
 asm;100;3 repeat
 as;62;2 taken
@@ -113,7 +134,22 @@ asm;99;Damaged { at: 61 }
 asm;61;Damaged { at: 47 }
 asm;47;Damaged { at: 16 }
 asmm;138;Damaged { at: 99 }
-x;32;Damaged { at: 16 }";
+x;32;Damaged { at: 16 }
+1:;173;3 repeat
+1:;18446744073709551615;3 repeat
+1:s;187;4 repeat
+2*:;393;9 repeat
+1:;172;Damaged { at: 16 }
+1:;30;Damaged { at: 16 }
+1:;29;Damaged { at: 16 }
+1:;17;0 taken
+1:;0;0 taken
+1:s;186;Damaged { at: 172 }
+1:s;173;Damaged { at: 172 }
+1:x;189;Damaged { at: 172 }
+1:m;211;Damaged { at: 172 }
+5:;173;Damaged { at: 16 }
+0:;173;Damaged { at: 16 }";
 
 #[test]
 fn a_length_is_believed(rt: HostRuntime) {
@@ -126,7 +162,7 @@ fn compare_row(rt: &impl Abort, alloc: Global, row: &str) {
     let (letters, rest) = row.split_once(';').expect(rt, "a row");
     let (length, want) = rest.split_once(';').expect(rt, "a row");
     let length = length.parse().expect(rt, "a length");
-    let area = area_of(rt, alloc, letters);
+    let area = area_in_words(rt, alloc, letters);
     compare(rt, alloc, (&area, length), want, row);
 }
 
@@ -168,8 +204,11 @@ fn below(chance: &mut u64, limit: u64) -> u64
     (*chance >> 32u32) % limit
 }
 
-// Records that go on from one another, and some that don't.
-const LETTERS: [&str; 8] = ["asm", "osmc", "as", "asmm", "", "osmn", "asx", "ase"];
+// Records that go on from one another, alone and behind summaries, and some that don't.
+const WORDS: [&str; 16] = [
+    "asm", "osmc", "as", "asmm", "", "osmn", "asx", "ase", "1:", "1:s", "2*:", "2:s", "1*:", "1:x",
+    "5:", "3:sm",
+];
 
 // An area by chance: records, of whose bytes some are changed, cut behind some byte, and joined with others.
 fn area_by_chance(rt: &impl Abort, alloc: Global, chance: &mut u64) -> Vec<u8> {
@@ -185,9 +224,9 @@ fn area_by_chance(rt: &impl Abort, alloc: Global, chance: &mut u64) -> Vec<u8> {
 }
 
 fn part_by_chance(rt: &impl Abort, alloc: Global, chance: &mut u64) -> Vec<u8> {
-    let place = below(chance, 8) as usize;
-    let letters = LETTERS.get(place).copied().unwrap_or("asm");
-    area_of(rt, alloc, letters)
+    let place = below(chance, 16) as usize;
+    let words = WORDS.get(place).copied().unwrap_or("asm");
+    area_in_words(rt, alloc, words)
 }
 
 // Changes none, one, or a few bytes.
@@ -212,6 +251,23 @@ fn kind_of(told: &str) -> usize {
     }
 }
 
+// Counts an answer of a kind.
+fn count_kind(counts: &mut [u64; 5], kind: usize) {
+    if let Some(count) = counts.get_mut(kind) {
+        *count = count.saturating_add(1);
+    }
+}
+
+// Each kind came, and none besides.
+fn compare_kinds(rt: &impl Abort, counts: [u64; 5]) {
+    let [opened, not_journal, wrong_version, damaged, other] = counts;
+    holds(rt, opened > 0, "opened");
+    holds(rt, not_journal > 0, "no journal");
+    holds(rt, wrong_version > 0, "another version");
+    holds(rt, damaged > 0, "damaged");
+    same(rt, other, 0, "none of these");
+}
+
 // Each of a thousand disks by chance ends in a named answer, and each of these comes. The length is mostly that of the bytes.
 #[test]
 fn a_thousand_disks_by_chance(rt: HostRuntime) {
@@ -219,16 +275,9 @@ fn a_thousand_disks_by_chance(rt: HostRuntime) {
     let mut counts = [0u64; 5];
     for _ in 0..1000u16 {
         let kind = kind_by_chance(&rt, rt.alloc(), &mut chance);
-        if let Some(count) = counts.get_mut(kind) {
-            *count = count.saturating_add(1);
-        }
+        count_kind(&mut counts, kind);
     }
-    let [opened, not_journal, wrong_version, damaged, other] = counts;
-    holds(&rt, opened > 0, "opened");
-    holds(&rt, not_journal > 0, "no journal");
-    holds(&rt, wrong_version > 0, "another version");
-    holds(&rt, damaged > 0, "damaged");
-    same(&rt, other, 0, "none of these");
+    compare_kinds(&rt, counts);
 }
 
 fn kind_by_chance(rt: &impl Abort, alloc: Global, chance: &mut u64) -> usize {
@@ -238,5 +287,36 @@ fn kind_by_chance(rt: &impl Abort, alloc: Global, chance: &mut u64) -> usize {
         _ => area.len() as u64,
     };
     let told = told(rt, alloc, wild_disk(rt, alloc, &area, length));
+    kind_of(&told)
+}
+
+// Disks whose reads give two areas by chance, and then either of them whole, whichever counts.
+#[test]
+fn a_thousand_pairs_of_areas_by_chance(rt: HostRuntime) {
+    let mut chance = 40;
+    let mut counts = [0u64; 5];
+    for _ in 0..1000u16 {
+        let kind = kind_of_pair(&rt, rt.alloc(), &mut chance);
+        count_kind(&mut counts, kind);
+    }
+    compare_kinds(&rt, counts);
+}
+
+fn kind_of_pair(rt: &impl Abort, alloc: Global, chance: &mut u64) -> usize {
+    let a = area_by_chance(rt, alloc, chance);
+    let b = area_by_chance(rt, alloc, chance);
+    let lengths = (a.len() as u64, b.len() as u64);
+    let (first, second) = if below(chance, 2) == 0 {
+        (&a, &b)
+    } else {
+        (&b, &a)
+    };
+    let reads = [
+        a.as_slice(),
+        b.as_slice(),
+        first.as_slice(),
+        second.as_slice(),
+    ];
+    let told = told(rt, alloc, wild_disk_of(rt, alloc, &reads, lengths));
     kind_of(&told)
 }

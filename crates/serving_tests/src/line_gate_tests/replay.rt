@@ -6,7 +6,7 @@ ghost use Rattle.event_codec.specs.Spelling.{IsKept};
 
 use super::events::{SETUP, STEPS, claimed, clock, event};
 use crate::same::{holds, same};
-use arc_data::Event;
+use arc_data::{Event, Reply};
 use arc_io::Disk;
 use centre_core::{Centre, Done};
 use disk_journal::{Bodies, Journal, SHIPPED};
@@ -33,6 +33,15 @@ impl Caller {
             next: 0,
             number: 0,
         }
+    }
+
+    // How many of the answers are those of recorded entries.
+    pub(super) fn recorded(&self) -> u64 {
+        let mut count = 0u64;
+        for done in &self.told {
+            count = count.saturating_add(u64::from(is_recorded(&done.reply)));
+        }
+        count
     }
 
     // Whether the history has accounted for all events.
@@ -113,6 +122,13 @@ impl Caller {
             }
         }
     }
+}
+
+fn is_recorded(reply: &Reply) -> bool {
+    matches!(
+        reply,
+        Reply::Taken | Reply::Claimed { .. } | Reply::Recorded { .. } | Reply::Closed { .. }
+    )
 }
 
 // The centre enters the event where that is quiet or is to be recorded, as is said, and has room for it.

@@ -2,13 +2,14 @@
 ghost use Rattle.std.specs.Prelude.{◌≤◌};
 ghost use Rattle.line_gate.specs.Blanks.{Names};
 
-use super::blank;
 use super::events::{SETUP, STEPS, claimed, clock, event};
 use super::replay::{Caller, compare_replay, records_of};
+use super::{blank, short_blank};
 use crate::same::{holds, same};
 use arc_io::Disk;
 use centre_core::Done;
 use centre_store::Store;
+use disk_journal::SHIPPED;
 use line_gate::{Blank, Gate, GateName, Pass};
 use std::alloc::Global;
 use std::marker::Brand;
@@ -16,6 +17,7 @@ use std::process::Abort;
 use std::sync::Wait;
 use std::thread;
 use std::thread::Threads;
+use test_fixtures::stores::opened;
 
 const CALLERS: usize = 8;
 
@@ -194,4 +196,46 @@ fn compare_history<D: Disk + Drop>(
     let counts = (store.centre().recorded(), store.centre().table().opened());
     let records = records_of(rt, alloc, store.close());
     compare_replay(rt, alloc, &records, counts, callers.as_mut_slice());
+}
+
+// The same over a journal that has room for 50 records.
+#[test]
+fn eight_threads_over_a_journal_that_is_summed_up(rt: HostRuntime) {
+    let alloc = rt.alloc();
+    let blank = short_blank(&rt, alloc, SETUP, 50);
+    let (store, callers) = served(&rt, alloc, blank);
+    compare_counts(&rt, &store, &callers);
+    drop(callers);
+    compare_opened(&rt, alloc, store);
+}
+
+// As many entries are recorded as callers were told of, an Adopt and a Start.
+fn compare_counts<D: Disk + Drop>(rt: &impl Abort, store: &Store<D>, callers: &[Caller]) {
+    same(rt, store.centre().entries(), 16_002, "entries");
+    let mut told = 2u64;
+    for caller in callers {
+        told = told.saturating_add(caller.recorded());
+    }
+    let recorded = store.centre().recorded();
+    same(rt, recorded, told, "recorded");
+    let since = recorded.saturating_sub(1).checked_div(50);
+    let since = since.expect(rt, "a number").saturating_mul(50);
+    same(rt, store.since(), since, "summed up");
+}
+
+// The store that is opened again has the same centre.
+fn compare_opened<D: Disk + Drop>(rt: &impl Abort, alloc: Global, store: Store<D>) {
+    let before = summary_of(rt, alloc, &store);
+    let disk = store.close();
+    let again = opened(alloc, disk, SHIPPED).expect(rt, "opened");
+    let after = summary_of(rt, alloc, &again);
+    drop(again);
+    same(rt, after.as_slice(), before.as_slice(), "opened again");
+}
+
+fn summary_of<D: Disk>(rt: &impl Abort, alloc: Global, store: &Store<D>) -> Vec<u8> {
+    let mut bytes = Vec::new(alloc);
+    let written = store.centre().summary(alloc, 1, &mut bytes);
+    same(rt, written.is_ok(), true, "memory");
+    bytes
 }
