@@ -57,8 +57,8 @@ install-files:
 		chmod 644 '$(ROOT)/share/man/'"$$page" || exit 1; \
 	done
 	install -D -m 644 -t '$(ROOT)/share/arc' tools/panel
-	install -D -m 755 -t '$(ROOT)/share/arc' tools/visible station/watch station/check-setup station/backup station/book station/month \
-		station/make-sites
+	install -D -m 755 -t '$(ROOT)/share/arc' tools/visible station/watch station/check-setup station/backup station/copy-journal station/book \
+		station/month station/make-sites
 	install -D -m 644 -t '$(ROOT)/share/doc/arc' README.md docs/OPERATING.md docs/DESK.md docs/SCREEN.md docs/PANELS.md \
 		example/setup.txt VERSION
 	install -D -m 644 station/arc.sysusers '$(ROOT)/lib/sysusers.d/arc.conf'
