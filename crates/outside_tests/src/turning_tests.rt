@@ -1,6 +1,6 @@
 // What no clause says of a turn: that it succeeds, with worked bytes, and that whatever a stop leaves of it opens again as before it or as
 // after it.
-ghost use Rattle.std.specs.Prelude.{◌≡◌, ◌+◌, ◌<◌, ◌^◌, IfOk};
+ghost use Rattle.std.specs.Prelude.{◌≡◌, ◌+◌, ◌<◌, ◌^◌, length, IfOk};
 ghost use Rattle.disk_journal.specs.Turning.{IsNextTo};
 
 use crate::same::same;
@@ -99,7 +99,8 @@ fn standing_of(alloc: Global, content: Content) -> Result<Standing, Fail> {
 // The body of the summary behind this generation, with one byte of its own.
 fn next_summary(alloc: Global, generation: u64) -> Result<Vec<u8>, Fail>
     requires { generation + 1 < 2 ^ 64 }
-    ensures { IfOk result (λ body. IsNextTo generation body.items) }
+    ensures next { IfOk result (λ body. IsNextTo generation body.items) }
+    ensures size { IfOk result (λ body. length body.items ≡ 10) }
 {
     let number = (generation + 1).to_be_bytes();
     Ok(vec![in alloc;
@@ -109,14 +110,15 @@ fn next_summary(alloc: Global, generation: u64) -> Result<Vec<u8>, Fail>
 }
 
 // What the areas stand for behind a turn.
-fn standing_next(alloc: Global, generation: u64) -> Result<Standing, Fail>
-    requires { generation + 1 < 2 ^ 64 }
-{
+fn standing_next(alloc: Global, generation: u64) -> Result<Standing, Fail> {
+    let Some(next) = generation.checked_add(1) else {
+        return Err("too many turns")?;
+    };
     let mut area = HEAD.to_vec(alloc)?;
     put_body(&mut area, &next_summary(alloc, generation)?)?;
     area.push(0)?;
     Ok(Standing {
-        generation: generation + 1,
+        generation: next,
         records: 0,
         area,
     })
@@ -162,17 +164,13 @@ fn turned(alloc: Global, disk: MemDisk) -> Result<(MemDisk, u64), Fail> {
         return Err("not opened")?;
     };
     let first = journal.disk().calls();
-    turn_once(alloc, &mut journal)?;
-    Ok((journal.close(), first))
-}
-
-fn turn_once(alloc: Global, journal: &mut Journal<MemDisk>) -> Result<(), Fail> {
-    if journal.generation() >= 1 << 40 {
+    let generation = journal.generation();
+    if generation >= 1 << 40 {
         return Err("too many turns")?;
     }
-    let body = next_summary(alloc, journal.generation())?;
+    let body = next_summary(alloc, generation)?;
     match journal.turn(&body) {
-        Ok(()) => Ok(()),
+        Ok(()) => Ok((journal.close(), first)),
         Err(_) => Err("not turned")?,
     }
 }
