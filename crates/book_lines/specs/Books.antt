@@ -35,8 +35,8 @@ carried_of base r = carried_by base (marks base r.before) r.entry.event r.entry.
 -- the options ask for it
 abbrev pub is_chosen : Options → Summary → Record → Bool
 is_chosen o base r =
-    chosen o (open_after base r.before) (open_after base (r.entry ∷ r.before)) (carried_of base r) (number_of base r) r.entry.at r.entry.event
-    r.entry.reply
+    chosen o (open_after base r.before) (open_after base (r.entry ∷ r.before)) (carried_of base r) (number_of base r) r.entry.at
+    r.entry.event r.entry.reply
 
 abbrev pub line_told : Options → Summary → Record → List ℕ
 line_told o base r =

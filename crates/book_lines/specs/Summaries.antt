@@ -1,5 +1,5 @@
--- The line of a summary with which an area begins: the number of the last record that it has summed up, the date and the time of that record,
--- and what it holds.
+-- The line of a summary with which an area begins: the number of the last record that it has summed up, the date and the time of that
+-- record, and what it holds.
 use Rattle.std.specs.Prelude.{ℕ, ◌++◌, ◌&&◌, List, [], Bool, true, false, length, is_none, codes, decimal}
 use Rattle.centre_rules.specs.Summary.{Summary}
 use Rattle.book_lines.specs.Books.{line_if}

@@ -48,7 +48,8 @@ StandForEither base h body areas =
 
 -- the journal has the recorded entries of a history over a summary
 abbrev pub HoldsRecorded : {D : Type 0} → (D → DiskSeen) → Journal D → Summary → List Entry → Type 0
-HoldsRecorded seen j base h = (first : Option (List ℕ)) × (bodies : List (List ℕ)) × IsKeptAs base h first bodies × Holds seen j first bodies
+HoldsRecorded seen j base h =
+    (first : Option (List ℕ)) × (bodies : List (List ℕ)) × IsKeptAs base h first bodies × Holds seen j first bodies
 
 -- How many bytes an area has that holds the summary of a history and no record, up to its closed gate. Summaries of all generations are
 -- equally long.

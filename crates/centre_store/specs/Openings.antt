@@ -22,10 +22,11 @@ abbrev pub IsBadFirst : Option (List ℕ) → ℕ → Type 0
 IsBadFirst None place = ⊥
 IsBadFirst (Some body) place = IsNoSpelling body × (place ≡ 16)
 
--- the store stands for each legal history without quiet entries for which the areas stand, over each summary that areas give, where its last
--- moment lies before the year 10000
+-- the store stands for each legal history without quiet entries for which the areas stand, over each summary that areas give, where its
+-- last moment lies before the year 10000
 abbrev pub StandsForAll : {D : Type 0} → (D → DiskSeen) → Stored D → Areas → Type 0
-StandsForAll seen s areas = (b : Summary) (h : List Entry) → IsGiven b → IsLegal b h → IsMoment (last b h) → recorded h ≡ h → StandFor b h areas
+StandsForAll seen s areas =
+    (b : Summary) (h : List Entry) → IsGiven b → IsLegal b h → IsMoment (last b h) → recorded h ≡ h → StandFor b h areas
     → StoreStands seen b s h
 
 -- The store stands for the past of the bodies that the areas gave over a summary, and its journal has it. It stands for each
@@ -59,8 +60,8 @@ IsOfBodies (Damaged place) first bodies = IsBadFirst first place ⊎ ((base : Su
 IsOfBodies Memory first bodies = Unit {0}
 IsOfBodies fault first bodies = ⊥
 
--- what a refusal says of the areas: that they stand for no bodies; or that what stands first is no spelling of a summary, or that the bodies
--- behind it have no past over it
+-- what a refusal says of the areas: that they stand for no bodies; or that what stands first is no spelling of a summary, or that the
+-- bodies behind it have no past over it
 abbrev pub IsRefused : OpenFault → Areas → Type 0
 IsRefused (Damaged place) areas =
     IsDamaged (chosen_part areas) place

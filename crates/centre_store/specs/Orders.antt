@@ -18,8 +18,8 @@ IsDownWhereFailed seen s r = HasFailed seen s ↔ (r ≡ Err (Down s.at_open (se
 abbrev pub IsWornFirst : {A D : Type 0} → (D → DiskSeen) → Stored D → Result A Stop → Type 0
 IsWornFirst seen s r = (HasFailed seen s → ⊥) → 2 ^ 48 ≤ s.state.entries → r ≡ Err (Worn s.state.entries)
 
--- With fewer, Full comes, want of memory aside, where the event is to be recorded and its record would pass a limit of the journal, behind a
--- checkpoint too.
+-- With fewer, Full comes, want of memory aside, where the event is to be recorded and its record would pass a limit of the journal, behind
+-- a checkpoint too.
 abbrev pub IsFullThen : {A D : Type 0} → (D → DiskSeen) → Stored D → Event → ℕ → Result A Stop → Type 0
 IsFullThen seen s event clock r =
     (HasFailed seen s → ⊥) → s.state.entries < 2 ^ 48 → (b : Summary) (h : List Entry)
