@@ -9,8 +9,8 @@ use Rattle.arc_data.specs.Words.{has_word}
 use Rattle.arc_data.specs.declared.plan.Planned.{Planned}
 use Rattle.arc_data.specs.declared.signal.Class.{Class}
 use Rattle.arc_data.specs.declared.window.Window.{Window}
-use Rattle.alarm_rules.specs.SetupWords.{word_that, account_named, key_spelled, seconds_spelled, minutes_spelled, day_named, minute_named}
-use Rattle.alarm_rules.specs.SetupWords.{is_phone, is_pin, class_named, planned_named}
+use Rattle.alarm_rules.specs.SetupWords.{word_that, account_named, key_spelled, number_between, seconds_spelled, minutes_spelled}
+use Rattle.alarm_rules.specs.SetupWords.{day_named, minute_named, is_phone, is_pin, class_named, planned_named}
 
 -- an account: its number in capitals, the bytes of its key and the seconds of its interval, where it has them, and the minutes
 -- that its local time is ahead of GMT
@@ -49,6 +49,7 @@ pub data Said : Type 0 where
   OfKeyholder : KeyholderLine → Said
   OfPlan : PlanLine → Said
   OfOperator : Operator → Said
+  OfLapse : (seconds : ℕ) → Said
 
 -- Parts of a line.
 
@@ -157,6 +158,11 @@ operator_line words =
     after (word_that is_pin word.1) (λ pin.
     Some (record { name = name; pin = pin }))))
 
+-- `lapse SECONDS`: 60 to 86,400
+abbrev pub lapse_line : List (List ℕ) → Option ℕ
+lapse_line (word ∷ []) = number_between 60 86_400 word
+lapse_line other = None
+
 -- a line that declares something, by its first word
 abbrev pub declared : List (List ℕ) → Option Said
 declared [] = None
@@ -166,6 +172,7 @@ declared (word ∷ words) =
     else if bytes_eq word (codes "keyholder") then option_map OfKeyholder (keyholder_line words)
     else if bytes_eq word (codes "plan") then option_map OfPlan (plan_line words)
     else if bytes_eq word (codes "operator") then option_map OfOperator (operator_line words)
+    else if bytes_eq word (codes "lapse") then option_map OfLapse (lapse_line words)
     else None
 
 -- an empty line or a remark, which begins with `#`

@@ -17,7 +17,7 @@ use Rattle.arc_data.specs.declared.step.Step.{Step}
 use Rattle.arc_data.specs.declared.window.Window.{Window}
 use Rattle.alarm_rules.specs.Plans.{steps_in}
 use Rattle.alarm_rules.specs.SetupLines.{Said, AccountLine, PlanLine, Operator, says}
-use Rattle.alarm_rules.specs.SetupLines.{Nothing, OfAccount, OfHours, OfKeyholder, OfPlan, OfOperator}
+use Rattle.alarm_rules.specs.SetupLines.{Nothing, OfAccount, OfHours, OfKeyholder, OfPlan, OfOperator, OfLapse}
 use Rattle.alarm_rules.specs.Weeks.{Week, in_hours}
 
 -- an account: its number in capitals, the bytes of its key and the seconds of its interval, where it has them, its opening
@@ -29,11 +29,12 @@ pub record Account : Type 0 where
   pub week : Week
   pub holders : ℕ
 
--- accounts, plans and operators, each in the order of their lines
+-- accounts, plans and operators, each in the order of their lines, and after how many seconds a hold lapses, where a line says so
 pub record Setup : Type 0 where
   pub accounts : List Account
   pub plans : List PlanLine
   pub operators : List Operator
+  pub lapse : Option ℕ
 
 -- Lines. Lines end with a line feed, before which one carriage return is dropped; what is left after the last line feed is a
 -- line where it is not empty. Lines are numbered from 1. A line is a pair of its number and what it says, which is none where it is
@@ -74,6 +75,10 @@ plan_part other = None
 abbrev pub operator_part : Said → Option Operator
 operator_part (OfOperator line) = Some line
 operator_part other = None
+
+abbrev pub lapse_part : Said → Option ℕ
+lapse_part (OfLapse seconds) = Some seconds
+lapse_part other = None
 
 -- the accounts that lines declare, an account's windows and names of keyholders, the plans, and the operators
 abbrev pub accounts_in : List Line → List (ℕ × AccountLine)
@@ -142,6 +147,7 @@ fault_of earlier number (OfPlan line) =
 fault_of earlier number (OfOperator line) =
     option_or (two_same number (line_with (λ operator. bytes_eq line.name operator.name) (operators_in earlier)))
     (too_many number 64 (length (operators_in earlier)))
+fault_of earlier number (OfLapse seconds) = two_same number (line_with (λ any. true) (told lapse_part earlier))
 
 -- the fault of a line: that it is of no form, or else what is wrong with what it says
 abbrev pub fault_at : List Line → Line → Option SetupFault
@@ -173,6 +179,7 @@ setup_of_lines lines = record {
   accounts = map (account_with lines) (things (accounts_in lines));
   plans = things (plans_in lines);
   operators = things (operators_in lines);
+  lapse = find (λ any. true) (things (told lapse_part lines));
 }
 
 abbrev pub unless : {A : Type 0} → Option SetupFault → A → Result A SetupFault
@@ -188,7 +195,7 @@ setup_of text =
 
 -- the setup of a text; a text that is no setup means one of nothing
 abbrev pub meaning : List ℕ → Setup
-meaning text = result_unwrap_or (setup_of text) (record { accounts = []; plans = []; operators = [] })
+meaning text = result_unwrap_or (setup_of text) (record { accounts = []; plans = []; operators = []; lapse = None })
 
 -- What is asked of a setup. Accounts are named in capitals.
 

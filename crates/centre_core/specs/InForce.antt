@@ -19,7 +19,7 @@ ok_is (Err fault) otherwise is = absurd (false≢true is)
 setting_is : (text : Option (List ℕ)) → IsSetting text
     → option_and_then (λ t. result_ok (setup_of t)) text ≡ Some (meaning (unwrap_or text []))
 setting_is None is = absurd is
-setting_is (Some text) is = ok_is (setup_of text) (record { accounts = []; plans = []; operators = [] }) is
+setting_is (Some text) is = ok_is (setup_of text) (record { accounts = []; plans = []; operators = []; lapse = None }) is
 
 -- the setup in force after the history is that of the text
 pub in_force : (s : State) (b : Summary) (h : List Entry) → IsSetFor b s h

@@ -10,12 +10,14 @@ use Rattle.arc_data.specs.declared.step.Acted.{Acted}
 use Rattle.arc_data.specs.declared.step.Step.{Step}
 use Rattle.alarm_rules.specs.Plans.{expected_step}
 use Rattle.centre_rules.specs.Summary.{Summary}
-use Rattle.centre_rules.specs.Marks.{Mark, force}
+use Rattle.centre_rules.specs.Marks.{Mark, force, lapse}
 use Rattle.centre_rules.specs.Cases.{Incident, incidents}
+use Rattle.centre_rules.specs.Standing.{standing}
 use Rattle.centre_rules.specs.History.{Entry, marks}
 use Rattle.centre_rules.specs.Desks.{numbered, holds, close_when, close_of}
 use Rattle.centre_rules.specs.Answers.{if_known, knows_operator, answer_over}
 use Rattle.centre_rules.proofs.Tables.{numbered_number}
+use Rattle.centre_rules.proofs.Stood.{stood_found}
 use Rattle.centre_laws.specs.Numbers.{NumbersRise}
 use Rattle.centre_laws.specs.Closings.{closed_number, acts_recorded, MeetAll, IsDoneSince, IsDoneFrom, ClosesDone}
 use Rattle.centre_laws.proofs.Replies.{may_answer, answer_may}
@@ -55,12 +57,20 @@ closed_by (Close operator number code) r n may c = c
 closed_by e (Closed k) n may c = absurd (false≢true may)
 closed_by e r n may c = cc
 
-by_close : (s : Summary) (ms : List Mark) (e : Event) (at n : ℕ) → closing_number e (answer_over s ms e at) ≡ Some n → MayClose n (incidents s ms)
-by_close s ms (Close operator number code) at n c = by_found operator number n (numbered number (incidents s ms)) (incidents s ms) refl (by_known (knows_operator (force s ms) operator) (close_of operator number (numbered number (incidents s ms))) n c)
+by_close : (s : Summary) (ms : List Mark) (e : Event) (at n : ℕ) → closing_number e (answer_over s ms e at) ≡ Some n → MayClose n (standing s ms at)
+by_close s ms (Close operator number code) at n c = by_found operator number n (numbered number (standing s ms at)) (standing s ms at) refl (by_known (knows_operator (force s ms) operator) (close_of operator number (numbered number (standing s ms at))) n c)
 by_close s ms e at n c = cc
 
+-- as it stands it has the steps and acts that it has
 may_close : (s : Summary) (ms : List Mark) (e : Event) (at n : ℕ) → closed_number (answer_over s ms e at) ≡ Some n → MayClose n (incidents s ms)
-may_close s ms e at n c = by_close s ms e at n (closed_by e (answer_over s ms e at) n (answer_may s ms e at) c)
+may_close s ms e at n c =
+    let w = by_close s ms e at n (closed_by e (answer_over s ms e at) n (answer_may s ms e at) c) in
+    let v = stood_found (lapse s ms) at n (incidents s ms) w.incident w.found in
+    record {
+      incident = v.incident;
+      found = v.found;
+      none = ap (λ (i : Incident). expected_step i.steps i.acts) (sym v.same) ∙ w.none;
+    }
 
 -- where it comes from, and that its acts meet its steps
 done : (s : Summary) (h : List Entry) (n : ℕ) (steps : List Step) (acts : List Acted) → MeetAll acts steps → Origin s h n steps acts → IsDoneSince s h n ⊎ IsDoneFrom s h n

@@ -1,26 +1,27 @@
--- One incident has one holder, and one operator holds one incident.
-use Rattle.std.proofs.Common.{◌≡◌, ℕ, List, [], ◌∷◌, ◌++◌, map, Bool, true, false, cond, refl, sym, ap, ◌∙◌, Option, Some, None, subst}
-use Rattle.std.specs.Prelude.{◌||◌, is_some, is_none, ◌==◌}
-use Rattle.std.specs.List.{list_any}
+-- One incident has one holder, and one operator holds one incident, until a hold lapses.
+use Rattle.std.proofs.Common.{◌≡◌, ℕ, List, [], ◌∷◌, ◌++◌, map, Bool, true, false, cond, refl, sym, ap, ◌∙◌, Option, Some, None, subst, inl, inr}
+use Rattle.std.specs.Prelude.{◌||◌, ◌<◌, ◌+◌, is_some, is_none}
 use Rattle.std.specs.Str.{bytes_eq}
-use Rattle.std.proofs.lemmas.Bool.{eqb-true, false≢true}
+use Rattle.std.proofs.lemmas.Bool.{ltb-true, false≢true}
 use Rattle.std.proofs.lemmas.Slice.Eq.{bytes_eq-Decides}
 use Rattle.arc_data.specs.declared.event.Event.{Event}
 use Rattle.arc_data.specs.declared.event.Event.TheVariants.{Adopt, Start, Message as Sent, Beat, Tick, Claim, Next, Act as Do, Release, Close, Show, List as Rows}
 use Rattle.arc_data.specs.declared.reply.Reply.{Reply}
-use Rattle.arc_data.specs.declared.reply.Reply.TheVariants.{Claimed, Recorded, Released, Closed, HeldBy}
+use Rattle.arc_data.specs.declared.reply.Reply.TheVariants.{Adopted, Started, Claimed, Recorded, Released, Closed, HeldBy, Unknown}
 use Rattle.arc_data.specs.declared.step.Acted.{Acted}
 use Rattle.centre_rules.specs.Summary.{Summary}
-use Rattle.centre_rules.specs.Marks.{Mark, Carries, Carried, Claims}
+use Rattle.centre_rules.specs.Marks.{Mark, Carries, Carried, Claims, lapse}
 use Rattle.centre_rules.specs.Cases.{Incident, incidents, opened, Ascends}
+use Rattle.centre_rules.specs.Standing.{has_lapsed, stands_at, standing}
 use Rattle.centre_rules.specs.Carrying.{raised, sent}
-use Rattle.centre_rules.specs.History.{Entry, marks, marks_of, onto, is_recorded, claim_marks, act_marks, release_marks, close_marks}
+use Rattle.centre_rules.specs.History.{Entry, marks, marks_of, onto, acted_by, is_recorded, claim_marks, act_marks, release_marks, close_marks}
 use Rattle.centre_rules.specs.Desks.{numbered, held_by, is_holder, best, claim_unless, claim_from, claim_of, next_of}
 use Rattle.centre_rules.specs.Answers.{if_known, answer_over, IsLegal}
 use Rattle.centre_rules.proofs.Steps.{incidents_step}
-use Rattle.centre_rules.proofs.Tables.{HeldIn, held_table, held_claimed, holds_some, numbered_number, ends_hold, best_found}
+use Rattle.centre_rules.proofs.Stood.{standing_of, stood_found, found_stood, ascends_stood}
+use Rattle.centre_rules.proofs.Tables.{HeldIn, held_table, touched_then, held_claimed, holds_some, numbered_number, ends_hold, best_found}
 use Rattle.centre_laws.specs.Numbers.{IsNumbered, NumbersRise}
-use Rattle.centre_laws.specs.Holders.{claimed_number, claimer, is_start, frees, ends, IsClaim, Respects, HoldsApart}
+use Rattle.centre_laws.specs.Holders.{claimed_number, claimer, ends, is_ended, is_act_on, last_touched, IsClaim, ClaimsEither, HadLapsed, HoldsApart}
 use Rattle.centre_laws.proofs.Replies.{may_answer, answer_may}
 
 -- What a claim says of the incidents before it.
@@ -73,13 +74,14 @@ by_known true r n c = c
 by_known false r n c = cc
 
 -- what an event answered by a claim was, and what it asked
-may_claim : (s : Summary) (ms : List Mark) (e : Event) (at n : ℕ) (o : List ℕ) → Ascends 0 (incidents s ms) (opened s ms) → claimed_number (answer_over s ms e at) ≡ Some n → claimer e ≡ Some o → MayClaim n o (incidents s ms)
+may_claim : (s : Summary) (ms : List Mark) (e : Event) (at n : ℕ) (o : List ℕ) → Ascends 0 (incidents s ms) (opened s ms) → claimed_number (answer_over s ms e at) ≡ Some n → claimer e ≡ Some o → MayClaim n o (standing s ms at)
 may_claim s ms (Claim operator number) at n o a c by =
     let same : operator ≡ o = cc in
-    subst (λ (x : List ℕ). MayClaim n x (incidents s ms)) same (by_found operator (incidents s ms) number n (numbered number (incidents s ms)) refl (by_known _ _ n c))
+    subst (λ (x : List ℕ). MayClaim n x (standing s ms at)) same (by_found operator (standing s ms at) number n (numbered number (standing s ms at)) refl (by_known _ _ n c))
 may_claim s ms (Next operator) at n o a c by =
     let same : operator ≡ o = cc in
-    subst (λ (x : List ℕ). MayClaim n x (incidents s ms)) same (by_next operator (incidents s ms) (opened s ms) n (held_by operator (incidents s ms)) (best (incidents s ms)) a refl refl (by_known _ _ n c))
+    let rises = ascends_stood (lapse s ms) at 0 (incidents s ms) (opened s ms) a in
+    subst (λ (x : List ℕ). MayClaim n x (standing s ms at)) same (by_next operator (standing s ms at) (opened s ms) n (held_by operator (standing s ms at)) (best (standing s ms at)) rises refl refl (by_known _ _ n c))
 may_claim s ms e at n o a c by = cc
 
 -- only a claim or a call for the next is answered by a claim
@@ -110,43 +112,117 @@ spare_carried : (n : ℕ) (xs : List Carried) → Spare n (map Carries xs)
 spare_carried n [] = tt
 spare_carried n (x ∷ xs) = (refl, spare_carried n xs)
 
-other_number : (n k : ℕ) (b : Bool) → (n == k) ≡ b → (Some k ≡ Some n → ⊥) → b ≡ false
-other_number n k true e f = absurd (f (ap Some (sym (eqb-true n k e))))
-other_number n k false e f = refl
+-- when the hold was touched, after marks that leave it
+abbrev touched_on : ℕ → List Mark → ℕ → ℕ
+touched_on n [] before = before
+touched_on n (m ∷ ms) before = touched_on n ms (touched_then n m before)
 
-spare_claim : (n : ℕ) (o : List ℕ) (at : ℕ) (r : Reply) → (claimed_number r ≡ Some n → ⊥) → Spare n (claim_marks o at r)
-spare_claim n o at (Claimed k class account) f = (other_number n k (n == k) refl f, tt)
+touched_carried : (n before : ℕ) (xs : List Carried) → touched_on n (map Carries xs) before ≡ before
+touched_carried n before [] = refl
+touched_carried n before (x ∷ xs) = touched_carried n before xs
+
+-- The marks of an entry leave the hold, which was touched where its reply is an act on the incident.
+record Leaves (n : ℕ) (xs : List Mark) (at before : ℕ) (r : Reply) : Type 0 where
+  spare : Spare n xs
+  touched : touched_on n xs before ≡ cond (is_act_on n r) at before
+
+no_adopt : (text : List ℕ) (n : ℕ) (r : Reply) → may_answer (Adopt text) r ≡ true → is_recorded r ≡ true → ends n r ≡ false → ⊥
+no_adopt text n Adopted may told f = false≢true (sym f)
+no_adopt text n Unknown may told f = false≢true told
+no_adopt text n r may told f = false≢true may
+
+no_start : (n : ℕ) (r : Reply) → may_answer Start r ≡ true → ends n r ≡ false → ⊥
+no_start n Started may f = false≢true (sym f)
+no_start n r may f = false≢true may
+
+abbrev is_do : Event → Bool
+is_do (Do operator number step outcome) = true
+is_do e = false
+
+no_act : (e : Event) (n : ℕ) (r : Reply) → may_answer e r ≡ true → is_do e ≡ false → is_act_on n r ≡ false
+no_act (Do operator number step outcome) n r may other = absurd (false≢true (sym other))
+no_act e n (Recorded k left) may other = absurd (false≢true may)
+no_act e n r may other = refl
+
+untouched : (e : Event) (n at before : ℕ) (r : Reply) (xs : List Mark) → may_answer e r ≡ true → is_do e ≡ false → Spare n xs
+    → touched_on n xs before ≡ before → Leaves n xs at before r
+untouched e n at before r xs may other spare same = record { spare = spare; touched = same ∙ ap (λ b. cond b at before) (sym (no_act e n r may other)) }
+
+spare_claim : (n : ℕ) (o : List ℕ) (at : ℕ) (r : Reply) → ends n r ≡ false → Spare n (claim_marks o at r)
+spare_claim n o at (Claimed k class account) f = (f, tt)
 spare_claim n o at r f = tt
 
-spare_act : (n : ℕ) (a : Acted) (r : Reply) → Spare n (act_marks a r)
-spare_act n a (Recorded k left) = (refl, tt)
-spare_act n a r = tt
+touched_claim : (n : ℕ) (o : List ℕ) (at before : ℕ) (r : Reply) → touched_on n (claim_marks o at r) before ≡ before
+touched_claim n o at before (Claimed k class account) = refl
+touched_claim n o at before r = refl
 
-spare_release : (n : ℕ) (r : Reply) → frees n r ≡ false → Spare n (release_marks r)
+leaves_act : (n : ℕ) (a : Acted) (before : ℕ) (r : Reply) → Leaves n (act_marks a r) a.at before r
+leaves_act n a before (Recorded k left) = record { spare = (refl, tt); touched = refl }
+leaves_act n a before r = record { spare = tt; touched = refl }
+
+spare_release : (n : ℕ) (r : Reply) → ends n r ≡ false → Spare n (release_marks r)
 spare_release n (Released k) f = (f, tt)
 spare_release n r f = tt
 
-spare_close : (n : ℕ) (r : Reply) → frees n r ≡ false → Spare n (close_marks r)
+touched_release : (n before : ℕ) (r : Reply) → touched_on n (release_marks r) before ≡ before
+touched_release n before (Released k) = refl
+touched_release n before r = refl
+
+spare_close : (n : ℕ) (r : Reply) → ends n r ≡ false → Spare n (close_marks r)
 spare_close n (Closed k) f = (f, tt)
 spare_close n r f = tt
 
-spare_marks : (s : Summary) (ms : List Mark) (e : Event) (at n : ℕ) (r : Reply) → is_start e ≡ false → frees n r ≡ false → (claimed_number r ≡ Some n → ⊥) → Spare n (marks_of s ms e at r)
-spare_marks s ms (Adopt text) at n r t f c = (refl, tt)
-spare_marks s ms Start at n r t f c = absurd (false≢true (sym t))
-spare_marks s ms (Sent m) at n r t f c = (refl, spare_carried n (sent s ms m at))
-spare_marks s ms (Beat account) at n r t f c = (refl, tt)
-spare_marks s ms Tick at n r t f c = spare_carried n (raised s ms at)
-spare_marks s ms (Claim operator number) at n r t f c = spare_claim n operator at r c
-spare_marks s ms (Next operator) at n r t f c = spare_claim n operator at r c
-spare_marks s ms (Do operator number step outcome) at n r t f c = spare_act n _ r
-spare_marks s ms (Release operator number) at n r t f c = spare_release n r f
-spare_marks s ms (Close operator number code) at n r t f c = spare_close n r f
-spare_marks s ms (Show number) at n r t f c = tt
-spare_marks s ms Rows at n r t f c = tt
+touched_close : (n before : ℕ) (r : Reply) → touched_on n (close_marks r) before ≡ before
+touched_close n before (Closed k) = refl
+touched_close n before r = refl
 
-held_onto : (s : Summary) (n : ℕ) (o : List ℕ) (xs ms : List Mark) → Spare n xs → HeldIn n o (incidents s ms) → HeldIn n o (incidents s (onto xs ms))
-held_onto s n o [] ms v w = w
-held_onto s n o (x ∷ xs) ms v w = held_onto s n o xs (x ∷ ms) v.1 (subst (HeldIn n o) (sym (incidents_step s x ms)) (held_table n o x (opened s ms) (incidents s ms) v.0 w))
+leaves : (s : Summary) (ms : List Mark) (e : Event) (at n before : ℕ) (r : Reply) → may_answer e r ≡ true → is_recorded r ≡ true → ends n r ≡ false
+    → Leaves n (marks_of s ms e at r) at before r
+leaves s ms (Adopt text) at n before r may told f = absurd (no_adopt text n r may told f)
+leaves s ms Start at n before r may told f = absurd (no_start n r may f)
+leaves s ms (Sent m) at n before r may told f =
+    untouched (Sent m) n at before r (marks_of s ms (Sent m) at r) may refl (refl, spare_carried n (sent s ms m at)) (touched_carried n before (sent s ms m at))
+leaves s ms (Beat account) at n before r may told f = untouched (Beat account) n at before r _ may refl (refl, tt) refl
+leaves s ms Tick at n before r may told f =
+    untouched Tick n at before r (marks_of s ms Tick at r) may refl (spare_carried n (raised s ms at)) (touched_carried n before (raised s ms at))
+leaves s ms (Claim operator number) at n before r may told f =
+    untouched (Claim operator number) n at before r (claim_marks operator at r) may refl (spare_claim n operator at r f) (touched_claim n operator at before r)
+leaves s ms (Next operator) at n before r may told f =
+    untouched (Next operator) n at before r (claim_marks operator at r) may refl (spare_claim n operator at r f) (touched_claim n operator at before r)
+leaves s ms (Do operator number step outcome) at n before r may told f = leaves_act n (acted_by operator step outcome at) before r
+leaves s ms (Release operator number) at n before r may told f =
+    untouched (Release operator number) n at before r (release_marks r) may refl (spare_release n r f) (touched_release n before r)
+leaves s ms (Close operator number code) at n before r may told f =
+    untouched (Close operator number code) n at before r (close_marks r) may refl (spare_close n r f) (touched_close n before r)
+leaves s ms (Show number) at n before r may told f = untouched (Show number) n at before r [] may refl tt refl
+leaves s ms Rows at n before r may told f = untouched Rows n at before r [] may refl tt refl
+
+held_onto : (s : Summary) (n : ℕ) (o : List ℕ) (xs ms : List Mark) (before : ℕ) → Spare n xs → HeldIn n o before (incidents s ms)
+    → HeldIn n o (touched_on n xs before) (incidents s (onto xs ms))
+held_onto s n o [] ms before v w = w
+held_onto s n o (x ∷ xs) ms before v w =
+    held_onto s n o xs (x ∷ ms) (touched_then n x before) v.1
+    (subst (HeldIn n o (touched_then n x before)) (sym (incidents_step s x ms)) (held_table n o x (opened s ms) before (incidents s ms) v.0 w))
+
+-- what is not recorded is no act
+quiet_no_act : (n : ℕ) (r : Reply) → is_recorded r ≡ false → is_act_on n r ≡ false
+quiet_no_act n (Recorded k left) quiet = absurd (false≢true (sym quiet))
+quiet_no_act n r quiet = refl
+
+-- Lapses.
+
+lapsed_parts : (l : Option ℕ) (touched at : ℕ) → has_lapsed l touched at ≡ true → (seconds : ℕ) × (l ≡ Some seconds) × (touched + seconds < at)
+lapsed_parts None touched at e = absurd (false≢true e)
+lapsed_parts (Some seconds) touched at e = (seconds, refl, ltb-true (touched + seconds) at e)
+
+if_none : (b : Bool) (h : Option (List ℕ)) (o : List ℕ) → h ≡ Some o → cond b None h ≡ None → b ≡ true
+if_none true h o e f = refl
+if_none false h o e f = let no : None ≡ Some o = sym f ∙ e in cc
+
+had_lapsed : (s : Summary) (h : List Entry) (touched moment at : ℕ) → touched ≡ moment → has_lapsed (lapse s (marks s h)) touched at ≡ true → HadLapsed s h moment at
+had_lapsed s h touched moment at same e =
+    let w = lapsed_parts (lapse s (marks s h)) touched at e in
+    record { seconds = w.0; in_force = w.1; later = subst (λ t. t + w.0 < at) same w.2 }
 
 -- The law.
 
@@ -164,35 +240,55 @@ claim_marks_of s ms (Next operator) at n r o by c = let same : operator ≡ o = 
 claim_marks_of s ms e at n r o by c = cc
 
 module _ (rise : NumbersRise) where
-  held_start : (s : Summary) (e : Entry) (h : List Entry) (n : ℕ) (o : List ℕ) → IsNumbered s → IsLegal s (e ∷ h) → IsClaim e n o → HeldIn n o (incidents s (marks s (e ∷ h)))
+  held_start : (s : Summary) (e : Entry) (h : List Entry) (n : ℕ) (o : List ℕ) → IsNumbered s → IsLegal s (e ∷ h) → IsClaim e n o → HeldIn n o e.at (incidents s (marks s (e ∷ h)))
   held_start s e h n o a legal c =
       let w = may_claim s (marks s h) e.event e.at n o (rise s h a) (ap claimed_number (sym legal.0.reply) ∙ c.of) c.by in
-      rw (claim_recorded e.reply n c.of, claim_marks_of s (marks s h) e.event e.at n e.reply o c.by c.of) (subst (HeldIn n o) (sym (incidents_step s (Claims o n e.at) (marks s h))) (held_claimed n o e.at (incidents s (marks s h)) w.incident w.found))
+      let v = stood_found (lapse s (marks s h)) e.at n (incidents s (marks s h)) w.incident w.found in
+      rw (claim_recorded e.reply n c.of, claim_marks_of s (marks s h) e.event e.at n e.reply o c.by c.of) (subst (HeldIn n o e.at) (sym (incidents_step s (Claims o n e.at) (marks s h))) (held_claimed n o e.at (incidents s (marks s h)) v.incident v.found))
 
-  respects : (s : Summary) (x : Entry) (h : List Entry) (n : ℕ) (o : List ℕ) → IsNumbered s → IsLegal s (x ∷ h) → HeldIn n o (incidents s (marks s h)) → Respects x n o
-  respects s x h n o a legal w = record {
-    incident = λ c.
-        let said : claimed_number (answer_over s (marks s h) x.event x.at) ≡ Some n = ap claimed_number (sym legal.0.reply) ∙ c in
-        let by = has_claimer s (marks s h) x.event x.at n said in
-        let v = may_claim s (marks s h) x.event x.at n by.0 (rise s h a) said by.1 in
-        let same : v.incident ≡ w.incident = cc in
-        let none : None ≡ Some o = sym v.free ∙ ap (λ (i : Incident). i.holder) same ∙ w.holder in
-        cc;
-    operator = λ k c.
-        let said : claimed_number (answer_over s (marks s h) x.event x.at) ≡ Some k = ap claimed_number (sym legal.0.reply) ∙ c.of in
-        let v = may_claim s (marks s h) x.event x.at k o (rise s h a) said c.by in
-        never_none ⊥ o (incidents s (marks s h)) n w.incident o w.found w.holder (itself o) v.none;
-  }
+  held_step : (s : Summary) (x : Entry) (h : List Entry) (n : ℕ) (o : List ℕ) (before : ℕ) (b : Bool) → is_recorded x.reply ≡ b
+      → may_answer x.event x.reply ≡ true → ends n x.reply ≡ false → HeldIn n o before (incidents s (marks s h))
+      → HeldIn n o (cond (is_act_on n x.reply) x.at before) (incidents s (cond b (onto (marks_of s (marks s h) x.event x.at x.reply) (marks s h)) (marks s h)))
+  held_step s x h n o before true told may f w =
+      let xs = marks_of s (marks s h) x.event x.at x.reply in
+      let l = leaves s (marks s h) x.event x.at n before x.reply may told f in
+      subst (λ (t : ℕ). HeldIn n o t (incidents s (onto xs (marks s h)))) l.touched (held_onto s n o xs (marks s h) before l.spare w)
+  held_step s x h n o before false quiet may f w =
+      subst (λ (b : Bool). HeldIn n o (cond b x.at before) (incidents s (marks s h))) (sym (quiet_no_act n x.reply quiet)) w
 
-  held_step : (s : Summary) (x : Entry) (h : List Entry) (n : ℕ) (o : List ℕ) (b : Bool) → Respects x n o → ends n x ≡ false → HeldIn n o (incidents s (marks s h)) → HeldIn n o (incidents s (cond b (onto (marks_of s (marks s h) x.event x.at x.reply) (marks s h)) (marks s h)))
-  held_step s x h n o true r f w = held_onto s n o (marks_of s (marks s h) x.event x.at x.reply) (marks s h) (spare_marks s (marks s h) x.event x.at n x.reply (or_first (is_start x.event) (frees n x.reply) f) (or_second (is_start x.event) (frees n x.reply) f) r.incident) w
-  held_step s x h n o false r f w = w
-
-  held_later : (s : Summary) (h later : List Entry) (e : Entry) (n : ℕ) (o : List ℕ) → IsNumbered s → IsLegal s (later ++ e ∷ h) → IsClaim e n o → list_any (ends n) later ≡ false → HeldIn n o (incidents s (marks s (later ++ e ∷ h)))
+  held_later : (s : Summary) (h later : List Entry) (e : Entry) (n : ℕ) (o : List ℕ) → IsNumbered s → IsLegal s (later ++ e ∷ h) → IsClaim e n o
+      → is_ended n later ≡ false → HeldIn n o (last_touched n later e.at) (incidents s (marks s (later ++ e ∷ h)))
   held_later s h [] e n o a legal c f = held_start s e h n o a legal c
   held_later s h (x ∷ later) e n o a legal c f =
-      let w = held_later s h later e n o a legal.1 c (or_second (ends n x) (list_any (ends n) later) f) in
-      held_step s x (later ++ e ∷ h) n o (is_recorded x.reply) (respects s x (later ++ e ∷ h) n o a legal w) (or_first (ends n x) (list_any (ends n) later) f) w
+      let w = held_later s h later e n o a legal.1 c (or_second (ends n x.reply) (is_ended n later) f) in
+      let may = subst (λ (r : Reply). may_answer x.event r ≡ true) (sym legal.0.reply) (answer_may s (marks s (later ++ e ∷ h)) x.event x.at) in
+      held_step s x (later ++ e ∷ h) n o (last_touched n later e.at) (is_recorded x.reply) refl may (or_first (ends n x.reply) (is_ended n later) f) w
+
+  -- who claims it, or for its holder, finds that the hold had lapsed
+  lapsed_for : (s : Summary) (x : Entry) (h : List Entry) (n moment : ℕ) (o : List ℕ) → IsNumbered s → IsLegal s (x ∷ h)
+      → HeldIn n o moment (incidents s (marks s h)) → ClaimsEither x n o → HadLapsed s h moment x.at
+  lapsed_for s x h n moment o a legal w (inl c) =
+      let l = lapse s (marks s h) in
+      let said : claimed_number (answer_over s (marks s h) x.event x.at) ≡ Some n = ap claimed_number (sym legal.0.reply) ∙ c in
+      let by = has_claimer s (marks s h) x.event x.at n said in
+      let v = may_claim s (marks s h) x.event x.at n by.0 (rise s h a) said by.1 in
+      let found = found_stood l x.at n (incidents s (marks s h)) w.incident w.found in
+      let same : v.incident ≡ stands_at l x.at w.incident = cc in
+      let free = ap (λ (i : Incident). i.holder) (sym same) ∙ v.free in
+      had_lapsed s h w.incident.touched moment x.at w.touched (if_none (has_lapsed l w.incident.touched x.at) w.incident.holder o w.holder free)
+  lapsed_for s x h n moment o a legal w (inr (k, c)) =
+      let said : claimed_number (answer_over s (marks s h) x.event x.at) ≡ Some k = ap claimed_number (sym legal.0.reply) ∙ c.of in
+      let v = may_claim s (marks s h) x.event x.at k o (rise s h a) said c.by in
+      had_lapsed s h w.incident.touched moment x.at w.touched
+      (not_standing (lapse s (marks s h)) x.at (incidents s (marks s h)) w.incident (has_lapsed (lapse s (marks s h)) w.incident.touched x.at) refl w.found w.holder v.none)
+    where
+      not_standing : (l : Option ℕ) (at : ℕ) (is : List Incident) (i : Incident) (b : Bool) → has_lapsed l i.touched at ≡ b → numbered n is ≡ Some i
+          → i.holder ≡ Some o → held_by o (standing_of l at is) ≡ None → b ≡ true
+      not_standing l at is i true e found holder none = refl
+      not_standing l at is i false e found holder none =
+          never_none (false ≡ true) o (standing_of l at is) n (stands_at l at i) o (found_stood l at n is i found)
+          (ap (λ b. cond b None i.holder) e ∙ holder) (itself o) none
 
   pub holds_apart : HoldsApart
-  holds_apart s h later e x n o a legal c f = respects s x (later ++ e ∷ h) n o a legal (held_later s h later e n o a legal.1 c f)
+  holds_apart s h later e x n o a legal c f claims =
+      lapsed_for s x (later ++ e ∷ h) n (last_touched n later e.at) o a legal (held_later s h later e n o a legal.1 c f) claims

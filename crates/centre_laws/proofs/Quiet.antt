@@ -5,6 +5,7 @@ use Rattle.arc_data.specs.declared.reply.Reply.TheVariants.{Repeat}
 use Rattle.centre_rules.specs.Summary.{Summary}
 use Rattle.centre_rules.specs.Marks.{Mark, force, start, heard, failed, opening}
 use Rattle.centre_rules.specs.Cases.{opened, incidents}
+use Rattle.centre_rules.specs.Standing.{standing}
 use Rattle.centre_rules.specs.Carrying.{raised}
 use Rattle.centre_rules.specs.History.{Entry, is_recorded, recorded, last, marks}
 use Rattle.centre_rules.specs.Desks.{best}
@@ -25,7 +26,7 @@ tells s h k e lasts = record {
   raised = λ at. ap (λ (ms : List Mark). raised s ms at) e;
   opened = ap (opened s) e;
   incidents = ap (incidents s) e;
-  best = ap (λ (ms : List Mark). best (incidents s ms)) e;
+  best = λ at. ap (λ (ms : List Mark). best (standing s ms at)) e;
   answers = λ x at. ap (λ (ms : List Mark). answer_over s ms x at) e;
 }
 

@@ -11,7 +11,8 @@ use Rattle.arc_data.specs.declared.step.Step.{Step}
 use Rattle.alarm_rules.specs.Plans.{expected_step}
 use Rattle.centre_rules.specs.Summary.{Summary}
 use Rattle.centre_rules.specs.Marks.{Mark}
-use Rattle.centre_rules.specs.Cases.{Incident, incidents}
+use Rattle.centre_rules.specs.Cases.{Incident}
+use Rattle.centre_rules.specs.Standing.{standing}
 use Rattle.centre_rules.specs.History.{acted_by}
 use Rattle.centre_rules.specs.Desks.{numbered, held_by, holds, best, claim_unless, claim_from, claim_of, next_of, act_when, act_of, release_of, close_when, close_of, show_of}
 use Rattle.centre_rules.specs.Answers.{if_known, taken_or, repeat_of, answer_over}
@@ -117,10 +118,10 @@ answer_may s ms Start at = refl
 answer_may s ms (Sent m) at = known (Sent m) _ _ refl (taken_may (Sent m) (repeat_of s ms m at) refl (λ first. refl))
 answer_may s ms (Beat account) at = known (Beat account) _ Heard refl refl
 answer_may s ms Tick at = refl
-answer_may s ms (Claim o n) at = known (Claim o n) _ _ refl (claim_may o n (incidents s ms) (numbered n (incidents s ms)))
-answer_may s ms (Next o) at = known (Next o) _ _ refl (next_may o 0 [] (held_by o (incidents s ms)) (best (incidents s ms)))
-answer_may s ms (Do o n step outcome) at = known (Do o n step outcome) _ _ refl (act_may (Do o n step outcome) (λ k left. refl) (λ wanted. refl) (λ k. refl) (λ k. refl) (acted_by o step outcome at) n (numbered n (incidents s ms)))
-answer_may s ms (Release o n) at = known (Release o n) _ _ refl (release_may o n [] (numbered n (incidents s ms)))
-answer_may s ms (Close o n code) at = known (Close o n code) _ _ refl (close_may (Close o n code) (λ k. refl) (λ wanted. refl) (λ k. refl) (λ k. refl) o n (numbered n (incidents s ms)))
-answer_may s ms (Show n) at = show_may [] n [] (numbered n (incidents s ms))
+answer_may s ms (Claim o n) at = known (Claim o n) _ _ refl (claim_may o n (standing s ms at) (numbered n (standing s ms at)))
+answer_may s ms (Next o) at = known (Next o) _ _ refl (next_may o 0 [] (held_by o (standing s ms at)) (best (standing s ms at)))
+answer_may s ms (Do o n step outcome) at = known (Do o n step outcome) _ _ refl (act_may (Do o n step outcome) (λ k left. refl) (λ wanted. refl) (λ k. refl) (λ k. refl) (acted_by o step outcome at) n (numbered n (standing s ms at)))
+answer_may s ms (Release o n) at = known (Release o n) _ _ refl (release_may o n [] (numbered n (standing s ms at)))
+answer_may s ms (Close o n code) at = known (Close o n code) _ _ refl (close_may (Close o n code) (λ k. refl) (λ wanted. refl) (λ k. refl) (λ k. refl) o n (numbered n (standing s ms at)))
+answer_may s ms (Show n) at = show_may [] n [] (numbered n (standing s ms at))
 answer_may s ms Rows at = refl

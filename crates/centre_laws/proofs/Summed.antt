@@ -18,7 +18,7 @@ use Rattle.centre_rules.specs.Answers.{repeats, IsLegal}
 use Rattle.centre_rules.specs.State.{Same}
 use Rattle.centre_rules.specs.Sums.{named, names, account_row, summary_of}
 use Rattle.centre_rules.proofs.Steps.{incidents_begin}
-use Rattle.centre_rules.proofs.Sames.{force_same, raised_same, answer_same}
+use Rattle.centre_rules.proofs.Sames.{force_same, raised_same, answer_same, standing_same}
 use Rattle.centre_rules.proofs.Grown.{same_more}
 use Rattle.centre_laws.specs.Summaries.{SummaryTells}
 
@@ -232,7 +232,7 @@ summary_tells s h k l =
       force = force_same same;
       repeats = λ m at. ap (λ (ps : List Past). option_map (λ (p : Past). p.at) (find (repeats m at) ps)) (same.recent m.account);
       raised = λ at. raised_same same at;
-      best = ap best same.incidents;
+      best = λ at. ap best (standing_same same at);
       answers = λ e at. answer_same same e at;
       legal = (legal_after s h k l, legal_before s h k);
     }

@@ -20,7 +20,7 @@ use Rattle.centre_laws.proofs.Recent.{no_repeat, has_repeat}
 use Rattle.centre_laws.proofs.Shape.{IsTraced, AreTraced}
 
 -- an account of the setup is known once the setup is in force
-known : (r : Result Setup SetupFault) (account : List ℕ) → has_account (result_unwrap_or r (record { accounts = []; plans = []; operators = [] })) account ≡ true
+known : (r : Result Setup SetupFault) (account : List ℕ) → has_account (result_unwrap_or r (record { accounts = []; plans = []; operators = []; lapse = None })) account ≡ true
     → knows_account (result_ok r) account ≡ true
 known (Ok setup) account has = has
 known (Err fault) account has = absurd (true≢false (sym has))

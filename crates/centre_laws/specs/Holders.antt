@@ -1,12 +1,13 @@
--- One incident has one holder, and one operator holds one incident.
-use Rattle.std.specs.Prelude.{◌≡◌, ◌==◌, ◌||◌, ℕ, List, ◌∷◌, ◌++◌, Bool, true, false, Option, Some, None}
+-- One incident has one holder, and one operator holds one incident, until a hold lapses.
+use Rattle.std.specs.Prelude.{◌≡◌, ◌<◌, ◌+◌, ◌⊎◌, ◌==◌, ℕ, List, [], ◌∷◌, ◌++◌, Bool, true, false, Option, Some, None, if◌then◌else◌}
 use Rattle.std.specs.List.{list_any}
 use Rattle.arc_data.specs.declared.event.Event.{Event}
-use Rattle.arc_data.specs.declared.event.Event.TheVariants.{Start, Claim, Next}
+use Rattle.arc_data.specs.declared.event.Event.TheVariants.{Claim, Next}
 use Rattle.arc_data.specs.declared.reply.Reply.{Reply}
-use Rattle.arc_data.specs.declared.reply.Reply.TheVariants.{Claimed, Released, Closed}
+use Rattle.arc_data.specs.declared.reply.Reply.TheVariants.{Adopted, Started, Claimed, Recorded, Released, Closed}
 use Rattle.centre_rules.specs.Summary.{Summary}
-use Rattle.centre_rules.specs.History.{Entry}
+use Rattle.centre_rules.specs.Marks.{lapse}
+use Rattle.centre_rules.specs.History.{Entry, marks}
 use Rattle.centre_rules.specs.Answers.{IsLegal}
 use Rattle.centre_laws.specs.Numbers.{IsNumbered}
 
@@ -26,28 +27,42 @@ pub record IsClaim (e : Entry) (number : ℕ) (operator : List ℕ) : Type 0 whe
   pub of : claimed_number e.reply ≡ Some number
   pub by : claimer e.event ≡ Some operator
 
-abbrev pub is_start : Event → Bool
-is_start Start = true
-is_start event = false
+-- the reply ends a hold of the incident: it is claimed anew, released or closed, a setup comes into force, or a run starts
+abbrev pub ends : ℕ → Reply → Bool
+ends number (Claimed other class account) = number == other
+ends number (Released other) = number == other
+ends number (Closed other) = number == other
+ends number Adopted = true
+ends number Started = true
+ends number reply = false
 
-abbrev pub frees : ℕ → Reply → Bool
-frees number (Released other) = number == other
-frees number (Closed other) = number == other
-frees number reply = false
+abbrev pub is_ended : ℕ → List Entry → Bool
+is_ended number h = list_any (λ e. ends number e.reply) h
 
--- the entry ends a hold of the incident: it is Released or Closed, or a run starts
-abbrev pub ends : ℕ → Entry → Bool
-ends number e = is_start e.event || frees number e.reply
+-- the reply is an act on the incident
+abbrev pub is_act_on : ℕ → Reply → Bool
+is_act_on number (Recorded other left) = number == other
+is_act_on number reply = false
 
--- the entry claims neither the incident nor for the operator
-pub record Respects (x : Entry) (held : ℕ) (holder : List ℕ) : Type 0 where
-  pub incident : claimed_number x.reply ≡ Some held → ⊥
-  pub operator : (number : ℕ) → IsClaim x number holder → ⊥
+-- the moment of the last act on the incident among these entries, the newest first, and otherwise that of the claim before them
+abbrev pub last_touched : ℕ → List Entry → ℕ → ℕ
+last_touched number [] claimed = claimed
+last_touched number (x ∷ xs) claimed = if is_act_on number x.reply then x.at else last_touched number xs claimed
 
--- In a legal history, after an entry with the reply Claimed for an incident and an operator, while no entry ends that hold,
--- no entry has the reply Claimed for the incident, and none has it for the operator.
+-- the entry claims the incident, or any incident for the operator
+abbrev pub ClaimsEither : Entry → ℕ → List ℕ → Type 0
+ClaimsEither x number operator = (claimed_number x.reply ≡ Some number) ⊎ ((other : ℕ) × IsClaim x other operator)
+
+-- by the setup in force after these entries a hold that was last touched then has lapsed at the moment
+pub record HadLapsed (s : Summary) (h : List Entry) (touched at : ℕ) : Type 0 where
+  pub seconds : ℕ
+  pub in_force : lapse s (marks s h) ≡ Some seconds
+  pub later : touched + seconds < at
+
+-- In a legal history, after an entry with the reply Claimed for an incident and an operator, while no entry ends that hold, an entry
+-- has the reply Claimed for the incident or for the operator only where the hold had lapsed.
 abbrev pub HoldsApart : Type 0
 HoldsApart =
     (s : Summary) (h later : List Entry) (e x : Entry) (number : ℕ) (operator : List ℕ) → IsNumbered s
-    → IsLegal s (x ∷ later ++ e ∷ h) → IsClaim e number operator → list_any (ends number) later ≡ false
-    → Respects x number operator
+    → IsLegal s (x ∷ later ++ e ∷ h) → IsClaim e number operator → is_ended number later ≡ false
+    → ClaimsEither x number operator → HadLapsed s (later ++ e ∷ h) (last_touched number later e.at) x.at

@@ -7,6 +7,7 @@ use Rattle.arc_data.specs.declared.reply.Reply.TheVariants.{Repeat}
 use Rattle.centre_rules.specs.Summary.{Summary}
 use Rattle.centre_rules.specs.Marks.{force, start, heard, failed, opening}
 use Rattle.centre_rules.specs.Cases.{opened, incidents}
+use Rattle.centre_rules.specs.Standing.{standing}
 use Rattle.centre_rules.specs.Carrying.{raised}
 use Rattle.centre_rules.specs.History.{Entry, recorded, last, marks}
 use Rattle.centre_rules.specs.Desks.{best}
@@ -23,7 +24,7 @@ pub record TellsTheSame (s : Summary) (h k : List Entry) : Type 0 where
   pub opening : (account : List ℕ) → opening s (marks s h) account ≡ opening s (marks s k) account
   pub raised : (at : ℕ) → raised s (marks s h) at ≡ raised s (marks s k) at
   pub opened : opened s (marks s h) ≡ opened s (marks s k)
-  pub best : best (incidents s (marks s h)) ≡ best (incidents s (marks s k))
+  pub best : (at : ℕ) → best (standing s (marks s h) at) ≡ best (standing s (marks s k) at)
   pub incidents : incidents s (marks s h) ≡ incidents s (marks s k)
   pub answers : (e : Event) (at : ℕ) → answer s h e at ≡ answer s k e at
   pub marks : marks s h ≡ marks s k

@@ -4,7 +4,7 @@ use Rattle.arc_data.specs.declared.event.Event.{Event}
 use Rattle.arc_data.specs.declared.event.Message.{Message}
 use Rattle.centre_rules.specs.Summary.{Summary}
 use Rattle.centre_rules.specs.Marks.{force}
-use Rattle.centre_rules.specs.Cases.{incidents}
+use Rattle.centre_rules.specs.Standing.{standing}
 use Rattle.centre_rules.specs.Carrying.{raised}
 use Rattle.centre_rules.specs.History.{Entry, marks, last, recorded}
 use Rattle.centre_rules.specs.Desks.{best}
@@ -20,7 +20,7 @@ pub record GoesOnAlike (t : Summary) (k : List Entry) (s : Summary) (x : List En
   pub force : force t (marks t k) ≡ force s (marks s x)
   pub repeats : (m : Message) (at : ℕ) → repeat_of t (marks t k) m at ≡ repeat_of s (marks s x) m at
   pub raised : (at : ℕ) → raised t (marks t k) at ≡ raised s (marks s x) at
-  pub best : best (incidents t (marks t k)) ≡ best (incidents s (marks s x))
+  pub best : (at : ℕ) → best (standing t (marks t k) at) ≡ best (standing s (marks s x) at)
   pub answers : (e : Event) (at : ℕ) → answer t k e at ≡ answer s x e at
   pub legal : IsLegal t k ↔ IsLegal s x
 

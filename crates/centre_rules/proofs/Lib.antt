@@ -5,3 +5,4 @@ pub mod Quiet
 pub mod Marked
 pub mod Tables
 pub mod Standing
+pub mod Stood

@@ -4,15 +4,17 @@ use Rattle.std.specs.Prelude.{not, ◌&&◌, option_and_then}
 use Rattle.std.specs.Result.{result_ok}
 use Rattle.std.specs.Str.{bytes_eq}
 use Rattle.arc_data.specs.declared.event.Event.{Event}
-use Rattle.arc_data.specs.declared.event.Event.TheVariants.{Adopt, Start, Message as Sent, Beat, Tick, Show, List as Rows}
+use Rattle.arc_data.specs.declared.event.Event.TheVariants.{Adopt, Start, Message as Sent, Beat, Tick, Claim, Next, Act as Do, Release, Close, Show, List as Rows}
 use Rattle.arc_data.specs.declared.reply.Reply.{Reply}
 use Rattle.alarm_rules.specs.Setups.{Account, setup_of}
 use Rattle.centre_rules.specs.Summary.{Summary, Past}
-use Rattle.centre_rules.specs.Marks.{Mark, Sends, Carries, text_at, start_at, keeps_row_at, messages_at, heard_at, failed_at, opening_at, force, messages, heard, failed}
+use Rattle.centre_rules.specs.Marks.{Mark, Sends, Carries, text_at, start_at, keeps_row_at, messages_at, heard_at, failed_at, opening_at, force, lapse, messages, heard, failed}
+use Rattle.centre_rules.specs.Standing.{standing, stands_at}
 use Rattle.centre_rules.specs.Tables.{opened_after, table_after}
 use Rattle.centre_rules.specs.Carrying.{is_past, is_silent, closes_late, is_late, raised}
-use Rattle.centre_rules.specs.History.{marks_of, onto}
-use Rattle.centre_rules.specs.Answers.{answer_over}
+use Rattle.centre_rules.specs.History.{marks_of, onto, acted_by}
+use Rattle.centre_rules.specs.Desks.{on_claim, on_next, on_act, on_release, on_close, on_show, on_list}
+use Rattle.centre_rules.specs.Answers.{answer_over, if_known, knows_operator}
 use Rattle.centre_rules.specs.State.{Same}
 use Rattle.centre_rules.proofs.Steps.{incidents_step, opened_step}
 
@@ -63,6 +65,12 @@ same_onto (x ∷ xs) w = same_onto xs (same_step x w)
 pub force_same : {s t : Summary} {ms ns : List Mark} → Same s ms t ns → force s ms ≡ force t ns
 force_same w = ap (option_and_then (λ x. result_ok (setup_of x))) w.text
 
+lapse_same : {s t : Summary} {ms ns : List Mark} → Same s ms t ns → lapse s ms ≡ lapse t ns
+lapse_same w = ap (option_and_then (λ setup. setup.lapse)) (force_same w)
+
+pub standing_same : {s t : Summary} {ms ns : List Mark} → Same s ms t ns → (at : ℕ) → standing s ms at ≡ standing t ns at
+standing_same w at = λ i. map (stands_at (lapse_same w i) at) (w.incidents i)
+
 silent_same : {s t : Summary} {ms ns : List Mark} → Same s ms t ns → (at : ℕ) (account : Account) (beat : Option ℕ)
     → (elim beat as (λ _. Bool) [ None ↦ false | Some interval ↦ is_past (heard s ms account.number) interval at && not (failed s ms account.number) ])
     ≡ (elim beat as (λ _. Bool) [ None ↦ false | Some interval ↦ is_past (heard t ns account.number) interval at && not (failed t ns account.number) ])
@@ -91,6 +99,10 @@ answer_same w Start at = refl
 answer_same w (Sent m) at = rw (force_same w, w.recent m.account) refl
 answer_same w (Beat account) at = rw (force_same w) refl
 answer_same w Tick at = rw (raised_same w at) refl
-answer_same w (Show number) at = rw w.incidents refl
-answer_same w Rows at = rw w.incidents refl
-answer_same w e at = rw (force_same w, w.incidents) refl
+answer_same w (Claim o n) at = λ i. if_known (knows_operator (force_same w i) o) (on_claim o n (standing_same w at i))
+answer_same w (Next o) at = λ i. if_known (knows_operator (force_same w i) o) (on_next o (standing_same w at i))
+answer_same w (Do o n step outcome) at = λ i. if_known (knows_operator (force_same w i) o) (on_act (acted_by o step outcome at) n (standing_same w at i))
+answer_same w (Release o n) at = λ i. if_known (knows_operator (force_same w i) o) (on_release o n (standing_same w at i))
+answer_same w (Close o n code) at = λ i. if_known (knows_operator (force_same w i) o) (on_close o n (standing_same w at i))
+answer_same w (Show number) at = ap (on_show number) (standing_same w at)
+answer_same w Rows at = ap on_list (standing_same w at)

@@ -1,11 +1,11 @@
 -- What a mark leaves of the open incidents.
 use Rattle.std.proofs.Common.{◌≡◌, ◌<◌, ◌≤◌, ℕ, ◌+◌, List, [], ◌∷◌, ◌++◌, map, Bool, true, false, cond, refl, sym, ap, ◌∙◌, Option, Some, None, arith, subst}
-use Rattle.std.specs.Prelude.{not, is_some, ◌==◌}
+use Rattle.std.specs.Prelude.{not, is_some, ◌==◌, ◌&&◌, if◌then◌else◌}
 use Rattle.std.specs.List.{filter}
 use Rattle.std.proofs.lemmas.Bool.{eqb-true, eq-eqb, false≢true}
 use Rattle.arc_data.specs.Incidents.{Each}
-use Rattle.centre_rules.specs.Marks.{Mark, Starts, Carries, Claims, Releases, Closes, Carried}
-use Rattle.centre_rules.specs.Cases.{Incident, opens, fresh, has_number, holder_at, Ascends}
+use Rattle.centre_rules.specs.Marks.{Mark, Adopts, Starts, Carries, Claims, Acts, Releases, Closes, Carried}
+use Rattle.centre_rules.specs.Cases.{Incident, opens, fresh, has_number, holder_at, touched_at, Ascends}
 use Rattle.centre_rules.specs.Tables.{touched_by, opened_after, with_opened, without_closed, table_after}
 use Rattle.centre_rules.specs.Desks.{numbered, held_by, holds, is_free, is_before, lesser, least, best}
 
@@ -66,15 +66,17 @@ numbered_left m n is i other e = e
 pub numbered_table : (m : Mark) (n opened : ℕ) (is : List Incident) (i : Incident) → ends_it n m ≡ false → numbered n is ≡ Some i → numbered n (table_after m opened is) ≡ Some (touched_by m i)
 numbered_table m n opened is i other e = numbered_left m n _ (touched_by m i) other (numbered_map m n (with_opened m opened is) i (numbered_opened m n opened is i e))
 
--- A held incident.
+-- An incident with a claimer, and the moment when it was touched.
 
-pub record HeldIn (n : ℕ) (o : List ℕ) (is : List Incident) : Type 0 where
+pub record HeldIn (n : ℕ) (o : List ℕ) (moment : ℕ) (is : List Incident) : Type 0 where
   pub incident : Incident
   pub found : numbered n is ≡ Some incident
   pub holder : incident.holder ≡ Some o
+  pub touched : incident.touched ≡ moment
 
 -- a mark that may change who holds an incident
 abbrev pub ends_hold : ℕ → Mark → Bool
+ends_hold n (Adopts text) = true
 ends_hold n (Starts at) = true
 ends_hold n (Claims operator number at) = n == number
 ends_hold n (Releases number) = n == number
@@ -82,6 +84,7 @@ ends_hold n (Closes number) = n == number
 ends_hold n m = false
 
 holder_kept : (n : ℕ) (o : List ℕ) (m : Mark) (i : Incident) → i.number ≡ n → ends_hold n m ≡ false → i.holder ≡ Some o → holder_at i m i.holder ≡ Some o
+holder_kept n o (Adopts text) i e spared h = absurd (false≢true (sym spared))
 holder_kept n o (Starts at) i e spared h = absurd (false≢true (sym spared))
 holder_kept n o (Claims operator number at) i e spared h = rw (e, spared) h
 holder_kept n o (Releases number) i e spared h = rw (e, spared) h
@@ -92,19 +95,41 @@ not_ended : (n : ℕ) (m : Mark) → ends_hold n m ≡ false → ends_it n m ≡
 not_ended n (Closes number) spared = spared
 not_ended n m spared = refl
 
-pub held_table : (n : ℕ) (o : List ℕ) (m : Mark) (opened : ℕ) (is : List Incident) → ends_hold n m ≡ false → HeldIn n o is → HeldIn n o (table_after m opened is)
-held_table n o m opened is spared w = record {
+-- when it was touched, after a mark that leaves the hold
+abbrev pub touched_then : ℕ → Mark → ℕ → ℕ
+touched_then n (Acts number acted) before = if n == number then acted.at else before
+touched_then n m before = before
+
+act_if : (b : Bool) (at before : ℕ) → cond (b && true) at before ≡ cond b at before
+act_if true at before = refl
+act_if false at before = refl
+
+touched_kept : (n : ℕ) (o : List ℕ) (m : Mark) (i : Incident) (moment : ℕ) → i.number ≡ n → ends_hold n m ≡ false → i.holder ≡ Some o
+    → i.touched ≡ moment → touched_at i m i.holder i.touched ≡ touched_then n m moment
+touched_kept n o (Adopts text) i moment e spared h t = absurd (false≢true (sym spared))
+touched_kept n o (Starts at) i moment e spared h t = absurd (false≢true (sym spared))
+touched_kept n o (Claims operator number at) i moment e spared h t = rw (e, spared) t
+touched_kept n o (Acts number acted) i moment e spared h t = rw (e, h, t) (act_if (n == number) acted.at moment)
+touched_kept n o (Releases number) i moment e spared h t = rw (e, spared) t
+touched_kept n o (Closes number) i moment e spared h t = rw (e, spared) t
+touched_kept n o m i moment e spared h t = t
+
+pub held_table : (n : ℕ) (o : List ℕ) (m : Mark) (opened moment : ℕ) (is : List Incident) → ends_hold n m ≡ false
+    → HeldIn n o moment is → HeldIn n o (touched_then n m moment) (table_after m opened is)
+held_table n o m opened moment is spared w = record {
   incident = touched_by m w.incident;
   found = numbered_table m n opened is w.incident (not_ended n m spared) w.found;
   holder = holder_kept n o m w.incident (numbered_number n is w.incident w.found) spared w.holder;
+  touched = touched_kept n o m w.incident moment (numbered_number n is w.incident w.found) spared w.holder w.touched;
 }
 
 -- a claim of an incident that is there
-pub held_claimed : (n : ℕ) (o : List ℕ) (at : ℕ) (is : List Incident) (i : Incident) → numbered n is ≡ Some i → HeldIn n o (map (touched_by (Claims o n at)) is)
+pub held_claimed : (n : ℕ) (o : List ℕ) (at : ℕ) (is : List Incident) (i : Incident) → numbered n is ≡ Some i → HeldIn n o at (map (touched_by (Claims o n at)) is)
 held_claimed n o at is i e = record {
   incident = touched_by (Claims o n at) i;
   found = numbered_map (Claims o n at) n is i e;
   holder = rw (eq-eqb i.number n (numbered_number n is i e)) refl;
+  touched = rw (eq-eqb i.number n (numbered_number n is i e)) refl;
 }
 
 -- who holds an incident of the table holds one

@@ -17,7 +17,7 @@ use Rattle.alarm_rules.specs.Setups.{Setup, setup_of, has_account, has_operator}
 use Rattle.alarm_rules.specs.Signals.{has_signals}
 use Rattle.centre_rules.specs.Summary.{Summary, Past}
 use Rattle.centre_rules.specs.Marks.{Mark, force, messages}
-use Rattle.centre_rules.specs.Cases.{incidents}
+use Rattle.centre_rules.specs.Standing.{standing}
 use Rattle.centre_rules.specs.Carrying.{raised}
 use Rattle.centre_rules.specs.History.{Entry, last, marks, acted_by}
 use Rattle.centre_rules.specs.Desks.{on_claim, on_next, on_act, on_release, on_close, on_show, on_list}
@@ -74,7 +74,7 @@ abbrev pub if_known : Bool → Reply → Reply
 if_known true reply = reply
 if_known false reply = Unknown
 
--- the reply to an event at a moment
+-- the reply to an event at a moment; operators are answered from the open incidents as they stand then
 abbrev pub answer_over : Summary → List Mark → Event → ℕ → Reply
 answer_over s ms (Adopt text) at = if_known (is_ok (setup_of text)) Adopted
 answer_over s ms Start at = Started
@@ -83,16 +83,16 @@ answer_over s ms (Sent m) at =
 answer_over s ms (Beat account) at = if_known (knows_account (force s ms) account) Heard
 answer_over s ms Tick at = Raised (length (raised s ms at))
 answer_over s ms (Claim operator number) at =
-    if_known (knows_operator (force s ms) operator) (on_claim operator number (incidents s ms))
-answer_over s ms (Next operator) at = if_known (knows_operator (force s ms) operator) (on_next operator (incidents s ms))
+    if_known (knows_operator (force s ms) operator) (on_claim operator number (standing s ms at))
+answer_over s ms (Next operator) at = if_known (knows_operator (force s ms) operator) (on_next operator (standing s ms at))
 answer_over s ms (Do operator number step outcome) at =
-    if_known (knows_operator (force s ms) operator) (on_act (acted_by operator step outcome at) number (incidents s ms))
+    if_known (knows_operator (force s ms) operator) (on_act (acted_by operator step outcome at) number (standing s ms at))
 answer_over s ms (Release operator number) at =
-    if_known (knows_operator (force s ms) operator) (on_release operator number (incidents s ms))
+    if_known (knows_operator (force s ms) operator) (on_release operator number (standing s ms at))
 answer_over s ms (Close operator number code) at =
-    if_known (knows_operator (force s ms) operator) (on_close operator number (incidents s ms))
-answer_over s ms (Show number) at = on_show number (incidents s ms)
-answer_over s ms Rows at = on_list (incidents s ms)
+    if_known (knows_operator (force s ms) operator) (on_close operator number (standing s ms at))
+answer_over s ms (Show number) at = on_show number (standing s ms at)
+answer_over s ms Rows at = on_list (standing s ms at)
 
 abbrev pub answer : Summary → List Entry → Event → ℕ → Reply
 answer s h e at = answer_over s (marks s h) e at

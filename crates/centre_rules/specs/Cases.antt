@@ -9,7 +9,7 @@ use Rattle.arc_data.specs.declared.signal.Kind.{Kind}
 use Rattle.arc_data.specs.declared.signal.Kind.TheVariants.{New, Again, Restore}
 use Rattle.arc_data.specs.declared.step.Acted.{Acted}
 use Rattle.centre_rules.specs.Summary.{Summary}
-use Rattle.centre_rules.specs.Marks.{Mark, Starts, Carries, Claims, Acts, Releases, Closes, Carried}
+use Rattle.centre_rules.specs.Marks.{Mark, Adopts, Starts, Carries, Claims, Acts, Releases, Closes, Carried}
 
 abbrev pub is_new : Kind → Bool
 is_new New = true
@@ -42,12 +42,13 @@ abbrev pub restored_of : Incident → List Mark → Bool
 restored_of i [] = i.restored
 restored_of i (m ∷ ms) = restored_at i m (restored_of i ms)
 
--- Its holder: the operator of the last claim of it, unless it was released or closed or a run was started since.
+-- Its claimer: the operator of the last claim of it, unless it was released or closed, a setup came into force or a run was started since.
 
 abbrev pub holder_at : Incident → Mark → Option (List ℕ) → Option (List ℕ)
 holder_at i (Claims operator number at) before = if i.number == number then Some operator else before
 holder_at i (Releases number) before = if i.number == number then None else before
 holder_at i (Closes number) before = if i.number == number then None else before
+holder_at i (Adopts text) before = None
 holder_at i (Starts at) before = None
 holder_at i m before = before
 
@@ -55,13 +56,14 @@ abbrev pub holder_of : Incident → List Mark → Option (List ℕ)
 holder_of i [] = i.holder
 holder_of i (m ∷ ms) = holder_at i m (holder_of i ms)
 
--- While it is held, the moment of the last claim or act of it, and otherwise 0. The holder is that before the mark.
+-- While it has a claimer, the moment of the last claim or act of it, and otherwise 0. The claimer is that before the mark.
 
 abbrev pub touched_at : Incident → Mark → Option (List ℕ) → ℕ → ℕ
 touched_at i (Claims operator number at) holder before = if i.number == number then at else before
 touched_at i (Acts number acted) holder before = if (i.number == number) && is_some holder then acted.at else before
 touched_at i (Releases number) holder before = if i.number == number then 0 else before
 touched_at i (Closes number) holder before = if i.number == number then 0 else before
+touched_at i (Adopts text) holder before = 0
 touched_at i (Starts at) holder before = 0
 touched_at i m holder before = before
 

@@ -30,7 +30,7 @@ pub data Mark : Type 0 where
   Releases : (number : ℕ) → Mark
   Closes : (number : ℕ) → Mark
 
--- The setup in force: that of the last Adopt.
+-- The setup in force: that of the last Adopt; and after how many seconds a hold lapses by it, if ever.
 
 abbrev pub text_at : Mark → Option (List ℕ) → Option (List ℕ)
 text_at (Adopts text) before = Some text
@@ -42,6 +42,9 @@ text s (m ∷ ms) = text_at m (text s ms)
 
 abbrev pub force : Summary → List Mark → Option Setup
 force s ms = option_and_then (λ t. result_ok (setup_of t)) (text s ms)
+
+abbrev pub lapse : Summary → List Mark → Option ℕ
+lapse s ms = option_and_then (λ setup. setup.lapse) (force s ms)
 
 -- The last Start.
 

@@ -12,6 +12,7 @@ use Rattle.arc_data.specs.declared.step.Step.{Step}
 use Rattle.alarm_rules.specs.Setups.{setup_of}
 use Rattle.alarm_rules.specs.Signals.{has_signals}
 use Rattle.centre_rules.specs.Summary.{Summary, AccountRow, Past}
+use Rattle.centre_rules.specs.Standing.{last_standing}
 use Rattle.centre_rules.specs.Desks.{holds}
 use Rattle.summary_rules.specs.Lists.{Every, EveryTwo}
 use Rattle.summary_rules.specs.Fields.{Given, HasFields}
@@ -97,7 +98,7 @@ pub record IsSummary (generation : ℕ) (s : Summary) : Type 0 where
   pub numbers : Ascends 0 s.incidents s.opened
   pub single : EveryTwo IsApart s.incidents
   pub signals : Every (λ i. IsCount (4000 * s.recorded) i.signals) s.incidents
-  pub holders : EveryTwo IsHeldApart s.incidents
+  pub holders : EveryTwo IsHeldApart (last_standing s)
   pub steps : Every (λ i. AreSteps i.steps) s.incidents
   pub acts : Every (λ i. AreActsOf i.steps i.acts) s.incidents
 

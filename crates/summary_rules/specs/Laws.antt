@@ -5,6 +5,7 @@ use Rattle.arc_data.specs.Incidents.{Ascends}
 use Rattle.arc_data.specs.declared.incident.Incident.{Incident}
 use Rattle.alarm_rules.specs.Setups.{setup_of}
 use Rattle.centre_rules.specs.Summary.{Summary, nothing}
+use Rattle.centre_rules.specs.Standing.{last_standing}
 use Rattle.centre_rules.specs.History.{Entry}
 use Rattle.centre_rules.specs.Answers.{IsLegal}
 use Rattle.centre_rules.specs.Sums.{summary_of}
@@ -33,7 +34,7 @@ SetupsStay = (s : Summary) (h : List Entry) → Given (λ text. IsOk (setup_of t
 
 -- Incidents.
 
--- where nobody holds an incident, the moment since which it was not touched is 0
+-- where an incident has no claimer, the moment since which it was not touched is 0
 abbrev pub IsUnheld : Option (List ℕ) → ℕ → Type 0
 IsUnheld None touched = touched ≡ 0
 IsUnheld (Some operator) touched = Unit {0}
@@ -44,17 +45,18 @@ IsUntouched i = IsUnheld i.holder i.touched
 abbrev pub HasSignal : Incident → Type 0
 HasSignal i = 1 ≤ i.signals
 
--- no two are of one account and class, no operator holds two, those that nobody holds were not touched, and each has a signal
-pub record AreIncidents (is : List Incident) : Type 0 where
-  pub single : EveryTwo IsApart is
-  pub holders : EveryTwo IsHeldApart is
-  pub untouched : Every IsUntouched is
-  pub counted : Every HasSignal is
+-- no two are of one account and class, no operator holds two at the last moment, those without a claimer were not touched, and each has
+-- a signal
+pub record AreIncidents (s : Summary) : Type 0 where
+  pub single : EveryTwo IsApart s.incidents
+  pub holders : EveryTwo IsHeldApart (last_standing s)
+  pub untouched : Every IsUntouched s.incidents
+  pub counted : Every HasSignal s.incidents
 
 -- over such open incidents, whose numbers ascend, it is so of those of a legal history
 abbrev pub IncidentsStay : Type 0
-IncidentsStay = (s : Summary) (h : List Entry) → Ascends 0 s.incidents s.opened → AreIncidents s.incidents → IsLegal s h
-    → AreIncidents (summary_of s h).incidents
+IncidentsStay = (s : Summary) (h : List Entry) → Ascends 0 s.incidents s.opened → AreIncidents s → IsLegal s h
+    → AreIncidents (summary_of s h)
 
 -- Counts.
 

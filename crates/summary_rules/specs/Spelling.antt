@@ -66,7 +66,8 @@ row_text r = short_text r.account ++ (option_text long_number r.heard ++ (truth_
 abbrev pub class_byte : Class → ℕ
 class_byte class = class_place class + 1
 
--- the operator that holds the incident, and the moment since which it was not touched; an empty name where nobody holds it
+-- the operator that claimed the incident and was not let go since, and the moment since which it was not touched; an empty name where
+-- there is none
 abbrev pub holder_text : Option (List ℕ) → ℕ → List ℕ
 holder_text None touched = 0 ∷ []
 holder_text (Some operator) touched = short_text operator ++ long_number touched

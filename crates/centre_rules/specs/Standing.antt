@@ -1,0 +1,22 @@
+-- Who holds an open incident at a moment: its claimer, unless that hold has lapsed.
+use Rattle.std.specs.Prelude.{ℕ, ◌+◌, List, [], Bool, false, nat_lt, Option, Some, None, map, if◌then◌else◌}
+use Rattle.centre_rules.specs.Summary.{Summary}
+use Rattle.centre_rules.specs.Marks.{Mark, lapse}
+use Rattle.centre_rules.specs.Cases.{Incident, incidents}
+
+-- a hold that was last touched then has lapsed at the moment: it is more seconds later than those after which holds lapse
+abbrev pub has_lapsed : Option ℕ → ℕ → ℕ → Bool
+has_lapsed None touched at = false
+has_lapsed (Some seconds) touched at = nat_lt (touched + seconds) at
+
+-- the incident with its holder at the moment in place of its claimer
+abbrev pub stands_at : Option ℕ → ℕ → Incident → Incident
+stands_at lapse at i = record i { holder = if has_lapsed lapse i.touched at then None else i.holder }
+
+-- the open incidents as they stand at a moment, in order of number
+abbrev pub standing : Summary → List Mark → ℕ → List Incident
+standing s ms at = map (stands_at (lapse s ms) at) (incidents s ms)
+
+-- those of a summary alone as they stand at its last moment
+abbrev pub last_standing : Summary → List Incident
+last_standing s = map (stands_at (lapse s []) s.last) s.incidents
