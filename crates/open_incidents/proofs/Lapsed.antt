@@ -14,6 +14,11 @@ use Rattle.open_incidents.specs.Lapses.{earlier, lapsed}
 use Rattle.open_incidents.proofs.FindHeld.{Next, holders}
 use Rattle.open_incidents.proofs.Earlier.{in_parts, swapped}
 
+-- what is made of what was found
+pub map_twice : {A : Type 0} (f : Incident → Incident) (g : A → Incident) (o : Option A) → option_map (λ a. f (g a)) o ≡ option_map f (option_map g o)
+map_twice f g None = refl
+map_twice f g (Some a) = refl
+
 -- One more among those before it.
 
 each_filter : (P : Incident → Type 0) (p : Incident → Bool) (b : Bool) (i : Incident) (js : List Incident) → P i → Each P js → Each P (cond b (i ∷ js) js)
