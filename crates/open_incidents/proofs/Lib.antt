@@ -11,7 +11,7 @@ pub mod Holders
 pub mod HeldMarks
 pub mod FindHeld
 pub mod Earlier
-pub mod Lapsed
+pub mod LapsedHolds
 pub mod Put
 pub mod ListingLemmas
 pub mod OrderLemmas

@@ -3,7 +3,7 @@ use Rattle.std.proofs.Common.{◌∙◌, ap, sym}
 use Rattle.std.specs.Option.{option_map}
 use Rattle.centre_rules.specs.Standing.{stands_at}
 use Rattle.centre_rules.proofs.Stood.{numbered_stood}
-use Rattle.open_incidents.proofs.Lapsed.{map_twice}
+use Rattle.open_incidents.proofs.LapsedHolds.{map_twice}
 use Rattle.open_incidents.proofs.standing.open_at.Goals as goal
 
 pub returns : goal.returns

@@ -7,7 +7,7 @@ use Rattle.incidents.specs.Tables.{TableValue}
 use Rattle.centre_rules.specs.Desks.{best, least}
 use Rattle.centre_rules.specs.Standing.{stands_at}
 use Rattle.open_incidents.specs.Lapses.{earlier, lapsed}
-use Rattle.open_incidents.proofs.Lapsed.{map_twice, best_stood}
+use Rattle.open_incidents.proofs.LapsedHolds.{map_twice, best_stood}
 use Rattle.open_incidents.proofs.queued_table.QueuedTable.first.Goals as goal
 
 pub returns : goal.returns
