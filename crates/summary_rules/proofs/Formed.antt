@@ -103,7 +103,7 @@ plain_by stood at (Closes number) i fine w = record {
   apart = w.apart;
   acts = w.acts;
 }
-plain_by stood at (Adopts text) i fine w = record { account = w.account; class = w.class; code = w.code; holder = tt; steps = w.steps; apart = w.apart; acts = w.acts }
+plain_by stood at (Adopts words) i fine w = record { account = w.account; class = w.class; code = w.code; holder = tt; steps = w.steps; apart = w.apart; acts = w.acts }
 plain_by stood at (Starts moment) i fine w = record { account = w.account; class = w.class; code = w.code; holder = tt; steps = w.steps; apart = w.apart; acts = w.acts }
 plain_by stood at m i fine w = record { account = w.account; class = w.class; code = w.code; holder = w.holder; steps = w.steps; apart = w.apart; acts = w.acts }
 

@@ -125,11 +125,15 @@ NoOther after before = (after ≡ None) ⊎ (after ≡ before)
 apart_still : (h k after other : Option (List ℕ)) → NoOther after h → NoOther other k → Apart h k → Apart after other
 apart_still h k after other (inl e) v w = subst (λ (x : Option (List ℕ)). Apart x other) (sym e) tt
 apart_still h k after other (inr e) (inl f) w = subst (λ (x : Option (List ℕ)). Apart after x) (sym f) (apart_none after)
-apart_still h k after other (inr e) (inr f) w = rw (e, f) w
+apart_still h k after other (inr e) (inr f) w =
+    subst (λ (x : Option (List ℕ)). Apart x other) (sym e) (subst (λ (x : Option (List ℕ)). Apart h x) (sym f) w)
 
-nobody : (b : Bool) → cond b None None ≡ (None : Option (List ℕ))
-nobody true = refl
-nobody false = refl
+abbrev nobody : Option (List ℕ)
+nobody = None
+
+no_holder : (b : Bool) → cond b nobody nobody ≡ nobody
+no_holder true = refl
+no_holder false = refl
 
 -- a hold that has not lapsed yet had not lapsed
 no_other : (now before : Bool) (h : Option (List ℕ)) → (now ≡ false → before ≡ false) → NoOther (cond now None h) (cond before None h)
@@ -172,7 +176,7 @@ new_held seconds at (Carries x) opened is = λ e. every_unheld is
 new_held seconds at m opened is = tt
 
 new_other : (m : Mark) (after before : Option ℕ) (at opened : ℕ) (is : List Incident) → NewIs (HasNoOther m after before at) m opened is
-new_other (Carries x) after before at opened is = λ e. inl (nobody (has_lapsed after 0 at))
+new_other (Carries x) after before at opened is = λ e. inl (no_holder (has_lapsed after 0 at))
 new_other m after before at opened is = tt
 
 stay_table : (m : Mark) (after before : Option ℕ) (at opened : ℕ) (is : List Incident) → EveryTwo (AreApartAt before at) is → Every (HasNoOther m after before at) is
@@ -194,7 +198,7 @@ all_so P f (i ∷ is) = (f i, all_so P f is)
 
 freed : (seconds : Option ℕ) (at : ℕ) (b : Bool) (h : Option (List ℕ)) (touched : ℕ)
     → NoOther (cond (has_lapsed seconds (cond b 0 touched) at) None (cond b None h)) (cond (has_lapsed seconds touched at) None h)
-freed seconds at true h touched = inl (nobody (has_lapsed seconds 0 at))
+freed seconds at true h touched = inl (no_holder (has_lapsed seconds 0 at))
 freed seconds at false h touched = inr refl
 
 -- an act is of who holds it, so its hold has not lapsed
@@ -203,10 +207,10 @@ not_lapsed : (operator : List ℕ) (b : Bool) (h : Option (List ℕ)) → is_hol
 not_lapsed operator true h e = absurd (false≢true e)
 not_lapsed operator false h e = refl
 
-acted : (seconds : Option ℕ) (all : List Incident) (at number : ℕ) (a : Acted) (i : Incident) (b : Bool) → IsActedAt at number a (standing_of seconds at all)
+still_held : (seconds : Option ℕ) (all : List Incident) (at number : ℕ) (a : Acted) (i : Incident) (b : Bool) → IsActedAt at number a (standing_of seconds at all)
     → numbered i.number all ≡ Some i → (i.number == number) ≡ b
     → NoOther (cond (has_lapsed seconds (cond (b && is_some i.holder) a.at i.touched) at) None i.holder) (stands_at seconds at i).holder
-acted seconds all at number a i true fine found e =
+still_held seconds all at number a i true fine found e =
     let stood = stood_found seconds at number all fine.incident fine.found in
     let same : Some stood.incident ≡ Some i = sym stood.found ∙ ap (λ n. numbered n all) (sym (eqb-true i.number number e)) ∙ found in
     let one : stood.incident ≡ i = cc in
@@ -214,13 +218,13 @@ acted seconds all at number a i true fine found e =
     let held : holds a.operator (stands_at seconds at i) ≡ true = ap (holds a.operator) (sym is) ∙ fine.held in
     no_other (has_lapsed seconds (cond (is_some i.holder) a.at i.touched) at) (has_lapsed seconds i.touched at) i.holder
     (λ now. not_lapsed a.operator (has_lapsed seconds i.touched at) i.holder held)
-acted seconds all at number a i false fine found e = inr refl
+still_held seconds all at number a i false fine found e = inr refl
 
-acted_all : (seconds : Option ℕ) (all : List Incident) (at number : ℕ) (a : Acted) → IsActedAt at number a (standing_of seconds at all)
+all_still_held : (seconds : Option ℕ) (all : List Incident) (at number : ℕ) (a : Acted) → IsActedAt at number a (standing_of seconds at all)
     → (is : List Incident) → Each (λ i. numbered i.number all ≡ Some i) is → Every (HasNoOther (Acts number a) seconds seconds at) is
-acted_all seconds all at number a fine [] w = tt
-acted_all seconds all at number a fine (i ∷ is) w =
-    (acted seconds all at number a i (i.number == number) fine w.0 refl, acted_all seconds all at number a fine is w.1)
+all_still_held seconds all at number a fine [] w = tt
+all_still_held seconds all at number a fine (i ∷ is) w =
+    (still_held seconds all at number a i (i.number == number) fine w.0 refl, all_still_held seconds all at number a fine is w.1)
 
 -- Claims.
 
@@ -303,13 +307,13 @@ held_table s ms (Claims operator number moment) at opened is fine a w =
 held_table s ms (Adopts words) at opened is fine a w =
     let after = lapse s (Adopts words ∷ ms) in
     stay_table (Adopts words) after (lapse s ms) at opened is w
-    (all_so (HasNoOther (Adopts words) after (lapse s ms) at) (λ i. inl (nobody (has_lapsed after 0 at))) is)
+    (all_so (HasNoOther (Adopts words) after (lapse s ms) at) (λ i. inl (no_holder (has_lapsed after 0 at))) is)
 held_table s ms (Starts moment) at opened is fine a w =
     let seconds = lapse s ms in
-    stay_table (Starts moment) seconds seconds at opened is w (all_so (HasNoOther (Starts moment) seconds seconds at) (λ i. inl (nobody (has_lapsed seconds 0 at))) is)
+    stay_table (Starts moment) seconds seconds at opened is w (all_so (HasNoOther (Starts moment) seconds seconds at) (λ i. inl (no_holder (has_lapsed seconds 0 at))) is)
 held_table s ms (Acts number act) at opened is fine a w =
     let seconds = lapse s ms in
-    stay_table (Acts number act) seconds seconds at opened is w (acted_all seconds is at number act fine is (all_found 0 is opened a))
+    stay_table (Acts number act) seconds seconds at opened is w (all_still_held seconds is at number act fine is (all_found 0 is opened a))
 held_table s ms (Releases number) at opened is fine a w =
     let seconds = lapse s ms in
     stay_table (Releases number) seconds seconds at opened is w
