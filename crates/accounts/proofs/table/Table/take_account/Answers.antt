@@ -17,5 +17,5 @@ pub returns-in-Ok : goal.returns-in-Ok
 returns-in-Ok c = λ lines stands. (
   account-faultless lines c.args.number c.args.self.now stands c.args.account c.in_default.ensures (omega arith),
   account-taken lines c.args.number c.args.self.now stands c.args.account _ c.in_default.ensures
-      (c.in-Ok.ensures ∙ ap (λ entry. c.args.self.now.accounts ++ entry ∷ []) c.new-entry.ensures) refl refl,
+      (c.in-Ok.ensures ∙ ap (λ entry. c.args.self.now.accounts ++ entry ∷ []) c.new-entry.ensures) refl refl refl,
 )
