@@ -2,6 +2,7 @@
 ghost use Rattle.std.specs.Prelude.{◌++◌, decimal};
 ghost use Rattle.std.specs.List.{flat_map};
 ghost use Rattle.arc_io.specs.Told.{Puts};
+ghost use Rattle.centre_rules.specs.Standing.{standing_of};
 ghost use Rattle.arc_report.specs.Reports.{incident_line, table_of, report_of};
 ghost use Rattle.desk_wire.specs.Replies.{ended};
 
@@ -13,23 +14,28 @@ use itoa::Buffer;
 use open_incidents::orders::view;
 
 /// Writes how many entries are recorded and how many incidents are open, a line each, and then the line of each open incident in order
-/// of number, as a desk is shown it. It takes no memory, and writes a line at a time. Failed comes only where the sink failed, and then
+/// of number, as a desk is shown it at the moment of the last entry that is recorded. It takes no memory, and writes a line at a time. Failed comes only where the sink failed, and then
 /// the report was not written whole.
 pub fn report<K: Sink>(centre: &Centre, out: &mut K) -> Result<(), Failed>
     ensures { Puts (K.seen out.old) (K.seen out.new) result (report_of centre.now.sum) }
 {
     match put_count(out, b"recorded ", centre.recorded()) {
-        Ok(()) => put_table(out, centre.table().items()),
+        Ok(()) => put_table(out, centre.table().items(), centre.last(), centre.lapse()),
         Err(fault) => Err(fault),
     }
 }
 
-// Writes how many incidents are open, and the line of each.
-fn put_table<K: Sink>(out: &mut K, items: &[Incident]) -> Result<(), Failed>
-    ensures { Puts (K.seen out.old) (K.seen out.new) result (table_of items.now) }
+// Writes how many incidents are open, and the line of each as it stands at a moment.
+fn put_table<K: Sink>(
+    out: &mut K,
+    items: &[Incident],
+    at: u64,
+    lapse: Option<u64>,
+) -> Result<(), Failed>
+    ensures { Puts (K.seen out.old) (K.seen out.new) result (table_of (standing_of lapse at items.now)) }
 {
     match put_count(out, b"open ", items.len() as u64) {
-        Ok(()) => put_incidents(out, items),
+        Ok(()) => put_incidents(out, items, at, lapse),
         Err(fault) => Err(fault),
     }
 }
@@ -55,12 +61,17 @@ fn put_number<K: Sink>(out: &mut K, number: u64) -> Result<(), Failed>
     }
 }
 
-// Writes the line of each incident.
-fn put_incidents<K: Sink>(out: &mut K, items: &[Incident]) -> Result<(), Failed>
-    ensures { Puts (K.seen out.old) (K.seen out.new) result (flat_map incident_line items.now) }
+// Writes the line of each incident as it stands at a moment.
+fn put_incidents<K: Sink>(
+    out: &mut K,
+    items: &[Incident],
+    at: u64,
+    lapse: Option<u64>,
+) -> Result<(), Failed>
+    ensures { Puts (K.seen out.old) (K.seen out.new) result (flat_map incident_line (standing_of lapse at items.now)) }
 {
     for i in items {
-        match print(&Reply::Shown(view(i)), out) {
+        match print(&Reply::Shown(view(i, at, lapse)), out) {
             Ok(()) => {}
             Err(fault) => return Err(fault),
         }

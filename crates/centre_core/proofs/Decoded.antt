@@ -7,13 +7,15 @@ use Rattle.arc_data.specs.Incidents.{Each}
 use Rattle.arc_data.specs.Moments.{IsMoment}
 use Rattle.arc_data.specs.declared.incident.Incident.{Incident}
 use Rattle.alarm_rules.specs.Setups.{setup_of}
+use Rattle.centre_rules.specs.Marks.{lapse}
+use Rattle.centre_rules.specs.Standing.{stands_at}
 use Rattle.centre_rules.specs.Summary.{Summary, AccountRow, Opened, row_or}
 use Rattle.centre_rules.specs.State.{Same, State, StandsFor}
 use Rattle.incidents.specs.Tables.{TableValue}
 use Rattle.open_incidents.specs.Marked.{HasActRoom}
 use Rattle.summary_rules.specs.Fields.{Given, IsIncident}
 use Rattle.summary_rules.specs.Lists.{Every, EveryTwo}
-use Rattle.summary_rules.specs.Conditions.{HasRowBy, HasIncidentBy, IsRowBefore, AreMessages, IsCount, AreSteps, AreActsOf, IsSummary}
+use Rattle.summary_rules.specs.Conditions.{HasRowBy, HasIncidentBy, IsRowBefore, IsHeldApart, AreMessages, IsCount, AreSteps, AreActsOf, IsSummary}
 use Rattle.summary_rules.proofs.Everies.{every_weaker, every_map}
 use Rattle.summary_rules.proofs.Pairs.{every_both}
 use Rattle.summary_codec.specs.declared.head.Head.{Head}
@@ -27,7 +29,7 @@ use Rattle.centre_core.proofs.StepRoom.{acts_and_left}
 
 -- Lists of what was made of items.
 
-every_back : {A B : Type 0} (Q : B → Type 0) (f : A → B) (xs : List A) → Every Q (map f xs) → Every (λ x. Q (f x)) xs
+pub every_back : {A B : Type 0} (Q : B → Type 0) (f : A → B) (xs : List A) → Every Q (map f xs) → Every (λ x. Q (f x)) xs
 every_back Q f [] w = tt
 every_back Q f (x ∷ xs) w = (w.0, every_back Q f xs w.1)
 
@@ -42,7 +44,7 @@ two_back S f (x ∷ xs) w = (every_back (S (f x)) f xs w.0, two_back S f xs w.1)
 -- The parts and the whole.
 
 pub of_parts : (r : ReadSummary) → IsHeadFine r.head → AreRowsFine r.head.last r.rows.items → AreIncidentsFine r.head r.incidents.items → IsTextFine r.head
-    → AreAllApart r.incidents.items → IsSummary r.head.generation (summary_of_read r)
+    → AreAllApart (lapse (summary_of_read r) []) r.head.last r.incidents.items → IsSummary r.head.generation (summary_of_read r)
 of_parts r h rows is text apart = record {
   last = h.last;
   moments = record {
@@ -60,7 +62,7 @@ of_parts r h rows is text apart = record {
   numbers = is.numbers;
   single = apart.single;
   signals = every_weaker (IsIncidentFine r.head) (λ (i : Incident). IsCount (4000 * r.head.recorded) i.signals) (λ i w. w.signals) r.incidents.items is.each;
-  holders = apart.holders;
+  holders = two_made IsHeldApart (stands_at (lapse (summary_of_read r) []) r.head.last) r.incidents.items apart.holders;
   steps = every_weaker (IsIncidentFine r.head) (λ (i : Incident). AreSteps i.steps) (λ i w. w.steps) r.incidents.items is.each;
   acts = every_weaker (IsIncidentFine r.head) (λ (i : Incident). AreActsOf i.steps i.acts) (λ i w. w.acts) r.incidents.items is.each;
 }
@@ -89,8 +91,11 @@ incidents_of r w =
       numbers = w.numbers;
     }
 
-pub apart_of : (r : ReadSummary) → IsSummary r.head.generation (summary_of_read r) → AreAllApart r.incidents.items
-apart_of r w = record { single = w.single; holders = w.holders }
+pub apart_of : (r : ReadSummary) → IsSummary r.head.generation (summary_of_read r) → AreAllApart (lapse (summary_of_read r) []) r.head.last r.incidents.items
+apart_of r w = record {
+  single = w.single;
+  holders = two_back IsHeldApart (stands_at (lapse (summary_of_read r) []) r.head.last) r.incidents.items w.holders;
+}
 
 -- What a centre has to keep.
 

@@ -1,6 +1,6 @@
 -- What a recorded event leaves.
-use Rattle.std.proofs.Common.{◌≡◌, ◌≤◌, ◌^◌, ◌*◌, ◌+◌, ℕ, List, [], map, length, true, Option, Some, None, refl, sym, ap, ◌∙◌, arith, subst}
-use Rattle.std.specs.Prelude.{IsOk, IsErr, is_ok, Result, Ok, Err}
+use Rattle.std.proofs.Common.{◌≡◌, ◌≤◌, ◌^◌, ◌*◌, ◌+◌, ℕ, List, [], length, true, Option, Some, None, refl, sym, ap, ◌∙◌, arith, subst}
+use Rattle.std.specs.Prelude.{IfSome, IsOk, IsErr, is_ok, Result, Ok, Err}
 use Rattle.std.proofs.lemmas.Bool.{false≢true}
 use Rattle.arc_data.specs.declared.event.Event.{Event}
 use Rattle.arc_data.specs.declared.event.Event.TheVariants.{Adopt, Start, Message as Sent, Beat, Tick, Claim, Next, Act as Do, Release, Close, Show, List as Rows}
@@ -12,15 +12,14 @@ use Rattle.known_accounts.specs.Rows.{RowsValue, lacking}
 use Rattle.alarm_rules.specs.Setups.{Setup, setup_of}
 use Rattle.centre_rules.specs.Summary.{Summary}
 use Rattle.centre_rules.specs.Marks.{Mark, Adopts, Carried}
-use Rattle.centre_rules.specs.Tables.{touched_by}
 use Rattle.centre_rules.specs.Carrying.{carried_by}
 use Rattle.centre_rules.specs.History.{is_recorded, marks_of, onto}
 use Rattle.centre_rules.specs.Answers.{answer_over, if_known}
 use Rattle.centre_rules.specs.State.{Same, State, Plan}
 use Rattle.centre_rules.proofs.Marked.{marked_same}
 use Rattle.centre_core.specs.Taken.{sum_of, marks_with, Takes, MayTake, Fits, accounts_of, IsNoAdopt}
-use Rattle.centre_core.proofs.Taking.{few_more, map_same}
-use Rattle.open_incidents.specs.Marked.{IsFew}
+use Rattle.centre_core.proofs.Taking.{few_more}
+use Rattle.open_incidents.specs.Marked.{IsFew, marked_table}
 use Rattle.incidents.specs.Tables.{TableValue}
 use Rattle.centre_core.specs.Kept.{IsReady, IsAdopted, IsSetupOf, CarriesSetup, NoLess, MayRecord, Records, IsCentre}
 use Rattle.centre_core.proofs.Ordered.{fits_of}
@@ -114,20 +113,18 @@ records_taken s t e at r setup xs v w b c last recorded text may before entries 
 
 -- what a recorded Adopt leaves
 
-adopted_same : (text : List ℕ) (is : List Incident) → map (touched_by (Adopts text)) is ≡ is
-adopted_same text is = map_same (Adopts text) (λ i. refl) is
-
-pub records_adopted : (s t : State) (new : List ℕ) (at : ℕ) (r : Reply) (setup : Option (List ℕ)) (xs : List Carried) (v : RowsValue) (b : TableValue) (last recorded : ℕ) (text : Option (List ℕ))
-    → MayRecord s (Adopt new) at r setup xs → s.sum ≡ sum_of last recorded text v b → t.entries ≡ s.entries → t.sum ≡ sum_of at (recorded + 1) setup v b → Records s t (Adopt new) at r
-records_adopted s t new at r setup xs v b last recorded text may before entries after = record {
+pub records_adopted : (s t : State) (new : List ℕ) (at : ℕ) (r : Reply) (setup : Option (List ℕ)) (xs : List Carried) (v : RowsValue) (b c : TableValue) (last recorded : ℕ) (text : Option (List ℕ))
+    → MayRecord s (Adopt new) at r setup xs → c ≡ marked_table (Adopts new) b → s.sum ≡ sum_of last recorded text v b → t.entries ≡ s.entries
+    → t.sum ≡ sum_of at (recorded + 1) setup v c → Records s t (Adopt new) at r
+records_adopted s t new at r setup xs v b c last recorded text may table before entries after = record {
   entries = entries;
   recorded = ap (λ (x : Summary). x.recorded) after ∙ ap (λ (x : Summary). x.recorded + 1) (sym before);
   last = ap (λ (x : Summary). x.last) after;
-  same = rw (after, before, may.setup.0) (marked_same (Adopts new) (sum_of last recorded text v b) (sum_of at (recorded + 1) (Some new) v b) (record {
+  same = rw (after, before, may.setup.0) (marked_same (Adopts new) (sum_of last recorded text v b) (sum_of at (recorded + 1) (Some new) v c) (record {
     text = refl;
     start = refl;
-    opened = refl;
-    incidents = sym (adopted_same new b.incidents);
+    opened = ap (λ (y : TableValue). y.opened) table;
+    incidents = ap (λ (y : TableValue). y.incidents) table;
     rows = λ a. refl;
     heard = λ a. refl;
     failed = λ a. refl;
@@ -135,6 +132,10 @@ records_adopted s t new at r setup xs v b last recorded text may before entries 
     recent = λ a. refl;
   }));
 }
+
+-- the setup in force is valid then
+pub valid_adopted : (setup : Option (List ℕ)) (new : List ℕ) → CarriesSetup (Adopt new) setup → IfSome setup (λ x. IsOk (setup_of x))
+valid_adopted setup new w = subst (λ (o : Option (List ℕ)). IfSome o (λ x. IsOk (setup_of x))) (sym w.0) w.1
 
 pub counts_up : (recorded opened : ℕ) (is : List Incident) → IsFew (recorded * 4000) opened is → IsFew ((recorded + 1) * 4000) opened is
 counts_up recorded opened is w = few_more (recorded * 4000) ((recorded + 1) * 4000) opened is (omega arith) w

@@ -5,6 +5,7 @@ use Rattle.arc_data.specs.Incidents.{Ascends}
 use Rattle.arc_data.specs.Moments.{IsMoment}
 use Rattle.arc_data.specs.declared.incident.Incident.{Incident}
 use Rattle.alarm_rules.specs.Setups.{setup_of}
+use Rattle.centre_rules.specs.Standing.{stands_at}
 use Rattle.centre_rules.specs.State.{State, StandsFor}
 use Rattle.centre_rules.specs.Summary.{Summary}
 use Rattle.summary_rules.specs.Fields.{Given}
@@ -77,10 +78,14 @@ pub record ArePartsFine (h : Head) (rows : List ReadRow) (is : List Incident) : 
   pub rows_are : AreRowsFine h.last rows
   pub incidents : AreIncidentsFine h is
 
--- no two are of one account and class, and no operator holds two
-pub record AreAllApart (is : List Incident) : Type 0 where
+-- no operator holds both at the moment
+abbrev pub IsHeldApartAt : Option ℕ → ℕ → Incident → Incident → Type 0
+IsHeldApartAt lapse at i other = IsHeldApart (stands_at lapse at i) (stands_at lapse at other)
+
+-- no two are of one account and class, and no operator holds two at the moment
+pub record AreAllApart (lapse : Option ℕ) (at : ℕ) (is : List Incident) : Type 0 where
   pub single : EveryTwo IsApart is
-  pub holders : EveryTwo IsHeldApart is
+  pub holders : EveryTwo (IsHeldApartAt lapse at) is
 
 -- the text, where there is one, is a setup
 abbrev pub IsSetupGiven : Option (List ℕ) → Type 0

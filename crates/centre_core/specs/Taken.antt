@@ -28,7 +28,7 @@ sum_of last recorded text v t = record {
   incidents = t.incidents;
 }
 
--- all but an Adopt, whose mark is neither in the rows nor in the table
+-- all but an Adopt, whose mark is not in the rows
 abbrev pub IsNoAdopt : Event → Type 0
 IsNoAdopt (Adopt text) = ⊥
 IsNoAdopt event = Unit {0}
@@ -69,7 +69,7 @@ pub record Takes (ms : List Mark) (v w : RowsValue) (t u : TableValue) : Type 0 
   pub few : (n : ℕ) → IsFew n t.opened t.incidents → IsFew (n + 4000) u.opened u.incidents
   pub acts : HaveActRoom t.incidents → HaveActRoom u.incidents
 
--- a recorded act is of the expected step of an open incident that its operator holds; a closed incident is open
+-- a recorded act is of the expected step of an open incident that its operator claimed; a closed incident is open
 abbrev pub Fits : Event → ℕ → Reply → List Incident → Type 0
 Fits (Do operator number step outcome) at reply is =
     (n left : ℕ) → reply ≡ Recorded n left → FitsAct n (acted_by operator step outcome at) is

@@ -10,6 +10,8 @@ use crate::centre::Centre;
 use crate::orders::on_adopt;
 use arc_data::{Acted, Carried, Event, Memory, Message, Reply};
 use known_accounts::WatchedSetup;
+use open_incidents::listing::list;
+use open_incidents::orders::show;
 use std::alloc::Global;
 
 /// The reply to an event, and where it is recorded, the signals that it carries.
@@ -100,8 +102,8 @@ impl Centre {
             Event::Adopt { .. } => Ok(on_adopt(setup)),
             Event::Start => Ok(Reply::Started),
             Event::Beat { account } => Ok(self.on_beat(account)),
-            Event::Claim { operator, number } => Ok(self.on_claim(operator, *number)),
-            Event::Next { operator } => Ok(self.on_next(operator)),
+            Event::Claim { operator, number } => Ok(self.on_claim(operator, *number, at)),
+            Event::Next { operator } => Ok(self.on_next(operator, at)),
             Event::Act {
                 operator,
                 number,
@@ -116,17 +118,14 @@ impl Centre {
                 };
                 Ok(self.on_act(acted, *number))
             }
-            Event::Release { operator, number } => Ok(self.on_release(operator, *number)),
+            Event::Release { operator, number } => Ok(self.on_release(operator, *number, at)),
             Event::Close {
                 operator,
                 number,
                 ..
-            } => Ok(self.on_close(operator, *number)),
-            Event::Show { number } => Ok(open_incidents::orders::show(
-                self.queued.table(),
-                *number,
-            )),
-            Event::List => open_incidents::listing::list(alloc, self.queued.table().items()),
+            } => Ok(self.on_close(operator, *number, at)),
+            Event::Show { number } => Ok(show(self.queued.table(), *number, at, self.lapse())),
+            Event::List => list(alloc, self.queued.table().items(), at, self.lapse()),
             Event::Message(_) | Event::Tick => Ok(Reply::Unknown),
         }
     }

@@ -86,6 +86,13 @@ impl Centre {
         self.recorded
     }
 
+    /// The moment of the last entry that is recorded, seconds since 1970.
+    pub fn last(&self) -> u64
+        ensures { result ≡ self.now.sum.last }
+    {
+        self.last
+    }
+
     /// The setup in force: that of the last Adopt, or none before the first.
     pub fn setup(&self) -> Option<&Setup>
         ensures { option_map (λ s. s.now) result ≡ self.now.sum.text }
@@ -93,7 +100,7 @@ impl Centre {
         self.accounts.setup()
     }
 
-    /// The open incidents.
+    /// The open incidents, each with its claimer.
     pub fn table(&self) -> &Table
         ensures incidents { result.now.incidents ≡ self.now.sum.incidents }
         ensures opened { result.now.opened ≡ self.now.sum.opened }
@@ -188,6 +195,7 @@ impl Centre {
         if let Event::Adopt { .. } = event {
             let Some(setup) = setup else { unreachable!() };
             self.accounts.adopt(setup);
+            self.queued.adopt();
             return;
         }
         mark(

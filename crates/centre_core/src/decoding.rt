@@ -5,16 +5,18 @@ ghost use Rattle.arc_data.specs.Incidents.{Ascends};
 ghost use Rattle.arc_data.specs.Moments.{IsMoment};
 ghost use Rattle.summary_rules.specs.Lists.{Every, EveryTwo};
 ghost use Rattle.summary_rules.specs.Fields.{HasFields};
-ghost use Rattle.summary_rules.specs.Conditions.{IsApart, IsHeldApart};
+ghost use Rattle.summary_rules.specs.Conditions.{IsApart};
 ghost use Rattle.summary_codec.specs.Parts.{row_of_read, summary_of_read};
-ghost use Rattle.centre_core.specs.Decoding.{IsNoSpelling, IsDecoded, IsNoSummary, IsKeptOf, IsReadBefore, AreRowsFine, ArePartsFine, AreAllApart, IsSetupGiven, IsTextFine};
+ghost use Rattle.centre_core.specs.Decoding.{IsNoSpelling, IsDecoded, IsNoSummary, IsKeptOf, IsReadBefore, AreRowsFine, ArePartsFine, AreAllApart, IsHeldApartAt, IsSetupGiven, IsTextFine};
 
 use crate::centre::Centre;
 use crate::conditions::{are_incidents, are_rows, is_head};
+use crate::holding::lapse_by;
 use accounts::Setup;
 use arc_data::{Incident, Memory, SetupFault};
 use known_accounts::{AccountRows, Row, SupervisedAccounts, WatchedSetup};
 use open_incidents::QueuedTable;
+use open_incidents::standing::holder_at;
 use std::alloc::Global;
 use summary_codec::{Head, ReadRow, ReadSummary, summary_read};
 
@@ -48,7 +50,8 @@ fn centre_of(alloc: Global, read: ReadSummary<'_>) -> Result<Option<Centre>, Mem
     let Some(accounts) = accounts_of(alloc, &head, rows)? else {
         return Ok(None);
     };
-    let Some(queued) = table_of(alloc, head.opened, incidents)? else {
+    let lapse = lapse_by(&accounts);
+    let Some(queued) = table_of(alloc, head.opened, incidents, head.last, lapse)? else {
         return Ok(None);
     };
     Ok(Some(Centre {
@@ -129,22 +132,24 @@ fn rows_of(alloc: Global, start: Option<u64>, rows: Vec<ReadRow>) -> Result<Acco
     Ok(kept)
 }
 
-// The table of incidents whose numbers ascend. None where two are of one account and class, or an operator holds two.
+// The table of incidents whose numbers ascend. None where two are of one account and class, or an operator holds two at the moment.
 fn table_of(
     alloc: Global,
     opened: u64,
     incidents: Vec<Incident>,
+    at: u64,
+    lapse: Option<u64>,
 ) -> Result<Option<QueuedTable>, Memory>
     requires few { opened ≤ 2 ^ 62 }
     requires numbers { Ascends 0 incidents.items opened }
-    ensures apart { IfOk result (λ found. MatchOption found (AreAllApart incidents.items → ⊥) (λ queued. AreAllApart incidents.items)) }
+    ensures apart { IfOk result (λ found. MatchOption found (AreAllApart lapse at incidents.items → ⊥) (λ queued. AreAllApart lapse at incidents.items)) }
     ensures opened { IfOk result (λ found. MatchOption found Unit (λ queued. queued.opened ≡ opened)) }
     ensures incidents { IfOk result (λ found. MatchOption found Unit (λ queued. queued.incidents ≡ incidents.items)) }
 {
     let mut queued = QueuedTable::opened_at(alloc, opened);
     queued.reserve(incidents.len())?;
     for incident in incidents {
-        if !is_apart(&queued, &incident) {
+        if !is_apart(&queued, &incident, at, lapse) {
             return Ok(None);
         }
         queued.put(incident);
@@ -152,15 +157,15 @@ fn table_of(
     Ok(Some(queued))
 }
 
-// Whether none of these is of the account and class of an incident, and its holder holds none of them.
-fn is_apart(queued: &QueuedTable, i: &Incident) -> bool
-    ensures { IsTrue result ↔ (Every (λ other. IsApart other i.now) queued.now.incidents × Every (λ other. IsHeldApart other i.now) queued.now.incidents) }
+// Whether none of these is of the account and class of an incident, and its holder at the moment holds none of them then.
+fn is_apart(queued: &QueuedTable, i: &Incident, at: u64, lapse: Option<u64>) -> bool
+    ensures { IsTrue result ↔ (Every (λ other. IsApart other i.now) queued.now.incidents × Every (λ other. IsHeldApartAt lapse at other i.now) queued.now.incidents) }
 {
     if queued.table().find(&i.account, i.class).is_some() {
         return false;
     }
-    match &i.holder {
-        Some(operator) => queued.held_by(operator).is_none(),
+    match holder_at(i, at, lapse) {
+        Some(operator) => queued.held_by(&operator, at, lapse).is_none(),
         None => true,
     }
 }

@@ -9,6 +9,7 @@ mod conditions;
 mod copying;
 mod decoding;
 mod hall;
+mod holding;
 mod marks;
 mod orders;
 mod ready;

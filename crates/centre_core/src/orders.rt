@@ -10,6 +10,7 @@ ghost use Rattle.centre_core.specs.Kept.{IsSetupOf};
 use crate::centre::Centre;
 use arc_data::{Acted, Reply, Txt};
 use known_accounts::WatchedSetup;
+use open_incidents::orders;
 
 impl Centre {
     /// The answer to a heartbeat.
@@ -20,18 +21,18 @@ impl Centre {
     }
 
     /// The answer to a claim.
-    pub(crate) fn on_claim(&self, operator: &Txt, number: u64) -> Reply
-        ensures { (at : ℕ) → result ≡ answer_over self.now.sum [] (Claim operator.now number) at }
+    pub(crate) fn on_claim(&self, operator: &Txt, number: u64, at: u64) -> Reply
+        ensures { result ≡ answer_over self.now.sum [] (Claim operator.now number) at }
     {
-        let reply = open_incidents::orders::claim(&self.queued, operator, number);
+        let reply = orders::claim(&self.queued, operator, number, at, self.lapse());
         if_known(self.knows_operator(operator), reply)
     }
 
     /// The answer to an operator who asks for the next incident.
-    pub(crate) fn on_next(&self, operator: &Txt) -> Reply
-        ensures { (at : ℕ) → result ≡ answer_over self.now.sum [] (Next operator.now) at }
+    pub(crate) fn on_next(&self, operator: &Txt, at: u64) -> Reply
+        ensures { result ≡ answer_over self.now.sum [] (Next operator.now) at }
     {
-        let reply = open_incidents::orders::next(&self.queued, operator);
+        let reply = orders::next(&self.queued, operator, at, self.lapse());
         if_known(self.knows_operator(operator), reply)
     }
 
@@ -40,23 +41,23 @@ impl Centre {
         ensures { result ≡ answer_over self.now.sum [] (Do acted.operator number acted.step acted.outcome) acted.at }
     {
         let operator = acted.operator;
-        let reply = open_incidents::orders::act(self.queued.table(), acted, number);
+        let reply = orders::act(self.queued.table(), acted, number, self.lapse());
         if_known(self.knows_operator(&operator), reply)
     }
 
     /// The answer to a release.
-    pub(crate) fn on_release(&self, operator: &Txt, number: u64) -> Reply
-        ensures { (at : ℕ) → result ≡ answer_over self.now.sum [] (Release operator.now number) at }
+    pub(crate) fn on_release(&self, operator: &Txt, number: u64, at: u64) -> Reply
+        ensures { result ≡ answer_over self.now.sum [] (Release operator.now number) at }
     {
-        let reply = open_incidents::orders::release(self.queued.table(), operator, number);
+        let reply = orders::release(self.queued.table(), operator, number, at, self.lapse());
         if_known(self.knows_operator(operator), reply)
     }
 
     /// The answer to a closing.
-    pub(crate) fn on_close(&self, operator: &Txt, number: u64) -> Reply
-        ensures { (code : CloseCode) (at : ℕ) → result ≡ answer_over self.now.sum [] (Close operator.now number code) at }
+    pub(crate) fn on_close(&self, operator: &Txt, number: u64, at: u64) -> Reply
+        ensures { (code : CloseCode) → result ≡ answer_over self.now.sum [] (Close operator.now number code) at }
     {
-        let reply = open_incidents::orders::close(self.queued.table(), operator, number);
+        let reply = orders::close(self.queued.table(), operator, number, at, self.lapse());
         if_known(self.knows_operator(operator), reply)
     }
 

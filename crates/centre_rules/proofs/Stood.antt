@@ -3,18 +3,14 @@ use Rattle.std.proofs.Common.{◌≡◌, ℕ, List, [], ◌∷◌, map, Bool, tr
 use Rattle.std.specs.Option.{option_map}
 use Rattle.centre_rules.specs.Cases.{Incident, has_number, Ascends}
 use Rattle.centre_rules.specs.Desks.{numbered}
-use Rattle.centre_rules.specs.Standing.{stands_at}
-
--- these incidents as they stand
-abbrev pub standing_of : Option ℕ → ℕ → List Incident → List Incident
-standing_of lapse at is = map (stands_at lapse at) is
+pub use Rattle.centre_rules.specs.Standing.{stands_at, standing_of}
 
 stood_if : (f : Incident → Incident) (b : Bool) (i : Incident) (rest stood : Option Incident) → stood ≡ option_map f rest
     → cond b (Some (f i)) stood ≡ option_map f (cond b (Some i) rest)
 stood_if f true i rest stood e = refl
 stood_if f false i rest stood e = e
 
-numbered_stood : (lapse : Option ℕ) (at n : ℕ) (is : List Incident) → numbered n (standing_of lapse at is) ≡ option_map (stands_at lapse at) (numbered n is)
+pub numbered_stood : (lapse : Option ℕ) (at n : ℕ) (is : List Incident) → numbered n (standing_of lapse at is) ≡ option_map (stands_at lapse at) (numbered n is)
 numbered_stood lapse at n [] = refl
 numbered_stood lapse at n (i ∷ is) = stood_if (stands_at lapse at) (has_number n i) i (numbered n is) (numbered n (standing_of lapse at is)) (numbered_stood lapse at n is)
 

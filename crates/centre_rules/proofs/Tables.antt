@@ -183,7 +183,7 @@ pub ascends_table : (m : Mark) (opened : ℕ) (is : List Incident) → Ascends 0
 ascends_table m opened is a = ascends_left m _ _ (ascends_map m 0 (with_opened m opened is) _ (ascends_opened m opened is a))
 
 -- each incident is found by its number
-above : (low : ℕ) (is : List Incident) (high : ℕ) → Ascends low is high → Each (λ i. low < i.number) is
+pub above : (low : ℕ) (is : List Incident) (high : ℕ) → Ascends low is high → Each (λ i. low < i.number) is
 above low [] high a = tt
 above low (i ∷ is) high a = (a.0, above low is high (ascends_weak low i.number is high (omega arith) a.1))
 

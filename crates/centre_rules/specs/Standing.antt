@@ -1,8 +1,9 @@
 -- Who holds an open incident at a moment: its claimer, unless that hold has lapsed.
-use Rattle.std.specs.Prelude.{ℕ, ◌+◌, List, [], Bool, false, nat_lt, Option, Some, None, map, if◌then◌else◌}
+use Rattle.std.specs.Prelude.{ℕ, ◌+◌, List, [], Bool, false, nat_lt, Option, Some, None, option_and_then, map, if◌then◌else◌}
 use Rattle.centre_rules.specs.Summary.{Summary}
 use Rattle.centre_rules.specs.Marks.{Mark, lapse}
 use Rattle.centre_rules.specs.Cases.{Incident, incidents}
+use Rattle.centre_rules.specs.Desks.{numbered}
 
 -- a hold that was last touched then has lapsed at the moment: it is more seconds later than those after which holds lapse
 abbrev pub has_lapsed : Option ℕ → ℕ → ℕ → Bool
@@ -13,10 +14,18 @@ has_lapsed (Some seconds) touched at = nat_lt (touched + seconds) at
 abbrev pub stands_at : Option ℕ → ℕ → Incident → Incident
 stands_at lapse at i = record i { holder = if has_lapsed lapse i.touched at then None else i.holder }
 
+-- these incidents as they stand at the moment
+abbrev pub standing_of : Option ℕ → ℕ → List Incident → List Incident
+standing_of lapse at is = map (stands_at lapse at) is
+
 -- the open incidents as they stand at a moment, in order of number
 abbrev pub standing : Summary → List Mark → ℕ → List Incident
-standing s ms at = map (stands_at (lapse s ms) at) (incidents s ms)
+standing s ms at = standing_of (lapse s ms) at (incidents s ms)
+
+-- who holds the open incident of a number at a moment, if anybody
+abbrev pub holder_then : Summary → List Mark → ℕ → ℕ → Option (List ℕ)
+holder_then s ms at number = option_and_then (λ i. i.holder) (numbered number (standing s ms at))
 
 -- those of a summary alone as they stand at its last moment
 abbrev pub last_standing : Summary → List Incident
-last_standing s = map (stands_at (lapse s []) s.last) s.incidents
+last_standing s = standing_of (lapse s []) s.last s.incidents

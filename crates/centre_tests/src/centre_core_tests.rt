@@ -103,6 +103,48 @@ fn play_events(rt: &impl Abort, alloc: Global, centre: &mut Centre) {
     }
 }
 
+// A hold that lapses 300 seconds after the claim or the last act, and what a setup in force ends.
+const LAPSES: &str = "\
+0;adopt lapse;adopted
+0;start;started
+0;message;taken
+0;claim;claimed
+300;bob;held by another
+301;bob;claimed
+301;note;not yours
+601;claim;held by another
+602;claim;claimed
+702;note;recorded
+1002;bob;held by another
+1002;adopt lapse;adopted
+1002;note;not yours
+1002;bob;claimed";
+
+// Who holds incident 1 at a moment from the beginning of the run.
+fn holder(rt: &impl Abort, centre: &Centre, clock: u64) -> Option<Txt> {
+    if centre.table().get(1).is_none() {
+        panic!(rt; "not open");
+    }
+    centre.holder_at(1, BEGIN.saturating_add(clock))
+}
+
+#[test]
+fn a_hold_that_lapses(rt: HostRuntime) {
+    let mut centre = Centre::empty(rt.alloc());
+    for row in LAPSES.lines() {
+        play_row(&rt, rt.alloc(), &mut centre, row);
+    }
+    see_lapse(&rt, &centre);
+    drop(centre);
+}
+
+fn see_lapse(rt: &impl Abort, centre: &Centre) {
+    same(rt, centre.last(), BEGIN + 1002, "the last moment");
+    same(rt, centre.lapse(), Some(300), "the seconds");
+    same(rt, holder(rt, centre, 1302), Txt::of(b"bob"), "before it lapses");
+    same(rt, holder(rt, centre, 1303), None, "behind that");
+}
+
 // Works out the answer to a Start, and gives it up. Gives whether there was memory.
 fn given_up(alloc: Global, centre: &mut Centre) -> bool
     requires { centre.old.entries < 2 ^ 48 }

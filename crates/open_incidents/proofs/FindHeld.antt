@@ -1,31 +1,49 @@
--- The incident that an operator holds is among those that are held.
+-- The incident that an operator holds at a moment is among those that have a claimer.
 use Rattle.std.proofs.Common.{◌≡◌, ◌<◌, ◌+◌, ℕ, zero, suc, List, [], ◌∷◌, map, length, drop, get_or, Bool, true, false, cond, refl, sym, ap, ◌∙◌, Some, None, arith}
-use Rattle.std.specs.Prelude.{is_some, Option}
-use Rattle.std.specs.List.{filter}
-use Rattle.std.proofs.lemmas.List.{drop_more, get_or-map, length-map}
+use Rattle.std.specs.Prelude.{◌≤◌, is_some, Option}
+use Rattle.std.specs.List.{filter, find}
+use Rattle.std.specs.Option.{option_map}
+use Rattle.std.proofs.lemmas.List.{drop_all, drop_more, get_or-map, length-map}
 use Rattle.arc_data.specs.Incidents.{Ascends, Each}
 use Rattle.arc_data.specs.declared.incident.Incident.{Incident}
 use Rattle.centre_rules.specs.Desks.{numbered, holds, is_holder, held_by}
+use Rattle.centre_rules.specs.Standing.{has_lapsed, stands_at, standing_of}
 use Rattle.centre_rules.proofs.Tables.{all_found}
 use Rattle.open_incidents.specs.Holding.{is_held, held_numbers}
 
-abbrev holders : List Incident → List Incident
+abbrev pub holders : List Incident → List Incident
 holders is = filter is_held is
 
+-- the operator holds the incident at the moment
+abbrev pub holds_then : Option ℕ → ℕ → List ℕ → Incident → Bool
+holds_then lapse at o i = holds o (stands_at lapse at i)
+
 -- who holds nothing is no holder
-not_by : (o : List ℕ) (holder : Option (List ℕ)) → is_some holder ≡ false → is_holder o holder ≡ false
-not_by o None e = refl
-not_by o (Some x) e = cc
+not_by : (o : List ℕ) (b : Bool) (holder : Option (List ℕ)) → is_some holder ≡ false → is_holder o (cond b None holder) ≡ false
+not_by o true None e = refl
+not_by o false None e = refl
+not_by o b (Some x) e = cc
 
-among_if : (o : List ℕ) (b : Bool) (i : Incident) (is js : List Incident) → is_held i ≡ b → held_by o is ≡ held_by o js
-    → held_by o (i ∷ is) ≡ held_by o (cond b (i ∷ js) js)
-among_if o true i is js e rest = ap (λ (r : Option Incident). cond (holds o i) (Some i) r) rest
-among_if o false i is js e rest =
-    ap (λ (b : Bool). cond b (Some i) (held_by o is)) (not_by o i.holder e) ∙ rest
+module _ (lapse : Option ℕ) (at : ℕ) (o : List ℕ) where
+  among_if : (b : Bool) (i : Incident) (is js : List Incident) → is_held i ≡ b → find (holds_then lapse at o) is ≡ find (holds_then lapse at o) js
+      → find (holds_then lapse at o) (i ∷ is) ≡ find (holds_then lapse at o) (cond b (i ∷ js) js)
+  among_if true i is js e rest = ap (λ (r : Option Incident). cond (holds_then lapse at o i) (Some i) r) rest
+  among_if false i is js e rest =
+      ap (λ (b : Bool). cond b (Some i) (find (holds_then lapse at o) is)) (not_by o (has_lapsed lapse i.touched at) i.holder e) ∙ rest
 
-pub among : (o : List ℕ) (is : List Incident) → held_by o is ≡ held_by o (holders is)
-among o [] = refl
-among o (i ∷ is) = among_if o (is_held i) i is (holders is) refl (among o is)
+  pub among : (is : List Incident) → find (holds_then lapse at o) is ≡ find (holds_then lapse at o) (holders is)
+  among [] = refl
+  among (i ∷ is) = among_if (is_held i) i is (holders is) refl (among is)
+
+  stood_if : (b : Bool) (i : Incident) (rest stood : Option Incident) → stood ≡ option_map (stands_at lapse at) rest
+      → cond b (Some (stands_at lapse at i)) stood ≡ option_map (stands_at lapse at) (cond b (Some i) rest)
+  stood_if true i rest stood e = refl
+  stood_if false i rest stood e = e
+
+  -- it stands without another's hold
+  pub stood : (is : List Incident) → held_by o (standing_of lapse at is) ≡ option_map (stands_at lapse at) (find (holds_then lapse at o) is)
+  stood [] = refl
+  stood (i ∷ is) = stood_if (holds_then lapse at o i) i (find (holds_then lapse at o) is) (held_by o (standing_of lapse at is)) (stood is)
 
 -- Each of them is found by its number.
 
@@ -71,27 +89,35 @@ next is high k n ns rise same lt e =
 -- So many were looked at.
 
 -- none of the first so many is that of the operator
-abbrev pub Passed : List ℕ → List Incident → ℕ → Type 0
-Passed o is k = held_by o is ≡ held_by o (drop k (holders is))
+abbrev pub Passed : Option ℕ → ℕ → List ℕ → List Incident → ℕ → Type 0
+Passed lapse at o is k = find (holds_then lapse at o) is ≡ find (holds_then lapse at o) (drop k (holders is))
 
-pub none_first : (o : List ℕ) (is : List Incident) → Passed o is 0
-none_first o is = among o is
+pub none_first : (lapse : Option ℕ) (at : ℕ) (o : List ℕ) (is : List Incident) → Passed lapse at o is 0
+none_first lapse at o is = among lapse at o is
 
-one_if : (o : List ℕ) (i : Incident) (is : List Incident) (b : Bool) → holds o i ≡ b → held_by o (i ∷ is) ≡ cond b (Some i) (held_by o is)
-one_if o i is b e = ap (λ (c : Bool). cond c (Some i) (held_by o is)) e
+module _ (lapse : Option ℕ) (at : ℕ) (o : List ℕ) (is : List Incident) (k : ℕ) where
+  one_if : (i : Incident) (rest : List Incident) (b : Bool) → holds_then lapse at o i ≡ b
+      → find (holds_then lapse at o) (i ∷ rest) ≡ cond b (Some i) (find (holds_then lapse at o) rest)
+  one_if i rest b e = ap (λ (c : Bool). cond c (Some i) (find (holds_then lapse at o) rest)) e
 
-module _ (o : List ℕ) (is : List Incident) (k n : ℕ) (i : Incident) (w : Next is k n) (before : Passed o is k) (found : numbered n is ≡ Some i) where
-  told : (b : Bool) → holds o i ≡ b → held_by o is ≡ cond b (Some i) (held_by o (drop (k + 1) (holders is)))
-  told b e =
-      let same : w.one ≡ i = cc in
-      before ∙ ap (held_by o) (w.rest ∙ ap (λ (j : Incident). j ∷ drop (k + 1) (holders is)) same)
-      ∙ one_if o i (drop (k + 1) (holders is)) b e
+  module _ (n : ℕ) (i : Incident) (w : Next is k n) (before : Passed lapse at o is k) (found : numbered n is ≡ Some i) where
+    told : (b : Bool) → holds_then lapse at o i ≡ b
+        → find (holds_then lapse at o) is ≡ cond b (Some i) (find (holds_then lapse at o) (drop (k + 1) (holders is)))
+    told b e =
+        let same : w.one ≡ i = cc in
+        before ∙ ap (find (holds_then lapse at o)) (w.rest ∙ ap (λ (j : Incident). j ∷ drop (k + 1) (holders is)) same)
+        ∙ one_if i (drop (k + 1) (holders is)) b e
 
-  pub this : true ≡ holds o i → Some i ≡ held_by o is
-  this e = sym (told true (sym e))
+    pub this : true ≡ holds_then lapse at o i → Some (stands_at lapse at i) ≡ held_by o (standing_of lapse at is)
+    this e = sym (stood lapse at o is ∙ ap (option_map (stands_at lapse at)) (told true (sym e)))
 
-  pub passed : false ≡ holds o i → Passed o is (k + 1)
-  passed e = told false (sym e)
+    pub passed : false ≡ holds_then lapse at o i → Passed lapse at o is (k + 1)
+    passed e = told false (sym e)
+
+  -- all were looked at
+  pub none_left : Passed lapse at o is k → length (holders is) ≤ k → None ≡ held_by o (standing_of lapse at is)
+  none_left before all =
+      sym (stood lapse at o is ∙ ap (option_map (stands_at lapse at)) (before ∙ ap (find (holds_then lapse at o)) (drop_all k (holders is) all)))
 
 -- each number is that of an open incident
 pub is_there : (is : List Incident) (k n : ℕ) → Next is k n → numbered n is ≡ None → ⊥

@@ -30,17 +30,17 @@ by_tests false true false true = refl
 by_tests false true false false = refl
 by_tests false false below level = refl
 
-before_is : (i j : Incident) → is_before i j ≡ is_lt (order_of (pair_of i) (pair_of j))
+pub before_is : (i j : Incident) → is_before i j ≡ is_lt (order_of (pair_of i) (pair_of j))
 before_is i j =
     by_tests (nat_lt (priority_of i.class) (priority_of j.class)) (priority_of i.class == priority_of j.class) (nat_lt i.number j.number)
     (i.number == j.number)
 
-not_both : (o : Ordering) → is_lt o ≡ true → is_gt o ≡ false
+pub not_both : (o : Ordering) → is_lt o ≡ true → is_gt o ≡ false
 not_both Less e = refl
 not_both Equal e = refl
 not_both Greater e = absurd (false≢true e)
 
-turned : (o : Ordering) → is_gt (ordering_reverse o) ≡ is_lt o
+pub turned : (o : Ordering) → is_gt (ordering_reverse o) ≡ is_lt o
 turned Less = refl
 turned Equal = refl
 turned Greater = refl
@@ -51,7 +51,7 @@ level_if p q Equal e low high = e
 level_if p q Greater e low high = absurd (false≢true (sym low))
 
 -- of two pairs neither of which comes after the other
-level : (p q : ℕ × ℕ) → is_gt (order_of p q) ≡ false → is_gt (order_of q p) ≡ false → p ≡ q
+pub level : (p q : ℕ × ℕ) → is_gt (order_of p q) ≡ false → is_gt (order_of q p) ≡ false → p ≡ q
 level p q low high = equal p q (level_if p q (order_of p q) refl low high)
 
 before_more : (p q : ℕ × ℕ) (ps : List (ℕ × ℕ)) → is_gt (order_of p q) ≡ false → IsBeforeAll q ps → IsBeforeAll p ps

@@ -10,6 +10,8 @@ pub mod Numbers
 pub mod Holders
 pub mod HeldMarks
 pub mod FindHeld
+pub mod Earlier
+pub mod LapsedHolds
 pub mod Put
 pub mod ListingLemmas
 pub mod OrderLemmas

@@ -1,6 +1,6 @@
 -- The first rows of a list that is put in order.
 use Rattle.std.proofs.Common.{◌≡◌, ◌≤◌, ◌<◌, ◌+◌, ℕ, zero, suc, List, [], ◌∷◌, ◌++◌, map, length, take, drop, Bool, true, false, cond, refl, sym, ap, ◌∙◌, arith, get_or, drop-cons}
-use Rattle.std.specs.Prelude.{not, nat_lt, IsTrue, Some, None}
+use Rattle.std.specs.Prelude.{not, nat_lt, IsTrue, Option, Some, None}
 use Rattle.std.specs.List.{insert, position, position_or_len}
 use Rattle.std.proofs.lemmas.Bool.{false≢true}
 use Rattle.std.proofs.lemmas.Bool.Decides.{nat_tests}
@@ -10,6 +10,7 @@ use Rattle.arc_data.specs.declared.incident.Incident.{Incident}
 use Rattle.arc_data.specs.declared.listing.Listing.{Listing}
 use Rattle.arc_data.specs.declared.listing.Row.{Row}
 use Rattle.centre_rules.specs.Desks.{row_of, is_before, inserted, sorted}
+use Rattle.centre_rules.specs.Standing.{stands_at, standing_of}
 use Rattle.open_incidents.specs.Listings.{comes_before, put_in}
 
 -- The place that a search tells.
@@ -85,11 +86,17 @@ first_more i is =
 drop_more : (n k : ℕ) (is : List Incident) (i : Incident) → n + 1 ≡ k → n < length is → i ≡ get_or is n i → drop n is ≡ i ∷ drop k is
 drop_more n k is i e lt at = let next : suc n ≡ k = omega arith in drop-cons is n i lt ∙ (λ t. sym at t ∷ drop (next t) is)
 
--- the rows of one incident more, that before the others
-pub row_more : (n k : ℕ) (is : List Incident) (i : Incident) (r : Row) (rows rows' : List Row) → n + 1 ≡ k → n < length is → i ≡ get_or is n i → r ≡ row_of i → rows ≡ first_rows (drop k is)
-    → rows' ≡ take 16 (put_in r rows) → rows' ≡ first_rows (drop n is)
-row_more n k is i r rows rows' e lt at row before after =
-    after ∙ (λ t. take 16 (put_in (row t) (before t))) ∙ first_more i (drop k is) ∙ ap first_rows (sym (drop_more n k is i e lt at))
+-- the rows of one incident more, that before the others, as they stand
+pub row_more : (lapse : Option ℕ) (at n k : ℕ) (is : List Incident) (i : Incident) (r : Row) (rows rows' : List Row) → n + 1 ≡ k → n < length is
+    → i ≡ get_or is n i → r ≡ row_of (stands_at lapse at i) → rows ≡ first_rows (standing_of lapse at (drop k is))
+    → rows' ≡ take 16 (put_in r rows) → rows' ≡ first_rows (standing_of lapse at (drop n is))
+row_more lapse at n k is i r rows rows' e lt at_place row before after =
+    after ∙ (λ t. take 16 (put_in (row t) (before t))) ∙ first_more (stands_at lapse at i) (standing_of lapse at (drop k is))
+    ∙ ap (λ (l : List Incident). first_rows (standing_of lapse at l)) (sym (drop_more n k is i e lt at_place))
+
+-- as many stand as are open
+pub as_many : (lapse : Option ℕ) (at : ℕ) (is : List Incident) → length (standing_of lapse at is) ≡ length is
+as_many lapse at is = length-map is (stands_at lapse at)
 
 -- Rows pushed to a listing.
 

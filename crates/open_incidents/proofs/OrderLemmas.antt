@@ -1,6 +1,6 @@
 -- Room for an act that is answered.
 use Rattle.std.proofs.Common.{◌≡◌, ◌<◌, ℕ, List, [], ◌∷◌, ◌++◌, length, Some, Bool, true, false, cond, refl, sym, ap, ◌∙◌, arith}
-use Rattle.std.specs.Prelude.{not, IsTrue}
+use Rattle.std.specs.Prelude.{not, IsTrue, Option}
 use Rattle.std.proofs.lemmas.Bool.{false≢true}
 use Rattle.arc_data.specs.Steps.{same_step}
 use Rattle.arc_data.specs.declared.incident.Incident.{Incident}
@@ -9,8 +9,14 @@ use Rattle.arc_data.specs.declared.step.Acted.{Acted}
 use Rattle.arc_data.specs.declared.step.Step.{Step}
 use Rattle.alarm_rules.specs.Plans.{expected_step, left}
 use Rattle.centre_rules.specs.Desks.{numbered, holds, on_act}
+use Rattle.centre_rules.specs.Standing.{standing_of}
 use Rattle.open_incidents.specs.Marked.{HaveActRoom}
 use Rattle.open_incidents.proofs.ActRoom.{room_for, found_room}
+
+-- there is room in an incident however it stands
+pub room_stood : (lapse : Option ℕ) (at : ℕ) (is : List Incident) → HaveActRoom is → HaveActRoom (standing_of lapse at is)
+room_stood lapse at [] r = tt
+room_stood lapse at (i ∷ is) r = (r.0, room_stood lapse at is r.1)
 
 pub few_acts : (n : ℕ) (is : List Incident) (i : Incident) (s : Step) → HaveActRoom is → numbered n is ≡ Some i → expected_step i.steps i.acts ≡ Some s → length i.acts < 10
 few_acts n is i s r f e = room_for i s (found_room n is i r f) e

@@ -1,9 +1,11 @@
 pub use Rattle.alarm_rules.specs.Plans
 pub use Rattle.arc_data.specs.Incidents
 pub use Rattle.centre_rules.specs.Desks
+pub use Rattle.centre_rules.specs.Standing
 pub use Rattle.centre_rules.specs.Tables
 pub use Rattle.operator_queue.specs.Pairs
 pub mod Marked
 pub mod Holding
+pub mod Lapses
 pub mod Waiting
 pub mod Listings

@@ -30,7 +30,7 @@ HasActRoom i = length i.acts + left i.steps i.acts ≤ 10
 abbrev pub HaveActRoom : List Incident → Type 0
 HaveActRoom is = Each HasActRoom is
 
--- the act is of the first step that is not met of an open incident, by its holder
+-- the act is of the first step that is not met of an open incident, by its claimer
 pub record FitsAct (number : ℕ) (acted : Acted) (is : List Incident) : Type 0 where
   pub incident : Incident
   pub wanted : Step

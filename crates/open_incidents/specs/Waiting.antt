@@ -1,4 +1,4 @@
--- The queue of the open incidents that nobody holds, next to the list of those that are held.
+-- The queue of the open incidents without a claimer, next to the list of those with one.
 use Rattle.std.specs.Prelude.{◌≤◌, ℕ, List, map, length, min}
 use Rattle.std.specs.List.{filter}
 use Rattle.std.specs.List.Sorted.{IsPermutation}
@@ -13,7 +13,7 @@ use Rattle.open_incidents.specs.Holding.{HeldValue, IsHeldOf}
 abbrev pub pair_of : Incident → ℕ × ℕ
 pair_of i = (priority_of i.class, i.number)
 
--- the pairs of those of the incidents that nobody holds
+-- the pairs of those of the incidents that have no claimer
 abbrev pub waiting : List Incident → List (ℕ × ℕ)
 waiting is = map pair_of (filter is_free is)
 
@@ -22,7 +22,7 @@ pub record IsQueueOf (is : List Incident) (queue : PairsValue) : Type 0 where
   pub same : IsPermutation (waiting is) queue.pairs
   pub memory : length is ≤ queue.room
 
--- the queue of those that wait, and the list of those that are held
+-- the queue of those without a claimer, and the list of the others
 pub record IsParted (is : List Incident) (queue : PairsValue) (held : HeldValue) : Type 0 where
   pub queue_of : IsQueueOf is queue
   pub held_of : IsHeldOf is held

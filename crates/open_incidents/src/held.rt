@@ -1,12 +1,14 @@
-// The numbers of the incidents that are held, and who holds one. It is found by a walk over them: a centre has at most one for each
-// operator.
+// The numbers of the incidents that have a claimer, and who holds one at a moment. It is found by a walk over them: a centre has at most
+// one for each operator, and those that operators left behind when their holds lapsed.
 ghost use Rattle.std.specs.Prelude.{◌≡◌, ◌≤◌, ◌<◌, ◌+◌, ℕ, List, [], Some, nat_lt, length, OnOk};
 ghost use Rattle.std.specs.List.{position, position_or_len};
 ghost use Rattle.std.specs.Option.{option_map};
-ghost use Rattle.centre_rules.specs.Desks.{holds as holds_it, held_by};
+ghost use Rattle.centre_rules.specs.Desks.{held_by};
+ghost use Rattle.centre_rules.specs.Standing.{stands_at, standing_of};
 ghost use Rattle.incidents.specs.Tables.{at_number, held};
 ghost use Rattle.open_incidents.specs.Holding.{held_numbers, with_number, without_number};
 
+use crate::standing::holds;
 use arc_data::{Incident, Memory, Txt};
 use incidents::Table;
 use std::alloc::Global;
@@ -101,7 +103,7 @@ fn first_above(numbers: &[u64], number: u64) -> Option<usize>
     numbers.iter().position(|other| number < *other)
 }
 
-/// Puts the number of an open incident in, if nobody holds it yet.
+/// Puts the number of an open incident in, if it has no claimer yet.
 pub(crate) fn hold(numbers: &mut Held, table: &Table, number: u64)
     requires same { numbers.old.numbers ≡ held_numbers table.now.incidents }
     requires memory { length table.now.incidents ≤ numbers.old.room }
@@ -116,32 +118,24 @@ pub(crate) fn hold(numbers: &mut Held, table: &Table, number: u64)
     }
 }
 
-/// The incident that an operator holds, found among those that are held: these are their numbers.
+/// The incident that an operator holds at a moment, found among those that are claimed: these are their numbers.
 pub(crate) fn find_held<'a>(
     table: &'a Table,
     numbers: &[u64],
     operator: &Txt,
+    at: u64,
+    lapse: Option<u64>,
 ) -> Option<&'a Incident>
     requires { numbers.now ≡ held_numbers table.now.incidents }
-    ensures { option_map (λ i. i.now) result ≡ held_by operator.now table.now.incidents }
+    ensures { option_map (λ i. stands_at lapse at i.now) result ≡ held_by operator.now (standing_of lapse at table.now.incidents) }
 {
     let _items = table.items();
     for number in numbers {
         if let Some(i) = table.get(*number) {
-            if holds(i, operator) {
+            if holds(i, operator, at, lapse) {
                 return Some(i);
             }
         }
     }
     None
-}
-
-/// Whether an operator holds the incident.
-pub fn holds(i: &Incident, operator: &Txt) -> bool
-    ensures { result ≡ holds_it operator.now i.now }
-{
-    match &i.holder {
-        Some(holder) => holder == operator,
-        None => false,
-    }
 }

@@ -29,7 +29,7 @@ impl QueuedTable {
         }
     }
 
-    /// Puts an incident last that was opened before, with all that it has: it waits, or it is held. Takes no memory.
+    /// Puts an incident last that was opened before, with all that it has: it waits, or it has a claimer. Takes no memory.
     pub fn put(&mut self, incident: Incident)
         requires room { length self.old.incidents < self.old.room }
         requires positive { 0 < incident.number }
@@ -60,7 +60,7 @@ impl QueuedTable {
     }
 }
 
-// Puts an incident, whose number is above all others, into the queue, or into the list of those that are held.
+// Puts an incident, whose number is above all others, into the queue, or into the list of those that have a claimer.
 fn put_aside(queue: &mut Queue, held: &mut Held, i: &Incident)
     requires queue { length queue.old.pairs < queue.old.room }
     requires held { length held.old.numbers < held.old.room }

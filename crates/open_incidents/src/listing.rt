@@ -1,19 +1,26 @@
-// The answer to a question for the open incidents.
+// The answer to a question for the open incidents, with their holders at the moment.
 ghost use Rattle.std.specs.Prelude.{◌≡◌, ◌≤◌, take, length, OnOk, IfOk};
 ghost use Rattle.std.specs.List.{position, position_or_len};
 ghost use Rattle.centre_rules.specs.Desks.{on_list, row_of};
+ghost use Rattle.centre_rules.specs.Standing.{stands_at, standing_of};
 ghost use Rattle.open_incidents.specs.Listings.{comes_before, put_in};
 
+use crate::standing::holder_at;
 use arc_data::{Incident, Listing, Memory, Reply, Row};
 use std::alloc::Global;
 
 /// How many incidents are open, and the first 16 by priority and number. The error is want of memory.
-pub fn list(alloc: Global, items: &[Incident]) -> Result<Reply, Memory>
-    ensures { IfOk result (λ reply. reply ≡ on_list items.now) }
+pub fn list(
+    alloc: Global,
+    items: &[Incident],
+    at: u64,
+    lapse: Option<u64>,
+) -> Result<Reply, Memory>
+    ensures { IfOk result (λ reply. reply ≡ on_list (standing_of lapse at items.now)) }
 {
     let mut first = Vec::new(alloc);
     for k in (0..items.len()).rev() {
-        put(&mut first, row(&items[k]))?;
+        put(&mut first, row(&items[k], at, lapse))?;
     }
     let mut listing = Listing::new(items.len() as u64);
     for row in &first {
@@ -23,14 +30,14 @@ pub fn list(alloc: Global, items: &[Incident]) -> Result<Reply, Memory>
 }
 
 // The row of an incident.
-fn row(i: &Incident) -> Row
-    ensures { result ≡ row_of i.now }
+fn row(i: &Incident, at: u64, lapse: Option<u64>) -> Row
+    ensures { result ≡ row_of (stands_at lapse at i.now) }
 {
     Row {
         number: i.number,
         class: i.class,
         account: i.account,
-        holder: i.holder,
+        holder: holder_at(i, at, lapse),
     }
 }
 

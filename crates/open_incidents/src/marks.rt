@@ -1,17 +1,18 @@
 // What each mark does to the table. None of these calls takes memory.
-ghost use Rattle.std.specs.Prelude.{◌≡◌, ◌<◌, ◌^◌, ◌+◌, ℕ, length, IsSome};
+ghost use Rattle.std.specs.Prelude.{◌≡◌, ◌<◌, ◌^◌, ◌+◌, ℕ, List, length, IsSome};
 ghost use Rattle.std.specs.List.{find};
 ghost use Rattle.arc_data.specs.Incidents.{has_number};
-ghost use Rattle.centre_rules.specs.Marks.{Starts, Carries, Claims, Acts, Releases, Closes};
+ghost use Rattle.centre_rules.specs.Marks.{Adopts, Starts, Carries, Claims, Acts, Releases, Closes};
 ghost use Rattle.centre_rules.specs.History.{acted_by};
 ghost use Rattle.open_incidents.specs.Marked.{marked_table, HasFew, IsFew, HaveActRoom, FitsAct};
 
 use arc_data::{Carried, Kind, Outcome, Step, Txt};
 use incidents::Table;
 
-/// A run starts: nobody holds an incident any more.
-pub fn start(table: &mut Table)
-    ensures marked { (at : ℕ) → table.new ≡ marked_table (Starts at) table.old }
+/// A setup comes into force, or a run starts: nobody holds an incident any more.
+pub fn release_all(table: &mut Table)
+    ensures adopted { (text : List ℕ) → table.new ≡ marked_table (Adopts text) table.old }
+    ensures started { (at : ℕ) → table.new ≡ marked_table (Starts at) table.old }
     ensures few { (n : ℕ) → IsFew n table.old.opened table.old.incidents → IsFew n table.new.opened table.new.incidents }
     ensures room { HaveActRoom table.old.incidents → HaveActRoom table.new.incidents }
 {
@@ -36,7 +37,7 @@ pub fn release(table: &mut Table, number: u64)
     table.hold(number, None, 0);
 }
 
-/// An operator records a step of an incident that is held.
+/// An operator records a step of an incident that he claimed.
 pub fn act(table: &mut Table, number: u64, step: Step, outcome: Outcome, at: u64, operator: Txt)
     requires fits { FitsAct number (acted_by operator step outcome at) table.old.incidents }
     requires room { HaveActRoom table.old.incidents }

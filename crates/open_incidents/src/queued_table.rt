@@ -1,15 +1,17 @@
-// The open incidents, in order of number, those that wait, in order of priority, and those that are held. None of the calls that
-// make a mark takes memory.
-ghost use Rattle.std.specs.Prelude.{◌≡◌, ◌<◌, ◌≤◌, ◌^◌, ◌+◌, ℕ, [], length, IsSome, OnOk};
+// The open incidents, in order of number, those that nobody claimed, in order of priority, and those that are claimed. None of the calls
+// that make a mark takes memory.
+ghost use Rattle.std.specs.Prelude.{◌≡◌, ◌<◌, ◌≤◌, ◌^◌, ◌+◌, ℕ, List, [], length, IsSome, OnOk};
 ghost use Rattle.std.specs.List.{find};
 ghost use Rattle.std.specs.Option.{option_map};
 ghost use Rattle.arc_data.specs.Incidents.{has_number};
 ghost use Rattle.centre_rules.specs.Desks.{best, held_by};
-ghost use Rattle.centre_rules.specs.Marks.{Starts, Carries, Claims, Acts, Releases, Closes};
+ghost use Rattle.centre_rules.specs.Standing.{stands_at, standing_of};
+ghost use Rattle.centre_rules.specs.Marks.{Adopts, Starts, Carries, Claims, Acts, Releases, Closes};
 ghost use Rattle.centre_rules.specs.History.{acted_by};
 ghost use Rattle.open_incidents.specs.Marked.{marked_table, HasFew, IsFew, HaveActRoom, FitsAct};
 
 use crate::held::{Held, find_held, hold};
+use crate::lapsed::{earlier, first_lapsed};
 use crate::marks;
 use crate::uncounted::insert;
 use crate::waiting::{put_back, put_held, take_out};
@@ -19,7 +21,7 @@ use operator_queue::Queue;
 use std::alloc::Global;
 use std::marker::Model;
 
-/// The table of open incidents, the queue of those that nobody holds, and the list of those that are held. Contracts see the
+/// The table of open incidents, the queue of those that nobody claimed, and the list of those that are claimed. Contracts see the
 /// table; its room is for how many open incidents there is memory in the table, in the queue and in the list.
 pub struct QueuedTable {
     pub(crate) table: Table,
@@ -60,7 +62,7 @@ impl QueuedTable {
         }
     }
 
-    /// Takes memory for so many incidents more, and so that each open one can wait or be held. The error is want of memory.
+    /// Takes memory for so many incidents more, and so that each open one can wait or be claimed. The error is want of memory.
     pub fn reserve(&mut self, more: usize) -> Result<(), Memory>
         ensures opened { self.new.opened ≡ self.old.opened }
         ensures incidents { self.new.incidents ≡ self.old.incidents }
@@ -83,9 +85,18 @@ impl QueuedTable {
         &self.table
     }
 
-    /// The most urgent incident that nobody holds, and of those of one priority that of the lowest number. It is the first of the
-    /// queue, and found by its number.
-    pub fn first(&self) -> Option<&Incident>
+    /// The most urgent incident that nobody holds at a moment, where holds lapse after so many seconds, and of those of one priority that
+    /// of the lowest number. It is the first of the queue, or one whose hold has lapsed: only those that are claimed are looked at.
+    pub fn first(&self, at: u64, lapse: Option<u64>) -> Option<&Incident>
+        ensures { option_map (λ i. stands_at lapse at i.now) result ≡ best (standing_of lapse at self.now.incidents) }
+    {
+        let _items = self.table.items();
+        let lapsed = first_lapsed(&self.table, self.held.numbers(), at, lapse);
+        earlier(self.first_queued(), lapsed)
+    }
+
+    // The first of the queue, found by its number.
+    fn first_queued(&self) -> Option<&Incident>
         ensures { option_map (λ i. i.now) result ≡ best self.now.incidents }
     {
         let _items = self.table.items();
@@ -95,25 +106,44 @@ impl QueuedTable {
         }
     }
 
-    /// The incident that an operator holds. Only those that are held are looked at.
-    pub fn held_by(&self, operator: &Txt) -> Option<&Incident>
-        ensures { option_map (λ i. i.now) result ≡ held_by operator.now self.now.incidents }
+    /// The incident that an operator holds at a moment. Only those that are claimed are looked at.
+    pub fn held_by(&self, operator: &Txt, at: u64, lapse: Option<u64>) -> Option<&Incident>
+        ensures { option_map (λ i. stands_at lapse at i.now) result ≡ held_by operator.now (standing_of lapse at self.now.incidents) }
     {
-        find_held(&self.table, self.held.numbers(), operator)
+        find_held(&self.table, self.held.numbers(), operator, at, lapse)
     }
 
-    /// A run starts: nobody holds an incident any more, so each of them waits.
+    /// A setup comes into force: every hold ends, so each incident waits.
+    pub fn adopt(&mut self)
+        ensures marked { (text : List ℕ) → self.new ≡ marked_table (Adopts text) self.old }
+        ensures few { (n : ℕ) → IsFew n self.old.opened self.old.incidents → IsFew n self.new.opened self.new.incidents }
+        ensures room { HaveActRoom self.old.incidents → HaveActRoom self.new.incidents }
+    {
+        self.release_all();
+    }
+
+    /// A run starts: every hold ends, so each incident waits.
     pub fn start(&mut self)
         ensures marked { (at : ℕ) → self.new ≡ marked_table (Starts at) self.old }
         ensures few { (n : ℕ) → IsFew n self.old.opened self.old.incidents → IsFew n self.new.opened self.new.incidents }
         ensures room { HaveActRoom self.old.incidents → HaveActRoom self.new.incidents }
     {
-        put_held(&mut self.queue, self.table.items());
-        self.held.clear();
-        marks::start(&mut self.table);
+        self.release_all();
     }
 
-    /// An operator claims an incident, which then is held and doesn't wait.
+    // Nobody is a claimer any more.
+    fn release_all(&mut self)
+        ensures adopted { (text : List ℕ) → self.new ≡ marked_table (Adopts text) self.old }
+        ensures started { (at : ℕ) → self.new ≡ marked_table (Starts at) self.old }
+        ensures few { (n : ℕ) → IsFew n self.old.opened self.old.incidents → IsFew n self.new.opened self.new.incidents }
+        ensures room { HaveActRoom self.old.incidents → HaveActRoom self.new.incidents }
+    {
+        put_held(&mut self.queue, self.table.items());
+        self.held.clear();
+        marks::release_all(&mut self.table);
+    }
+
+    /// An operator claims an incident, which then is held and doesn't wait. It may have a claimer already, whose hold has lapsed.
     pub fn claim(&mut self, operator: Txt, number: u64, at: u64)
         ensures marked { self.new ≡ marked_table (Claims operator number at) self.old }
         ensures few { (n : ℕ) → IsFew n self.old.opened self.old.incidents → IsFew n self.new.opened self.new.incidents }
@@ -135,7 +165,7 @@ impl QueuedTable {
         marks::release(&mut self.table, number);
     }
 
-    /// An operator records a step of an incident that is held. Who waits and who is held stays.
+    /// An operator records a step of an incident that he claimed. Who is a claimer stays.
     pub fn act(&mut self, number: u64, step: Step, outcome: Outcome, at: u64, operator: Txt)
         requires fits { FitsAct number (acted_by operator step outcome at) self.old.incidents }
         requires room { HaveActRoom self.old.incidents }
@@ -146,7 +176,7 @@ impl QueuedTable {
         marks::act(&mut self.table, number, step, outcome, at, operator);
     }
 
-    /// An operator closes an open incident, which then neither waits nor is held.
+    /// An operator closes an open incident, which then neither waits nor is claimed.
     pub fn close(&mut self, number: u64)
         requires { IsSome (find (has_number number) self.old.incidents) }
         ensures opened { self.new.opened ≡ (marked_table (Closes number) self.old).opened }

@@ -1,4 +1,4 @@
-// Which incidents of a table wait in its queue.
+// Which incidents of a table wait in its queue: those without a claimer.
 ghost use Rattle.std.specs.Prelude.{◌≡◌, ◌≤◌, None, length, map};
 ghost use Rattle.std.specs.List.Sorted.{IsPermutation};
 ghost use Rattle.incidents.specs.Tables.{at_number, held, without};
@@ -9,7 +9,7 @@ use arc_data::Incident;
 use incidents::Table;
 use operator_queue::Queue;
 
-/// Puts those of the incidents that are held into the queue of those that aren't.
+/// Puts those of the incidents that have a claimer into the queue of those without one.
 pub(crate) fn put_held(queue: &mut Queue, items: &[Incident])
     requires same { IsPermutation (waiting items.now) queue.old.pairs }
     requires memory { length items.now ≤ queue.old.room }
@@ -23,7 +23,7 @@ pub(crate) fn put_held(queue: &mut Queue, items: &[Incident])
     }
 }
 
-/// Puts the open incident of a number into the queue, if it is held.
+/// Puts the open incident of a number into the queue, if it has a claimer.
 pub(crate) fn put_back(queue: &mut Queue, table: &Table, number: u64)
     requires same { IsPermutation (waiting table.now.incidents) queue.old.pairs }
     requires memory { length table.now.incidents ≤ queue.old.room }
@@ -38,7 +38,7 @@ pub(crate) fn put_back(queue: &mut Queue, table: &Table, number: u64)
     }
 }
 
-/// Takes the open incident of a number out of the queue, if nobody holds it.
+/// Takes the open incident of a number out of the queue, if it has no claimer.
 pub(crate) fn take_out(queue: &mut Queue, table: &Table, number: u64)
     requires { IsPermutation (waiting table.now.incidents) queue.old.pairs }
     ensures pairs { IsPermutation (waiting (without number table.now.incidents)) queue.new.pairs }

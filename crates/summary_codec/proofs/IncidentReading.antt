@@ -103,7 +103,7 @@ Holding h = IsHolding h.0 h.1
 holding_text : Option (List ℕ) × ℕ → List ℕ
 holding_text h = holder_text h.0 h.1
 
--- the operator of this name holds it
+-- the operator of this name is its claimer
 record IsHeldBy (operator : List ℕ) (h : Option (List ℕ) × ℕ) : Type 0 where
   touched : ℕ
   fits : IsLongNumber touched

@@ -126,7 +126,7 @@ is_holder_name text = is_empty text || is_name text
 abbrev pub holding_of : List ℕ → ℕ → Option (List ℕ) × ℕ
 holding_of operator touched = (Some operator, touched)
 
--- who holds it, and since when it was not touched
+-- its claimer, and since when it was not touched
 unfoldable pub holding_at : Reading (Option (List ℕ) × ℕ)
 holding_at bytes = short_at is_holder_name bytes >>= λ name.
     if is_empty name.0 then Some ((None, 0), name.1) else made_at (holding_of name.0) (number_at w64) name.1

@@ -314,7 +314,7 @@ fn code_at(bytes: &[u8]) -> Option<(Txt, &[u8])>
     Some((code, rest))
 }
 
-// Who holds an incident, and since when it was not touched.
+// The claimer of an incident, and since when it was not touched.
 #[tactic(auto, unfolding(crate::specs::Reading::holding_at))]
 fn holder_at(bytes: &[u8]) -> Option<(Option<Txt>, u64, &[u8])>
     ensures { MatchOption result (holding_at bytes.now ≡ None) (λ x. holding_at bytes.now ≡ Some ((x.0, x.1), x.2.now)) }

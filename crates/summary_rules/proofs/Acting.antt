@@ -11,11 +11,13 @@ use Rattle.arc_data.specs.declared.step.Step.{Step}
 use Rattle.arc_data.specs.declared.step.Step.TheVariants.{Note}
 use Rattle.alarm_rules.specs.Plans.{is_call, was_done, was_reached, is_met, is_unmet, places, remaining, expected_step}
 use Rattle.centre_rules.specs.Summary.{Summary}
-use Rattle.centre_rules.specs.Marks.{Mark, Carries, Acts}
+use Rattle.centre_rules.specs.Marks.{Mark, Carries, Acts, lapse}
 use Rattle.centre_rules.specs.Cases.{incidents, opened}
+use Rattle.centre_rules.specs.Standing.{stands_at, standing}
 use Rattle.centre_rules.specs.Tables.{table_after}
 use Rattle.centre_rules.specs.Desks.{numbered}
 use Rattle.centre_rules.proofs.Steps.{incidents_begin, incidents_step, opened_step}
+use Rattle.centre_rules.proofs.Stood.{standing_of, stood_found}
 use Rattle.centre_rules.proofs.Tables.{ascends_table, all_found}
 use Rattle.summary_rules.specs.Lists.{Every}
 use Rattle.summary_rules.specs.Conditions.{AreActsOf}
@@ -120,24 +122,26 @@ record FoundHas (all : List Incident) (i : Incident) : Type 0 where
   acts : HasActs i
   found : numbered i.number all ≡ Some i
 
-act_if : (all : List Incident) (at number : ℕ) (acted : Acted) (i : Incident) (b : Bool) → IsActedAt at number acted all → FoundHas all i → (i.number == number) ≡ b
-    → AreActsOf i.steps (cond b (i.acts ++ acted ∷ []) i.acts)
-act_if all at number acted i true fine w e =
-    let same : Some fine.incident ≡ Some i = sym fine.found ∙ ap (λ n. numbered n all) (sym (eqb-true i.number number e)) ∙ w.found in
-    let is : fine.incident ≡ i = cc in
+act_if : (seconds : Option ℕ) (all : List Incident) (at number : ℕ) (acted : Acted) (i : Incident) (b : Bool) → IsActedAt at number acted (standing_of seconds at all)
+    → FoundHas all i → (i.number == number) ≡ b → AreActsOf i.steps (cond b (i.acts ++ acted ∷ []) i.acts)
+act_if seconds all at number acted i true fine w e =
+    let stood = stood_found seconds at number all fine.incident fine.found in
+    let same : Some stood.incident ≡ Some i = sym stood.found ∙ ap (λ n. numbered n all) (sym (eqb-true i.number number e)) ∙ w.found in
+    let one : stood.incident ≡ i = cc in
+    let is : fine.incident ≡ stands_at seconds at i = stood.same ∙ ap (stands_at seconds at) one in
     act_more i acted fine.awaited w.acts (subst (λ (j : Incident). expected_step j.steps j.acts ≡ Some fine.awaited) is fine.expected) fine.same
-act_if all at number acted i false fine w e = w.acts
+act_if seconds all at number acted i false fine w e = w.acts
 
 new_acts : (m : Mark) (count : ℕ) (is : List Incident) → NewIs HasActs m count is
 new_acts (Carries x) count is = λ e. record { among = tt; apart = tt }
 new_acts m count is = tt
 
-acts_table : (m : Mark) (at count : ℕ) (is : List Incident) → IsFine is at m → Ascends 0 is count → Every HasActs is → Every HasActs (table_after m count is)
-acts_table (Acts number acted) at count is fine a w =
+acts_table : (seconds : Option ℕ) (m : Mark) (at count : ℕ) (is : List Incident) → IsFine (standing_of seconds at is) at m → Ascends 0 is count → Every HasActs is → Every HasActs (table_after m count is)
+acts_table seconds (Acts number acted) at count is fine a w =
     every_table (FoundHas is) HasActs (Acts number acted) count is
     (every_both HasActs (λ i. numbered i.number is ≡ Some i) (FoundHas is) (λ i p q. record { acts = p; found = q }) is w (each_every (λ i. numbered i.number is ≡ Some i) is (all_found 0 is count a)))
-    tt (λ i p. act_if is at number acted i (i.number == number) fine p refl)
-acts_table m at count is fine a w = every_table HasActs HasActs m count is w (new_acts m count is) (λ i p. p)
+    tt (λ i p. act_if seconds is at number acted i (i.number == number) fine p refl)
+acts_table seconds m at count is fine a w = every_table HasActs HasActs m count is w (new_acts m count is) (λ i p. p)
 
 -- Over a history.
 
@@ -145,10 +149,10 @@ record AreKept (s : Summary) (ms : List Mark) (at : ℕ) : Type 0 where
   numbers : Ascends 0 (incidents s ms) (opened s ms)
   each : Every HasActs (incidents s ms)
 
-one_more : (s : Summary) (ms : List Mark) (at : ℕ) (m : Mark) → IsFine (incidents s ms) at m → AreKept s ms at → AreKept s (m ∷ ms) at
+one_more : (s : Summary) (ms : List Mark) (at : ℕ) (m : Mark) → IsFine (standing s ms at) at m → AreKept s ms at → AreKept s (m ∷ ms) at
 one_more s ms at m fine w = record {
   numbers = rw (incidents_step s m ms, opened_step s m ms) (ascends_table m (opened s ms) (incidents s ms) w.numbers);
-  each = subst (Every HasActs) (sym (incidents_step s m ms)) (acts_table m at (opened s ms) (incidents s ms) fine w.numbers w.each);
+  each = subst (Every HasActs) (sym (incidents_step s m ms)) (acts_table (lapse s ms) m at (opened s ms) (incidents s ms) fine w.numbers w.each);
 }
 
 pub acts_stay : ActsStay

@@ -24,7 +24,8 @@ use Rattle.alarm_rules.specs.Setups.{Setup, Account, account_of, setup_of}
 use Rattle.alarm_rules.specs.Signals.{signals, has_signals}
 use Rattle.centre_rules.specs.Summary.{Summary}
 use Rattle.centre_rules.specs.Marks.{Mark, Adopts, Starts, Sends, Hears, Carries, Claims, Acts, Releases, Closes, Carried, text, force}
-use Rattle.centre_rules.specs.Cases.{Incident, incidents}
+use Rattle.centre_rules.specs.Cases.{Incident}
+use Rattle.centre_rules.specs.Standing.{standing}
 use Rattle.centre_rules.specs.Carrying.{carried, carried_sent, own_signal, if_in_force, is_irregular, sent, raised, raised_where, is_silent, is_late}
 use Rattle.centre_rules.specs.Desks.{numbered, held_by, best, claim_unless, claim_from, claim_of, on_claim, next_of, on_next, holds, act_when, act_of, on_act}
 use Rattle.centre_rules.specs.History.{is_recorded, claim_marks, act_marks, release_marks, close_marks, marks_of, acted_by}
@@ -59,7 +60,7 @@ pub record IsCarriedAt (at : ℕ) (x : Carried) : Type 0 where
   pub code : IsShortText x.signal.code
   pub good_steps : AreGoodSteps x.steps
 
--- a claim at this moment, of an operator that holds none of these
+-- a claim at this moment, of an operator that holds none of these as they stand
 pub record IsClaimedAt (at : ℕ) (operator : List ℕ) (moment : ℕ) (is : List Incident) : Type 0 where
   pub moment_is : moment ≡ at
   pub name : is_name operator ≡ true
@@ -71,17 +72,18 @@ pub record IsGoodAct (acted : Acted) : Type 0 where
   pub outcome : fits acted.step acted.outcome ≡ true
   pub name : is_name acted.operator ≡ true
 
--- an act at this moment, of the step that is expected next of an open incident
+-- an act at this moment, of the step that is expected next of an open incident, by who holds it as it stands
 pub record IsActedAt (at number : ℕ) (acted : Acted) (is : List Incident) : Type 0 where
   pub moment_is : acted.at ≡ at
   pub incident : Incident
   pub found : numbered number is ≡ Some incident
+  pub held : holds acted.operator incident ≡ true
   pub awaited : Step
   pub expected : expected_step incident.steps incident.acts ≡ Some awaited
   pub same : same_step acted.step awaited ≡ true
   pub good : IsGoodAct acted
 
--- what is known of a mark of an entry of this moment, where these incidents are open before it
+-- what is known of a mark of an entry of this moment, where these incidents are open before it, as they stand then
 abbrev pub IsFine : List Incident → ℕ → Mark → Type 0
 IsFine is at (Adopts text) = IsAdopted text
 IsFine is at (Starts moment) = moment ≡ at
@@ -96,7 +98,7 @@ IsFine is at (Closes number) = Unit {0}
 -- of each of these marks, put upon others in turn
 abbrev pub AreFine : Summary → List Mark → ℕ → List Mark → Type 0
 AreFine s ms at [] = Unit {0}
-AreFine s ms at (x ∷ xs) = IsFine (incidents s ms) at x × AreFine s (x ∷ ms) at xs
+AreFine s ms at (x ∷ xs) = IsFine (standing s ms at) at x × AreFine s (x ∷ ms) at xs
 
 -- Signals.
 
@@ -193,7 +195,7 @@ unfolding claims
 by_next None waiting c = refl
 by_next (Some j) waiting c = absurd (false≢true c)
 
-claim_fine : (s : Summary) (ms : List Mark) (at : ℕ) (operator : List ℕ) (r : Reply) → is_name operator ≡ true → (claims r ≡ true → held_by operator (incidents s ms) ≡ None) → AreFine s ms at (claim_marks operator at r)
+claim_fine : (s : Summary) (ms : List Mark) (at : ℕ) (operator : List ℕ) (r : Reply) → is_name operator ≡ true → (claims r ≡ true → held_by operator (standing s ms at) ≡ None) → AreFine s ms at (claim_marks operator at r)
 unfolding claims
 claim_fine s ms at operator (Claimed number class account) named none = (record { moment_is = refl; name = named; none = none refl }, tt)
 claim_fine s ms at operator r named none = tt
@@ -211,41 +213,43 @@ act_known true r n c = c
 act_known false r n c = absurd (cc)
 
 act_same : (at number n : ℕ) (acted : Acted) (is : List Incident) (i : Incident) (s : Step) (b : Bool) → IsGoodAct acted → acted.at ≡ at → numbered number is ≡ Some i
-    → expected_step i.steps i.acts ≡ Some s → same_step acted.step s ≡ b
+    → holds acted.operator i ≡ true → expected_step i.steps i.acts ≡ Some s → same_step acted.step s ≡ b
     → acts_on (cond b (Recorded i.number (left i.steps (i.acts ++ acted ∷ []))) (Expected (Some s))) ≡ Some n → IsActedAt at n acted is
 unfolding acts_on
-act_same at number n acted is i s true good moment found expected same c =
+act_same at number n acted is i s true good moment found held expected same c =
     let equal : i.number ≡ n = cc in
     record {
       moment_is = moment;
       incident = i;
       found = ap (λ k. numbered k is) (sym equal ∙ numbered_number number is i found) ∙ found;
+      held = held;
       awaited = s;
       expected = expected;
       same = same;
       good = good;
     }
-act_same at number n acted is i s false good moment found expected same c = absurd (cc)
+act_same at number n acted is i s false good moment found held expected same c = absurd (cc)
 
 act_expected : (at number n : ℕ) (acted : Acted) (is : List Incident) (i : Incident) (o : Option Step) → IsGoodAct acted → acted.at ≡ at → numbered number is ≡ Some i
-    → expected_step i.steps i.acts ≡ o → acts_on (act_when acted i o) ≡ Some n → IsActedAt at n acted is
+    → holds acted.operator i ≡ true → expected_step i.steps i.acts ≡ o → acts_on (act_when acted i o) ≡ Some n → IsActedAt at n acted is
 unfolding acts_on
-act_expected at number n acted is i None good moment found expected c = absurd (cc)
-act_expected at number n acted is i (Some s) good moment found expected c = act_same at number n acted is i s (same_step acted.step s) good moment found expected refl c
+act_expected at number n acted is i None good moment found held expected c = absurd (cc)
+act_expected at number n acted is i (Some s) good moment found held expected c =
+    act_same at number n acted is i s (same_step acted.step s) good moment found held expected refl c
 
 act_held : (at number n : ℕ) (acted : Acted) (is : List Incident) (i : Incident) (b : Bool) → IsGoodAct acted → acted.at ≡ at → numbered number is ≡ Some i
-    → acts_on (cond b (act_when acted i (expected_step i.steps i.acts)) (NotYours number)) ≡ Some n → IsActedAt at n acted is
+    → holds acted.operator i ≡ b → acts_on (cond b (act_when acted i (expected_step i.steps i.acts)) (NotYours number)) ≡ Some n → IsActedAt at n acted is
 unfolding acts_on
-act_held at number n acted is i true good moment found c = act_expected at number n acted is i (expected_step i.steps i.acts) good moment found refl c
-act_held at number n acted is i false good moment found c = absurd (cc)
+act_held at number n acted is i true good moment found held c = act_expected at number n acted is i (expected_step i.steps i.acts) good moment found held refl c
+act_held at number n acted is i false good moment found held c = absurd (cc)
 
 act_found : (at number n : ℕ) (acted : Acted) (is : List Incident) (f : Option Incident) → IsGoodAct acted → acted.at ≡ at → numbered number is ≡ f
     → acts_on (act_of acted number f) ≡ Some n → IsActedAt at n acted is
 unfolding acts_on
 act_found at number n acted is None good moment found c = absurd (cc)
-act_found at number n acted is (Some i) good moment found c = act_held at number n acted is i (holds acted.operator i) good moment found c
+act_found at number n acted is (Some i) good moment found c = act_held at number n acted is i (holds acted.operator i) good moment found refl c
 
-act_fine : (s : Summary) (ms : List Mark) (at : ℕ) (acted : Acted) (r : Reply) → ((n : ℕ) → acts_on r ≡ Some n → IsActedAt at n acted (incidents s ms)) → AreFine s ms at (act_marks acted r)
+act_fine : (s : Summary) (ms : List Mark) (at : ℕ) (acted : Acted) (r : Reply) → ((n : ℕ) → acts_on r ≡ Some n → IsActedAt at n acted (standing s ms at)) → AreFine s ms at (act_marks acted r)
 unfolding acts_on
 act_fine s ms at acted (Recorded number left) f = (f number refl, tt)
 act_fine s ms at acted r f = tt
@@ -271,16 +275,16 @@ fine_marks s ms (Sent m) at r formed is recorded =
 fine_marks s ms (Beat account) at r formed is recorded = (record { moment_is = refl; account_ok = formed }, tt)
 fine_marks s ms Tick at r formed is recorded = carried_fine s ms at (raised s ms at) (raised_at s ms at)
 fine_marks s ms (Claim operator number) at r formed is recorded =
-    claim_fine s ms at operator r formed.operator_name (λ c. by_found operator (incidents s ms) number (numbered number (incidents s ms))
-    (by_known (knows_operator (force s ms) operator) (on_claim operator number (incidents s ms)) (sym (ap claims is) ∙ c)))
+    claim_fine s ms at operator r formed.operator_name (λ c. by_found operator (standing s ms at) number (numbered number (standing s ms at))
+    (by_known (knows_operator (force s ms) operator) (on_claim operator number (standing s ms at)) (sym (ap claims is) ∙ c)))
 fine_marks s ms (Next operator) at r formed is recorded =
-    claim_fine s ms at operator r formed (λ c. by_next (held_by operator (incidents s ms)) (best (incidents s ms))
-    (by_known (knows_operator (force s ms) operator) (on_next operator (incidents s ms)) (sym (ap claims is) ∙ c)))
+    claim_fine s ms at operator r formed (λ c. by_next (held_by operator (standing s ms at)) (best (standing s ms at))
+    (by_known (knows_operator (force s ms) operator) (on_next operator (standing s ms at)) (sym (ap claims is) ∙ c)))
 fine_marks s ms (Do operator number step outcome) at r formed is recorded =
     act_fine s ms at (acted_by operator step outcome at) r
-    (λ n c. act_found at number n (acted_by operator step outcome at) (incidents s ms) (numbered number (incidents s ms))
+    (λ n c. act_found at number n (acted_by operator step outcome at) (standing s ms at) (numbered number (standing s ms at))
     (record { known = formed.known_step; outcome = formed.outcome_fits; name = formed.order.operator_name }) refl refl
-    (act_known (knows_operator (force s ms) operator) (on_act (acted_by operator step outcome at) number (incidents s ms)) n (sym (ap acts_on is) ∙ c)))
+    (act_known (knows_operator (force s ms) operator) (on_act (acted_by operator step outcome at) number (standing s ms at)) n (sym (ap acts_on is) ∙ c)))
 fine_marks s ms (Release operator number) at r formed is recorded = release_fine s ms at r
 fine_marks s ms (Close operator number code) at r formed is recorded = close_fine s ms at r
 fine_marks s ms (Show number) at r formed is recorded = tt

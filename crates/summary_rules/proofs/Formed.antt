@@ -13,6 +13,7 @@ use Rattle.arc_data.specs.declared.step.Acted.{Acted}
 use Rattle.centre_rules.specs.Summary.{Summary, AccountRow, Past, row_or}
 use Rattle.centre_rules.specs.Marks.{Mark, Adopts, Starts, Sends, Hears, Carries, Claims, Acts, Releases, Closes, text, messages}
 use Rattle.centre_rules.specs.Cases.{incidents, opened, is_of, is_new}
+use Rattle.centre_rules.specs.Standing.{standing}
 use Rattle.centre_rules.specs.Tables.{touched_by}
 use Rattle.centre_rules.specs.History.{Entry, marks, last}
 use Rattle.centre_rules.specs.Answers.{IsLegal}
@@ -65,8 +66,8 @@ named_if : (b : Bool) (x h : Option (List ℕ)) → IsNamed x → IsNamed h → 
 named_if true x h v w = v
 named_if false x h v w = w
 
-plain_by : (is : List Incident) (at : ℕ) (m : Mark) (i : Incident) → IsFine is at m → IsPlain i → IsPlain (touched_by m i)
-plain_by is at (Claims operator number moment) i fine w = record {
+plain_by : (stood : List Incident) (at : ℕ) (m : Mark) (i : Incident) → IsFine stood at m → IsPlain i → IsPlain (touched_by m i)
+plain_by stood at (Claims operator number moment) i fine w = record {
   account = w.account;
   class = w.class;
   code = w.code;
@@ -75,7 +76,7 @@ plain_by is at (Claims operator number moment) i fine w = record {
   apart = w.apart;
   acts = w.acts;
 }
-plain_by is at (Acts number acted) i fine w = record {
+plain_by stood at (Acts number acted) i fine w = record {
   account = w.account;
   class = w.class;
   code = w.code;
@@ -84,7 +85,7 @@ plain_by is at (Acts number acted) i fine w = record {
   apart = w.apart;
   acts = every_more IsGoodAct (i.number == number) i.acts acted w.acts fine.good;
 }
-plain_by is at (Releases number) i fine w = record {
+plain_by stood at (Releases number) i fine w = record {
   account = w.account;
   class = w.class;
   code = w.code;
@@ -93,7 +94,7 @@ plain_by is at (Releases number) i fine w = record {
   apart = w.apart;
   acts = w.acts;
 }
-plain_by is at (Closes number) i fine w = record {
+plain_by stood at (Closes number) i fine w = record {
   account = w.account;
   class = w.class;
   code = w.code;
@@ -102,8 +103,9 @@ plain_by is at (Closes number) i fine w = record {
   apart = w.apart;
   acts = w.acts;
 }
-plain_by is at (Starts moment) i fine w = record { account = w.account; class = w.class; code = w.code; holder = tt; steps = w.steps; apart = w.apart; acts = w.acts }
-plain_by is at m i fine w = record { account = w.account; class = w.class; code = w.code; holder = w.holder; steps = w.steps; apart = w.apart; acts = w.acts }
+plain_by stood at (Adopts words) i fine w = record { account = w.account; class = w.class; code = w.code; holder = tt; steps = w.steps; apart = w.apart; acts = w.acts }
+plain_by stood at (Starts moment) i fine w = record { account = w.account; class = w.class; code = w.code; holder = tt; steps = w.steps; apart = w.apart; acts = w.acts }
+plain_by stood at m i fine w = record { account = w.account; class = w.class; code = w.code; holder = w.holder; steps = w.steps; apart = w.apart; acts = w.acts }
 
 left : (a b : Bool) → (a && b) ≡ true → a ≡ true
 left true b e = refl
@@ -113,8 +115,8 @@ right : (a b : Bool) → (a && b) ≡ true → b ≡ true
 right true b e = e
 right false b e = absurd (false≢true e)
 
-new_plain : (m : Mark) (at count : ℕ) (is : List Incident) → IsFine is at m → NewIs IsPlain m count is
-new_plain (Carries x) at count is fine = λ e. record {
+new_plain : (m : Mark) (at count : ℕ) (is stood : List Incident) → IsFine stood at m → NewIs IsPlain m count is
+new_plain (Carries x) at count is stood fine = λ e. record {
   account = fine.account_ok;
   class = ltb-true 0 (priority_of x.signal.class)
       (right (is_new x.signal.kind) (nat_lt 0 (priority_of x.signal.class))
@@ -125,16 +127,16 @@ new_plain (Carries x) at count is fine = λ e. record {
   apart = fine.good_steps.apart;
   acts = tt;
 }
-new_plain m at count is fine = tt
+new_plain m at count is stood fine = tt
 
-table_plain : (s : Summary) (ms : List Mark) (at : ℕ) (m : Mark) → IsFine (incidents s ms) at m → Every IsPlain (incidents s ms) → Every IsPlain (incidents s (m ∷ ms))
+table_plain : (s : Summary) (ms : List Mark) (at : ℕ) (m : Mark) → IsFine (standing s ms at) at m → Every IsPlain (incidents s ms) → Every IsPlain (incidents s (m ∷ ms))
 table_plain s ms at m fine w =
     subst (Every IsPlain) (sym (incidents_step s m ms))
-    (every_table IsPlain IsPlain m (opened s ms) (incidents s ms) w (new_plain m at (opened s ms) (incidents s ms) fine) (λ i p. plain_by (incidents s ms) at m i fine p))
+    (every_table IsPlain IsPlain m (opened s ms) (incidents s ms) w (new_plain m at (opened s ms) (incidents s ms) (standing s ms at) fine) (λ i p. plain_by (standing s ms at) at m i fine p))
 
 -- One mark more.
 
-formed_mark : (s : Summary) (ms : List Mark) (at : ℕ) (m : Mark) → IsFine (incidents s ms) at m → IsFormed s ms at → IsFormed s (m ∷ ms) at
+formed_mark : (s : Summary) (ms : List Mark) (at : ℕ) (m : Mark) → IsFine (standing s ms at) at m → IsFormed s ms at → IsFormed s (m ∷ ms) at
 formed_mark s ms at (Adopts words) fine w = record { naming = w.naming; sending = w.sending; table = table_plain s ms at (Adopts words) fine w.table; setup = fine.formed }
 formed_mark s ms at (Sends m moment) fine w = record {
   naming = every_named IsAccount m.account (names s ms) fine.message.account w.naming;

@@ -2,7 +2,7 @@
 use Rattle.std.proofs.Common.{◌≡◌, ◌≤◌, ℕ, List, [], ◌∷◌, Bool, true, false, cond, refl}
 use Rattle.centre_rules.specs.Summary.{Summary}
 use Rattle.centre_rules.specs.Marks.{Mark}
-use Rattle.centre_rules.specs.Cases.{incidents}
+use Rattle.centre_rules.specs.Standing.{standing}
 use Rattle.centre_rules.specs.History.{Entry, marks, marks_of, onto, last, is_recorded}
 use Rattle.centre_rules.specs.Answers.{IsLegal}
 use Rattle.summary_rules.proofs.Fine.{IsFine, AreFine, fine_marks}
@@ -10,7 +10,7 @@ use Rattle.summary_rules.proofs.Fine.{IsFine, AreFine, fine_marks}
 -- what holds of marks up to a moment goes on to hold at later ones, and with a mark more
 pub record IsKept (s : Summary) (J : List Mark → ℕ → Type 0) : Type 0 where
   pub later : (ms : List Mark) (low at : ℕ) → low ≤ at → J ms low → J ms at
-  pub mark : (ms : List Mark) (at : ℕ) (m : Mark) → IsFine (incidents s ms) at m → J ms at → J (m ∷ ms) at
+  pub mark : (ms : List Mark) (at : ℕ) (m : Mark) → IsFine (standing s ms at) at m → J ms at → J (m ∷ ms) at
 
 kept_onto : {J : List Mark → ℕ → Type 0} (s : Summary) → IsKept s J → (at : ℕ) (xs ms : List Mark) → AreFine s ms at xs → J ms at → J (onto xs ms) at
 kept_onto s k at [] ms fine j = j

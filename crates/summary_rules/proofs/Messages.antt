@@ -4,7 +4,7 @@ use Rattle.std.specs.List.{find}
 use Rattle.std.specs.Str.{bytes_eq}
 use Rattle.centre_rules.specs.Summary.{Summary, AccountRow, Past, row_or}
 use Rattle.centre_rules.specs.Marks.{Mark, Sends, messages}
-use Rattle.centre_rules.specs.Cases.{incidents}
+use Rattle.centre_rules.specs.Standing.{standing}
 use Rattle.centre_rules.specs.History.{marks, last}
 use Rattle.centre_rules.specs.Sums.{account_row, names}
 use Rattle.summary_rules.specs.Lists.{Every}
@@ -41,7 +41,7 @@ newest_if : (at : ℕ) (b : Bool) (p : Past) (ps : List Past) → p.at ≡ at �
 newest_if at true p ps is signals w = newest at p ps is signals w
 newest_if at false p ps is signals w = w
 
-mark : (s : Summary) (ms : List Mark) (at : ℕ) (m : Mark) → IsFine (incidents s ms) at m → AllBy s ms at → AllBy s (m ∷ ms) at
+mark : (s : Summary) (ms : List Mark) (at : ℕ) (m : Mark) → IsFine (standing s ms at) at m → AllBy s ms at → AllBy s (m ∷ ms) at
 mark s ms at (Sends m moment) fine w = λ a. newest_if at (bytes_eq m.account a) (record { message = m; at = moment }) (messages s ms a) fine.moment_is fine.signals (w a)
 mark s ms at m fine w = w
 

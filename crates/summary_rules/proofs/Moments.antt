@@ -14,6 +14,7 @@ use Rattle.alarm_rules.specs.Setups.{setup_of}
 use Rattle.centre_rules.specs.Summary.{Summary, AccountRow, Past, row_or}
 use Rattle.centre_rules.specs.Marks.{Mark, Adopts, Starts, Sends, Hears, Carries, Claims, Acts, Releases, Closes, text, start, heard, opening, messages, opening_by, now_late, is_raised}
 use Rattle.centre_rules.specs.Cases.{incidents, opened, opens, fresh}
+use Rattle.centre_rules.specs.Standing.{standing}
 use Rattle.centre_rules.specs.Tables.{touched_by, table_after, with_opened, without_closed}
 use Rattle.centre_rules.specs.History.{Entry, marks, last}
 use Rattle.centre_rules.specs.Answers.{IsLegal}
@@ -136,30 +137,31 @@ touched_if false at x y p q = q
 acts_if : (b : Bool) (at : ℕ) (a : Acted) (acts : List Acted) → a.at ≤ at → Every (λ (x : Acted). x.at ≤ at) acts → Every (λ (x : Acted). x.at ≤ at) (cond b (acts ++ a ∷ []) acts)
 acts_if b at a acts le w = every_more (λ (x : Acted). x.at ≤ at) b acts a w le
 
-incident_by : (is : List Incident) (at : ℕ) (m : Mark) (i : Incident) → IsFine is at m → HasIncidentBy at i → HasIncidentBy at (touched_by m i)
-incident_by is at (Claims operator number moment) i fine w = record { at = w.at; touched = touched_if (i.number == number) at moment i.touched (same_le moment at fine.moment_is) w.touched; acts = w.acts }
-incident_by is at (Acts number acted) i fine w = record {
+incident_by : (stood : List Incident) (at : ℕ) (m : Mark) (i : Incident) → IsFine stood at m → HasIncidentBy at i → HasIncidentBy at (touched_by m i)
+incident_by stood at (Claims operator number moment) i fine w = record { at = w.at; touched = touched_if (i.number == number) at moment i.touched (same_le moment at fine.moment_is) w.touched; acts = w.acts }
+incident_by stood at (Acts number acted) i fine w = record {
   at = w.at;
   touched = touched_if ((i.number == number) && is_some i.holder) at acted.at i.touched (same_le acted.at at fine.moment_is) w.touched;
   acts = acts_if (i.number == number) at acted i.acts (same_le acted.at at fine.moment_is) w.acts;
 }
-incident_by is at (Releases number) i fine w = record { at = w.at; touched = touched_if (i.number == number) at 0 i.touched (zero_le at) w.touched; acts = w.acts }
-incident_by is at (Closes number) i fine w = record { at = w.at; touched = touched_if (i.number == number) at 0 i.touched (zero_le at) w.touched; acts = w.acts }
-incident_by is at (Starts moment) i fine w = record { at = w.at; touched = zero_le at; acts = w.acts }
-incident_by is at m i fine w = record { at = w.at; touched = w.touched; acts = w.acts }
+incident_by stood at (Releases number) i fine w = record { at = w.at; touched = touched_if (i.number == number) at 0 i.touched (zero_le at) w.touched; acts = w.acts }
+incident_by stood at (Closes number) i fine w = record { at = w.at; touched = touched_if (i.number == number) at 0 i.touched (zero_le at) w.touched; acts = w.acts }
+incident_by stood at (Adopts text) i fine w = record { at = w.at; touched = zero_le at; acts = w.acts }
+incident_by stood at (Starts moment) i fine w = record { at = w.at; touched = zero_le at; acts = w.acts }
+incident_by stood at m i fine w = record { at = w.at; touched = w.touched; acts = w.acts }
 
-new_by : (at : ℕ) (m : Mark) (opened : ℕ) (is : List Incident) → IsFine is at m → NewIs (HasIncidentBy at) m opened is
-new_by at (Carries x) opened is fine = λ _. record { at = same_le x.at at fine.moment_is; touched = zero_le at; acts = tt }
-new_by at m opened is fine = tt
+new_by : (at : ℕ) (m : Mark) (opened : ℕ) (is stood : List Incident) → IsFine stood at m → NewIs (HasIncidentBy at) m opened is
+new_by at (Carries x) opened is stood fine = λ _. record { at = same_le x.at at fine.moment_is; touched = zero_le at; acts = tt }
+new_by at m opened is stood fine = tt
 
-table_by : (s : Summary) (ms : List Mark) (at : ℕ) (m : Mark) → IsFine (incidents s ms) at m → Every (HasIncidentBy at) (incidents s ms) → Every (HasIncidentBy at) (incidents s (m ∷ ms))
+table_by : (s : Summary) (ms : List Mark) (at : ℕ) (m : Mark) → IsFine (standing s ms at) at m → Every (HasIncidentBy at) (incidents s ms) → Every (HasIncidentBy at) (incidents s (m ∷ ms))
 table_by s ms at m fine w =
     subst (Every (HasIncidentBy at)) (sym (incidents_step s m ms))
-    (every_table (HasIncidentBy at) (HasIncidentBy at) m (opened s ms) (incidents s ms) w (new_by at m (opened s ms) (incidents s ms) fine) (λ i p. incident_by (incidents s ms) at m i fine p))
+    (every_table (HasIncidentBy at) (HasIncidentBy at) m (opened s ms) (incidents s ms) w (new_by at m (opened s ms) (incidents s ms) (standing s ms at) fine) (λ i p. incident_by (standing s ms at) at m i fine p))
 
 -- One mark more.
 
-by_mark : (s : Summary) (ms : List Mark) (at : ℕ) (m : Mark) → IsFine (incidents s ms) at m → IsBy s ms at → IsBy s (m ∷ ms) at
+by_mark : (s : Summary) (ms : List Mark) (at : ℕ) (m : Mark) → IsFine (standing s ms at) at m → IsBy s ms at → IsBy s (m ∷ ms) at
 by_mark s ms at (Starts moment) fine w = record {
   started = same_le moment at fine;
   hears = λ a. same_le moment at fine;
@@ -244,7 +246,7 @@ IsSetup text = IsOk (setup_of text)
 abbrev HasSetup : Summary → List Mark → ℕ → Type 0
 HasSetup s ms at = Given IsSetup (text s ms)
 
-setup_mark : (s : Summary) (ms : List Mark) (at : ℕ) (m : Mark) → IsFine (incidents s ms) at m → HasSetup s ms at → HasSetup s (m ∷ ms) at
+setup_mark : (s : Summary) (ms : List Mark) (at : ℕ) (m : Mark) → IsFine (standing s ms at) at m → HasSetup s ms at → HasSetup s (m ∷ ms) at
 setup_mark s ms at (Adopts text) fine w = fine.setup
 setup_mark s ms at m fine w = w
 

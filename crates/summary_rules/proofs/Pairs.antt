@@ -2,7 +2,7 @@
 use Rattle.std.proofs.Common.{List, [], ◌∷◌, ◌++◌, map, Bool, true, false, cond}
 use Rattle.std.specs.List.{filter}
 use Rattle.summary_rules.specs.Lists.{Every, EveryTwo}
-use Rattle.summary_rules.proofs.Everies.{every_append, every_filter}
+use Rattle.summary_rules.proofs.Everies.{every_weaker, every_append, every_filter}
 
 -- both of two relations
 pub every_both : {A : Type 0} (P Q R : A → Type 0) → ((x : A) → P x → Q x → R x) → (xs : List A) → Every P xs → Every Q xs → Every R xs
@@ -30,6 +30,20 @@ mapped_with R S f g x (y ∷ ys) w = (g x y w.0, mapped_with R S f g x ys w.1)
 pub two_map : {A : Type 0} (R S : A → A → Type 0) (f : A → A) → ((x y : A) → R x y → S (f x) (f y)) → (xs : List A) → EveryTwo R xs → EveryTwo S (map f xs)
 two_map R S f g [] w = tt
 two_map R S f g (x ∷ xs) w = (mapped_with R S f g x xs w.0, two_map R S f g xs w.1)
+
+unmapped_with : {A : Type 0} (R S : A → A → Type 0) (f : A → A) → ((x y : A) → S (f x) (f y) → R x y) → (x : A) (xs : List A) → Every (S (f x)) (map f xs) → Every (R x) xs
+unmapped_with R S f g x [] w = tt
+unmapped_with R S f g x (y ∷ ys) w = (g x y w.0, unmapped_with R S f g x ys w.1)
+
+-- and back
+pub two_unmap : {A : Type 0} (R S : A → A → Type 0) (f : A → A) → ((x y : A) → S (f x) (f y) → R x y) → (xs : List A) → EveryTwo S (map f xs) → EveryTwo R xs
+two_unmap R S f g [] w = tt
+two_unmap R S f g (x ∷ xs) w = (unmapped_with R S f g x xs w.0, two_unmap R S f g xs w.1)
+
+-- a weaker relation
+pub two_weaker : {A : Type 0} (R S : A → A → Type 0) → ((x y : A) → R x y → S x y) → (xs : List A) → EveryTwo R xs → EveryTwo S xs
+two_weaker R S f [] w = tt
+two_weaker R S f (x ∷ xs) w = (every_weaker (R x) (S x) (f x) xs w.0, two_weaker R S f xs w.1)
 
 -- some left out
 two_if : {A : Type 0} (R : A → A → Type 0) (b : Bool) (x : A) (xs : List A) → Every (R x) xs → EveryTwo R xs → EveryTwo R (cond b (x ∷ xs) xs)

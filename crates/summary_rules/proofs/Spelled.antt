@@ -42,7 +42,7 @@ untouched_of : (h : Option (List ℕ)) (touched : ℕ) → IsHolding h touched �
 untouched_of None touched w = w
 untouched_of (Some operator) touched w = tt
 
-are_incidents : (generation : ℕ) (s : Summary) → HasFields generation s → IsSummary generation s → AreIncidents s.incidents
+are_incidents : (generation : ℕ) (s : Summary) → HasFields generation s → IsSummary generation s → AreIncidents s
 are_incidents generation s f b = record {
   single = b.single;
   holders = b.holders;

@@ -40,7 +40,7 @@ pub record IsRow (r : AccountRow) : Type 0 where
   pub few : length r.messages ≤ 32
   pub messages : Every (IsPastOf r.account) r.messages
 
--- who holds the incident, and since when it was not touched: 0 where nobody holds it
+-- the claimer of the incident, and since when it was not touched: 0 where it has none
 abbrev pub IsHolding : Option (List ℕ) → ℕ → Type 0
 IsHolding None touched = touched ≡ 0
 IsHolding (Some operator) touched = (is_name operator ≡ true) × IsLongNumber touched

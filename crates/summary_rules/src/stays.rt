@@ -25,8 +25,8 @@ pub fn law_setups_stay()
     ensures { SetupsStay }
 {}
 
-/// Of the open incidents no two are of one account and class, and no operator holds two; each has a signal, and of one that nobody holds
-/// no moment is told since which it was not touched.
+/// Of the open incidents no two are of one account and class, and no operator holds two at the last moment; each has a signal, and of one
+/// without a claimer no moment is told since which it was not touched.
 #[tactic(auto, using(crate::proofs::OpenIncidents::incidents_stay))]
 pub fn law_incidents_stay()
     ensures { IncidentsStay }

@@ -1,4 +1,5 @@
-// The open incidents: a list of them, marks on the table alone, and on the table with its queue.
+// The open incidents: holds that lapse, a list of them, marks on the table alone, and on the table with its queue.
+mod lapses;
 mod listing;
 mod marks;
 mod queued_table;

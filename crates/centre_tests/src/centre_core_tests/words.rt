@@ -24,7 +24,7 @@ pub(crate) fn event_of(rt: &impl Abort, alloc: Global, word: &str) -> Event
 }
 
 /// The text of a setup, whose account 1234 has no interval (`plain`), or one of 60 seconds (`beat`), or is lacking (`other`); one without
-/// operators (`one`); and one with the account 9999 before it (`two`).
+/// operators (`one`); one with the account 9999 before it (`two`); and one with a second operator, by which a hold lapses (`lapse`).
 pub(crate) fn setup_of(rt: &impl Abort, word: &str) -> &'static [u8]
     ensures { length result.now ≤ 4194304 }
 {
@@ -33,13 +33,14 @@ pub(crate) fn setup_of(rt: &impl Abort, word: &str) -> &'static [u8]
         "beat" => b"account 1234 beat 60\noperator ann 1234\n",
         "other" => b"account 5678\noperator ann 1234\n",
         "one" => b"account 1234\n",
+        "lapse" => b"account 1234\noperator ann 1234\noperator bob 5678\nlapse 300\n",
         "two" => b"account 9999 beat 60\naccount 1234\noperator ann 1234\n",
         _ => panic!(rt; "no such setup"),
     }
 }
 
 /// What is submitted, by a word: a message, an opening or a heartbeat of the account 1234, a message of the account 9999; an order of the
-/// operator ann on incident 1; `tick` and `list`.
+/// operator ann on incident 1; a claim of it by the operator bob; `tick` and `list`.
 pub(crate) fn submitted_of(rt: &impl Abort, alloc: Global, word: &str) -> Event
     ensures formed { IsWellFormed result }
     ensures submitted { IsSubmitted result }
@@ -65,6 +66,10 @@ fn order(rt: &impl Abort, word: &str) -> Event
     match word {
         "next" => Event::Next { operator },
         "claim" => Event::Claim { operator, number },
+        "bob" => Event::Claim {
+            operator: second(),
+            number,
+        },
         "note" => Event::Act {
             operator,
             number,
@@ -102,6 +107,12 @@ fn operator() -> Txt
     Txt::of(b"ann").unwrap()
 }
 
+fn second() -> Txt
+    ensures { is_name result ≡ true }
+{
+    Txt::of(b"bob").unwrap()
+}
+
 /// The answer's name, and of a Tick also how many signals it raised.
 pub(crate) fn answer_of(reply: &Reply) -> &'static str {
     match reply {
@@ -124,6 +135,9 @@ fn answer_to_order(reply: &Reply) -> &'static str {
         Reply::Released { .. } => "released",
         Reply::Closed { .. } => "closed",
         Reply::NotOpen { .. } => "not open",
+        Reply::HeldBy { .. } => "held by another",
+        Reply::BusyWith { .. } => "busy",
+        Reply::NotYours { .. } => "not yours",
         Reply::Shown(_) => "shown",
         Reply::Listed(_) => "listed",
         _ => "another reply",

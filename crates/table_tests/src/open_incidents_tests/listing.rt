@@ -41,7 +41,7 @@ fn incidents(rt: &impl Abort, alloc: Global) -> Vec<Incident> {
 
 // The list of these incidents, which tells how many there are, and has so many rows.
 fn listed(rt: &impl Abort, alloc: Global, items: &[Incident], total: u64, count: usize) -> Listing {
-    let reply = list(alloc, items).expect(rt, "memory");
+    let reply = list(alloc, items, 100, None).expect(rt, "memory");
     let Reply::Listed(listing) = reply else {
         panic!(rt; "no list");
     };

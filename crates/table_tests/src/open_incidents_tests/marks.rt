@@ -1,7 +1,7 @@
 // One incident from its opening to its closing, worked out by hand.
 use crate::made::{carried, signal, text};
 use crate::same::same;
-use open_incidents::marks::{carry, claim, close, release, start};
+use open_incidents::marks::{carry, claim, close, release, release_all};
 use open_incidents::{Class, Kind, Table, Txt};
 use std::process::Abort;
 
@@ -35,8 +35,8 @@ fn hold_and_close(rt: &impl Abort, table: &mut Table) {
     release(table, 1);
     compare_first(rt, table, None, 0, "released");
     claim(table, ann, 1, 300);
-    start(table);
-    compare_first(rt, table, None, 0, "started");
+    release_all(table);
+    compare_first(rt, table, None, 0, "released with all");
     if table.get(1).is_some() {
         close(table, 1);
     }

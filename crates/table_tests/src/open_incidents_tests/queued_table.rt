@@ -15,7 +15,7 @@ fn burglary(rt: &impl Abort, account: &[u8]) -> Carried {
 
 // The number of the first that waits, 0 where none does.
 fn first(queued: &QueuedTable) -> u64 {
-    match queued.first() {
+    match queued.first(1000, None) {
         Some(i) => i.number,
         None => 0,
     }
@@ -27,7 +27,7 @@ fn compare_first(rt: &impl Abort, queued: &QueuedTable, want: u64, what: &str) {
 
 // The number of the incident that an operator holds, 0 where it holds none.
 fn held_by(rt: &impl Abort, queued: &QueuedTable, operator: &[u8]) -> u64 {
-    match queued.held_by(&text(rt, operator)) {
+    match queued.held_by(&text(rt, operator), 1000, None) {
         Some(i) => i.number,
         None => 0,
     }
@@ -95,6 +95,9 @@ fn hold_both(rt: &impl Abort, queued: &mut QueuedTable) {
     claim(rt, queued, b"ben", 2, 400);
     queued.start();
     compare_held(rt, queued, (0, 0), "started");
+    claim(rt, queued, b"ben", 2, 400);
+    queued.adopt();
+    compare_held(rt, queued, (0, 0), "a setup in force");
     claim(rt, queued, b"ann", 2, 500);
     claim(rt, queued, b"ben", 1, 600);
     compare_held(rt, queued, (2, 1), "claimed the other way");

@@ -1,5 +1,5 @@
 -- Each part of what was read is fine, and the centre keeps all of it.
-use Rattle.std.proofs.Common.{◌≡◌, ◌∙◌, map, sym, ap, subst}
+use Rattle.std.proofs.Common.{◌≡◌, ◌∙◌, ℕ, Option, map, sym, ap, subst}
 use Rattle.std.specs.Prelude.{IsOk}
 use Rattle.std.specs.Option.{option_map}
 use Rattle.std.proofs.lemmas.Bool.{false≢true}
@@ -10,7 +10,7 @@ use Rattle.summary_rules.specs.Conditions.{IsSummary}
 use Rattle.summary_codec.specs.declared.head.Head.{Head}
 use Rattle.summary_codec.specs.declared.summary.ReadSummary.{ReadSummary}
 use Rattle.summary_codec.specs.Parts.{row_of_read, summary_of_read}
-use Rattle.centre_core.specs.Decoding.{IsHeadFine, AreRowsFine, AreIncidentsFine}
+use Rattle.centre_core.specs.Decoding.{IsHeadFine, AreRowsFine, AreIncidentsFine, AreAllApart}
 use Rattle.centre_core.specs.Taken.{sum_of}
 use Rattle.centre_core.proofs.Decoded.{of_parts, head_of, rows_of, incidents_of, centre_fine}
 use Rattle.centre_core.proofs.decoding.centre_of.Goals as goal
@@ -55,7 +55,9 @@ returns c =
       besides = subst IsWhole same (of_parts q (c.are_parts.ensures.fine c.if-not-are_parts.false).head
           (subst (AreRowsFine q.head.last) c.deref.ensures.value (c.are_parts.ensures.fine c.if-not-are_parts.false).rows_are)
           (subst (AreIncidentsFine q.head) c.deref-2.ensures.value (c.are_parts.ensures.fine c.if-not-are_parts.false).incidents)
-          (rw c.in-Some.is at c.in_ok-accounts.ensures.text) (rw c.in-Some-2.is at c.in_ok-queued.ensures.apart));
+          (rw c.in-Some.is at c.in_ok-accounts.ensures.text)
+          (subst (λ (l : Option ℕ). AreAllApart l q.head.last q.incidents.items) (c.lapse_by-lapse.ensures (summary_of_read q) (sym text))
+          (rw c.in-Some-2.is at c.in_ok-queued.ensures.apart)));
       entries = ap (λ (h : Head). h.recorded) c.parts-rows.ensures.head;
       sum = sum ∙ ap summary_of_read same;
     }

@@ -7,5 +7,5 @@ invariant-loop-incident l = record {
   opened : l.queued.opened ≡ l.opened;
   incidents : l.queued.incidents ≡ l.yielded;
   room : length l.fn.incidents.items ≤ l.queued.room;
-  apart : AreAllApart l.yielded;
+  apart : AreAllApart l.lapse l.at l.yielded;
 }

@@ -1,4 +1,4 @@
--- The next of those that are held is that of the operator, or is passed.
+-- The next of those that are claimed is held by the operator, or is passed.
 use Rattle.std.proofs.Common.{refl, sym, ap, ◌∙◌}
 use Rattle.std.specs.Option.{option_map}
 use Rattle.open_incidents.proofs.FindHeld.{next, none_first, this, passed, is_there}
@@ -6,14 +6,14 @@ use Rattle.open_incidents.proofs.held.find_held.Goals as goal
 use Rattle.open_incidents.proofs.held.find_held.Goals.{in-Some+else-holds, in_default}
 
 pub loop-number-init : goal.loop-number-init
-loop-number-init c = none_first c.args.operator.now c.args.table.now.incidents
+loop-number-init c = none_first c.args.lapse c.args.at c.args.operator.now c.args.table.now.incidents
 
 pub returns-then-holds : goal.returns-then-holds
 returns-then-holds c =
     let t = c.args.table.now in
     let k = c.loop-number.number-index in
     let one = next t.incidents t.opened k _ c.args.numbers.now c.items-items.ensures.ascends c.requires c.loop-number-test.true refl in
-    this c.args.operator.now t.incidents k _ c.in-Some.i.now one c.loop-number.invariant
+    this c.args.lapse c.args.at c.args.operator.now t.incidents k _ c.in-Some.i.now one c.loop-number.invariant
     (sym c.get.ensures ∙ ap (option_map (λ i. i.now)) c.in-Some.is) c.if-holds.ensures
 
 pub loop-number-preserved : goal.loop-number-preserved
@@ -23,7 +23,7 @@ loop-number-preserved c =
     let one = next t.incidents t.opened k _ c.args.numbers.now c.items-items.ensures.ascends c.requires c.loop-number-test.true refl in
     elim c.match-get.branch [
       | in-Some+else-holds w ↦
-          passed c.args.operator.now t.incidents k _ w.in-Some.i.now one c.loop-number.invariant
+          passed c.args.lapse c.args.at c.args.operator.now t.incidents k _ w.in-Some.i.now one c.loop-number.invariant
           (sym c.get.ensures ∙ ap (option_map (λ i. i.now)) w.in-Some.is) w.if-holds.ensures
       | in_default w ↦ absurd (is_there t.incidents k _ one (sym c.get.ensures ∙ ap (option_map (λ i. i.now)) w.in_default.is))
     ]

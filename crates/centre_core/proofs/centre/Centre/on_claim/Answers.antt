@@ -1,11 +1,14 @@
-use Rattle.std.proofs.Common.{◌∙◌}
+use Rattle.std.proofs.Common.{List, ◌∙◌}
+use Rattle.arc_data.specs.declared.incident.Incident.{Incident}
 use Rattle.centre_rules.specs.Desks.{on_claim}
+use Rattle.centre_rules.specs.Standing.{standing_of}
 use Rattle.centre_core.specs.contracts.centre.Centre.{the_view}
 use Rattle.centre_core.proofs.Ordered.{answer_of, of_table}
 use Rattle.centre_core.proofs.centre.Centre.on_claim.Goals as goal
 
 pub returns : goal.returns
-returns c = λ at.
-    c.if_known.ensures ∙ answer_of c.args.self.now.sum c.args.operator.now c.knows_operator.result c.claim-reply.result (on_claim c.args.operator.now c.args.number) c.knows_operator.ensures
-    (of_table (the_view c.self.inside) c.args.self.now c.claim-reply.result (on_claim c.args.operator.now c.args.number) c.self.view_is
-    c.claim-reply.ensures)
+returns c =
+    let of = λ (is : List Incident). on_claim c.args.operator.now c.args.number (standing_of c.lapse.result c.args.at is) in
+    c.if_known.ensures
+    ∙ answer_of c.args.self.now.sum c.args.operator.now c.knows_operator.result c.claim-reply.result (on_claim c.args.operator.now c.args.number) c.args.at c.lapse.result
+    c.knows_operator.ensures c.lapse.ensures (of_table (the_view c.self.inside) c.args.self.now c.claim-reply.result of c.self.view_is c.claim-reply.ensures)

@@ -6,21 +6,34 @@ use Rattle.arc_data.specs.declared.event.Event.{Event}
 use Rattle.centre_rules.specs.State.{State}
 use Rattle.centre_core.specs.Kept.{MayRecord, Records}
 use Rattle.centre_core.specs.contracts.centre.Centre.{the_view}
-use Rattle.centre_core.proofs.Kept.{may_take, no_adopt, records_adopted, records_taken, counts_taken}
+use Rattle.centre_core.proofs.Kept.{may_take, no_adopt, records_adopted, records_taken, valid_adopted, counts_up, counts_taken}
 use Rattle.centre_core.proofs.centre.Centre.record.Goals as goal
 
 pub returns-in-Adopt : goal.returns-in-Adopt
 returns-in-Adopt c =
     let s = c.args.self.now in
     let may = subst (λ (e : Event). MayRecord s e c.args.at c.args.reply.now c.args.setup c.args.carried.now) c.in-Adopt.is c.requires in
-    let t : State = the_view (record c.self.inside { recorded = c.self.inside.recorded + 1; last = c.args.at; accounts = c.adopt.new.self }) in
+    let t : State =
+    the_view (record c.self.inside { recorded = c.self.inside.recorded + 1; last = c.args.at; accounts = c.adopt.new.self; queued = c.adopt-2.new.self }) in
     let text = c.adopt.ensures.text ∙ sym c.in-Some.is in
-    let sum : sum_of c.args.at (c.self.inside.recorded + 1) c.adopt.new.self.text c.adopt.new.self.rows c.self.inside.queued
-    ≡ sum_of c.args.at (c.self.inside.recorded + 1) c.args.setup c.self.inside.accounts.rows c.self.inside.queued =
-    λ i. sum_of c.args.at (c.self.inside.recorded + 1) (text i) (c.adopt.ensures.rows i) c.self.inside.queued in
+    let sum : sum_of c.args.at (c.self.inside.recorded + 1) c.adopt.new.self.text c.adopt.new.self.rows c.adopt-2.new.self
+    ≡ sum_of c.args.at (c.self.inside.recorded + 1) c.args.setup c.self.inside.accounts.rows c.adopt-2.new.self =
+    λ i. sum_of c.args.at (c.self.inside.recorded + 1) (text i) (c.adopt.ensures.rows i) c.adopt-2.new.self in
     subst (λ (e : Event). Records s t e c.args.at c.args.reply.now) (sym c.in-Adopt.is)
-    (records_adopted s t c.in-Adopt.text c.args.at c.args.reply.now c.args.setup c.args.carried.now c.self.inside.accounts.rows c.self.inside.queued c.self.inside.last c.self.inside.recorded c.self.inside.accounts.text
-    may (ap (λ (x : State). x.sum) (sym c.self.view_is)) (ap (λ (x : State). x.entries) c.self.view_is) sum)
+    (records_adopted s t c.in-Adopt.text c.args.at c.args.reply.now c.args.setup c.args.carried.now c.self.inside.accounts.rows c.self.inside.queued c.adopt-2.new.self c.self.inside.last c.self.inside.recorded c.self.inside.accounts.text
+    may (c.adopt-2.ensures.marked c.in-Adopt.text) (ap (λ (x : State). x.sum) (sym c.self.view_is)) (ap (λ (x : State). x.entries) c.self.view_is) sum)
+
+pub invariant_of-self : goal.invariant_of-self
+invariant_of-self c =
+    let may = subst (λ (e : Event). MayRecord c.args.self.now e c.args.at c.args.reply.now c.args.setup c.args.carried.now) c.in-Adopt.is c.requires in
+    record {
+      few = omega (arith, c.requires.count, ap (λ (x : State). x.entries) c.self.view_is, ap (λ (x : State). x.sum.recorded) c.self.view_is);
+      bound = c.self.invariant.bound;
+      moment = c.requires.moment;
+      valid = subst (λ o. IfSome o (λ x. IsOk (setup_of x))) (c.in-Some.is ∙ sym c.adopt.ensures.text) (valid_adopted c.args.setup c.in-Adopt.text may.setup);
+      counts = counts_up c.self.inside.recorded c.adopt-2.new.self.opened c.adopt-2.new.self.incidents (c.adopt-2.ensures.few _ c.self.invariant.counts);
+      acts = c.adopt-2.ensures.room c.self.invariant.acts;
+    }
 
 pub mark-requires : goal.mark-requires
 mark-requires c = record {
