@@ -1,14 +1,14 @@
 -- What is kept of a line, and what that says.
 use Rattle.std.specs.Prelude.{◌≤◌, ◌<◌}
 use Rattle.jiff_core.specs.Calendar.{IsWithin}
-use Rattle.alarm_rules.specs.SetupLines.{Said, Nothing, OfAccount, OfHours, OfKeyholder, OfPlan, OfOperator}
+use Rattle.alarm_rules.specs.SetupLines.{Said, Nothing, OfAccount, OfHours, OfKeyholder, OfPlan, OfOperator, OfLapse}
 use Rattle.alarm_rules.specs.SetupLines.{AccountLine, HoursLine, KeyholderLine, PlanLine, Operator}
 use Rattle.arc_data.specs.declared.window.Window.{Window}
 use Rattle.accounts.specs.declared.line.AccountLine.{AccountLine as KeptAccount}
 use Rattle.accounts.specs.declared.line.HoursLine.{HoursLine as KeptHours}
 use Rattle.accounts.specs.declared.line.KeyholderLine.{KeyholderLine as KeptKeyholder}
 use Rattle.accounts.specs.declared.line.Line.{Line}
-use Rattle.accounts.specs.declared.line.Line.TheVariants.{Skipped, Account, Hours, Keyholder, Plan, Operator as AnOperator}
+use Rattle.accounts.specs.declared.line.Line.TheVariants.{Skipped, Account, Hours, Keyholder, Plan, Operator as AnOperator, Lapse}
 use Rattle.accounts.specs.declared.line.PlanLine.{PlanLine as KeptPlan}
 use Rattle.accounts.specs.declared.operator.Operator.{Operator as KeptOperator}
 
@@ -34,6 +34,7 @@ said (Hours line) = OfHours (said_hours line)
 said (Keyholder line) = OfKeyholder (said_keyholder line)
 said (Plan line) = OfPlan (said_plan line)
 said (AnOperator operator) = OfOperator (said_operator operator)
+said (Lapse seconds) = OfLapse seconds
 
 -- a window that a week takes
 pub record IsValidWindow (window : Window) : Type 0 where
@@ -49,3 +50,4 @@ IsValid (Hours line) = IsValidWindow line.window
 IsValid (Keyholder line) = Unit {0}
 IsValid (Plan line) = Unit {0}
 IsValid (AnOperator operator) = Unit {0}
+IsValid (Lapse seconds) = Unit {0}

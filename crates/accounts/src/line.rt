@@ -3,13 +3,13 @@ ghost use Rattle.std.specs.Prelude.{◌≡◌, IfSome, codes};
 ghost use Rattle.std.specs.Option.{option_map};
 ghost use Rattle.jiff_core.specs.Calendar.{IsWithin};
 ghost use Rattle.alarm_rules.specs.SetupWords.{key_spelled, seconds_spelled, minutes_spelled};
-ghost use Rattle.alarm_rules.specs.SetupLines.{account_line, hours_line, keyholder_line, plan_line, operator_line};
+ghost use Rattle.alarm_rules.specs.SetupLines.{account_line, hours_line, keyholder_line, plan_line, operator_line, lapse_line};
 ghost use Rattle.alarm_rules.specs.SetupLines.{declared, is_skipped, optional, plan_words, says, target_named, words_of};
 ghost use Rattle.accounts.specs.Said.{said, said_account, said_hours, said_keyholder, said_plan, said_operator, IsValid, IsValidWindow};
 
 use crate::named::{class, day, minute, planned};
 use crate::operator::Operator;
-use crate::spelled::{account, is_phone, key, minutes, name, pin, seconds};
+use crate::spelled::{account, is_phone, key, minutes, name, number_between, pin, seconds};
 use action_plans::Plan;
 use aes_chain::Key;
 use alarm_rules::Words;
@@ -28,6 +28,8 @@ pub(crate) enum Line {
     Keyholder(KeyholderLine),
     Plan(PlanLine),
     Operator(Operator),
+    /// After how many seconds a hold lapses.
+    Lapse(u64),
 }
 
 /// An account. The offset is in minutes.
@@ -100,6 +102,7 @@ fn declared(line: &[u8]) -> Option<Line>
         Some(kind) if kind == b"operator".as_slice() => operator_line(&mut words).map(
             Line::Operator,
         ),
+        Some(kind) if kind == b"lapse".as_slice() => lapse_line(&mut words).map(Line::Lapse),
         _ => None,
     }
 }
@@ -262,6 +265,16 @@ fn operator_line(words: &mut Words) -> Option<Operator>
     };
     match (name(name_word), pin(digits)) {
         (Some(name), Some(pin)) => Some(Operator { name, pin }),
+        _ => None,
+    }
+}
+
+/// The seconds after which a hold lapses, from 60 to 86,400.
+fn lapse_line(words: &mut Words) -> Option<u64>
+    ensures { result ≡ lapse_line words.old }
+{
+    match (words.next(), words.is_empty()) {
+        (Some(word), true) => number_between(60, 86_400, word),
         _ => None,
     }
 }

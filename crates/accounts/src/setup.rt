@@ -134,6 +134,16 @@ impl Setup {
         }
     }
 
+    /// After how many seconds a hold lapses, where a line says so. Takes no memory.
+    pub fn lapse(&self) -> Option<u64>
+        ensures { result ≡ (meaning self.now).lapse }
+    {
+        match self.table.lapse {
+            Some(entry) => Some(entry.seconds),
+            None => None,
+        }
+    }
+
     /// The plan of the account at a place below the count for a class: its own, or else that of all accounts, or else the one
     /// word `note`.
     pub fn plan(&self, place: usize, class: Class) -> Plan

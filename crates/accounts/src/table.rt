@@ -3,7 +3,7 @@ ghost use Rattle.std.specs.Prelude.{◌≡◌, [], Some, None, Err, IfOk};
 ghost use Rattle.jiff_core.specs.Calendar.{IsWithin};
 ghost use Rattle.accounts.specs.Said.{said, said_account, said_hours, said_keyholder, said_plan, said_operator, IsValid, IsValidWindow};
 ghost use Rattle.accounts.specs.Standing.{IsTaken, plan_said};
-ghost use Rattle.alarm_rules.specs.SetupLines.{OfAccount, OfHours, OfKeyholder, OfPlan, OfOperator};
+ghost use Rattle.alarm_rules.specs.SetupLines.{OfAccount, OfHours, OfKeyholder, OfPlan, OfOperator, OfLapse};
 
 use crate::account_table::AccountTable;
 use crate::entry::Entry;
@@ -24,11 +24,19 @@ const KEYHOLDER_LIMIT: u64 = 4;
 
 const WINDOW_LIMIT: u64 = 28;
 
+/// After how many seconds a hold lapses, and the number of the line that says so.
+#[derive(Clone, Copy)]
+pub(crate) struct LapseEntry {
+    pub seconds: u64,
+    pub line: u64,
+}
+
 /// What the lines of a text declare. The plans are those of all accounts that have none of their own.
 pub(crate) struct Table {
     pub accounts: AccountTable,
     pub plans: PlanList,
     pub operators: OperatorTable,
+    pub lapse: Option<LapseEntry>,
 }
 
 // Written out: one call wherever one is dropped, where a derived drop is spelled out at each exit.
@@ -38,6 +46,7 @@ impl Drop for Table {
             accounts,
             plans,
             operators,
+            lapse: _,
         } = self;
         drop(accounts);
         drop(plans);
@@ -48,12 +57,13 @@ impl Drop for Table {
 impl Table {
     /// Nothing. Takes no memory.
     pub(crate) fn new(alloc: Global) -> Table
-        ensures { result ≡ record { accounts = []; plans = []; operators = [] } }
+        ensures { result ≡ record { accounts = []; plans = []; operators = []; lapse = None } }
     {
         Table {
             accounts: AccountTable::new(alloc),
             plans: PlanList::new(alloc),
             operators: OperatorTable::new(alloc),
+            lapse: None,
         }
     }
 
@@ -69,6 +79,7 @@ impl Table {
             Line::Keyholder(keyholder) => self.take_keyholder(number, keyholder),
             Line::Plan(plan) => self.take_plan(number, plan),
             Line::Operator(operator) => self.take_operator(number, operator),
+            Line::Lapse(seconds) => self.take_lapse(number, seconds),
         }
     }
 
@@ -186,6 +197,19 @@ impl Table {
         }
     }
 
+    fn take_lapse(&mut self, number: u64, seconds: u64) -> Result<(), SetupFault>
+        ensures { IsTaken self.old number (Some (OfLapse seconds)) result self.new }
+    {
+        if let Some(same) = self.lapse {
+            return two_same(number, same.line);
+        }
+        self.lapse = Some(LapseEntry {
+            seconds,
+            line: number,
+        });
+        Ok(())
+    }
+
     /// A copy.
     pub(crate) fn copy(&self) -> Result<Table, AllocError>
         ensures { IfOk result (λ table. table ≡ self.now) }
@@ -194,6 +218,7 @@ impl Table {
             accounts: self.accounts.copy()?,
             plans: self.plans.clone()?,
             operators: self.operators.copy()?,
+            lapse: self.lapse,
         })
     }
 }
