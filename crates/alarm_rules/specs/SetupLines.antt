@@ -95,14 +95,16 @@ optional name read (word ∷ words) = if bytes_eq word name then value_first rea
 
 -- Lines, by the words behind the first one.
 
--- where local time is: optionally `offset MINUTES`, or in its place `zone TEXT`; without either it is GMT
+-- the zone of an account: optionally `zone TEXT`, and without it GMT
+abbrev pub rule_named : List (List ℕ) → Option (Option Zone × List (List ℕ))
+rule_named words =
+    option_map (λ zone. (unwrap_or zone.0 (Some (fixed_zone (pos 0))), zone.1)) (optional (codes "zone") zone_spelled words)
+
+-- optionally `offset MINUTES` in its place
 abbrev pub zone_named : List (List ℕ) → Option (Option Zone × List (List ℕ))
 zone_named words =
     after (optional (codes "offset") minutes_spelled words) (λ offset.
-    elim offset.0 [
-      | Some minutes ↦ Some (Some (fixed_zone minutes), offset.1)
-      | None ↦ option_map (λ zone. (unwrap_or zone.0 (Some (fixed_zone (pos 0))), zone.1)) (optional (codes "zone") zone_spelled offset.1)
-    ])
+    elim offset.0 [ Some minutes ↦ Some (Some (fixed_zone minutes), offset.1) | None ↦ rule_named offset.1 ])
 
 -- `account ACC`, then optionally `key HEX`, then optionally `beat SECONDS`, then optionally `offset MINUTES` or `zone TEXT`
 abbrev pub account_line : List (List ℕ) → Option AccountLine

@@ -170,13 +170,17 @@ first_fault earlier (line ∷ more) = option_or (fault_at earlier line) (first_f
 abbrev pub things : {A : Type 0} → List (ℕ × A) → List A
 things numbered = map (λ thing. thing.1) numbered
 
--- an account with all that the lines say of it; in lines without a fault each zone is a rule
+-- the zone that a line names; in lines without a fault there is one
+abbrev pub zone_or_gmt : Option Zone → Zone
+zone_or_gmt zone = unwrap_or zone (fixed_zone (pos 0))
+
+-- an account with all that the lines say of it
 abbrev pub account_with : List Line → AccountLine → Account
 account_with lines account = record {
   number = account.number;
   key = account.key;
   beat = account.beat;
-  week = record { zone = unwrap_or account.zone (fixed_zone (pos 0)); windows = things (windows_in account.number lines) };
+  week = record { zone = zone_or_gmt account.zone; windows = things (windows_in account.number lines) };
   holders = length (keyholders_in account.number lines);
 }
 
