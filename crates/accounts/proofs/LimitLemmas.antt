@@ -8,7 +8,7 @@ use Rattle.std.proofs.lemmas.Bool.{cases_Bool, ltb-true}
 use Rattle.std.proofs.lemmas.Option.{slice_get-map}
 use Rattle.std.proofs.lemmas.Slice.Eq.{bytes_eq-Decides}
 use Rattle.arc_data.specs.declared.setup_fault.SetupFault.TheVariants.{TooMany}
-use Rattle.alarm_rules.specs.SetupLines.{Said, Nothing, OfAccount, OfHours, OfKeyholder, OfPlan, OfOperator}
+use Rattle.alarm_rules.specs.SetupLines.{Said, Nothing, OfAccount, OfHours, OfKeyholder, OfPlan, OfOperator, OfLapse}
 use Rattle.alarm_rules.specs.SetupLines.{AccountLine}
 use Rattle.alarm_rules.specs.Setups.{Line, told, account_part, keyholder_part, accounts_in, keyholders_in, line_with, account_declared}
 use Rattle.alarm_rules.specs.Setups.{bad_zone, no_account, two_same, too_many, fault_at, first_fault}
@@ -61,6 +61,7 @@ account-room earlier (n, Some (OfHours line)) none = inl refl
 account-room earlier (n, Some (OfKeyholder line)) none = inl refl
 account-room earlier (n, Some (OfPlan line)) none = inl refl
 account-room earlier (n, Some (OfOperator line)) none = inl refl
+account-room earlier (n, Some (OfLapse seconds)) none = inl refl
 
 module _ (number : List ℕ) where
   keyholder-room : (earlier : List Line) (l : Line) → fault_at earlier l ≡ None
@@ -82,6 +83,7 @@ module _ (number : List ℕ) where
       ]
   keyholder-room earlier (n, Some (OfPlan line)) none = inl refl
   keyholder-room earlier (n, Some (OfOperator line)) none = inl refl
+  keyholder-room earlier (n, Some (OfLapse seconds)) none = inl refl
 
 module _ (lines : List Line) (faultless : first_fault [] lines ≡ None) where
   -- 2,000 accounts at most

@@ -15,16 +15,17 @@ use Rattle.arc_data.specs.declared.setup_fault.SetupFault.{SetupFault}
 use Rattle.arc_data.specs.declared.setup_fault.SetupFault.TheVariants.{TooLarge}
 use Rattle.arc_data.specs.declared.signal.Class.{Class}
 use Rattle.alarm_rules.specs.SetupLines.{AccountLine, PlanLine, Operator}
-use Rattle.alarm_rules.specs.Setups.{Account, Setup, Line, said_lines, first_fault, unless, things, accounts_in, operators_in, plans_in, account_with, is_plan_of}
+use Rattle.alarm_rules.specs.Setups.{Account, Setup, Line, said_lines, first_fault, unless, told, things, accounts_in, operators_in, plans_in, lapse_part, account_with, is_plan_of}
 use Rattle.alarm_rules.specs.Setups.{setup_of, setup_of_lines, meaning, account_of, place_of, has_account, has_number, key_of, has_name, operator_of, words_for, plan_of}
 use Rattle.accounts.specs.declared.entry.Entry.{Entry}
 use Rattle.accounts.specs.declared.operator_table.OperatorEntry.{OperatorEntry}
 use Rattle.accounts.specs.declared.plan_list.ClassPlan.{ClassPlan}
+use Rattle.accounts.specs.declared.table.LapseEntry.{LapseEntry}
 use Rattle.accounts.specs.declared.table.Table.{Table}
 use Rattle.accounts.specs.Accounts.{defined, IsReadFrom}
 use Rattle.accounts.specs.Entries.{is_numbered, find_number, find_name}
 use Rattle.accounts.specs.Said.{said_operator}
-use Rattle.accounts.specs.Standing.{entry_in, plan_entry, operator_entry, plans_for}
+use Rattle.accounts.specs.Standing.{entry_in, plan_entry, operator_entry, lapse_entry, first_lapse, plans_for}
 use Rattle.accounts.proofs.LimitLemmas.{few-accounts, few-holders}
 use Rattle.accounts.proofs.StandLemmas.{find-map, find-passes, map-map, place-there}
 use Rattle.accounts.proofs.TableLemmas.{position-map}
@@ -77,7 +78,7 @@ module _ (text : List ℕ) (table : Table) (read : IsReadFrom text table) where
   is_ok-read = rw setup_of-read refl
 
   pub meaning-read : meaning text ≡ setup_of_lines ls
-  meaning-read = ap (λ (r : Result Setup SetupFault). result_unwrap_or r (record { accounts = []; plans = []; operators = [] })) setup_of-read
+  meaning-read = ap (λ (r : Result Setup SetupFault). result_unwrap_or r (record { accounts = []; plans = []; operators = []; lapse = None })) setup_of-read
 
   -- Accounts.
 
@@ -130,6 +131,17 @@ module _ (text : List ℕ) (table : Table) (read : IsReadFrom text table) where
       → option_map operator_kept entry ≡ operator_of (meaning text) name
   operator-read name entry is =
       ap (option_map operator_kept) is ∙ sym (ap (find (has_name name)) operators-read ∙ find-map operator_kept (has_name name) table.operators)
+
+  -- The lapse.
+
+  first-seconds : (lapses : List (ℕ × ℕ)) → option_map (λ (entry : LapseEntry). entry.seconds) (option_map lapse_entry (first_lapse lapses)) ≡ find (λ any. true) (things lapses)
+  first-seconds [] = refl
+  first-seconds (lapse ∷ lapses) = refl
+
+  pub lapse-read : (entry : Option LapseEntry) → table.lapse ≡ entry → option_map (λ (entry : LapseEntry). entry.seconds) entry ≡ (meaning text).lapse
+  lapse-read entry is =
+      ap (option_map (λ (entry : LapseEntry). entry.seconds)) (sym is ∙ read.stands.lapse) ∙ first-seconds (told lapse_part ls)
+      ∙ sym (ap (λ (setup : Setup). setup.lapse) meaning-read)
 
   -- Plans.
 

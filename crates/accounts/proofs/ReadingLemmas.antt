@@ -22,7 +22,7 @@ pub record HasRead (text rest : List ℕ) (number : ℕ) (table : Table) : Type 
   pub faults : first_fault [] (said_lines text) ≡ first_fault earlier (said_from (number + 1) rest)
   pub stands : Stands earlier table
 
-pub nothing-read : (text : List ℕ) → HasRead text text 0 (record { accounts = []; plans = []; operators = [] })
+pub nothing-read : (text : List ℕ) → HasRead text text 0 (record { accounts = []; plans = []; operators = []; lapse = None })
 nothing-read text = record {
   earlier = [];
   whole = refl;
@@ -31,6 +31,7 @@ nothing-read text = record {
     accounts = refl;
     plans = refl;
     operators = refl;
+    lapse = refl;
     silent = λ number none. record { windows = refl; keyholders = refl; plans = refl };
   };
 }

@@ -13,13 +13,14 @@ use Rattle.std.proofs.lemmas.Slice.Eq.{bytes_eq-Decides}
 use Rattle.arc_data.specs.declared.window.Window.{Window}
 use Rattle.alarm_rules.specs.SetupLines.{Said}
 use Rattle.alarm_rules.specs.SetupLines.{AccountLine, PlanLine}
-use Rattle.alarm_rules.specs.Setups.{Line, told, told_at, things, account_part, hours_part, keyholder_part, operator_part, accounts_in, windows_in, keyholders_in, operators_in, account_declared, zone_or_gmt}
+use Rattle.alarm_rules.specs.Setups.{Line, told, told_at, things, account_part, hours_part, keyholder_part, operator_part, lapse_part}
+use Rattle.alarm_rules.specs.Setups.{accounts_in, windows_in, keyholders_in, operators_in, account_declared, zone_or_gmt}
 use Rattle.accounts.specs.declared.entry.Entry.{Entry}
 use Rattle.accounts.specs.declared.keyholders.Keyholder.{Keyholder}
 use Rattle.accounts.specs.declared.plan_list.ClassPlan.{ClassPlan}
 use Rattle.accounts.specs.declared.table.Table.{Table}
 use Rattle.accounts.specs.Entries.{is_numbered, find_number, changed}
-use Rattle.accounts.specs.Standing.{keyholder_entry, plan_entry, operator_entry, plan_for, plans_for, entry_in, IsSilent, Stands}
+use Rattle.accounts.specs.Standing.{keyholder_entry, plan_entry, operator_entry, lapse_entry, first_lapse, plan_for, plans_for, entry_in, IsSilent, Stands}
 use Rattle.accounts.proofs.LineLemmas.{cond_none}
 
 -- Finding.
@@ -153,12 +154,14 @@ module _ (lines : List Line) (l : Line) where
       → new.accounts ≡ map (entry_in more) (accounts_in lines ++ accounts_in (l ∷ []))
       → new.plans ≡ map plan_entry (plans_for None lines ++ plans_for None (l ∷ []))
       → new.operators ≡ map operator_entry (operators_in lines ++ operators_in (l ∷ []))
+      → new.lapse ≡ option_map lapse_entry (first_lapse (told lapse_part lines ++ told lapse_part (l ∷ [])))
       → ((number : List ℕ) → account_declared number lines ≡ None → IsSilent number (l ∷ []))
       → Stands more new
-  stands-more old new stands accounts plans operators silent = record {
+  stands-more old new stands accounts plans operators lapse silent = record {
     accounts = accounts ∙ sym (ap (λ xs. map (entry_in more) xs) (told-more account_part lines l));
     plans = plans ∙ sym (ap (λ xs. map plan_entry xs) (told-more (plan_for None) lines l));
     operators = operators ∙ sym (ap (λ xs. map operator_entry xs) (told-more operator_part lines l));
+    lapse = lapse ∙ sym (ap (λ xs. option_map lapse_entry (first_lapse xs)) (told-more lapse_part lines l));
     silent = λ number none.
         let before = undeclared-before number none in
         silent-joined number (stands.silent number before) (silent number before);
@@ -174,6 +177,9 @@ module _ (lines : List Line) (l : Line) where
 
   pub operators-silent : (old : Table) → Stands lines old → old.operators ≡ map operator_entry (operators_in lines ++ [])
   operators-silent old stands = stands.operators ∙ ap (λ xs. map operator_entry xs) (sym (append-nil (operators_in lines)))
+
+  pub lapse-silent : (old : Table) → Stands lines old → old.lapse ≡ option_map lapse_entry (first_lapse (told lapse_part lines ++ []))
+  lapse-silent old stands = stands.lapse ∙ ap (λ xs. option_map lapse_entry (first_lapse xs)) (sym (append-nil (told lapse_part lines)))
 
   -- the accounts after a change of the one of this number
   pub accounts-changed : (old : Table) (number : List ℕ) (change : Entry → Entry) → Stands lines old

@@ -14,9 +14,9 @@ use Rattle.arc_data.specs.declared.setup_fault.SetupFault.{SetupFault}
 use Rattle.arc_data.specs.declared.setup_fault.SetupFault.TheVariants.{BadLine, TwoSame, TooMany}
 use Rattle.arc_data.specs.declared.signal.Class.{Class}
 use Rattle.arc_data.specs.declared.window.Window.{Window}
-use Rattle.alarm_rules.specs.SetupLines.{Said, Nothing, OfAccount, OfHours, OfKeyholder, OfPlan, OfOperator}
+use Rattle.alarm_rules.specs.SetupLines.{Said, Nothing, OfAccount, OfHours, OfKeyholder, OfPlan, OfOperator, OfLapse}
 use Rattle.alarm_rules.specs.SetupLines.{AccountLine, HoursLine, KeyholderLine, PlanLine, Operator}
-use Rattle.alarm_rules.specs.Setups.{Line, things, accounts_in, windows_in, keyholders_in, plans_in, operators_in}
+use Rattle.alarm_rules.specs.Setups.{Line, told, things, accounts_in, windows_in, keyholders_in, plans_in, operators_in, lapse_part}
 use Rattle.alarm_rules.specs.Setups.{line_with, account_declared, same_target, is_plan_of, bad_zone, no_account, two_same, too_many, fault_of}
 use Rattle.accounts.specs.declared.entry.Entry.{Entry}
 use Rattle.accounts.specs.declared.keyholders.Keyholder.{Keyholder}
@@ -24,11 +24,12 @@ use Rattle.accounts.specs.declared.line.AccountLine.{AccountLine as KeptAccount}
 use Rattle.accounts.specs.declared.operator.Operator.{Operator as KeptOperator}
 use Rattle.accounts.specs.declared.operator_table.OperatorEntry.{OperatorEntry}
 use Rattle.accounts.specs.declared.plan_list.ClassPlan.{ClassPlan}
+use Rattle.accounts.specs.declared.table.LapseEntry.{LapseEntry}
 use Rattle.accounts.specs.declared.table.Table.{Table}
 use Rattle.accounts.specs.Entries.{new_entry, is_numbered, find_number, find_name, is_named, changed, with_window, with_keyholder, with_plan}
 use Rattle.accounts.specs.Said.{said_account, said_operator}
-use Rattle.accounts.specs.Standing.{keyholder_entry, plan_entry, operator_entry, plan_said, plans_for, entry_in, IsSilent, Stands}
-use Rattle.accounts.proofs.StandLemmas.{shaped, built, find-map, entry-more, stands-more, accounts-silent, plans-silent, operators-silent, accounts-changed}
+use Rattle.accounts.specs.Standing.{keyholder_entry, plan_entry, operator_entry, lapse_entry, first_lapse, plan_said, plans_for, entry_in, IsSilent, Stands}
+use Rattle.accounts.proofs.StandLemmas.{shaped, built, find-map, entry-more, stands-more, accounts-silent, plans-silent, operators-silent, lapse-silent, accounts-changed}
 use Rattle.accounts.proofs.StandLemmas.{Located, declared-is, declared-none, undeclared-other}
 
 at-some : {A : Type 0} (found : Option A) (P : A → Type 0) (x : A) → found ≡ Some x → IfSome found P → P x
@@ -64,6 +65,7 @@ plans-found account class ((n, Some (OfPlan line)) ∷ lines) =
     own-plan (same_target account line.account) (same_class class line.class) (n, line) (plans_in lines) (plans_for account lines)
     (λ thing. is_plan_of account class thing.1) (λ thing. same_class class thing.1.class) refl (plans-found account class lines)
 plans-found account class ((n, Some (OfOperator line)) ∷ lines) = plans-found account class lines
+plans-found account class ((n, Some (OfLapse seconds)) ∷ lines) = plans-found account class lines
 
 module _ (lines : List Line) (n : ℕ) (old : Table) (stands : Stands lines old) where
   abbrev more : Said → List Line
@@ -77,7 +79,7 @@ module _ (lines : List Line) (n : ℕ) (old : Table) (stands : Stands lines old)
   nothing-taken =
       let quiet : (number : List ℕ) → IsSilent number (one Nothing) = λ number. record { windows = refl; keyholders = refl; plans = refl } in
       stands-more lines (n, Some Nothing) old old stands (accounts-silent lines (n, Some Nothing) old stands quiet) (plans-silent lines (n, Some Nothing) old stands)
-      (operators-silent lines (n, Some Nothing) old stands) (λ number none. quiet number)
+      (operators-silent lines (n, Some Nothing) old stands) (lapse-silent lines (n, Some Nothing) old stands) (λ number none. quiet number)
 
   -- An account.
 
@@ -113,8 +115,8 @@ module _ (lines : List Line) (n : ℕ) (old : Table) (stands : Stands lines old)
         ∙ fits-below n 2000 (length (accounts_in lines)) (omega (arith, count-is))
 
     pub account-taken : (new : Table) → None ≡ find_number account.number old.accounts → new.accounts ≡ old.accounts ++ new_entry kept n ∷ []
-        → new.plans ≡ old.plans → new.operators ≡ old.operators → Stands (more (OfAccount account)) new
-    account-taken new none accounts plans operators =
+        → new.plans ≡ old.plans → new.operators ≡ old.operators → new.lapse ≡ old.lapse → Stands (more (OfAccount account)) new
+    account-taken new none accounts plans operators lapse =
         let l : Line = (n, Some (OfAccount account)) in
         let quiet : (number : List ℕ) → IsSilent number (one (OfAccount account)) = λ number. record { windows = refl; keyholders = refl; plans = refl } in
         let silent = stands.silent account.number (account-declared None (sym none)) in
@@ -123,7 +125,8 @@ module _ (lines : List Line) (n : ℕ) (old : Table) (stands : Stands lines old)
         (accounts ∙ ap (λ entries. entries ++ new_entry kept n ∷ []) same
         ∙ ap (λ entry. map (entry_in (more (OfAccount account))) (accounts_in lines) ++ entry ∷ []) (fresh silent)
         ∙ sym (map-append (entry_in (more (OfAccount account))) (accounts_in lines) ((n, account) ∷ [])))
-        (plans ∙ plans-silent lines l old stands) (operators ∙ operators-silent lines l old stands) (λ number undeclared. quiet number)
+        (plans ∙ plans-silent lines l old stands) (operators ∙ operators-silent lines l old stands) (lapse ∙ lapse-silent lines l old stands)
+        (λ number undeclared. quiet number)
       where
         fresh : IsSilent account.number lines → new_entry kept n ≡ entry_in (more (OfAccount account)) (n, account)
         fresh silent = sym (entry-more lines (n, Some (OfAccount account)) (n, account)
@@ -171,14 +174,45 @@ module _ (lines : List Line) (n : ℕ) (old : Table) (stands : Stands lines old)
         ∙ fits-below n 64 (length (operators_in lines)) (omega (arith, operators-count))
 
     pub operator-taken : (new : Table) → new.accounts ≡ old.accounts → new.plans ≡ old.plans
-        → new.operators ≡ old.operators ++ record { operator = kept; line = n } ∷ [] → Stands (more (OfOperator operator)) new
-    operator-taken new accounts plans operators =
+        → new.operators ≡ old.operators ++ record { operator = kept; line = n } ∷ [] → new.lapse ≡ old.lapse → Stands (more (OfOperator operator)) new
+    operator-taken new accounts plans operators lapse =
         let l : Line = (n, Some (OfOperator operator)) in
         let quiet : (number : List ℕ) → IsSilent number (one (OfOperator operator)) = λ number. record { windows = refl; keyholders = refl; plans = refl } in
         stands-more lines l old new stands (accounts ∙ accounts-silent lines l old stands quiet) (plans ∙ plans-silent lines l old stands)
         (operators ∙ ap (λ entries. entries ++ operator_entry (n, operator) ∷ []) stands.operators
         ∙ sym (map-append operator_entry (operators_in lines) ((n, operator) ∷ [])))
-        (λ number undeclared. quiet number)
+        (lapse ∙ lapse-silent lines l old stands) (λ number undeclared. quiet number)
+
+  -- A lapse.
+
+  module _ (seconds : ℕ) where
+    line-of-lapse : (found : Option (ℕ × ℕ)) → option_map (λ thing. thing.0) found ≡ option_map (λ (entry : LapseEntry). entry.line) (option_map lapse_entry found)
+    line-of-lapse None = refl
+    line-of-lapse (Some thing) = refl
+
+    lapse-declared : (found : Option LapseEntry) → old.lapse ≡ found → fault_of lines n (OfLapse seconds) ≡ two_same n (option_map (λ (entry : LapseEntry). entry.line) found)
+    lapse-declared found is =
+        ap (two_same n) (line-of-lapse (first_lapse (told lapse_part lines)) ∙ ap (option_map (λ (entry : LapseEntry). entry.line)) (sym stands.lapse ∙ is))
+
+    pub lapse-same : (entry : LapseEntry) → old.lapse ≡ Some entry → fault_of lines n (OfLapse seconds) ≡ Some (TwoSame n entry.line)
+    lapse-same entry is = lapse-declared (Some entry) is
+
+    pub lapse-faultless : old.lapse ≡ None → fault_of lines n (OfLapse seconds) ≡ None
+    lapse-faultless none = lapse-declared None none
+
+    -- the first one is the one behind those before, where these are none
+    first-behind : (lapses : List (ℕ × ℕ)) → None ≡ option_map lapse_entry (first_lapse lapses) → first_lapse (lapses ++ (n, seconds) ∷ []) ≡ Some (n, seconds)
+    first-behind [] none = refl
+    first-behind (lapse ∷ lapses) none = cc
+
+    pub lapse-taken : (new : Table) → old.lapse ≡ None → new.accounts ≡ old.accounts → new.plans ≡ old.plans → new.operators ≡ old.operators
+        → new.lapse ≡ Some (record { seconds = seconds; line = n }) → Stands (more (OfLapse seconds)) new
+    lapse-taken new none accounts plans operators lapse =
+        let l : Line = (n, Some (OfLapse seconds)) in
+        let quiet : (number : List ℕ) → IsSilent number (one (OfLapse seconds)) = λ number. record { windows = refl; keyholders = refl; plans = refl } in
+        stands-more lines l old new stands (accounts ∙ accounts-silent lines l old stands quiet) (plans ∙ plans-silent lines l old stands)
+        (operators ∙ operators-silent lines l old stands)
+        (lapse ∙ sym (ap (option_map lapse_entry) (first-behind (told lapse_part lines) (sym none ∙ stands.lapse)))) (λ number undeclared. quiet number)
 
   -- What was said of an account before.
 
@@ -262,16 +296,16 @@ module _ (lines : List Line) (n : ℕ) (old : Table) (stands : Stands lines old)
 
     pub hours-taken : (b : Bool) (new : Table) → b ≡ true → IfSome (slice_get old.accounts place) (λ (e : Entry). b ≡ nat_lt (length e.account.week.windows) 28)
         → OnTrue b (IfSome (slice_get old.accounts place) (λ (e : Entry). new.accounts ≡ changed e.account.number (with_window hours.window) old.accounts))
-        → new.plans ≡ old.plans → new.operators ≡ old.operators
+        → new.plans ≡ old.plans → new.operators ≡ old.operators → new.lapse ≡ old.lapse
         → (fault_of lines n (OfHours hours) ≡ None) × Stands (more (OfHours hours)) new
-    hours-taken b new fits room added plans operators =
+    hours-taken b new fits room added plans operators lapse =
         let l : Line = (n, Some (OfHours hours)) in
         let wrote = at-some (slice_get old.accounts place) _ (entry_in lines at.thing) at.at (when-true b _ added fits) in (
           hours-by b room ∙ ap (λ t. if t then None else Some (TooMany n 28)) fits,
           stands-more lines l old new stands
               (wrote ∙ ap (λ number. changed number (with_window hours.window) old.accounts) at.same
               ∙ accounts-changed lines l old hours.account (with_window hours.window) stands hours-entry)
-              (plans ∙ plans-silent lines l old stands) (operators ∙ operators-silent lines l old stands) hours-silent,
+              (plans ∙ plans-silent lines l old stands) (operators ∙ operators-silent lines l old stands) (lapse ∙ lapse-silent lines l old stands) hours-silent,
         )
 
   -- A keyholder.
@@ -359,16 +393,16 @@ module _ (lines : List Line) (n : ℕ) (old : Table) (stands : Stands lines old)
         → None ≡ option_map (λ (k : Keyholder). k.line) (find (λ k. bytes_eq keyholder.name k.name) e.keyholders)
         → IfSome (slice_get old.accounts place) (λ (x : Entry). b ≡ nat_lt (length x.keyholders) 4)
         → OnTrue b (IfSome (slice_get old.accounts place) (λ (x : Entry). new.accounts ≡ changed x.account.number (with_keyholder kept_keyholder) old.accounts))
-        → new.plans ≡ old.plans → new.operators ≡ old.operators
+        → new.plans ≡ old.plans → new.operators ≡ old.operators → new.lapse ≡ old.lapse
         → (fault_of lines n (OfKeyholder keyholder) ≡ None) × Stands (more (OfKeyholder keyholder)) new
-    keyholder-taken e b new fits there none room added plans operators =
+    keyholder-taken e b new fits there none room added plans operators lapse =
         let l : Line = (n, Some (OfKeyholder keyholder)) in
         let wrote = at-some (slice_get old.accounts place) _ (entry_in lines at.thing) at.at (when-true b _ added fits) in (
           keyholder-by e b there none room ∙ ap (λ t. if t then None else Some (TooMany n 4)) fits,
           stands-more lines l old new stands
               (wrote ∙ ap (λ number. changed number (with_keyholder kept_keyholder) old.accounts) at.same
               ∙ accounts-changed lines l old keyholder.account (with_keyholder kept_keyholder) stands keyholder-entered)
-              (plans ∙ plans-silent lines l old stands) (operators ∙ operators-silent lines l old stands) keyholder-silent,
+              (plans ∙ plans-silent lines l old stands) (operators ∙ operators-silent lines l old stands) (lapse ∙ lapse-silent lines l old stands) keyholder-silent,
         )
 
   -- Plans.
@@ -397,15 +431,15 @@ module _ (lines : List Line) (n : ℕ) (old : Table) (stands : Stands lines old)
         ap (two_same n) (same-plan None plan.class old.plans stands.plans ∙ ap (option_map (λ (p : ClassPlan). p.line)) (sym is))
 
     pub plan-taken : (new : Table) → plan.line ≡ n → new.accounts ≡ old.accounts → new.plans ≡ old.plans ++ plan ∷ [] → new.operators ≡ old.operators
-        → Stands (more (plan_said None plan)) new
-    plan-taken new number accounts plans operators =
+        → new.lapse ≡ old.lapse → Stands (more (plan_said None plan)) new
+    plan-taken new number accounts plans operators lapse =
         let l : Line = (n, Some (plan_said None plan)) in
         let said : PlanLine = record { account = None; class = plan.class; words = plan.plan } in
         let quiet : (number : List ℕ) → IsSilent number (one (plan_said None plan)) = λ number. record { windows = refl; keyholders = refl; plans = refl } in
         let kept : plan ≡ plan_entry (n, said) = λ i. record { class = plan.class; plan = plan.plan; line = number i } in
         stands-more lines l old new stands (accounts ∙ accounts-silent lines l old stands quiet)
         (plans ∙ (λ i. stands.plans i ++ kept i ∷ []) ∙ sym (map-append plan_entry (plans_for None lines) ((n, said) ∷ [])))
-        (operators ∙ operators-silent lines l old stands) (λ number undeclared. quiet number)
+        (operators ∙ operators-silent lines l old stands) (lapse ∙ lapse-silent lines l old stands) (λ number undeclared. quiet number)
 
   -- the plan of an account
 
@@ -457,14 +491,14 @@ module _ (lines : List Line) (n : ℕ) (old : Table) (stands : Stands lines old)
 
     pub plan-of-taken : (e : Entry) (new : Table) → plan.line ≡ n → slice_get old.accounts place ≡ Some e → None ≡ find (λ p. same_class plan.class p.class) e.plans
         → IfSome (slice_get old.accounts place) (λ (x : Entry). new.accounts ≡ changed x.account.number (with_plan plan) old.accounts)
-        → new.plans ≡ old.plans → new.operators ≡ old.operators
+        → new.plans ≡ old.plans → new.operators ≡ old.operators → new.lapse ≡ old.lapse
         → (fault_of lines n (plan_said (Some account) plan) ≡ None) × Stands (more (plan_said (Some account) plan)) new
-    plan-of-taken e new line there none added plans operators =
+    plan-of-taken e new line there none added plans operators lapse =
         let l : Line = (n, Some (plan_said (Some account) plan)) in
         let wrote = at-some (slice_get old.accounts place) _ (entry_in lines at.thing) at.at added in (
           plan-declared e there ∙ ap (λ found. two_same n (option_map (λ (p : ClassPlan). p.line) found)) (sym none),
           stands-more lines l old new stands
               (wrote ∙ ap (λ number. changed number (with_plan plan) old.accounts) at.same
               ∙ accounts-changed lines l old account (with_plan plan) stands (plan-entered line))
-              (plans ∙ plans-silent lines l old stands) (operators ∙ operators-silent lines l old stands) plan-silent,
+              (plans ∙ plans-silent lines l old stands) (operators ∙ operators-silent lines l old stands) (lapse ∙ lapse-silent lines l old stands) plan-silent,
         )

@@ -1,14 +1,17 @@
 -- What the lines so far declare, as it is kept.
-use Rattle.std.specs.Prelude.{◌≡◌, ◌⊎◌, ℕ, List, [], ◌∷◌, ◌++◌, Option, Some, None, Result, Ok, Err, if◌then◌else◌, length, map}
+use Rattle.std.specs.Prelude.{◌≡◌, ◌⊎◌, ℕ, List, [], ◌∷◌, ◌++◌, true, Option, Some, None, Result, Ok, Err, if◌then◌else◌, length, map}
+use Rattle.std.specs.List.{find}
+use Rattle.std.specs.Option.{option_map}
 use Rattle.arc_data.specs.declared.setup_fault.SetupFault.{SetupFault}
 use Rattle.arc_data.specs.declared.setup_fault.SetupFault.TheVariants.{Memory}
 use Rattle.alarm_rules.specs.SetupLines.{Said, OfPlan, AccountLine, PlanLine, Operator}
 use Rattle.alarm_rules.specs.Setups.{Line, told, things, same_target, account_declared, fault_at, zone_or_gmt}
-use Rattle.alarm_rules.specs.Setups.{accounts_in, windows_in, keyholders_in, operators_in}
+use Rattle.alarm_rules.specs.Setups.{accounts_in, windows_in, keyholders_in, operators_in, lapse_part}
 use Rattle.accounts.specs.declared.entry.Entry.{Entry}
 use Rattle.accounts.specs.declared.keyholders.Keyholder.{Keyholder}
 use Rattle.accounts.specs.declared.operator_table.OperatorEntry.{OperatorEntry}
 use Rattle.accounts.specs.declared.plan_list.ClassPlan.{ClassPlan}
+use Rattle.accounts.specs.declared.table.LapseEntry.{LapseEntry}
 use Rattle.accounts.specs.declared.table.Table.{Table}
 
 -- Things with the numbers of their lines.
@@ -21,6 +24,13 @@ plan_entry thing = record { class = thing.1.class; plan = thing.1.words; line = 
 
 abbrev pub operator_entry : ℕ × Operator → OperatorEntry
 operator_entry thing = record { operator = record { name = thing.1.name; pin = thing.1.pin }; line = thing.0 }
+
+abbrev pub lapse_entry : ℕ × ℕ → LapseEntry
+lapse_entry thing = record { seconds = thing.1; line = thing.0 }
+
+-- the first line that says after how many seconds a hold lapses
+abbrev pub first_lapse : List (ℕ × ℕ) → Option (ℕ × ℕ)
+first_lapse lapses = find (λ any. true) lapses
 
 -- a plan as it is said, of an account or of all
 abbrev pub plan_said : Option (List ℕ) → ClassPlan → Said
@@ -62,6 +72,7 @@ pub record Stands (lines : List Line) (table : Table) : Type 0 where
   pub accounts : table.accounts ≡ map (entry_in lines) (accounts_in lines)
   pub plans : table.plans ≡ map plan_entry (plans_for None lines)
   pub operators : table.operators ≡ map operator_entry (operators_in lines)
+  pub lapse : table.lapse ≡ option_map lapse_entry (first_lapse (told lapse_part lines))
   pub silent : (number : List ℕ) → account_declared number lines ≡ None → IsSilent number lines
 
 -- A line that is taken up, or its fault, after lines without a fault.

@@ -12,7 +12,7 @@ use Rattle.std.proofs.lemmas.List.{map-append}
 use Rattle.std.proofs.lemmas.Map.Keys.{IsDistinct-push}
 use Rattle.arc_data.specs.declared.setup_fault.SetupFault.{SetupFault}
 use Rattle.arc_data.specs.declared.setup_fault.SetupFault.TheVariants.{TooLarge}
-use Rattle.alarm_rules.specs.SetupLines.{AccountLine, Nothing, OfAccount, OfHours, OfKeyholder, OfPlan, OfOperator}
+use Rattle.alarm_rules.specs.SetupLines.{AccountLine, Nothing, OfAccount, OfHours, OfKeyholder, OfPlan, OfOperator, OfLapse}
 use Rattle.alarm_rules.specs.Setups.{Account, Setup, Line, said_lines, account_part, accounts_in, account_declared, account_with, things}
 use Rattle.alarm_rules.specs.Setups.{fault_at, first_fault, setup_of, setup_of_lines, meaning, two_same, too_many, unless}
 use Rattle.accounts.proofs.LimitLemmas.{or-none}
@@ -65,6 +65,7 @@ distinct-more earlier (n, Some (OfHours line)) none distinct = rw (append-nil (n
 distinct-more earlier (n, Some (OfKeyholder line)) none distinct = rw (append-nil (numbers_in earlier)) distinct
 distinct-more earlier (n, Some (OfPlan line)) none distinct = rw (append-nil (numbers_in earlier)) distinct
 distinct-more earlier (n, Some (OfOperator line)) none distinct = rw (append-nil (numbers_in earlier)) distinct
+distinct-more earlier (n, Some (OfLapse seconds)) none distinct = rw (append-nil (numbers_in earlier)) distinct
 
 -- lines without a fault after these lines
 distinct-from : (earlier lines : List Line) → IsDistinct bytes_eq (numbers_in earlier) → first_fault earlier lines ≡ None → IsDistinct bytes_eq (numbers_in (earlier ++ lines))
@@ -86,7 +87,7 @@ distinct-lines lines none =
 -- the setup of a text by whether it is too large and by the fault of its lines
 distinct-result : (lines : List Line) (large : Bool) (fault : Option SetupFault) → first_fault [] lines ≡ fault
     → (let result : Result Setup SetupFault = if large then Err TooLarge else unless fault (setup_of_lines lines) in
-    IsOk result → IsDistinct bytes_eq (map (λ (a : Account). a.number) (result_unwrap_or result (record { accounts = []; plans = []; operators = [] })).accounts))
+    IsOk result → IsDistinct bytes_eq (map (λ (a : Account). a.number) (result_unwrap_or result (record { accounts = []; plans = []; operators = []; lapse = None })).accounts))
 distinct-result lines true fault is ok = cc
 distinct-result lines false None is ok = distinct-lines lines is
 distinct-result lines false (Some fault) is ok = cc

@@ -17,8 +17,8 @@ use Rattle.arc_data.specs.declared.setup_fault.SetupFault.{SetupFault}
 use Rattle.arc_data.specs.declared.setup_fault.SetupFault.TheVariants.{TooLarge}
 use Rattle.arc_data.specs.declared.signal.Class.{Class}
 use Rattle.zone_rules.specs.Zones.{Zone}
-use Rattle.alarm_rules.specs.SetupLines.{Said, Nothing, OfAccount, OfHours, OfKeyholder, OfPlan, OfOperator, AccountLine, PlanLine}
-use Rattle.alarm_rules.specs.SetupLines.{after, optional, provided, is_nil, none_twice, plan_words, each_read, target_named, zone_named, account_line, hours_line, keyholder_line, plan_line, operator_line, declared, words_of, is_skipped, says}
+use Rattle.alarm_rules.specs.SetupLines.{Said, Nothing, OfAccount, OfHours, OfKeyholder, OfPlan, OfOperator, OfLapse, AccountLine, PlanLine}
+use Rattle.alarm_rules.specs.SetupLines.{after, optional, provided, is_nil, none_twice, plan_words, each_read, target_named, zone_named, account_line, hours_line, keyholder_line, plan_line, operator_line, lapse_line, declared, words_of, is_skipped, says}
 use Rattle.alarm_rules.specs.SetupWords.{key_spelled, seconds_spelled, class_named, planned_named}
 use Rattle.alarm_rules.specs.Setups.{Setup, Account, Line, setup_of, setup_of_lines, said_lines, first_fault, unless, told, told_at, account_part, plan_part, account_with, accounts_in, plans_in, things}
 use Rattle.accounts.specs.Standing.{entry_in}
@@ -145,7 +145,8 @@ declared_good (word ∷ words) =
     (given_cond IsGoodSaid (bytes_eq word (codes "hours")) _ _ (given_all IsGoodSaid OfHours (λ x. tt) (hours_line words))
     (given_cond IsGoodSaid (bytes_eq word (codes "keyholder")) _ _ (given_all IsGoodSaid OfKeyholder (λ x. tt) (keyholder_line words))
     (given_cond IsGoodSaid (bytes_eq word (codes "plan")) _ _ (given_map IsGoodPlan IsGoodSaid OfPlan (λ x w. w) (plan_line words) (plan_good words))
-    (given_cond IsGoodSaid (bytes_eq word (codes "operator")) _ _ (given_all IsGoodSaid OfOperator (λ x. tt) (operator_line words)) tt))))
+    (given_cond IsGoodSaid (bytes_eq word (codes "operator")) _ _ (given_all IsGoodSaid OfOperator (λ x. tt) (operator_line words))
+    (given_cond IsGoodSaid (bytes_eq word (codes "lapse")) _ _ (given_all IsGoodSaid OfLapse (λ x. tt) (lapse_line words)) tt)))))
 
 says_good : (line : List ℕ) → Given IsGoodSaid (says line)
 says_good line =

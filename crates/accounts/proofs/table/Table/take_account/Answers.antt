@@ -27,5 +27,5 @@ returns-in-Ok c =
     λ lines stands. (
       account-faultless lines c.args.number c.args.self.now stands c.args.account zone c.in_default.ensures (omega arith),
       account-taken lines c.args.number c.args.self.now stands c.args.account _ c.in_default.ensures
-          (c.in-Ok.ensures ∙ ap (λ entry. c.args.self.now.accounts ++ entry ∷ []) c.new-entry.ensures) refl refl,
+          (c.in-Ok.ensures ∙ ap (λ entry. c.args.self.now.accounts ++ entry ∷ []) c.new-entry.ensures) refl refl refl,
     )

@@ -14,7 +14,7 @@ pub returns-then-add_window : goal.returns-then-add_window
 returns-then-add_window c = λ lines stands.
     let at = located lines c.args.self.now stands c.args.hours.account c.in-Some.place c.in-Some.ensures.within c.in-Some.ensures.there in
     hours-taken lines c.args.number c.args.self.now stands (said_hours c.args.hours) c.in-Some.place at c.add_window.result _ c.if-add_window.true
-    c.add_window.ensures.room c.add_window.ensures.added refl refl
+    c.add_window.ensures.room c.add_window.ensures.added refl refl refl
 
 pub returns-else-add_window : goal.returns-else-add_window
 returns-else-add_window c =

@@ -21,7 +21,7 @@ pub returns-then-add_keyholder : goal.returns-then-add_keyholder
 returns-then-add_keyholder c = λ lines stands.
     let at = located lines c.args.self.now stands c.args.keyholder.account c.in-Some.place c.in-Some.ensures.within c.in-Some.ensures.there in
     keyholder-taken lines c.args.number c.args.self.now stands (said_keyholder c.args.keyholder) c.in-Some.place at c.at.result.now c.add_keyholder.result _
-    c.if-add_keyholder.true c.at.ensures c.in_default-line_of.ensures c.add_keyholder.ensures.room c.add_keyholder.ensures.added refl refl
+    c.if-add_keyholder.true c.at.ensures c.in_default-line_of.ensures c.add_keyholder.ensures.room c.add_keyholder.ensures.added refl refl refl
 
 pub returns-else-add_keyholder : goal.returns-else-add_keyholder
 returns-else-add_keyholder c =

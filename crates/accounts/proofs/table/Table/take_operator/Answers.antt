@@ -16,5 +16,5 @@ returns-then-count-ge-OPERATOR_LIMIT c =
 pub returns-in-Ok : goal.returns-in-Ok
 returns-in-Ok c = λ lines stands. (
   operator-faultless lines c.args.number c.args.self.now stands c.args.operator c.in_default.ensures (omega arith),
-  operator-taken lines c.args.number c.args.self.now stands c.args.operator _ refl refl c.in-Ok.ensures,
+  operator-taken lines c.args.number c.args.self.now stands c.args.operator _ refl refl c.in-Ok.ensures refl,
 )

@@ -20,4 +20,4 @@ pub returns-in-Ok : goal.returns-in-Ok
 returns-in-Ok c = λ lines stands.
     let at = located lines c.args.self.now stands c.args.account.now c.in-Some.place c.in-Some.ensures.within c.in-Some.ensures.there in
     plan-of-taken lines c.args.plan.line c.args.self.now stands c.args.account.now c.args.plan c.in-Some.place at c.at.result.now _ refl
-    c.at.ensures c.in_default-find.ensures c.in-Ok.ensures refl refl
+    c.at.ensures c.in_default-find.ensures c.in-Ok.ensures refl refl refl

@@ -11,5 +11,5 @@ returns-in-Some c =
 pub returns-in-Ok : goal.returns-in-Ok
 returns-in-Ok c = λ lines stands. (
   plan-faultless lines c.args.plan.line c.args.self.now stands c.args.plan c.in_default.ensures,
-  plan-taken lines c.args.plan.line c.args.self.now stands c.args.plan _ refl refl c.in-Ok.ensures refl,
+  plan-taken lines c.args.plan.line c.args.self.now stands c.args.plan _ refl refl c.in-Ok.ensures refl refl,
 )
