@@ -1,5 +1,5 @@
 // Setups and their faults, from the grammar of setup lines and its table of faults.
-use crate::checks::{cut, holds, number, same, same_bytes, same_found, same_text, short};
+use crate::checks::{cut, found, holds, number, same, same_bytes, same_found, same_text, short};
 use accounts::{LineKind, Setup, SetupFault};
 use arc_data::Txt;
 use std::alloc::Global;
@@ -131,7 +131,25 @@ form 1 0;operator a 123456789
 form 1 0;operator a 12a4
 form 1 0;operator a
 form 1 0;operator abcdefghijklmnopq 1234
-same 3 1;operator a 1234/operator b 1234/operator a 4321";
+same 3 1;operator a 1234/operator b 1234/operator a 4321
+accounts 0 0;lapse 60
+accounts 0 0;lapse 86400/
+accounts 1 0;account 123/lapse 900^/operator a 1234
+form 1 0;lapse 59
+form 1 0;lapse 86401
+form 1 0;lapse 060
+form 1 0;lapse +60
+form 1 0;lapse 18446744073709551676
+form 1 0;lapse 60s
+form 1 0;lapse 60 60
+form 1 0;lapse 60 \n\
+form 1 0;lapse  60
+form 1 0;lapse
+form 1 0;lapse \n\
+form 1 0;Lapse 60
+form 2 0;lapse 60/lapse 59
+same 2 1;lapse 60/lapse 60
+same 4 1;lapse 60/account 123//lapse 86400";
 
 // What is told of a text that has a beginning, a part so many times, and an end. In the part `%` stands for 1000, 1001 and so on.
 const LONG_TEXTS: &str = "\
@@ -302,6 +320,25 @@ keyholder 1234 lee 067890
 plan * burglary premises police
 plan 1234 burglary premises holders police@closed
 plan * fire holders@closed";
+
+// After how many seconds a hold lapses by a text, or `-`. `/` stands for a line feed, `^` for a carriage return.
+const LAPSES: &str = "\
+-;
+-;account 123/operator a 1234
+60;lapse 60
+86400;lapse 86400/
+900;# holds/account 123/lapse 900^/operator a 1234";
+
+#[test]
+fn lapses(rt: HostRuntime) {
+    for row in LAPSES.lines() {
+        let (want, signs) = cut(&rt, row, ';');
+        let mut text = Vec::new(rt.alloc());
+        put(&rt, &mut text, signs, b"");
+        let setup = copied(&rt, rt.alloc(), &text);
+        same_found(&rt, setup.lapse(), found(&rt, want), row);
+    }
+}
 
 // The PIN of an operator of the setup.
 fn pin<'a>(setup: &'a Setup, name: &Txt) -> Option<&'a [u8]> {
