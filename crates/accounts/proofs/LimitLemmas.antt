@@ -11,7 +11,7 @@ use Rattle.arc_data.specs.declared.setup_fault.SetupFault.TheVariants.{TooMany}
 use Rattle.alarm_rules.specs.SetupLines.{Said, Nothing, OfAccount, OfHours, OfKeyholder, OfPlan, OfOperator, OfLapse}
 use Rattle.alarm_rules.specs.SetupLines.{AccountLine}
 use Rattle.alarm_rules.specs.Setups.{Line, told, account_part, keyholder_part, accounts_in, keyholders_in, line_with, account_declared}
-use Rattle.alarm_rules.specs.Setups.{no_account, two_same, too_many, fault_at, first_fault}
+use Rattle.alarm_rules.specs.Setups.{bad_zone, no_account, two_same, too_many, fault_at, first_fault}
 use Rattle.accounts.specs.declared.entry.Entry.{Entry}
 use Rattle.accounts.specs.Standing.{entry_in}
 use Rattle.accounts.proofs.StandLemmas.{told-more}
@@ -54,8 +54,9 @@ account-room : (earlier : List Line) (l : Line) → fault_at earlier l ≡ None 
 account-room earlier (n, None) none = inl refl
 account-room earlier (n, Some Nothing) none = inl refl
 account-room earlier (n, Some (OfAccount line)) none =
-    inr (fits n 2000 (length (accounts_in earlier))
-    (or-none (two_same n (account_declared line.number earlier)) (too_many n 2000 (length (accounts_in earlier))) none).1)
+    let same = two_same n (account_declared line.number earlier) in
+    let many = too_many n 2000 (length (accounts_in earlier)) in
+    inr (fits n 2000 (length (accounts_in earlier)) (or-none same many (or-none (bad_zone n line.zone) (option_or same many) none).1).1)
 account-room earlier (n, Some (OfHours line)) none = inl refl
 account-room earlier (n, Some (OfKeyholder line)) none = inl refl
 account-room earlier (n, Some (OfPlan line)) none = inl refl

@@ -14,7 +14,7 @@ use Rattle.arc_data.specs.declared.window.Window.{Window}
 use Rattle.alarm_rules.specs.SetupLines.{Said}
 use Rattle.alarm_rules.specs.SetupLines.{AccountLine, PlanLine}
 use Rattle.alarm_rules.specs.Setups.{Line, told, told_at, things, account_part, hours_part, keyholder_part, operator_part, lapse_part}
-use Rattle.alarm_rules.specs.Setups.{accounts_in, windows_in, keyholders_in, operators_in, account_declared}
+use Rattle.alarm_rules.specs.Setups.{accounts_in, windows_in, keyholders_in, operators_in, account_declared, zone_or_gmt}
 use Rattle.accounts.specs.declared.entry.Entry.{Entry}
 use Rattle.accounts.specs.declared.keyholders.Keyholder.{Keyholder}
 use Rattle.accounts.specs.declared.plan_list.ClassPlan.{ClassPlan}
@@ -97,7 +97,7 @@ shaped thing windows holders keyholders plans =
         number = account.number;
         key = account.key;
         beat = account.beat;
-        week = record { offset = account.offset; windows = windows };
+        week = record { zone = zone_or_gmt account.zone; windows = windows };
         holders = holders;
       };
       line = thing.0;

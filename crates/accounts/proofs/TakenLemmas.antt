@@ -9,7 +9,7 @@ use Rattle.std.specs.Str.{bytes_eq}
 use Rattle.std.proofs.lemmas.Bool.{le-ltb, lt-ltb}
 use Rattle.std.proofs.lemmas.List.{length-map, map-append}
 use Rattle.arc_data.specs.Classes.{same_class}
-use Rattle.arc_data.specs.declared.setup_fault.LineKind.TheVariants.{NoAccount}
+use Rattle.arc_data.specs.declared.setup_fault.LineKind.TheVariants.{BadZone, NoAccount}
 use Rattle.arc_data.specs.declared.setup_fault.SetupFault.{SetupFault}
 use Rattle.arc_data.specs.declared.setup_fault.SetupFault.TheVariants.{BadLine, TwoSame, TooMany}
 use Rattle.arc_data.specs.declared.signal.Class.{Class}
@@ -17,7 +17,7 @@ use Rattle.arc_data.specs.declared.window.Window.{Window}
 use Rattle.alarm_rules.specs.SetupLines.{Said, Nothing, OfAccount, OfHours, OfKeyholder, OfPlan, OfOperator, OfLapse}
 use Rattle.alarm_rules.specs.SetupLines.{AccountLine, HoursLine, KeyholderLine, PlanLine, Operator}
 use Rattle.alarm_rules.specs.Setups.{Line, told, things, accounts_in, windows_in, keyholders_in, plans_in, operators_in, lapse_part}
-use Rattle.alarm_rules.specs.Setups.{line_with, account_declared, same_target, is_plan_of, no_account, two_same, too_many, fault_of}
+use Rattle.alarm_rules.specs.Setups.{line_with, account_declared, same_target, is_plan_of, bad_zone, no_account, two_same, too_many, fault_of}
 use Rattle.accounts.specs.declared.entry.Entry.{Entry}
 use Rattle.accounts.specs.declared.keyholders.Keyholder.{Keyholder}
 use Rattle.accounts.specs.declared.line.AccountLine.{AccountLine as KeptAccount}
@@ -87,8 +87,12 @@ module _ (lines : List Line) (n : ℕ) (old : Table) (stands : Stands lines old)
     abbrev account : AccountLine
     account = said_account kept
 
-    abbrev account-fault : Option ℕ → ℕ → Option SetupFault
-    account-fault declared count = option_or (two_same n declared) (too_many n 2000 count)
+    abbrev account-fault : Bool → Option ℕ → ℕ → Option SetupFault
+    account-fault named declared count =
+        option_or (if named then None else Some (BadLine n BadZone)) (option_or (two_same n declared) (too_many n 2000 count))
+
+    pub account-nowhere : is_some kept.zone ≡ false → fault_of lines n (OfAccount account) ≡ Some (BadLine n BadZone)
+    account-nowhere none = ap (λ named. account-fault named (account_declared account.number lines) (length (accounts_in lines))) none
 
     count-is : length (accounts_in lines) ≡ length old.accounts
     count-is = sym (ap length stands.accounts ∙ length-map (accounts_in lines) (entry_in lines))
@@ -97,17 +101,17 @@ module _ (lines : List Line) (n : ℕ) (old : Table) (stands : Stands lines old)
         → account_declared account.number lines ≡ option_map (λ (entry : Entry). entry.line) found
     account-declared found is = declared-is lines old stands account.number ∙ ap (option_map (λ (entry : Entry). entry.line)) is
 
-    pub account-same : (entry : Entry) → Some entry ≡ find_number account.number old.accounts → fault_of lines n (OfAccount account) ≡ Some (TwoSame n entry.line)
-    account-same entry is = ap (λ declared. account-fault declared (length (accounts_in lines))) (account-declared (Some entry) (sym is))
+    pub account-same : (entry : Entry) → is_some kept.zone ≡ true → Some entry ≡ find_number account.number old.accounts → fault_of lines n (OfAccount account) ≡ Some (TwoSame n entry.line)
+    account-same entry zone is = λ i. account-fault (zone i) (account-declared (Some entry) (sym is) i) (length (accounts_in lines))
 
-    pub account-many : None ≡ find_number account.number old.accounts → 2000 ≤ length old.accounts → fault_of lines n (OfAccount account) ≡ Some (TooMany n 2000)
-    account-many none full =
-        ap (λ declared. account-fault declared (length (accounts_in lines))) (account-declared None (sym none))
+    pub account-many : is_some kept.zone ≡ true → None ≡ find_number account.number old.accounts → 2000 ≤ length old.accounts → fault_of lines n (OfAccount account) ≡ Some (TooMany n 2000)
+    account-many zone none full =
+        (λ i. account-fault (zone i) (account-declared None (sym none) i) (length (accounts_in lines)))
         ∙ fits-no-more n 2000 (length (accounts_in lines)) (omega (arith, count-is))
 
-    pub account-faultless : None ≡ find_number account.number old.accounts → length old.accounts < 2000 → fault_of lines n (OfAccount account) ≡ None
-    account-faultless none room =
-        ap (λ declared. account-fault declared (length (accounts_in lines))) (account-declared None (sym none))
+    pub account-faultless : is_some kept.zone ≡ true → None ≡ find_number account.number old.accounts → length old.accounts < 2000 → fault_of lines n (OfAccount account) ≡ None
+    account-faultless zone none room =
+        (λ i. account-fault (zone i) (account-declared None (sym none) i) (length (accounts_in lines)))
         ∙ fits-below n 2000 (length (accounts_in lines)) (omega (arith, count-is))
 
     pub account-taken : (new : Table) → None ≡ find_number account.number old.accounts → new.accounts ≡ old.accounts ++ new_entry kept n ∷ []

@@ -3,6 +3,7 @@ use Rattle.std.specs.Prelude.{ℕ, List, [], ◌∷◌, ◌++◌, Bool, Option, 
 use Rattle.std.specs.List.{find}
 use Rattle.std.specs.Str.{bytes_eq}
 use Rattle.arc_data.specs.declared.window.Window.{Window}
+use Rattle.alarm_rules.specs.Setups.{zone_or_gmt}
 use Rattle.accounts.specs.declared.entry.Entry.{Entry}
 use Rattle.accounts.specs.declared.keyholders.Keyholder.{Keyholder}
 use Rattle.accounts.specs.declared.line.AccountLine.{AccountLine}
@@ -16,7 +17,7 @@ new_entry account line = record {
     number = account.number;
     key = account.key;
     beat = account.beat;
-    week = record { offset = account.offset; windows = [] };
+    week = record { zone = zone_or_gmt account.zone; windows = [] };
     holders = 0;
   };
   line = line;

@@ -1,6 +1,5 @@
 -- What is kept of a line, and what that says.
 use Rattle.std.specs.Prelude.{◌≤◌, ◌<◌}
-use Rattle.jiff_core.specs.Calendar.{IsWithin}
 use Rattle.alarm_rules.specs.SetupLines.{Said, Nothing, OfAccount, OfHours, OfKeyholder, OfPlan, OfOperator, OfLapse}
 use Rattle.alarm_rules.specs.SetupLines.{AccountLine, HoursLine, KeyholderLine, PlanLine, Operator}
 use Rattle.arc_data.specs.declared.window.Window.{Window}
@@ -13,7 +12,7 @@ use Rattle.accounts.specs.declared.line.PlanLine.{PlanLine as KeptPlan}
 use Rattle.accounts.specs.declared.operator.Operator.{Operator as KeptOperator}
 
 abbrev pub said_account : KeptAccount → AccountLine
-said_account line = record { number = line.number; key = line.key; beat = line.beat; offset = line.offset }
+said_account line = record { number = line.number; key = line.key; beat = line.beat; zone = line.zone }
 
 abbrev pub said_hours : KeptHours → HoursLine
 said_hours line = record { account = line.account; window = line.window }
@@ -42,10 +41,10 @@ pub record IsValidWindow (window : Window) : Type 0 where
   pub order : window.from < window.to
   pub end : window.to ≤ 1440
 
--- the line can be taken up: an offset is one of 14 hours at most, and a window lies within a day
+-- the line can be taken up: a window lies within a day
 abbrev pub IsValid : Line → Type 0
 IsValid Skipped = Unit {0}
-IsValid (Account line) = IsWithin 840 line.offset
+IsValid (Account line) = Unit {0}
 IsValid (Hours line) = IsValidWindow line.window
 IsValid (Keyholder line) = Unit {0}
 IsValid (Plan line) = Unit {0}

@@ -5,7 +5,7 @@ use Rattle.std.specs.Option.{option_map}
 use Rattle.arc_data.specs.declared.setup_fault.SetupFault.{SetupFault}
 use Rattle.arc_data.specs.declared.setup_fault.SetupFault.TheVariants.{Memory}
 use Rattle.alarm_rules.specs.SetupLines.{Said, OfPlan, AccountLine, PlanLine, Operator}
-use Rattle.alarm_rules.specs.Setups.{Line, told, things, same_target, account_declared, fault_at}
+use Rattle.alarm_rules.specs.Setups.{Line, told, things, same_target, account_declared, fault_at, zone_or_gmt}
 use Rattle.alarm_rules.specs.Setups.{accounts_in, windows_in, keyholders_in, operators_in, lapse_part}
 use Rattle.accounts.specs.declared.entry.Entry.{Entry}
 use Rattle.accounts.specs.declared.keyholders.Keyholder.{Keyholder}
@@ -53,7 +53,7 @@ entry_in lines thing =
         number = account.number;
         key = account.key;
         beat = account.beat;
-        week = record { offset = account.offset; windows = things (windows_in account.number lines) };
+        week = record { zone = zone_or_gmt account.zone; windows = things (windows_in account.number lines) };
         holders = length (keyholders_in account.number lines);
       };
       line = thing.0;

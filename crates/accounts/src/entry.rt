@@ -1,7 +1,6 @@
 // What a setup keeps of an account.
 ghost use Rattle.std.specs.Prelude.{◌≡◌, length, nat_lt, OnOk};
 ghost use Rattle.std.specs.Bool.{OnTrue};
-ghost use Rattle.jiff_core.specs.Calendar.{IsWithin};
 ghost use Rattle.accounts.specs.Entries.{new_entry, with_window, with_keyholder, with_plan};
 ghost use Rattle.accounts.specs.Said.{IsValidWindow};
 
@@ -10,6 +9,7 @@ use crate::keyholders::{Keyholder, Keyholders};
 use crate::line::AccountLine;
 use crate::plan_list::{ClassPlan, PlanList};
 use arc_data::{Txt, Window};
+use civil_time::Zone;
 use open_schedules::Week;
 use std::alloc::{AllocError, Global};
 
@@ -23,9 +23,9 @@ pub(crate) struct Entry {
 }
 
 impl Entry {
-    /// That of an account of which no line says more than its own. Takes no memory.
+    /// That of an account of which no line says more than its own. One without a zone is at GMT: where a text is no rule its line is
+    /// refused before. Takes no memory.
     pub(crate) fn new(alloc: Global, account: AccountLine, line: u64) -> Entry
-        requires { IsWithin 840 account.offset }
         ensures { result ≡ new_entry account line }
     {
         Entry {
@@ -33,7 +33,7 @@ impl Entry {
                 number: account.number,
                 key: account.key,
                 beat: account.beat,
-                week: Week::new(account.offset),
+                week: Week::new(account.zone.unwrap_or(Zone::fixed(0))),
                 holders: 0,
             },
             line,

@@ -4,16 +4,17 @@ ghost use Rattle.std.specs.Option.{option_map};
 ghost use Rattle.jiff_core.specs.Calendar.{IsWithin};
 ghost use Rattle.alarm_rules.specs.SetupWords.{key_spelled, seconds_spelled, minutes_spelled};
 ghost use Rattle.alarm_rules.specs.SetupLines.{account_line, hours_line, keyholder_line, plan_line, operator_line, lapse_line};
-ghost use Rattle.alarm_rules.specs.SetupLines.{declared, is_skipped, optional, plan_words, says, target_named, words_of};
+ghost use Rattle.alarm_rules.specs.SetupLines.{declared, is_skipped, optional, plan_words, rule_named, says, target_named, words_of, zone_named};
 ghost use Rattle.accounts.specs.Said.{said, said_account, said_hours, said_keyholder, said_plan, said_operator, IsValid, IsValidWindow};
 
 use crate::named::{class, day, minute, planned};
 use crate::operator::Operator;
-use crate::spelled::{account, is_phone, key, minutes, name, number_between, pin, seconds};
+use crate::spelled::{account, is_phone, key, minutes, name, number_between, pin, seconds, zone};
 use action_plans::Plan;
 use aes_chain::Key;
 use alarm_rules::Words;
 use arc_data::{Class, Txt, Window};
+use civil_time::Zone;
 
 /// The most bytes of a line, without its end.
 const LINE_LIMIT: usize = 1024;
@@ -32,13 +33,13 @@ pub(crate) enum Line {
     Lapse(u64),
 }
 
-/// An account. The offset is in minutes.
+/// An account. Its zone is none where the text that names it is no rule.
 #[derive(Drop)]
 pub(crate) struct AccountLine {
     pub number: Txt,
     pub key: Option<Key>,
     pub beat: Option<u64>,
-    pub offset: i16,
+    pub zone: Option<Zone>,
 }
 
 /// A window of an account's opening hours.
@@ -109,17 +110,16 @@ fn declared(line: &[u8]) -> Option<Line>
 
 /// The number of an account and its options, each of which may be left out.
 fn account_line(words: &mut Words) -> Option<AccountLine>
-    ensures value { option_map said_account result ≡ account_line words.old }
-    ensures offset { IfSome result (λ line. IsWithin 840 line.offset) }
+    ensures { option_map said_account result ≡ account_line words.old }
 {
     let Some(word) = words.next() else {
         return None;
     };
-    let (Some(number), Some(key), Some(beat), Some(offset), true) = (
+    let (Some(number), Some(key), Some(beat), Some(zone), true) = (
         account(word),
         key_option(words),
         beat_option(words),
-        offset_option(words),
+        zone_option(words),
         words.is_empty(),
     ) else {
         return None;
@@ -128,7 +128,7 @@ fn account_line(words: &mut Words) -> Option<AccountLine>
         number,
         key,
         beat,
-        offset: offset.unwrap_or(0),
+        zone,
     })
 }
 
@@ -149,6 +149,26 @@ fn beat_option(words: &mut Words) -> Option<Option<u64>>
     match words.option(b"beat")? {
         Some(word) => Some(Some(seconds(word)?)),
         None => Some(None),
+    }
+}
+
+/// The zone that `offset` or `zone` tells. Without either it is GMT.
+fn zone_option(words: &mut Words) -> Option<Option<Zone>>
+    ensures { option_map (λ zone. (zone, words.new)) result ≡ zone_named words.old }
+{
+    match offset_option(words)? {
+        Some(minutes) => Some(Some(Zone::fixed(minutes))),
+        None => rule_option(words),
+    }
+}
+
+/// `zone` and the text of a rule. Without it the zone is GMT.
+fn rule_option(words: &mut Words) -> Option<Option<Zone>>
+    ensures { option_map (λ zone. (zone, words.new)) result ≡ rule_named words.old }
+{
+    match words.option(b"zone")? {
+        Some(word) => Some(zone(word)?),
+        None => Some(Some(Zone::fixed(0))),
     }
 }
 

@@ -2,13 +2,17 @@
 ghost use Rattle.std.specs.Prelude.{◌≡◌, ◌<◌, ◌≤◌, ℕ, IfSome};
 ghost use Rattle.jiff_core.specs.Calendar.{IsWithin};
 ghost use Rattle.arc_data.specs.Digits.{is_name};
-ghost use Rattle.alarm_rules.specs.SetupWords.{account_named, key_spelled, seconds_spelled, minutes_spelled, number_between};
+ghost use Rattle.alarm_rules.specs.SetupWords.{account_named, key_spelled, seconds_spelled, minutes_spelled, zone_spelled, number_between};
 ghost use Rattle.alarm_rules.specs.SetupWords.{is_dialled, is_phone, is_pin, word_that};
 
 use aes_chain::Key;
 use alarm_rules::{are_digits, is_account, is_name, is_pin};
 use arc_data::Txt;
 use arc_text::dec;
+use civil_time::Zone;
+
+/// The most bytes of a text that names a zone.
+const LONGEST_ZONE: usize = 64;
 
 /// The most bytes of a key (FIPS 197, 6.1).
 const LONGEST_KEY: usize = 32;
@@ -51,6 +55,16 @@ pub(crate) fn minutes(word: &[u8]) -> Option<i16>
         [b'-', digits @ ..] => Some(-(number_between(1, 840, digits)? as i16)),
         digits => Some(number_between(0, 840, digits)? as i16),
     }
+}
+
+/// The zone that a text of 1 to 64 bytes names. The inner option is none where the text is no rule.
+pub(crate) fn zone(word: &[u8]) -> Option<Option<Zone>>
+    ensures { result ≡ zone_spelled word.now }
+{
+    if word.is_empty() || word.len() > LONGEST_ZONE {
+        return None;
+    }
+    Some(Zone::posix(word))
 }
 
 /// The number between two others, both included, whose decimal text the word is. None where it is the text of no such number. Words of

@@ -1,6 +1,5 @@
 // What the lines of a text declare.
 ghost use Rattle.std.specs.Prelude.{◌≡◌, [], Some, None, Err, IfOk};
-ghost use Rattle.jiff_core.specs.Calendar.{IsWithin};
 ghost use Rattle.accounts.specs.Said.{said, said_account, said_hours, said_keyholder, said_plan, said_operator, IsValid, IsValidWindow};
 ghost use Rattle.accounts.specs.Standing.{IsTaken, plan_said};
 ghost use Rattle.alarm_rules.specs.SetupLines.{OfAccount, OfHours, OfKeyholder, OfPlan, OfOperator, OfLapse};
@@ -89,9 +88,11 @@ impl Table {
         number: u64,
         account: AccountLine,
     ) -> Result<(), SetupFault>
-        requires { IsWithin 840 account.offset }
         ensures { IsTaken self.old number (Some (OfAccount (said_account account))) result self.new }
     {
+        if account.zone.is_none() {
+            return bad_zone(number);
+        }
         if let Some(same) = self.accounts.find(&account.number) {
             return two_same(number, same.line);
         }
@@ -221,6 +222,14 @@ impl Table {
             lapse: self.lapse,
         })
     }
+}
+
+/// The text that names the zone of the account is no rule.
+fn bad_zone(line: u64) -> Result<(), SetupFault>
+    ensures { result ≡ Err (SetupFault.BadLine line LineKind.BadZone) }
+{
+    let kind = LineKind::BadZone;
+    Err(SetupFault::BadLine { line, kind })
 }
 
 /// The line names an account that no earlier line declares.

@@ -1,5 +1,5 @@
 -- What a line of a setup text says.
-use Rattle.std.specs.Prelude.{ℕ, ◌==◌, ◌&&◌, ℤ, pos, Bool, true, false, not, nat_lt, if◌then◌else◌}
+use Rattle.std.specs.Prelude.{ℕ, ◌==◌, ◌&&◌, pos, Bool, true, false, not, nat_lt, if◌then◌else◌}
 use Rattle.std.specs.Prelude.{List, [], ◌∷◌, Option, Some, None, option_and_then, length, codes}
 use Rattle.std.specs.List.{slice_split}
 use Rattle.std.specs.Option.{option_map, unwrap_or}
@@ -9,16 +9,17 @@ use Rattle.arc_data.specs.Words.{has_word}
 use Rattle.arc_data.specs.declared.plan.Planned.{Planned}
 use Rattle.arc_data.specs.declared.signal.Class.{Class}
 use Rattle.arc_data.specs.declared.window.Window.{Window}
-use Rattle.alarm_rules.specs.SetupWords.{word_that, account_named, key_spelled, number_between, seconds_spelled, minutes_spelled}
-use Rattle.alarm_rules.specs.SetupWords.{day_named, minute_named, is_phone, is_pin, class_named, planned_named}
+use Rattle.zone_rules.specs.Zones.{Zone, fixed_zone}
+use Rattle.alarm_rules.specs.SetupWords.{word_that, account_named, key_spelled, number_between, seconds_spelled}
+use Rattle.alarm_rules.specs.SetupWords.{minutes_spelled, zone_spelled, day_named, minute_named, is_phone, is_pin, class_named, planned_named}
 
--- an account: its number in capitals, the bytes of its key and the seconds of its interval, where it has them, and the minutes
--- that its local time is ahead of GMT
+-- an account: its number in capitals, the bytes of its key and the seconds of its interval, where it has them, and its zone, which
+-- is none where the text that names it is no rule
 pub record AccountLine : Type 0 where
   pub number : List ℕ
   pub key : Option (List ℕ)
   pub beat : Option ℕ
-  pub offset : ℤ
+  pub zone : Option Zone
 
 -- a window of an account's opening hours
 pub record HoursLine : Type 0 where
@@ -94,15 +95,26 @@ optional name read (word ∷ words) = if bytes_eq word name then value_first rea
 
 -- Lines, by the words behind the first one.
 
--- `account ACC`, then optionally `key HEX`, then optionally `beat SECONDS`, then optionally `offset MINUTES`
+-- the zone of an account: optionally `zone TEXT`, and without it GMT
+abbrev pub rule_named : List (List ℕ) → Option (Option Zone × List (List ℕ))
+rule_named words =
+    option_map (λ zone. (unwrap_or zone.0 (Some (fixed_zone (pos 0))), zone.1)) (optional (codes "zone") zone_spelled words)
+
+-- optionally `offset MINUTES` in its place
+abbrev pub zone_named : List (List ℕ) → Option (Option Zone × List (List ℕ))
+zone_named words =
+    after (optional (codes "offset") minutes_spelled words) (λ offset.
+    elim offset.0 [ Some minutes ↦ Some (Some (fixed_zone minutes), offset.1) | None ↦ rule_named offset.1 ])
+
+-- `account ACC`, then optionally `key HEX`, then optionally `beat SECONDS`, then optionally `offset MINUTES` or `zone TEXT`
 abbrev pub account_line : List (List ℕ) → Option AccountLine
 account_line [] = None
 account_line (number ∷ words) =
     after (account_named number) (λ account.
     after (optional (codes "key") key_spelled words) (λ key.
     after (optional (codes "beat") seconds_spelled key.1) (λ beat.
-    after (optional (codes "offset") minutes_spelled beat.1) (λ offset.
-    provided (is_nil offset.1) (record { number = account; key = key.0; beat = beat.0; offset = unwrap_or offset.0 (pos 0) })))))
+    after (zone_named beat.1) (λ zone.
+    provided (is_nil zone.1) (record { number = account; key = key.0; beat = beat.0; zone = zone.0 })))))
 
 -- `hours ACC DAY HH:MM HH:MM`: the first time is from 00:00 to 23:59, the second is later and may be 24:00
 abbrev pub hours_line : List (List ℕ) → Option HoursLine

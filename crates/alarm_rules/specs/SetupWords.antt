@@ -1,6 +1,6 @@
 -- The words of a setup text.
 use Rattle.std.specs.Prelude.{ℕ, ◌+◌, ◌-◌, ◌/◌, ◌%◌, ◌==◌, ◌&&◌, ◌||◌, ℤ, pos, neg_ℤ, Bool, true, false, if◌then◌else◌}
-use Rattle.std.specs.Prelude.{List, [], ◌∷◌, ◌++◌, Option, Some, None, length, codes, decimal}
+use Rattle.std.specs.Prelude.{List, [], ◌∷◌, ◌++◌, Option, Some, None, nat_le, nat_lt, length, codes, decimal}
 use Rattle.std.specs.List.{find, list_all, position}
 use Rattle.std.specs.Option.{option_map, option_or}
 use Rattle.std.specs.Str.{bytes_eq}
@@ -12,6 +12,7 @@ use Rattle.arc_data.specs.declared.plan.PlanWord.TheVariants.{Premises, Holders,
 use Rattle.arc_data.specs.declared.signal.Class.{Class}
 use Rattle.arc_data.specs.declared.signal.Class.TheVariants.{Fire as OfFire, Medical, Panic, Gas, Burglary, Tamper, Environment}
 use Rattle.arc_data.specs.declared.signal.Class.TheVariants.{CommFail, Trouble, Irregular, LateClose, Unlisted}
+use Rattle.zone_rules.specs.Zones.{Zone, zone_of}
 use Rattle.alarm_rules.specs.FirstFrom.{first_from}
 
 -- the word, where it passes the test
@@ -47,6 +48,16 @@ abbrev pub minutes_spelled : List ℕ → Option ℤ
 minutes_spelled [] = None
 minutes_spelled (b ∷ bs) =
     if b == 45 then option_map (λ n. neg_ℤ (pos n)) (number_between 1 840 bs) else option_map pos (number_between 0 840 (b ∷ bs))
+
+-- Zones.
+
+-- 1 to 64 bytes
+abbrev pub is_zone_text : List ℕ → Bool
+is_zone_text word = nat_lt 0 (length word) && nat_le (length word) 64
+
+-- the zone that a text of this length names, or that it is no rule
+abbrev pub zone_spelled : List ℕ → Option (Option Zone)
+zone_spelled word = option_map zone_of (word_that is_zone_text word)
 
 -- Days and times of day.
 

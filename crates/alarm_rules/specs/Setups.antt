@@ -1,5 +1,5 @@
 -- What a setup text means.
-use Rattle.std.specs.Prelude.{ℕ, ◌&&◌, Bool, true, false, if◌then◌else◌, List, [], ◌∷◌, ◌++◌, Option, Some, None, is_some}
+use Rattle.std.specs.Prelude.{ℕ, ◌&&◌, pos, Bool, true, false, if◌then◌else◌, List, [], ◌∷◌, ◌++◌, Option, Some, None, is_some}
 use Rattle.std.specs.Prelude.{option_and_then, Result, Ok, Err, nat_lt, length, map}
 use Rattle.std.specs.List.{enumerate_from, filter_map, find, position}
 use Rattle.std.specs.Option.{option_map, option_or, unwrap_or}
@@ -9,12 +9,13 @@ use Rattle.std.specs.Str.Lines.{lines}
 use Rattle.arc_data.specs.Classes.{same_class}
 use Rattle.arc_data.specs.declared.plan.Planned.{Planned}
 use Rattle.arc_data.specs.declared.plan.PlanWord.TheVariants.{Note}
-use Rattle.arc_data.specs.declared.setup_fault.LineKind.TheVariants.{Form, NoAccount}
+use Rattle.arc_data.specs.declared.setup_fault.LineKind.TheVariants.{Form, BadZone, NoAccount}
 use Rattle.arc_data.specs.declared.setup_fault.SetupFault.{SetupFault}
 use Rattle.arc_data.specs.declared.setup_fault.SetupFault.TheVariants.{TooLarge, BadLine, TwoSame, TooMany}
 use Rattle.arc_data.specs.declared.signal.Class.{Class}
 use Rattle.arc_data.specs.declared.step.Step.{Step}
 use Rattle.arc_data.specs.declared.window.Window.{Window}
+use Rattle.zone_rules.specs.Zones.{Zone, fixed_zone}
 use Rattle.alarm_rules.specs.Plans.{steps_in}
 use Rattle.alarm_rules.specs.SetupLines.{Said, AccountLine, PlanLine, Operator, says}
 use Rattle.alarm_rules.specs.SetupLines.{Nothing, OfAccount, OfHours, OfKeyholder, OfPlan, OfOperator, OfLapse}
@@ -116,6 +117,10 @@ same_target (Some a) (Some b) = bytes_eq a b
 abbrev pub is_plan_of : Option (List ℕ) → Class → PlanLine → Bool
 is_plan_of account class plan = same_target account plan.account && same_class class plan.class
 
+-- BadZone, where the text that names the zone is no rule
+abbrev pub bad_zone : ℕ → Option Zone → Option SetupFault
+bad_zone number zone = if is_some zone then None else Some (BadLine number BadZone)
+
 -- NoAccount, where no earlier line declares the account
 abbrev pub no_account : ℕ → List ℕ → List Line → Option SetupFault
 no_account number account earlier = if is_some (account_declared account earlier) then None else Some (BadLine number NoAccount)
@@ -128,12 +133,13 @@ two_same number first = option_map (TwoSame number) first
 abbrev pub too_many : ℕ → ℕ → ℕ → Option SetupFault
 too_many number limit count = if nat_lt count limit then None else Some (TooMany number limit)
 
--- the first fault of those that come in this order: NoAccount, TwoSame, TooMany
+-- the first fault of those that come in this order: BadZone, NoAccount, TwoSame, TooMany
 abbrev pub fault_of : List Line → ℕ → Said → Option SetupFault
 fault_of earlier number Nothing = None
 fault_of earlier number (OfAccount line) =
-    option_or (two_same number (account_declared line.number earlier))
-    (too_many number 2000 (length (accounts_in earlier)))
+    option_or (bad_zone number line.zone)
+    (option_or (two_same number (account_declared line.number earlier))
+    (too_many number 2000 (length (accounts_in earlier))))
 fault_of earlier number (OfHours line) =
     option_or (no_account number line.account earlier)
     (too_many number 28 (length (windows_in line.account earlier)))
@@ -164,13 +170,17 @@ first_fault earlier (line ∷ more) = option_or (fault_at earlier line) (first_f
 abbrev pub things : {A : Type 0} → List (ℕ × A) → List A
 things numbered = map (λ thing. thing.1) numbered
 
+-- the zone that a line names; in lines without a fault there is one
+abbrev pub zone_or_gmt : Option Zone → Zone
+zone_or_gmt zone = unwrap_or zone (fixed_zone (pos 0))
+
 -- an account with all that the lines say of it
 abbrev pub account_with : List Line → AccountLine → Account
 account_with lines account = record {
   number = account.number;
   key = account.key;
   beat = account.beat;
-  week = record { offset = account.offset; windows = things (windows_in account.number lines) };
+  week = record { zone = zone_or_gmt account.zone; windows = things (windows_in account.number lines) };
   holders = length (keyholders_in account.number lines);
 }
 

@@ -5,6 +5,8 @@
 pub enum LineKind {
     /// The line has more than 1,024 bytes or is of no known form.
     Form,
+    /// The text that names the zone of an account is no rule of POSIX's variable TZ.
+    BadZone,
     /// The line names an account that no earlier line declares.
     NoAccount,
 }

@@ -1,6 +1,6 @@
 -- Numbers and texts of the statuses.
 use Rattle.std.specs.Prelude.{ℕ, ◌++◌, List, [], codes, decimal}
-use Rattle.arc_data.specs.declared.setup_fault.LineKind.TheVariants.{Form, NoAccount}
+use Rattle.arc_data.specs.declared.setup_fault.LineKind.TheVariants.{Form, BadZone, NoAccount}
 use Rattle.arc_data.specs.declared.setup_fault.SetupFault.{SetupFault}
 use Rattle.arc_data.specs.declared.setup_fault.SetupFault.TheVariants.{TooLarge, BadLine, TwoSame, TooMany, Memory as NoMemory}
 use Rattle.disk_journal.specs.declared.fault.OpenFault.{OpenFault}
@@ -38,6 +38,9 @@ bad_line_text line = at_line line ++ codes ": not a setup line\n"
 abbrev pub two_same_text : ℕ → ℕ → List ℕ
 two_same_text line first = at_line line ++ codes ": same as line " ++ decimal first ++ codes "\n"
 
+abbrev pub bad_zone_text : ℕ → List ℕ
+bad_zone_text line = at_line line ++ codes ": no such zone rule\n"
+
 abbrev pub no_account_text : ℕ → List ℕ
 no_account_text line = at_line line ++ codes ": no such account\n"
 
@@ -47,6 +50,7 @@ too_many_text line limit = at_line line ++ codes ": more than " ++ decimal limit
 abbrev pub setup_text : SetupFault → List ℕ
 setup_text TooLarge = codes "setup: too large\n"
 setup_text (BadLine line Form) = bad_line_text line
+setup_text (BadLine line BadZone) = bad_zone_text line
 setup_text (BadLine line NoAccount) = no_account_text line
 setup_text (TwoSame line first) = two_same_text line first
 setup_text (TooMany line limit) = too_many_text line limit

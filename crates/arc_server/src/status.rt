@@ -2,7 +2,7 @@
 ghost use Rattle.std.specs.Prelude.{◌≡◌, OnOk, decimal};
 ghost use Rattle.std.specs.Io.KnownBytes.{append_known};
 ghost use Rattle.arc_io.specs.Causes.{HasCause};
-ghost use Rattle.arc_server.specs.Statuses.{number_of, text_of_status, setup_text, bad_line_text, no_account_text, two_same_text, too_many_text, at_line, at_place, counted, journal_text, full_text, bad_script_text};
+ghost use Rattle.arc_server.specs.Statuses.{number_of, text_of_status, setup_text, bad_line_text, bad_zone_text, no_account_text, two_same_text, too_many_text, at_line, at_place, counted, journal_text, full_text, bad_script_text};
 
 use arc_data::{LineKind, SetupFault};
 use arc_io::{Failed, Sink, put};
@@ -131,6 +131,10 @@ fn put_setup<K: Sink>(out: &mut K, fault: SetupFault) -> Result<(), Failed>
         } => put_bad_line(out, line),
         SetupFault::BadLine {
             line,
+            kind: LineKind::BadZone,
+        } => put_bad_zone(out, line),
+        SetupFault::BadLine {
+            line,
             kind: LineKind::NoAccount,
         } => put_no_account(out, line),
         SetupFault::TwoSame { line, first } => put_two_same(out, line, first),
@@ -147,6 +151,16 @@ fn put_bad_line<K: Sink>(out: &mut K, line: u64) -> Result<(), Failed>
 {
     put_line(out, line)?;
     put(out, b": not a setup line\n")
+}
+
+// The text of a line that names a zone by no rule.
+#[tactic(auto, using(arc_io::proofs::KnownMore::known_both))]
+fn put_bad_zone<K: Sink>(out: &mut K, line: u64) -> Result<(), Failed>
+    ensures all { OnOk result ((K.seen out.new).written ≡ append_known (K.seen out.old).written (bad_zone_text line)) }
+    ensures cause { HasCause (K.seen out.old).write_faults (K.seen out.new).write_faults result }
+{
+    put_line(out, line)?;
+    put(out, b": no such zone rule\n")
 }
 
 // The text of a line that names an account which no earlier one declares.

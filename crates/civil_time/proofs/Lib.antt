@@ -1,2 +1,4 @@
 pub mod DateLemmas
 pub mod StampLemmas
+pub mod ZoneLemmas
+pub mod SpanLemmas

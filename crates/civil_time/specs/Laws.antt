@@ -1,7 +1,8 @@
 -- What the definitions of this crate add up to.
 use Rattle.std.specs.Prelude.{◌≡◌, ◌≢◌, ℕ, ◌↔◌, ◌+◌, ◌*◌, ◌/◌, ◌<◌, ◌≤◌, ℤ, pos, ◌+ℤ◌, ◌*ℤ◌, Some, List, length, All}
 use Rattle.std.specs.Char.{IsAsciiGraphic}
-use Rattle.arc_data.specs.LocalTime.{local_seconds, local_day, local_minute, local_weekday}
+use Rattle.zone_rules.specs.Zones.{Zone}
+use Rattle.zone_rules.specs.ZonedTime.{zoned_seconds, zoned_day, zoned_minute, zoned_weekday}
 use Rattle.civil_time.specs.Calendar.{CivilDate, date_of, day_number, IsCalendarDate}
 use Rattle.civil_time.specs.Stamp.{IsMoment, IsStampOf, stamp, stamp_time}
 
@@ -33,17 +34,17 @@ IsStampByte b = IsAsciiGraphic b × (b ≢ 124)
 abbrev pub StampsArePlain : Type 0
 StampsArePlain = (t : ℕ) → IsMoment t → (length (stamp t) ≡ 20) × All IsStampByte (stamp t)
 
--- the local seconds are whole days, minutes of a day and seconds of a minute, and the days from Monday, 29 December 1969,
--- are whole weeks and a day of the week
-pub record AddsUp (t : ℕ) (offset : ℤ) : Type 0 where
+-- the seconds that the local clock is past the beginning of 1970 are whole days, minutes of a day and seconds of a minute, and the
+-- days from Monday, 29 December 1969, are whole weeks and a day of the week
+pub record AddsUp (zone : Zone) (t : ℕ) : Type 0 where
   pub second : ℕ
   pub second_in : second < 60
-  pub minute_in : local_minute t offset < 1440
-  pub seconds : local_day t offset *ℤ pos 86_400 +ℤ pos (local_minute t offset * 60 + second) ≡ local_seconds t offset
+  pub minute_in : zoned_minute zone t < 1440
+  pub seconds : zoned_day zone t *ℤ pos 86_400 +ℤ pos (zoned_minute zone t * 60 + second) ≡ zoned_seconds zone t
   pub week : ℤ
-  pub weekday_in : local_weekday t offset < 7
-  pub days : week *ℤ pos 7 +ℤ pos (local_weekday t offset) ≡ local_day t offset +ℤ pos 3
+  pub weekday_in : zoned_weekday zone t < 7
+  pub days : week *ℤ pos 7 +ℤ pos (zoned_weekday zone t) ≡ zoned_day zone t +ℤ pos 3
 
--- local time adds up to the moment and the offset
+-- local time adds up to the minute of the moment and the zone's offset in it
 abbrev pub LocalTimesAddUp : Type 0
-LocalTimesAddUp = (t : ℕ) (offset : ℤ) → AddsUp t offset
+LocalTimesAddUp = (zone : Zone) (t : ℕ) → AddsUp zone t

@@ -31,7 +31,7 @@ pub fn law_stamps_are_plain()
     ensures { StampsArePlain }
 {}
 
-/// A local day, minute and weekday add up to the moment and the offset.
+/// A local day, minute and weekday add up to the minute of the moment and the zone's offset in it.
 pub fn law_local_times_add_up()
     ensures { LocalTimesAddUp }
 {}

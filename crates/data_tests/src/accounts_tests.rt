@@ -59,6 +59,23 @@ form 1 0;account 123 offset --1
 form 1 0;account 123 offset -
 form 1 0;account 123 offset 1 beat 1
 form 1 0;account 123 Beat 1
+accounts 1 0;account 123 zone EST5EDT,M3.2.0,M11.1.0
+accounts 1 0;account 123 beat 5 zone IST-5:30
+accounts 1 0;account 123 zone <AAAAAAAAAAAAAAA>-24:59:59<BBBBBBBBBBBBBBB>-24:59:59,J99,M10.5.0
+form 1 0;account 123 zone <AAAAAAAAAAAAAAA>-24:59:59<BBBBBBBBBBBBBBB>-24:59:59,J100,M10.5.0
+zone 1 0;account 123 zone !
+zone 1 0;account 123 zone CET-1CEST
+zone 1 0;account 123 zone 0000000000000000000000000000000000000000000000000000000000000000
+form 1 0;account 123 zone 00000000000000000000000000000000000000000000000000000000000000000
+form 1 0;account 123 zone
+form 1 0;account 123 zone \n\
+form 1 0;account 123 zone UTC0 offset 60
+form 1 0;account 123 offset 60 zone UTC0
+form 1 0;account 123 zone UTC0 UTC0
+form 1 0;account 123 zone UTC0 beat 5
+form 1 0;account 123 beat 0 zone !
+zone 3 0;account 123//account 123 zone !/x
+same 3 1;account 123//account 123 zone UTC0/x
 accounts 1 0;account 123 key 000102030405060708090a0b0c0d0e0f beat 5 offset 5
 form 1 0;account 123 key 000102030405060708090a0b0c0d0e0
 form 1 0;account 123 key 000102030405060708090a0b0c0d0e0f1
@@ -139,6 +156,7 @@ const LONG_TEXTS: &str = "\
 accounts 2000 0;;account %/;2000;operator a 1234
 many 2001 2000;;account %/;2000;account abc
 same 2001 1000;;account %/;2000;account 1999
+zone 2001 0;;account %/;2000;account abc zone !
 accounts 1 0;;operator o% 1234/;64;account abc
 many 65 64;;operator o% 1234/;64;operator a 1234
 same 65 64;;operator o% 1234/;64;operator o1063 1234
@@ -180,6 +198,7 @@ fn parts(fault: SetupFault) -> (&'static str, u64, u64) {
 fn kind_of(kind: LineKind) -> &'static str {
     match kind {
         LineKind::Form => "form",
+        LineKind::BadZone => "zone",
         LineKind::NoAccount => "missing",
     }
 }
@@ -346,4 +365,30 @@ fn parts_of_a_station(rt: HostRuntime) {
         pin(&setup, &short(&rt, "kim")).is_none(),
         "no operator",
     );
+}
+
+// Sundays from eight to six in Berlin close at 16:00 GMT in September, and at 17:00 in January; and of an offset, the same hours.
+const HOURS: &[u8] = b"\
+account 1234 zone CET-1CEST,M3.5.0,M10.5.0/3
+account abcd offset 60
+hours 1234 sun 08:00 18:00
+hours ABCD sun 08:00 18:00";
+
+#[test]
+fn hours_by_zones(rt: HostRuntime) {
+    let setup = copied(&rt, rt.alloc(), HOURS);
+    assert!(&rt; setup.count() == 2);
+    let berlin = &setup.account(0).week;
+    same_found(&rt, berlin.next_close(1_000_000_000), Some(1_000_051_200), "summer");
+    same_found(&rt, berlin.next_close(1_010_000_000), Some(1_010_336_400), "winter");
+    holds(&rt, !berlin.in_hours(1_000_015_199), "before eight");
+    holds(&rt, berlin.in_hours(1_000_015_200), "from eight on");
+    let fixed = &setup.account(1).week;
+    same_found(&rt, fixed.next_close(1_000_000_000), Some(1_000_054_800), "an offset");
+}
+
+#[test]
+fn a_zone_that_is_no_utf8(rt: HostRuntime) {
+    let text = b"account 123\naccount 124 zone \xff\xfe\xfd1";
+    compare(&rt, rt.alloc(), text, "zone 2 0");
 }

@@ -2,7 +2,7 @@
 ghost use Rattle.arc_data.specs.Moments.{IsMoment};
 
 use crate::checks::{cut, holds, integer, number, same_bytes, same_found};
-use civil_time::{fresh, local, read_stamp, stamp_of};
+use civil_time::{Zone, fresh, local, read_stamp, stamp_of};
 use std::process::Abort;
 
 mod months;
@@ -120,7 +120,7 @@ fn compare_freshness(rt: &impl Abort, row: &str) {
     holds(rt, told == (want == "true"), row);
 }
 
-// A moment and an offset, and the weekday, the minute and the day.
+// A moment and an offset that stays, and the weekday, the minute and the day.
 const LOCAL_TIMES: &str = "\
 0 -840=2 600 -1
 0 0=3 0 0
@@ -191,7 +191,7 @@ fn compare_local(rt: &impl Abort, row: &str) {
     let moment = moment_of(rt, moment);
     let offset: i16 = offset.parse().expect(rt, "an offset");
     assert!(rt; offset >= -840 && offset <= 840);
-    let time = local(moment, offset);
+    let time = local(moment, &Zone::fixed(offset));
     holds(rt, i64::from(time.weekday) == integer(rt, weekday), row);
     holds(rt, i64::from(time.minute) == integer(rt, minute), row);
     holds(rt, time.day == integer(rt, day), row);

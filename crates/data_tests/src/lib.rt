@@ -30,4 +30,4 @@ mod open_schedules_tests;
 #[cfg(test)]
 mod sia_codes_tests;
 #[cfg(test)]
-mod zoned_weeks_tests;
+mod zones_tests;

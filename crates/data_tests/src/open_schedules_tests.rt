@@ -1,8 +1,9 @@
-// Weeks and moments worked out by hand, weeks that were drawn, and the room for windows.
+// Weeks at offsets that stay: moments worked out by hand, weeks that were drawn, and the room for windows.
 ghost use Rattle.jiff_core.specs.Calendar.{IsWithin};
 
 use crate::checks::{cut, found, holds, number, same, same_found};
 use arc_data::Window;
+use civil_time::{Zone, local};
 use open_schedules::Week;
 use std::process::Abort;
 
@@ -20,7 +21,7 @@ fn hours_and_closes(rt: HostRuntime) {
 // Compares the hours at moments. A row `W` has the offset of a week and its windows, each as `WEEKDAY/FROM-TO`. A row `T` has a
 // moment, whether it lies in the hours, and the next close of the last week above it. Any other row is a remark.
 fn compare(rt: &impl Abort, rows: &str) {
-    let mut week = Week::new(0);
+    let mut week = Week::new(Zone::fixed(0));
     for row in rows.lines() {
         let (word, rest) = cut(rt, row, ' ');
         match word {
@@ -43,7 +44,7 @@ fn compare_moment(rt: &impl Abort, week: &Week, row: &str) {
 
 fn week_of(rt: &impl Abort, words: &str) -> Week {
     let (offset, windows) = words.split_once(' ').unwrap_or((words, ""));
-    let mut week = Week::new(offset_of(rt, offset));
+    let mut week = Week::new(Zone::fixed(offset_of(rt, offset)));
     for window in windows.split_whitespace() {
         add(rt, &mut week, window);
     }
@@ -114,11 +115,9 @@ fn a_week_tells_its_parts(rt: HostRuntime) {
     let none = week_of(&rt, "-840");
     holds(&rt, !none.has_windows(), "no windows");
     let week = week_of(&rt, "345 6/480-1080 0/0-1440").copy();
-    holds(
-        &rt,
-        week.has_windows() && week.offset() == 345,
-        "its windows",
-    );
+    holds(&rt, week.has_windows(), "its windows");
+    // 1970 began at a quarter to six.
+    same(&rt, u64::from(local(0, week.zone()).minute), 345, "its zone");
     let sunday = Window {
         weekday: 6,
         from: 480,
@@ -134,7 +133,7 @@ fn a_week_tells_its_parts(rt: HostRuntime) {
 
 #[test]
 fn a_week_has_room_for_28_windows(rt: HostRuntime) {
-    let mut week = Week::new(0);
+    let mut week = Week::new(Zone::fixed(0));
     for minute in 0u16..28 {
         let added = week.add(0, 2 * minute, 2 * minute + 1);
         holds(&rt, added, "room");

@@ -1,2 +1,4 @@
-pub mod CloseLemmas
-pub mod HoursLemmas
+pub mod WeekLemmas
+pub mod PlaceLemmas
+pub mod HourLemmas
+pub mod FixedLemmas

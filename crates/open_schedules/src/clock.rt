@@ -1,37 +1,37 @@
-// Seconds of the local week.
+// Minutes of the local week.
 ghost use Rattle.std.specs.Prelude.{◌≡◌, ◌<◌};
 ghost use Rattle.jiff_core.specs.Calendar.{IsWithin};
-ghost use Rattle.civil_time.specs.Stamp.{IsMoment};
-ghost use Rattle.open_schedules.specs.Seconds.{shift_of, week_second, IsNextAt};
+ghost use Rattle.open_schedules.specs.Minutes.{shift_of, week_minute, IsNextAt};
 
-/// The seconds of a week.
-pub(crate) const WEEK: u64 = 604_800;
+/// The minutes of a week.
+pub(crate) const WEEK: u64 = 10_080;
 
-/// The second of the local week that a moment lies in, from 0 at the beginning of Monday.
-pub(crate) fn second_of_week(offset: i16, moment: u64) -> u64
-    requires offset { IsWithin 840 offset }
-    requires moment { IsMoment moment }
-    ensures { result ≡ week_second offset moment }
+/// The minute of the local week that a minute is, from 0 at the beginning of Monday, where local time is so many minutes
+/// ahead of GMT.
+pub(crate) fn week_minute(ahead: i64, minute: u64) -> u64
+    requires near { IsWithin 1560 ahead }
+    requires minute { minute < 4_223_500_000 }
+    ensures { result ≡ week_minute ahead minute }
 {
-    (moment + shift(offset)) % WEEK
+    (minute + shift(ahead)) % WEEK
 }
 
-/// The first moment after another that has this second of the local week.
-pub(crate) fn next_at(offset: i16, second: u64, after: u64) -> u64
-    requires offset { IsWithin 840 offset }
-    requires second { second < 604_800 }
-    requires after { IsMoment after }
-    ensures { IsNextAt offset second after result }
+/// The first minute after another that has this place in the local week.
+pub(crate) fn next_at(ahead: i64, place: u64, after: u64) -> u64
+    requires near { IsWithin 1560 ahead }
+    requires place { place < 10_080 }
+    requires after { after < 4_223_500_000 }
+    ensures { IsNextAt ahead place after result }
 {
-    let now = second_of_week(offset, after);
-    after + 1 + (second + WEEK - 1 - now) % WEEK
+    let now = week_minute(ahead, after);
+    after + 1 + (place + WEEK - 1 - now) % WEEK
 }
 
-// The seconds that the local clock was past the beginning of a Monday when 1970 began in GMT.
-fn shift(offset: i16) -> u64
-    requires { IsWithin 840 offset }
-    ensures value { result ≡ shift_of offset }
-    ensures small { result < 604_800 }
+// The minutes that the local clock was past the beginning of a Monday when 1970 began in GMT.
+fn shift(ahead: i64) -> u64
+    requires { IsWithin 1560 ahead }
+    ensures value { result ≡ shift_of ahead }
+    ensures small { result < 10_080 }
 {
-    (i64::from(offset) + 4320) as u64 * 60
+    (ahead + 4320) as u64
 }

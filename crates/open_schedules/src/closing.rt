@@ -1,19 +1,18 @@
-// The first closing moment of some windows.
-ghost use Rattle.std.specs.Prelude.{◌≡◌, ◌<◌, ◌≤◌, ◌+◌, ◌⊎◌, ℕ, All, Contains, IfSome, IfNone, false};
+// The first minute at which some windows close, where local time stays as far ahead of GMT as it is.
+ghost use Rattle.std.specs.Prelude.{◌≡◌, ◌<◌, ◌⊎◌, ℕ, All, Contains, IfSome, IfNone, false};
 ghost use Rattle.jiff_core.specs.Calendar.{IsWithin};
-ghost use Rattle.civil_time.specs.Stamp.{IsMoment};
-ghost use Rattle.alarm_rules.specs.Weeks.{holds, is_closing, next_close, IsNextClose};
+ghost use Rattle.alarm_rules.specs.Weeks.{holds};
 ghost use Rattle.open_schedules.specs.Kept.{IsWindow};
-ghost use Rattle.open_schedules.specs.Seconds.{open_at, end_of, Reaches, IsFound, Settles};
+ghost use Rattle.open_schedules.specs.Minutes.{open_at, end_of, closes_at, Reaches, IsFound, IsFirstClose, Settles};
 
 use crate::clock::{WEEK, next_at};
 use arc_data::Window;
 
-/// Whether a window holds this second of the week.
-pub(crate) fn is_open_at(windows: &[Window], second: u64) -> bool
-    ensures { result ≡ open_at windows.now second }
+/// Whether a window holds this minute of the week.
+pub(crate) fn is_open_at(windows: &[Window], place: u64) -> bool
+    ensures { result ≡ open_at windows.now place }
 {
-    let (weekday, minute) = (second / 86_400, second % 86_400 / 60);
+    let (weekday, minute) = (place / 1440, place % 1440);
     for window in windows {
         if holds(window, weekday, minute) {
             return true;
@@ -22,19 +21,17 @@ pub(crate) fn is_open_at(windows: &[Window], second: u64) -> bool
     false
 }
 
-/// The first closing moment of the windows after a moment, at most a week later. `None` where there is none.
-pub(crate) fn next_close_of(offset: i16, windows: &[Window], after: u64) -> Option<u64>
-    requires offset { IsWithin 840 offset }
+/// The first minute after another one at which the windows close. `None` where there is none.
+pub(crate) fn next_close_of(ahead: i64, windows: &[Window], after: u64) -> Option<u64>
+    requires near { IsWithin 1560 ahead }
     requires valid { All IsWindow windows.now }
-    requires after { IsMoment after }
-    ensures value { result ≡ next_close (record { offset = offset; windows = windows.now }) after }
-    ensures some { IfSome result (λ t. IsNextClose (record { offset = offset; windows = windows.now }) after t) }
-    ensures near { IfSome result (λ t. t ≤ after + 604_800) }
-    ensures none { IfNone result ((t : ℕ) → after < t → is_closing (record { offset = offset; windows = windows.now }) t ≡ false) }
+    requires after { after < 4_223_500_000 }
+    ensures some { IfSome result (IsFirstClose ahead windows.now after) }
+    ensures none { IfNone result ((u : ℕ) → after < u → closes_at windows.now ahead u ≡ false) }
 {
     let mut next = None;
     for window in windows {
-        next = earlier(next, close_of(offset, windows, window, after));
+        next = earlier(next, close_of(ahead, windows, window, after));
     }
     next
 }
@@ -48,33 +45,33 @@ fn holds(window: &Window, weekday: u64, minute: u64) -> bool
         && minute < u64::from(window.to)
 }
 
-// The second of the week that a window ends at.
+// The minute of the week that a window ends at.
 fn end_of(window: &Window) -> u64
     ensures value { result ≡ end_of window.now }
-    ensures small { result < 604_800 }
+    ensures small { result < 10_080 }
 {
-    (u64::from(window.weekday) * 86_400 + u64::from(window.to) * 60) % WEEK
+    (u64::from(window.weekday) * 1440 + u64::from(window.to)) % WEEK
 }
 
-// The first moment after another at which this window, one of these, ends and the hours with it. `None` where another
-// window holds the second that it ends at.
-fn close_of(offset: i16, windows: &[Window], window: &Window, after: u64) -> Option<u64>
-    requires offset { IsWithin 840 offset }
+// The first minute after another at which this window, one of these, ends and the hours with it. `None` where another window
+// holds the minute that it ends at.
+fn close_of(ahead: i64, windows: &[Window], window: &Window, after: u64) -> Option<u64>
+    requires near { IsWithin 1560 ahead }
     requires valid { IsWindow window.now }
     requires among { Contains windows.now window.now }
-    requires after { IsMoment after }
-    ensures found { IfSome result (IsFound offset windows.now after) }
-    ensures settles { Settles offset windows.now after result window.now }
+    requires after { after < 4_223_500_000 }
+    ensures found { IfSome result (IsFound ahead windows.now after) }
+    ensures settles { Settles ahead windows.now after result window.now }
 {
     let end = end_of(window);
     if is_open_at(windows, end) {
         None
     } else {
-        Some(next_at(offset, end, after))
+        Some(next_at(ahead, end, after))
     }
 }
 
-// The earlier of two moments, of which each may be lacking.
+// The earlier of two minutes, of which each may be lacking.
 fn earlier(a: Option<u64>, b: Option<u64>) -> Option<u64>
     ensures one { (result ≡ a) ⊎ (result ≡ b) }
     ensures first { (u : ℕ) → Reaches a u → Reaches result u }

@@ -1,10 +1,5 @@
-// What the hours of a week add up to.
-ghost use Rattle.open_schedules.specs.Laws.{ClosesBeginMinutes, HoursAreMinutes, HoursRepeat, NextCloseIsFirst};
-
-/// A week later the hours are the same.
-pub fn law_hours_repeat()
-    ensures { HoursRepeat }
-{}
+// What the hours of a week in a zone add up to.
+ghost use Rattle.open_schedules.specs.Laws.{HoursAreMinutes, ClosesBeginMinutes, NextCloseIsFirst, FixedZonesKeepHours};
 
 /// The seconds of a minute are all in hours, or none is.
 pub fn law_hours_are_minutes()
@@ -16,7 +11,12 @@ pub fn law_closes_begin_minutes()
     ensures { ClosesBeginMinutes }
 {}
 
-/// A closing moment comes within a week or never.
+/// What is found minute by minute is the first closing moment within 60 days.
 pub fn law_next_close_is_first()
     ensures { NextCloseIsFirst }
+{}
+
+/// With an offset that stays, the hours and their next close are those of that offset.
+pub fn law_fixed_zones_keep_hours()
+    ensures { FixedZonesKeepHours }
 {}

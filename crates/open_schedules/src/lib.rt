@@ -1,4 +1,4 @@
-//! Weekly opening hours: whether a moment lies in them, and when they close next.
+//! Weekly opening hours by the local time of a zone: whether a moment lies in them, and when they close next.
 //!
 //! A moment is a number of seconds since the beginning of 1970 in GMT. No call takes memory.
 #![tactic(auto)]

@@ -1,20 +1,21 @@
-// The opening hours of a week, in a fixed field.
-ghost use Rattle.std.specs.Prelude.{◌≡◌, ◌↔◌, ◌+◌, ◌<◌, ◌≤◌, ℕ, [], ◌∷◌, ◌++◌, length, nat_lt, if◌then◌else◌};
+// The opening hours of a week in a zone, in a fixed field.
+ghost use Rattle.std.specs.Prelude.{◌≡◌, ◌↔◌, ◌+◌, ◌*◌, ◌<◌, ◌≤◌, ℕ, [], ◌∷◌, ◌++◌, length, nat_lt, if◌then◌else◌};
 ghost use Rattle.std.specs.Prelude.{IsTrue, IfSome, IfNone, false};
-ghost use Rattle.jiff_core.specs.Calendar.{IsWithin};
-ghost use Rattle.civil_time.specs.Stamp.{IsMoment};
+ghost use Rattle.arc_data.specs.Moments.{IsMoment};
 ghost use Rattle.alarm_rules.specs.Weeks.{in_hours, is_closing, next_close, IsNextClose};
+ghost use Rattle.civil_time.specs.ZonedMinutes.{StaysAhead};
+ghost use Rattle.open_schedules.specs.Minutes.{IsFirstUpTo, NoneUpTo, NoneBefore};
 
-use crate::clock::second_of_week;
+use crate::clock::week_minute;
 use crate::closing::{is_open_at, next_close_of};
 use arc_data::Window;
+use civil_time::{Zone, stays_until};
 use std::marker::Model;
 
-/// The opening hours of a week, at most 28 windows, where local time is GMT plus a fixed offset. Contracts see the offset and the list of
-/// windows.
+/// The opening hours of a week, at most 28 windows, by the local time of a zone. Contracts see the zone and the list of windows.
 #[derive(Drop)]
 pub struct Week {
-    offset: i16,
+    zone: Zone,
     windows: [Window; 28],
     len: usize,
 }
@@ -27,16 +28,15 @@ impl Model for Week {
     ghost use Rattle.std.specs.Prelude.{take};
     ghost use Rattle.open_schedules.specs.Kept.{IsKept};
 
-    ghost view = { λ w. record { offset = w.offset; windows = take w.len w.windows } };
+    ghost view = { λ w. record { zone = w.zone; windows = take w.len w.windows } };
 
-    ghost invariant = { λ w. IsKept w.offset w.len w.windows };
+    ghost invariant = { λ w. IsKept w.len w.windows };
 }
 
 impl Week {
-    /// No windows, where local time is GMT plus so many minutes, from -840 to 840.
-    pub fn new(offset: i16) -> Week
-        requires { IsWithin 840 offset }
-        ensures { result ≡ record { offset = offset; windows = [] } }
+    /// No windows, by the local time of a zone.
+    pub fn new(zone: Zone) -> Week
+        ensures { result ≡ record { zone = zone; windows = [] } }
     {
         let unused = Window {
             weekday: 0,
@@ -44,7 +44,7 @@ impl Week {
             to: 1440,
         };
         Week {
-            offset,
+            zone,
             windows: [unused; 28],
             len: 0,
         }
@@ -69,12 +69,11 @@ impl Week {
         true
     }
 
-    /// The minutes that local time is ahead of GMT.
-    pub fn offset(&self) -> i16
-        ensures value { result ≡ self.now.offset }
-        ensures near { IsWithin 840 result }
+    /// The zone by whose local time the windows are.
+    pub fn zone(&self) -> &Zone
+        ensures { result.now ≡ self.now.zone }
     {
-        self.offset
+        &self.zone
     }
 
     /// The windows, in the order in which they were added.
@@ -97,7 +96,7 @@ impl Week {
         ensures { result ≡ self.now }
     {
         Week {
-            offset: self.offset,
+            zone: self.zone.copy(),
             windows: self.windows,
             len: self.len,
         }
@@ -108,18 +107,74 @@ impl Week {
         requires { IsMoment moment }
         ensures { result ≡ in_hours self.now moment }
     {
-        is_open_at(self.windows(), second_of_week(self.offset, moment))
+        self.is_open(moment / 60)
     }
 
-    /// The first closing moment after a moment before the year 10000, at most a week later: one that is not in hours while the
-    /// second before it is. `None` where there is none.
+    /// The first closing moment after a moment before the year 10000, at most 60 days later: one that is not in hours while
+    /// the second before it is. `None` exactly where there is none.
     pub fn next_close(&self, after: u64) -> Option<u64>
         requires { IsMoment after }
         ensures value { result ≡ next_close self.now after }
-        ensures some { IfSome result (λ t. IsNextClose self.now after t) }
-        ensures near { IfSome result (λ t. t ≤ after + 604_800) }
-        ensures none { IfNone result ((t : ℕ) → after < t → is_closing self.now t ≡ false) }
+        ensures some { IfSome result (IsNextClose self.now after) }
+        ensures none { IfNone result ((t : ℕ) → after < t → t ≤ after + 5_184_000 → is_closing self.now t ≡ false) }
     {
-        next_close_of(self.offset, self.windows(), after)
+        let last = after / 60 + 86_400;
+        let mut minute = after / 60;
+        while minute < last {
+            let change = stays_until(&self.zone, minute).min(last);
+            if let Some(close) = self.close_up_to(minute, change) {
+                return Some(close * 60);
+            }
+            minute = change;
+        }
+        None
+    }
+
+    // Whether a window holds the minute since 1970.
+    fn is_open(&self, minute: u64) -> bool
+        requires { minute < 4_223_500_000 }
+        ensures { result ≡ in_hours self.now (minute * 60) }
+    {
+        let ahead = self.zone.minutes_ahead(minute);
+        is_open_at(self.windows(), week_minute(ahead, minute))
+    }
+
+    // Whether the hours close as the minute since 1970 begins.
+    fn closes(&self, minute: u64) -> bool
+        requires later { 0 < minute }
+        requires minute { minute < 4_223_500_000 }
+        ensures { result ≡ is_closing self.now (minute * 60) }
+    {
+        self.is_open(minute - 1) && !self.is_open(minute)
+    }
+
+    // The first minute after one and before another at which the hours close, where local time stays as far ahead of GMT.
+    fn close_before(&self, minute: u64, change: u64) -> Option<u64>
+        requires minute { minute < 4_223_500_000 }
+        requires stays { StaysAhead self.now.zone minute change }
+        ensures some { IfSome result (IsFirstUpTo (λ m. is_closing self.now (m * 60)) minute change) }
+        ensures none { IfNone result (NoneBefore (λ m. is_closing self.now (m * 60)) minute change) }
+    {
+        let ahead = self.zone.minutes_ahead(minute);
+        match next_close_of(ahead, self.windows(), minute) {
+            Some(close) if close < change => Some(close),
+            _ => None,
+        }
+    }
+
+    // The first minute after one and up to another at which the hours close, where local time changes at the later one or
+    // not at all.
+    fn close_up_to(&self, minute: u64, change: u64) -> Option<u64>
+        requires order { minute < change }
+        requires end { change < 4_223_500_000 }
+        requires stays { StaysAhead self.now.zone minute change }
+        ensures some { IfSome result (IsFirstUpTo (λ m. is_closing self.now (m * 60)) minute change) }
+        ensures none { IfNone result (NoneUpTo (λ m. is_closing self.now (m * 60)) minute change) }
+    {
+        match self.close_before(minute, change) {
+            Some(close) => Some(close),
+            None if self.closes(change) => Some(change),
+            None => None,
+        }
     }
 }

@@ -1,10 +1,10 @@
 -- What the meaning of each setup text has: accounts in capitals, at most 2,000 of them and four keyholders of each, and plans in which
 -- no word stands twice.
 use Rattle.std.proofs.Common.{◌≡◌, ◌≤◌, ℕ, ◌+◌, List, [], ◌∷◌, map, length, Bool, true, false, cond, Option, Some, None, refl, ap, ◌∙◌, arith}
-use Rattle.std.specs.Prelude.{◌&&◌, if◌then◌else◌, ℤ, pos, option_and_then, not, nat_lt, codes, Err}
+use Rattle.std.specs.Prelude.{◌&&◌, if◌then◌else◌, option_and_then, not, nat_lt, codes, Err}
 use Rattle.std.specs.Char.{to_ascii_uppercase}
 use Rattle.std.specs.List.{enumerate_from, list_all, cons_option}
-use Rattle.std.specs.Option.{option_map, unwrap_or}
+use Rattle.std.specs.Option.{option_map}
 use Rattle.std.specs.Result.{result_ok}
 use Rattle.std.specs.Str.{bytes_eq}
 use Rattle.std.specs.Str.Lines.{lines}
@@ -16,9 +16,10 @@ use Rattle.arc_data.specs.declared.plan.Planned.{Planned}
 use Rattle.arc_data.specs.declared.setup_fault.SetupFault.{SetupFault}
 use Rattle.arc_data.specs.declared.setup_fault.SetupFault.TheVariants.{TooLarge}
 use Rattle.arc_data.specs.declared.signal.Class.{Class}
+use Rattle.zone_rules.specs.Zones.{Zone}
 use Rattle.alarm_rules.specs.SetupLines.{Said, Nothing, OfAccount, OfHours, OfKeyholder, OfPlan, OfOperator, OfLapse, AccountLine, PlanLine}
-use Rattle.alarm_rules.specs.SetupLines.{after, optional, provided, is_nil, none_twice, plan_words, each_read, target_named, account_line, hours_line, keyholder_line, plan_line, operator_line, lapse_line, declared, words_of, is_skipped, says}
-use Rattle.alarm_rules.specs.SetupWords.{key_spelled, seconds_spelled, minutes_spelled, class_named, planned_named}
+use Rattle.alarm_rules.specs.SetupLines.{after, optional, provided, is_nil, none_twice, plan_words, each_read, target_named, zone_named, account_line, hours_line, keyholder_line, plan_line, operator_line, lapse_line, declared, words_of, is_skipped, says}
+use Rattle.alarm_rules.specs.SetupWords.{key_spelled, seconds_spelled, class_named, planned_named}
 use Rattle.alarm_rules.specs.Setups.{Setup, Account, Line, setup_of, setup_of_lines, said_lines, first_fault, unless, told, told_at, account_part, plan_part, account_with, accounts_in, plans_in, things}
 use Rattle.accounts.specs.Standing.{entry_in}
 use Rattle.accounts.proofs.LimitLemmas.{few-accounts, few-holders}
@@ -77,24 +78,24 @@ given_all Q f g (Some x) = g x
 Words : Type 0
 Words = List (List ℕ)
 
-by_offset : (account : List ℕ) (key : Option (List ℕ)) (beat : Option ℕ) (o : Option (Option ℤ × List (List ℕ))) → IsAccount account
-    → Given IsGoodNumber (after o (λ offset. provided (is_nil offset.1) (record { number = account; key = key; beat = beat; offset = unwrap_or offset.0 (pos 0) })))
-by_offset account key beat None ok = tt
-by_offset account key beat (Some offset) ok = by (is_nil offset.1)
+by_zone : (account : List ℕ) (key : Option (List ℕ)) (beat : Option ℕ) (o : Option (Option Zone × List (List ℕ))) → IsAccount account
+    → Given IsGoodNumber (after o (λ zone. provided (is_nil zone.1) (record { number = account; key = key; beat = beat; zone = zone.0 })))
+by_zone account key beat None ok = tt
+by_zone account key beat (Some zone) ok = by (is_nil zone.1)
   where
-    by : (b : Bool) → Given IsGoodNumber (provided b (record { number = account; key = key; beat = beat; offset = unwrap_or offset.0 (pos 0) }))
+    by : (b : Bool) → Given IsGoodNumber (provided b (record { number = account; key = key; beat = beat; zone = zone.0 }))
     by true = ok
     by false = tt
 
 by_beat : (account : List ℕ) (key : Option (List ℕ)) (o : Option (Option ℕ × List (List ℕ))) → IsAccount account
-    → Given IsGoodNumber (after o (λ beat. after (optional (codes "offset") minutes_spelled beat.1) (λ offset.
-    provided (is_nil offset.1) (record { number = account; key = key; beat = beat.0; offset = unwrap_or offset.0 (pos 0) }))))
+    → Given IsGoodNumber (after o (λ beat. after (zone_named beat.1) (λ zone.
+    provided (is_nil zone.1) (record { number = account; key = key; beat = beat.0; zone = zone.0 }))))
 by_beat account key None ok = tt
-by_beat account key (Some beat) ok = by_offset account key beat.0 (optional (codes "offset") minutes_spelled beat.1) ok
+by_beat account key (Some beat) ok = by_zone account key beat.0 (zone_named beat.1) ok
 
 by_key : (account : List ℕ) (o : Option (Option (List ℕ) × List (List ℕ))) → IsAccount account
-    → Given IsGoodNumber (after o (λ key. after (optional (codes "beat") seconds_spelled key.1) (λ beat. after (optional (codes "offset") minutes_spelled beat.1) (λ offset.
-    provided (is_nil offset.1) (record { number = account; key = key.0; beat = beat.0; offset = unwrap_or offset.0 (pos 0) })))))
+    → Given IsGoodNumber (after o (λ key. after (optional (codes "beat") seconds_spelled key.1) (λ beat. after (zone_named beat.1) (λ zone.
+    provided (is_nil zone.1) (record { number = account; key = key.0; beat = beat.0; zone = zone.0 })))))
 by_key account None ok = tt
 by_key account (Some key) ok = by_beat account key.0 (optional (codes "beat") seconds_spelled key.1) ok
 
@@ -104,8 +105,8 @@ account_good (number ∷ words) = by (is_account number) refl
   where
     by : (b : Bool) → is_account number ≡ b → Given IsGoodNumber (after (option_map capitals (if b then Some number else None)) (λ account.
         after (optional (codes "key") key_spelled words) (λ key. after (optional (codes "beat") seconds_spelled key.1) (λ beat.
-        after (optional (codes "offset") minutes_spelled beat.1) (λ offset.
-        provided (is_nil offset.1) (record { number = account; key = key.0; beat = beat.0; offset = unwrap_or offset.0 (pos 0) }))))))
+        after (zone_named beat.1) (λ zone.
+        provided (is_nil zone.1) (record { number = account; key = key.0; beat = beat.0; zone = zone.0 }))))))
     by true e = by_key (capitals number) (optional (codes "key") key_spelled words) (capital_account number e)
     by false e = tt
 

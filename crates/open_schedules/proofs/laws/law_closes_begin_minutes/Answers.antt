@@ -1,5 +1,5 @@
-use Rattle.open_schedules.proofs.HoursLemmas.{closing-minute}
+use Rattle.open_schedules.proofs.HourLemmas.{close-minute}
 use Rattle.open_schedules.proofs.laws.law_closes_begin_minutes.Goals as goal
 
 pub returns : goal.returns
-returns c = closing-minute
+returns c = close-minute

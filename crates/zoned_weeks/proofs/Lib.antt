@@ -1,4 +1,0 @@
-pub mod WeekLemmas
-pub mod ZoneLemmas
-pub mod HourLemmas
-pub mod SpanLemmas

@@ -1,6 +1,0 @@
-use Rattle.std.proofs.Common.{◌∙◌, arith, ◌*◌, ◌/◌}
-use Rattle.zoned_weeks.proofs.HourLemmas.{hours-same}
-use Rattle.zoned_weeks.proofs.week.Week.in_hours.Goals as goal
-
-pub returns : goal.returns
-returns c = c.is_open.ensures ∙ hours-same c.args.self.now (c.args.moment / 60 * 60) c.args.moment (omega arith)
