@@ -1,7 +1,8 @@
 -- The next of those that are claimed is held by the operator, or is passed.
-use Rattle.std.proofs.Common.{refl, sym, ap, ◌∙◌}
+use Rattle.std.proofs.Common.{refl, sym, ap, ◌∙◌, length, arith}
+use Rattle.std.proofs.lemmas.List.{length-map}
 use Rattle.std.specs.Option.{option_map}
-use Rattle.open_incidents.proofs.FindHeld.{next, none_first, this, passed, is_there}
+use Rattle.open_incidents.proofs.FindHeld.{next, none_first, this, passed, none_left, is_there, holders}
 use Rattle.open_incidents.proofs.held.find_held.Goals as goal
 use Rattle.open_incidents.proofs.held.find_held.Goals.{in-Some+else-holds, in_default}
 
@@ -27,3 +28,9 @@ loop-number-preserved c =
           (sym c.get.ensures ∙ ap (option_map (λ i. i.now)) w.in-Some.is) w.if-holds.ensures
       | in_default w ↦ absurd (is_there t.incidents k _ one (sym c.get.ensures ∙ ap (option_map (λ i. i.now)) w.in_default.is))
     ]
+
+pub returns : goal.returns
+returns c =
+    let is = c.args.table.now.incidents in
+    none_left c.args.lapse c.args.at c.args.operator.now is c.loop-number.number-index c.loop-number.invariant
+    (omega (arith, c.loop-number-test.false, ap length c.requires, length-map (holders is) (λ i. i.number)))
