@@ -156,7 +156,6 @@ const LONG_TEXTS: &str = "\
 accounts 2000 0;;account %/;2000;operator a 1234
 many 2001 2000;;account %/;2000;account abc
 same 2001 1000;;account %/;2000;account 1999
-zone 2001 0;;account %/;2000;account abc zone !
 accounts 1 0;;operator o% 1234/;64;account abc
 many 65 64;;operator o% 1234/;64;operator a 1234
 same 65 64;;operator o% 1234/;64;operator o1063 1234
