@@ -1,10 +1,10 @@
 -- A read that gives all that stands there leaves nothing to fill up.
-use Rattle.std.proofs.Common.{◌≡◌, ◌-◌, ◌++◌, ℕ, List, length, take, drop, min, sym, ap, ◌∙◌, arith, append-nil, length-take}
+use Rattle.std.proofs.Common.{◌≡◌, ◌-◌, ◌++◌, ℕ, List, length, take, drop, min, ap, ◌∙◌, arith, append-nil, length-take}
 use Rattle.std.specs.Prelude.{replicate}
 use Rattle.std.proofs.lemmas.List.{take_min}
-use Rattle.arc_io.specs.Crashes.{IsGiven, IsRead}
+use Rattle.arc_io.specs.Crashes.{IsReadInPart, IsRead}
 
-pub all_given : (bytes : List ℕ) (at n : ℕ) (buf : List ℕ) → IsRead bytes at n buf → IsGiven bytes at n buf
+pub all_given : (bytes : List ℕ) (at n : ℕ) (buf : List ℕ) → IsRead bytes at n buf → IsReadInPart bytes at n buf
 all_given bytes at n buf read =
     let rest = drop at bytes in
     let long : length (take n buf) ≡ n = omega (arith, length-take n buf, read.count) in

@@ -37,14 +37,14 @@ pub record IsRead (bytes : List ℕ) (at n : ℕ) (buf : List ℕ) : Type 0 wher
   pub same : take n buf ≡ take n (drop at bytes)
 
 -- bytes, filled up with 00 to this length
-abbrev pub filled : ℕ → List ℕ → List ℕ
-filled n bytes = bytes ++ replicate (n - length bytes) 0
+abbrev pub filled_up : ℕ → List ℕ → List ℕ
+filled_up n bytes = bytes ++ replicate (n - length bytes) 0
 
--- A read gave n bytes from the place on, no more than stand there and have room. A byte that it did not give counts as 00: filled up so, what
--- it gave is all that stands there and has room.
-pub record IsGiven (bytes : List ℕ) (at n : ℕ) (buf : List ℕ) : Type 0 where
+-- A read gave n bytes from the place on, no more than stand there and have room. A byte that it did not give counts as 00: filled up so,
+-- what it gave is all that stands there and has room.
+pub record IsReadInPart (bytes : List ℕ) (at n : ℕ) (buf : List ℕ) : Type 0 where
   pub no_more : n ≤ min (length buf) (length (drop at bytes))
-  pub same : filled (min (length buf) (length (drop at bytes))) (take n buf) ≡ take (length buf) (drop at bytes)
+  pub same : filled_up (min (length buf) (length (drop at bytes))) (take n buf) ≡ take (length buf) (drop at bytes)
 
 -- each new outcome of a crash is an old outcome after a step
 abbrev pub Follows : (Areas → Areas → Type 0) → (Areas → Type 0) → (Areas → Type 0) → Type 0

@@ -5,11 +5,11 @@ use Rattle.std.proofs.Math.Seq.{take-add}
 use Rattle.std.proofs.lemmas.List.{drop-drop, take-take, length-take, drop-take, take_all, take_at, drop_all, length-replicate}
 use Rattle.arc_io.specs.Areas.{Areas, part}
 use Rattle.arc_io.specs.declared.disk.Area.{Area}
-use Rattle.arc_io.specs.Crashes.{IsGiven}
+use Rattle.arc_io.specs.Crashes.{IsReadInPart}
 use Rattle.disk_journal.specs.Reading.{IsPiece, IsFilled}
 
 -- what was given, and 00 for all that was not
-given_filled : (bytes : List ℕ) (at n : ℕ) (buf rest : List ℕ) → at + length buf ≤ length bytes → IsGiven bytes at n buf → rest ≡ replicate (length (drop n buf)) 0
+given_filled : (bytes : List ℕ) (at n : ℕ) (buf rest : List ℕ) → at + length buf ≤ length bytes → IsReadInPart bytes at n buf → rest ≡ replicate (length (drop n buf)) 0
     → IsFilled bytes at (take n buf ++ rest)
 given_filled bytes at n buf rest within given zeros =
     let stands = drop at bytes in
@@ -21,7 +21,7 @@ given_filled bytes at n buf rest within given zeros =
     ap (λ l. take n buf ++ l) (zeros ∙ ap (λ k. replicate k 0) left) ∙ given.same ∙ ap (λ k. take k stands) (sym long)
 
 pub given_told : (area : Area) (o : Option Areas) (at n : ℕ) (buf rest : List ℕ) → IfSome o (λ s. at + length buf ≤ length (part area s))
-    → IfSome o (λ s. IsGiven (part area s) at n buf) → rest ≡ replicate (length (drop n buf)) 0 → IfSome o (λ s. IsFilled (part area s) at (take n buf ++ rest))
+    → IfSome o (λ s. IsReadInPart (part area s) at n buf) → rest ≡ replicate (length (drop n buf)) 0 → IfSome o (λ s. IsFilled (part area s) at (take n buf ++ rest))
 given_told area None at n buf rest within given zeros = tt
 given_told area (Some s) at n buf rest within given zeros = given_filled (part area s) at n buf rest within given zeros
 

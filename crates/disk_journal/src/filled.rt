@@ -10,12 +10,7 @@ use crate::fault::OpenFault;
 use arc_io::{Area, Disk, Failed};
 
 // Fills the buffer with the bytes from the place on, all of which stand in the area. What the disk does not give counts as 00.
-pub fn read_filled<D: Disk>(
-    disk: &mut D,
-    area: Area,
-    at: u64,
-    buf: &mut [u8],
-) -> Result<(), Failed>
+pub fn read_filled<D: Disk>(disk: &mut D, area: Area, at: u64, buf: &mut [u8]) -> Result<(), Failed>
     requires within { IfSome (D.seen disk.old).told (λ s. at + length buf.old ≤ length (part area s)) }
     ensures bytes { OnOk result (IfSome (D.seen disk.old).told (λ s. IsFilled (part area s) at buf.new)) }
     ensures quiet { IsQuiet (D.seen disk.old) (D.seen disk.new) }

@@ -107,7 +107,14 @@ impl Window {
         if given == buf.len() {
             return Ok(());
         }
-        self.fill_rest(disk, before, area, len, at + given as u64, &mut buf[given..])?;
+        self.fill_rest(
+            disk,
+            before,
+            area,
+            len,
+            at + given as u64,
+            &mut buf[given..],
+        )?;
         Ok(())
     }
 
