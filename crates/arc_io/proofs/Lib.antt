@@ -2,6 +2,7 @@ pub mod Adding
 pub mod EmptyStruct
 pub mod Frames
 pub mod FrontOfList
+pub mod Given
 pub mod KnownMore
 pub mod ListLemmas
 pub mod Moments

@@ -1,5 +1,6 @@
 -- What calls of a disk do to its areas, and what a crash may do between two syncs.
-use Rattle.std.specs.Prelude.{◌≡◌, ◌⊎◌, ◌≤◌, ◌+◌, ℕ, min, max, List, ◌++◌, length, take, drop, Option, Some, None, Result, MatchResult}
+use Rattle.std.specs.Prelude.{◌≡◌, ◌⊎◌, ◌≤◌, ◌+◌, ◌-◌, ℕ, min, max, List, ◌++◌, length, take, drop, replicate}
+use Rattle.std.specs.Prelude.{Option, Some, None, Result, MatchResult}
 use Rattle.arc_io.specs.declared.disk.Area.{Area}
 use Rattle.arc_io.specs.Areas.{Areas, part, rest}
 use Rattle.arc_io.specs.Disks.{DiskSeen}
@@ -34,6 +35,16 @@ IsAfterWrite result area at bytes s t = MatchResult result (λ _. IsWritten area
 pub record IsRead (bytes : List ℕ) (at n : ℕ) (buf : List ℕ) : Type 0 where
   pub count : n ≡ min (length buf) (length (drop at bytes))
   pub same : take n buf ≡ take n (drop at bytes)
+
+-- bytes, filled up with 00 to this length
+abbrev pub filled_up : ℕ → List ℕ → List ℕ
+filled_up n bytes = bytes ++ replicate (n - length bytes) 0
+
+-- A read gave n bytes from the place on, no more than stand there and have room. A byte that it did not give counts as 00: filled up so,
+-- what it gave is all that stands there and has room.
+pub record IsReadInPart (bytes : List ℕ) (at n : ℕ) (buf : List ℕ) : Type 0 where
+  pub no_more : n ≤ min (length buf) (length (drop at bytes))
+  pub same : filled_up (min (length buf) (length (drop at bytes))) (take n buf) ≡ take (length buf) (drop at bytes)
 
 -- each new outcome of a crash is an old outcome after a step
 abbrev pub Follows : (Areas → Areas → Type 0) → (Areas → Type 0) → (Areas → Type 0) → Type 0

@@ -1,8 +1,8 @@
 -- The laws of the clock of a disk in memory.
-use Rattle.std.specs.Prelude.{◌≡◌, ◌≤◌, ℕ, length, Some, None}
+use Rattle.std.specs.Prelude.{◌≡◌, ◌≤◌, ℕ, length, None}
 use Rattle.std.proofs.Common.{subst, arith}
 use Rattle.arc_io.specs.Areas.{Areas}
-use Rattle.arc_io.specs.MemoryDisk.{bytes_of, past_of, disk_seen, LeftAt}
+use Rattle.arc_io.specs.MemoryDisk.{past_of, disk_seen, LeftAt}
 use Rattle.arc_io.specs.declared.memory.disk.MemDisk.{MemDisk}
 
 -- what a crash may leave now is what it might have left since then

@@ -4,7 +4,7 @@ use Rattle.arc_io.specs.Areas.{Areas}
 
 -- All that clauses know of it.
 pub record DiskSeen : Type 1 where
-  -- what reads give, where the disk tells it
+  -- what its areas read as, where the disk tells it: the bytes that reads give, and 00 for each below an area's length that they don't
   pub told : Option Areas
   -- what a crash at this moment may leave
   pub may_leave : Areas → Type 0

@@ -2,7 +2,7 @@
 ghost use Rattle.std.specs.Prelude.{◌≡◌, ◌≤◌, ◌<◌, ◌+◌, ◌^◌, ℕ, length, OnOk, IfOk, IfSome, None};
 ghost use Rattle.std.specs.Io.{ReadsAtMost};
 ghost use Rattle.arc_io.specs.Areas.{Areas, part};
-ghost use Rattle.arc_io.specs.Crashes.{Becomes, IsRead, IsAfterWrite, TornIn, Follows, OnlyIn, Elapses};
+ghost use Rattle.arc_io.specs.Crashes.{Becomes, IsReadInPart, IsAfterWrite, TornIn, Follows, OnlyIn, Elapses};
 ghost use Rattle.arc_io.specs.Causes.{IsCounted};
 ghost use Rattle.arc_io.specs.Disks.{DiskSeen};
 
@@ -28,10 +28,11 @@ pub trait Disk {
         ensures time { Elapses (seen self.old) (seen self.new) }
         ensures cause { IsCounted (seen self.old).faults (seen self.new).faults result };
 
-    /// Gives as many bytes as stand from the place on, up to the buffer's length.
+    /// Gives the bytes from the place on, up to the buffer's length. A byte below the area's length that it doesn't give counts as 00; a
+    /// disk in memory and one of files give all.
     fn read_at(&mut self, area: Area, at: u64, buf: &mut [u8]) -> Result<usize, Failed>
         ensures bound { ReadsAtMost result buf.new }
-        ensures bytes { IfOk result (λ n. IfSome (seen self.old).told (λ s. IsRead (part area s) at n buf.new)) }
+        ensures bytes { IfOk result (λ n. IfSome (seen self.old).told (λ s. IsReadInPart (part area s) at n buf.new)) }
         ensures told { (seen self.new).told ≡ (seen self.old).told }
         ensures crash { (c : Areas) → (seen self.new).may_leave c → (seen self.old).may_leave c }
         ensures time { Elapses (seen self.old) (seen self.new) }

@@ -5,11 +5,11 @@ use Rattle.std.specs.Int.{from_be_bytes, w64}
 use Rattle.std.proofs.lemmas.Bool.{cases_lt, lt-ltb, le-ltb}
 use Rattle.std.proofs.lemmas.List.{get_or-take, take-take, drop-take}
 use Rattle.arc_io.specs.Areas.{Areas, part}
-use Rattle.arc_io.specs.Crashes.{Becomes, IsQuiet, IsRead, TornIn}
+use Rattle.arc_io.specs.Crashes.{Becomes, IsQuiet, TornIn}
 use Rattle.arc_io.specs.Disks.{DiskSeen}
 use Rattle.arc_io.specs.declared.disk.Area.{Area}
 use Rattle.disk_journal.specs.Records.{head, front, AtRest, Stands}
-use Rattle.disk_journal.specs.Reading.{IsFound, found_or_none, generation_found}
+use Rattle.disk_journal.specs.Reading.{IsFilled, IsFound, found_or_none, generation_found}
 use Rattle.disk_journal.specs.Standing.{is_live, generation_of, generation_now, choice, chosen, chosen_part, all_of, summary_in, records_in, GoesOn, AreasStand, IsDistinct, generation_in}
 use Rattle.disk_journal.specs.Journal.{IsAtRestIn, IsSettled}
 use Rattle.disk_journal.specs.Turning.{Changes}
@@ -55,21 +55,11 @@ pub look_short : (area : Area) (o : Option Areas) (len : ℕ) → IfSome o (λ s
 look_short area None len is few = tt
 look_short area (Some s) len is few = few_not_live (part area s) (omega (arith, is, few))
 
--- all thirty were read
-read_thirty : (bytes buf : List ℕ) (n : ℕ) → IsRead bytes 0 n buf → length buf ≡ 30 → 30 ≤ length bytes → take 30 bytes ≡ buf
-read_thirty bytes buf n read thirty long =
-    let all : n ≡ 30 = omega (arith, read.count, thirty, length-drop 0 bytes, long) in
-    let whole : take 30 buf ≡ buf = ap (λ (k : ℕ). take k buf) (sym thirty) ∙ take_whole buf in
-    sym (ap (λ (k : ℕ). take k (drop 0 bytes)) all) ∙ sym read.same ∙ ap (λ (k : ℕ). take k buf) all ∙ whole
-  where
-    take_whole : (l : List ℕ) → take (length l) l ≡ l
-    take_whole [] = refl
-    take_whole (x ∷ l) = ap (λ m. x ∷ m) (take_whole l)
-
-pub look_told : (area : Area) (o : Option Areas) (len n : ℕ) (buf : List ℕ) (found : Option ℕ) → IfSome o (λ s. len ≡ length (part area s)) → 30 ≤ len → length buf ≡ 30
-    → IfSome o (λ s. IsRead (part area s) 0 n buf) → ((bytes : List ℕ) → take 30 bytes ≡ buf → IsFound found bytes) → IfSome o (λ s. IsFound found (part area s))
-look_told area None len n buf found is long thirty read so = tt
-look_told area (Some s) len n buf found is long thirty read so = so (part area s) (read_thirty (part area s) buf n read thirty (omega (arith, is, long)))
+-- what the first thirty bytes show
+pub look_told : (area : Area) (o : Option Areas) (buf : List ℕ) (found : Option ℕ) → length buf ≡ 30 → IfSome o (λ s. IsFilled (part area s) 0 buf)
+    → ((bytes : List ℕ) → take 30 bytes ≡ buf → IsFound found bytes) → IfSome o (λ s. IsFound found (part area s))
+look_told area None buf found thirty read so = tt
+look_told area (Some s) buf found thirty read so = so (part area s) (sym (read ∙ ap (λ (k : ℕ). take k (part area s)) thirty))
 
 -- what was found of both decides which one counts
 pub found_chosen : (a b : Option ℕ) (areas : Areas) → IsFound a areas.a → IsFound b areas.b → choice (is_some a) (is_some b) (found_or_none a) (found_or_none b) ≡ chosen areas

@@ -15,43 +15,33 @@ use Rattle.disk_journal.specs.declared.fault.OpenFault.TheVariants as Open
 use Rattle.disk_journal.proofs.Gates.{front-more, length-front, size-more, sizes-more}
 
 -- the gate's byte, and all behind it
-pub gate_read : (bytes gates : List ℕ) (at : ℕ) → IsFilled bytes at true gates → length gates ≡ 1 → drop at bytes ≡ get_or gates 0 0 ∷ drop (at + 1) bytes
-gate_read bytes gates at read one =
-    let within : at < length bytes = omega (arith, read.within refl) in
+pub gate_read : (bytes gates : List ℕ) (at : ℕ) → IsFilled bytes at gates → length gates ≡ 1 → at < length bytes → drop at bytes ≡ get_or gates 0 0 ∷ drop (at + 1) bytes
+gate_read bytes gates at read one within =
     let same : get_or gates 0 0 ≡ get_or bytes at 0 =
-    ap (λ (l : List ℕ). get_or l 0 0) (read.same refl) ∙ get_or-take (length gates) (drop at bytes) 0 0 (omega arith) ∙ get_or-drop at bytes 0 0 ∙ ap (λ n. get_or bytes n 0) (omega arith) in
+    ap (λ (l : List ℕ). get_or l 0 0) read ∙ get_or-take (length gates) (drop at bytes) 0 0 (omega arith) ∙ get_or-drop at bytes 0 0 ∙ ap (λ n. get_or bytes n 0) (omega arith) in
     drop_more bytes at 0 within ∙ ap (λ x. x ∷ drop (at + 1) bytes) (sym same)
 
 -- what the gate's byte tells
-pub gate_tells : (area : Area) (o : Option Areas) (at : ℕ) (gates : List ℕ) → IfSome o (λ s. IsFilled (part area s) at true gates) → length gates ≡ 1
-    → IfSome o (λ s. IsGate (part area s) at (eqb (get_or gates 0 0) 1))
-gate_tells area None at gates read one = tt
-gate_tells area (Some s) at gates read one =
-    let is = gate_read (part area s) gates at read one in
+pub gate_tells : (area : Area) (o : Option Areas) (len at : ℕ) (gates : List ℕ) → IfSome o (λ s. len ≡ length (part area s)) → at < len
+    → IfSome o (λ s. IsFilled (part area s) at gates) → length gates ≡ 1 → IfSome o (λ s. IsGate (part area s) at (eqb (get_or gates 0 0) 1))
+gate_tells area None len at gates length_is within read one = tt
+gate_tells area (Some s) len at gates length_is within read one =
+    let is = gate_read (part area s) gates at read one (omega (arith, length_is, within)) in
     let x = get_or gates 0 0 in
     ⊎_elim
     (λ (t : (eqb x 1 ≡ true) × (x ≡ 1)). subst (IsGate (part area s) at) (sym t.0) (is ∙ ap (λ g. g ∷ drop (at + 1) (part area s)) t.1))
     (λ (t : (eqb x 1 ≡ false) × (x ≢ 1)). subst (IsGate (part area s) at) (sym t.0) (x, drop (at + 1) (part area s), t.1, is))
     (eqb_tells x 1)
 
--- a gate stands in the area
-pub gate_missing : (area : Area) (o : Option Areas) (at : ℕ) (gates : List ℕ) → IfSome o (λ s. at < length (part area s)) → IfSome o (λ s. IsFilled (part area s) at false gates) → length gates ≡ 1
-    → IfSome o (λ s. IsGate (part area s) at false)
-gate_missing area None at gates within read one = tt
-gate_missing area (Some s) at gates within read one = absurd (omega (arith, within, read.few refl, one))
-
 -- why a record is refused
-abbrev pub IsRefused : Bool → ℕ → ℕ → ℕ → ℕ → Type 0
-IsRefused has len at n most = (has ≡ false) ⊎ ((n ≡ 0) ⊎ ((most < n) ⊎ (len - at ≤ 5 + n)))
+abbrev pub IsRefused : ℕ → ℕ → ℕ → ℕ → Type 0
+IsRefused len at n most = (n ≡ 0) ⊎ ((most < n) ⊎ (len - at ≤ 5 + n))
 
-not_whole : (bytes sizes : List ℕ) (at n most : ℕ) (has : Bool) → IsFilled bytes (at + 1) has sizes → length sizes ≡ 5 → n ≡ from_be_bytes w32 (take 4 sizes)
-    → most ≡ most_at at (get_or sizes 4 0) → at < length bytes → at + 5 < length bytes
-    → IsRefused has (length bytes) at n most → IsWhole at (drop (at + 1) bytes) → ⊥
-not_whole bytes sizes at n most false read five is limit within room refused whole = omega (arith, read.few refl, five, room)
-not_whole bytes sizes at n most true read five is limit within room (inl e) whole = cc
-not_whole bytes sizes at n most true read five is limit within room (inr refused) whole =
+not_whole : (bytes sizes : List ℕ) (at n most : ℕ) → IsFilled bytes (at + 1) sizes → length sizes ≡ 5 → n ≡ from_be_bytes w32 (take 4 sizes)
+    → most ≡ most_at at (get_or sizes 4 0) → at < length bytes → IsRefused (length bytes) at n most → IsWhole at (drop (at + 1) bytes) → ⊥
+not_whole bytes sizes at n most read five is limit within refused whole =
     let behind = drop (at + 1) bytes in
-    let same_five : sizes ≡ take 5 behind = read.same refl ∙ ap (λ k. take k behind) five in
+    let same_five : sizes ≡ take 5 behind = read ∙ ap (λ k. take k behind) five in
     let same : n ≡ length_in behind = is ∙ ap (λ (l : List ℕ). from_be_bytes w32 (take 4 l)) same_five ∙ ap (from_be_bytes w32) (take-take 4 5 behind (omega arith)) in
     let byte : get_or sizes 4 0 ≡ get_or behind 4 0 = ap (λ (l : List ℕ). get_or l 4 0) same_five ∙ get_or-take 5 behind 4 0 (omega arith) in
     let limit_is : most ≡ most_at at (get_or behind 4 0) = limit ∙ ap (λ (k : ℕ). most_at at k) byte in
@@ -65,16 +55,15 @@ not_whole bytes sizes at n most true read five is limit within room (inr refused
     out_of_range len at n m most limit rest same is left within some no_more room (inr (inr short)) = omega arith
 
 -- an open gate without a whole record behind it
-pub broken : (area : Area) (o : Option Areas) (sizes : List ℕ) (len at n most : ℕ) (has : Bool) → IfSome o (λ s. len ≡ length (part area s)) → 5 < len - at
-    → IfSome o (λ s. IsGate (part area s) at true) → IfSome o (λ s. IsFilled (part area s) (at + 1) has sizes) → length sizes ≡ 5 → n ≡ from_be_bytes w32 (take 4 sizes)
-    → most ≡ most_at at (get_or sizes 4 0) → IsRefused has len at n most → IfSome o (λ s. IsBrokenAt (Open.Damaged at) (part area s) at)
-broken area None sizes len at n most has is room gate read five number limit refused = tt
-broken area (Some s) sizes len at n most has is room gate read five number limit refused = (
+pub broken : (area : Area) (o : Option Areas) (sizes : List ℕ) (len at n most : ℕ) → IfSome o (λ s. len ≡ length (part area s)) → 5 < len - at
+    → IfSome o (λ s. IsGate (part area s) at true) → IfSome o (λ s. IsFilled (part area s) (at + 1) sizes) → length sizes ≡ 5 → n ≡ from_be_bytes w32 (take 4 sizes)
+    → most ≡ most_at at (get_or sizes 4 0) → IsRefused len at n most → IfSome o (λ s. IsBrokenAt (Open.Damaged at) (part area s) at)
+broken area None sizes len at n most is room gate read five number limit refused = tt
+broken area (Some s) sizes len at n most is room gate read five number limit refused = (
   drop (at + 1) (part area s),
   refl,
   gate,
-  not_whole (part area s) sizes at n most has read five number limit (omega (arith, is, room)) (omega (arith, is, room))
-      (subst (λ k. IsRefused has k at n most) is refused),
+  not_whole (part area s) sizes at n most read five number limit (omega (arith, is, room)) (subst (λ k. IsRefused k at n most) is refused),
 )
 
 -- an open gate so near to the end that nothing whole stands behind it
@@ -89,21 +78,21 @@ broken_end area (Some s) len at is gate near = (
 )
 
 -- the four bytes of the length
-pub size_is : (area : Area) (o : Option Areas) (sizes : List ℕ) (at n : ℕ) → IfSome o (λ s. IsFilled (part area s) (at + 1) true sizes) → length sizes ≡ 5
+pub size_is : (area : Area) (o : Option Areas) (sizes : List ℕ) (at n : ℕ) → IfSome o (λ s. IsFilled (part area s) (at + 1) sizes) → length sizes ≡ 5
     → to_be_bytes w32 n ≡ take 4 sizes → IfSome o (λ s. take 4 (drop (at + 1) (part area s)) ≡ to_be_bytes w32 n)
 size_is area None sizes at n read five back = tt
 size_is area (Some s) sizes at n read five back =
     let behind = drop (at + 1) (part area s) in
-    sym (back ∙ ap (take 4) (read.same refl ∙ ap (λ k. take k behind) five) ∙ take-take 4 5 behind (omega arith))
+    sym (back ∙ ap (take 4) (read ∙ ap (λ k. take k behind) five) ∙ take-take 4 5 behind (omega arith))
 
 -- and the byte behind it
-pub byte_is : (area : Area) (o : Option Areas) (sizes : List ℕ) (at n most : ℕ) → IfSome o (λ s. IsFilled (part area s) (at + 1) true sizes) → length sizes ≡ 5
+pub byte_is : (area : Area) (o : Option Areas) (sizes : List ℕ) (at n most : ℕ) → IfSome o (λ s. IsFilled (part area s) (at + 1) sizes) → length sizes ≡ 5
     → most ≡ most_at at (get_or sizes 4 0) → n ≤ most → IfSome o (λ s. n ≤ most_at at (get_or (part area s) (at + 5) 0))
 byte_is area None sizes at n most read five limit small = tt
 byte_is area (Some s) sizes at n most read five limit small =
     let behind = drop (at + 1) (part area s) in
     let byte : get_or sizes 4 0 ≡ get_or (part area s) (at + 5) 0 =
-    ap (λ (l : List ℕ). get_or l 4 0) (read.same refl ∙ ap (λ k. take k behind) five) ∙ get_or-take 5 behind 4 0 (omega arith) ∙ get_or-drop (at + 1) (part area s) 4 0
+    ap (λ (l : List ℕ). get_or l 4 0) (read ∙ ap (λ k. take k behind) five) ∙ get_or-take 5 behind 4 0 (omega arith) ∙ get_or-drop (at + 1) (part area s) 4 0
     ∙ ap (λ k. get_or (part area s) k 0) (omega arith) in
     let same : most ≡ most_at at (get_or (part area s) (at + 5) 0) = limit ∙ ap (λ (k : ℕ). most_at at k) byte in
     omega (arith, small, same)
@@ -112,14 +101,14 @@ byte_is area (Some s) sizes at n most read five limit small =
 pub whole : (area : Area) (o : Option Areas) (buf : List ℕ) (body : Vec ℕ Global) (len at n : ℕ) → IfSome o (λ s. len ≡ length (part area s))
     → IfSome o (λ s. IsGate (part area s) at true) → IfSome o (λ s. take 4 (drop (at + 1) (part area s)) ≡ to_be_bytes w32 n)
     → IfSome o (λ s. n ≤ most_at at (get_or (part area s) (at + 5) 0)) → 1 ≤ n
-    → IfSome o (λ s. IsFilled (part area s) (at + 5) true buf) → length buf ≡ n → body.items ≡ buf → at + 5 + n < len
+    → IfSome o (λ s. IsFilled (part area s) (at + 5) buf) → length buf ≡ n → body.items ≡ buf → at + 5 + n < len
     → IfSome o (λ s. IsRecord (part area s) at (Some body))
 whole area None buf body len at n is gate size_is most some read_body length_is items room = tt
 whole area (Some s) buf body len at n is gate size_is most some read_body length_is items room =
     let long : length body.items ≡ n = ap length items ∙ length_is in
     let next_at = at + 5 + n in
     let spelled : take 4 (drop (at + 1) (part area s)) ≡ to_be_bytes w32 (length body.items) = size_is ∙ ap (to_be_bytes w32) (sym long) in
-    let body_is : body.items ≡ take n (drop (at + 5) (part area s)) = items ∙ read_body.same refl ∙ ap (λ k. take k (drop (at + 5) (part area s))) length_is in
+    let body_is : body.items ≡ take n (drop (at + 5) (part area s)) = items ∙ read_body ∙ ap (λ k. take k (drop (at + 5) (part area s))) length_is in
     let after_size : drop (at + 1) (part area s) ≡ to_be_bytes w32 (length body.items) ++ drop (at + 5) (part area s) =
     sym (take-append-drop 4 (drop (at + 1) (part area s))) ∙ ap (λ l. l ++ drop 4 (drop (at + 1) (part area s))) spelled
     ∙ ap (λ l. to_be_bytes w32 (length body.items) ++ l) (drop-drop 4 (at + 1) (part area s) ∙ ap (λ k. drop k (part area s)) (omega arith)) in

@@ -226,6 +226,11 @@ other_twice B = refl
 pub other_back : (area next : Area) → next ≡ other_of area → area ≡ other_of next
 other_back area next is = sym (ap other_of is ∙ other_twice area)
 
+-- what stands beside the other one
+pub other_rest : (area next : Area) (s : Areas) → next ≡ other_of area → rest next s ≡ part area s
+other_rest A next s is = ap (λ (x : Area). rest x s) is
+other_rest B next s is = ap (λ (x : Area). rest x s) is
+
 -- a body that is staged, whose gate is opened
 pub opened_body : (area : Area) (generation : ℕ) (body : List ℕ) → IsNextTo generation body → length body < 2 ^ 32 → (m n : Areas) → IsStaged body (part area m)
     → IsWritten area 16 (1 ∷ []) m n → HasBodies area (body ∷ []) n

@@ -21,11 +21,9 @@ pub record IsPiece (bytes : List ℕ) (at n : ℕ) (buf : List ℕ) : Type 0 whe
 abbrev pub Shows : Area → Option Areas → Window → Type 0
 Shows area told window = IfSome told (λ s. IsPiece (part area s) window.at window.count window.room.items)
 
--- the buffer is full of the bytes from the place on, or fewer stand there
-pub record IsFilled (bytes : List ℕ) (at : ℕ) (full : Bool) (buf : List ℕ) : Type 0 where
-  pub within : full ≡ true → at + length buf ≤ length bytes
-  pub same : full ≡ true → buf ≡ take (length buf) (drop at bytes)
-  pub few : full ≡ false → length bytes < at + length buf
+-- the buffer has the bytes from the place on
+abbrev pub IsFilled : List ℕ → ℕ → List ℕ → Type 0
+IsFilled bytes at buf = buf ≡ take (length buf) (drop at bytes)
 
 -- at the place stands an open gate, or a closed one
 abbrev pub IsGate : List ℕ → ℕ → Bool → Type 0

@@ -3,9 +3,9 @@
 ghost use Rattle.std.specs.Prelude.{◌≡◌, ◌⊎◌, ◌≤◌, ◌<◌, ◌+◌, ◌^◌, ◌++◌, [], ◌∷◌, ℕ, List, Option, Some, true, length, OnOk, OnErr, IfOk, IfErr, IfSome, MatchResult, vec_len};
 ghost use Rattle.arc_io.specs.Crashes.{Becomes, IsQuiet, LeavesOnly};
 ghost use Rattle.disk_journal.specs.Records.{MayHave};
-ghost use Rattle.disk_journal.specs.Standing.{chosen_part, GoesOn, IsDistinct, StandsForEither, StandsForTurn};
+ghost use Rattle.disk_journal.specs.Standing.{chosen_part, other_of, GoesOn, IsDistinct, StandsForEither, StandsForTurn};
 ghost use Rattle.disk_journal.specs.Turning.{Changes, IsNextTo};
-ghost use Rattle.disk_journal.specs.OtherArea.{SparesOther};
+ghost use Rattle.disk_journal.specs.OtherArea.{IsSameIn, SparesOther};
 ghost use Rattle.disk_journal.specs.Behind.{SparesBehind};
 ghost use Rattle.disk_journal.specs.Faults.{IsShown, IsOfContent, HasCounts, IsOver, IsFull, IsDiskFault, HasCountsOf};
 
@@ -233,6 +233,10 @@ impl<D: Disk> Journal<D> {
         // What a read gives afterwards, too.
         ensures told { (summary : Option (List ℕ)) (bodies : List (List ℕ)) → Holds D.seen self.old summary bodies
             → Becomes (D.seen self.old.disk).told (D.seen self.new.disk).told (λ _ t. StandsForTurn summary bodies body.now t) }
+
+        // The area that counted before keeps all its bytes, at any moment and in whatever a crash leaves. Behind Ok the journal's is the other.
+        ensures spared { Changes (IsSameIn self.old.area) (D.seen self.old.disk) (D.seen self.new.disk) }
+        ensures area { OnOk result (self.new.area ≡ other_of self.old.area) }
 
         ensures generation { OnOk result (self.new.generation ≡ self.old.generation + 1) }
 

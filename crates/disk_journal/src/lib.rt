@@ -4,6 +4,7 @@
 
 mod bodies;
 mod fault;
+mod filled;
 mod journal;
 mod laws;
 mod open;

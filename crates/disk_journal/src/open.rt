@@ -14,7 +14,8 @@ ghost use Rattle.disk_journal.specs.Turning.{Changes};
 
 use crate::bodies::Bodies;
 use crate::fault::OpenFault;
-use crate::window::{Window, read};
+use crate::filled::read;
+use crate::window::Window;
 use arc_io::{Area, Disk, Failed, write_synced};
 use std::alloc::Global;
 
@@ -98,11 +99,12 @@ fn is_open<D: Disk>(
     window: &mut Window,
     before: u64,
     area: Area,
+    len: u64,
     at: u64,
 ) -> Result<bool, OpenFault>
     requires before { before ≤ (D.seen disk.old).faults }
-    requires within { IfSome (D.seen disk.old).told (λ s. at < length (part area s)) }
-    requires fits { at + 1 < 2 ^ 64 }
+    requires len { IfSome (D.seen disk.old).told (λ s. len ≡ length (part area s)) }
+    requires within { at < len }
     requires piece { Shows area (D.seen disk.old).told window.old }
     ensures gate { IfOk result (λ is. IfSome (D.seen disk.old).told (λ s. IsGate (part area s) at is)) }
     ensures piece { OnOk result (Shows area (D.seen disk.old).told window.new) }
@@ -113,9 +115,7 @@ fn is_open<D: Disk>(
     ensures shown { IfErr result (λ f. IfSome (D.seen disk.old).told (λ s. IsBrokenAt f (part area s) at)) }
 {
     let mut gate = [0; 1];
-    if !window.fill(disk, before, area, at, &mut gate)? {
-        return Ok(false);
-    }
+    window.fill(disk, before, area, len, at, &mut gate)?;
     Ok(gate[0] == 1)
 }
 
@@ -147,9 +147,9 @@ fn read_size<D: Disk>(
         return Err(OpenFault::Damaged { at });
     }
     let mut prefix = [0; 5];
-    let has_size = window.fill(disk, before, area, at + 1, &mut prefix)?;
+    window.fill(disk, before, area, len, at + 1, &mut prefix)?;
     let size = number_in(&prefix);
-    if !has_size || size == 0 || size > most(at, prefix[4]) || len - at <= 5 + size as u64 {
+    if size == 0 || size > most(at, prefix[4]) || len - at <= 5 + size as u64 {
         return Err(OpenFault::Damaged { at });
     }
     Ok(size)
@@ -178,16 +178,14 @@ fn read_record<D: Disk>(
     ensures counts { IfErr result (λ f. HasCounts f before (D.seen disk.new).faults) }
     ensures shown { IfErr result (λ f. IfSome (D.seen disk.old).told (λ s. IsBrokenAt f (part area s) at)) }
 {
-    if !is_open(disk, window, before, area, at)? {
+    if !is_open(disk, window, before, area, len, at)? {
         return Ok(None);
     }
     let size = read_size(disk, window, before, area, len, at)?;
     let Ok(mut body) = vec![in alloc; 0; size as usize] else {
         return Err(OpenFault::Memory);
     };
-    if !window.fill(disk, before, area, at + 5, &mut body)? {
-        return Err(OpenFault::Damaged { at });
-    }
+    window.fill(disk, before, area, len, at + 5, &mut body)?;
     Ok(Some(body))
 }
 
@@ -266,9 +264,11 @@ fn check_head<D: Disk>(
     window: &mut Window,
     before: u64,
     area: Area,
+    len: u64,
 ) -> Result<(), OpenFault>
     requires before { before ≤ (D.seen disk.old).faults }
-    requires long { IfSome (D.seen disk.old).told (λ s. 17 < length (part area s)) }
+    requires len { IfSome (D.seen disk.old).told (λ s. len ≡ length (part area s)) }
+    requires long { 17 < len }
     requires piece { Shows area (D.seen disk.old).told window.old }
     ensures head { OnOk result (IfSome (D.seen disk.old).told (λ s. take 16 (part area s) ≡ head)) }
     ensures piece { OnOk result (Shows area (D.seen disk.old).told window.new) }
@@ -279,7 +279,7 @@ fn check_head<D: Disk>(
     ensures shown { IfErr result (λ f. IfSome (D.seen disk.old).told (λ s. IsShown f (part area s))) }
 {
     let mut front = [0; 16];
-    let _ = window.fill(disk, before, area, 0, &mut front)?;
+    window.fill(disk, before, area, len, 0, &mut front)?;
     check_front(&front)
 }
 
@@ -365,7 +365,7 @@ fn look<D: Disk>(disk: &mut D, before: u64, area: Area, len: u64) -> Result<Opti
         return Ok(None);
     }
     let mut front = [0; 30];
-    let _ = read(disk, before, area, 0, &mut front)?;
+    read(disk, before, area, 0, &mut front)?;
     Ok(found_in(&front))
 }
 
@@ -470,7 +470,7 @@ fn read_area<D: Disk>(
     let Ok(mut window) = Window::new(alloc, len.min(PIECE) as usize) else {
         return Err(OpenFault::Memory);
     };
-    check_head(disk, &mut window, before, area)?;
+    check_head(disk, &mut window, before, area, len)?;
     read_records(alloc, disk, &mut window, before, area, len)
 }
 

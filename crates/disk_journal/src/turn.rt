@@ -5,9 +5,11 @@ ghost use Rattle.arc_io.specs.Areas.{part};
 ghost use Rattle.arc_io.specs.Causes.{IsCounted};
 ghost use Rattle.arc_io.specs.Crashes.{Becomes, IsQuiet, IsWritten, LeavesOnly, OnlyIn};
 ghost use Rattle.disk_journal.specs.Journal.{HasBodies, IsSettled, Keeps};
+ghost use Rattle.disk_journal.specs.OtherArea.{IsSameBeside};
 ghost use Rattle.disk_journal.specs.Standing.{other_of, generation_in, StandsForTurn};
 ghost use Rattle.disk_journal.specs.Turning.{Changes, IsBeside, IsFirstGate, IsNextTo, IsShut, IsStaged, IsUndone};
 
+use crate::filled::read_filled;
 use crate::open::{FRESH, HEAD};
 use arc_io::{Area, Disk, Failed, write_synced};
 
@@ -31,7 +33,7 @@ fn gate_of<D: Disk>(disk: &mut D, area: Area) -> Result<Option<bool>, Failed>
         return Ok(None);
     }
     let mut gate = [0; 1];
-    let _ = disk.read_at(area, 16, &mut gate)?;
+    read_filled(disk, area, 16, &mut gate)?;
     Ok(Some(gate[0] == 1))
 }
 
@@ -110,6 +112,7 @@ pub fn write_turn<D: Disk>(disk: &mut D, area: Area, body: &[u8]) -> Result<(), 
     ensures told { (summary : Option (List ℕ)) (bodies : List (List ℕ)) → Keeps (D.seen disk.old) (other_of area) summary bodies
         → IsNextTo (generation_in summary) body.now
         → Becomes (D.seen disk.old).told (D.seen disk.new).told (λ _ t. StandsForTurn summary bodies body.now t) }
+    ensures spared { Changes (IsSameBeside area) (D.seen disk.old) (D.seen disk.new) }
     ensures cause { IsCounted (D.seen disk.old).faults (D.seen disk.new).faults result }
 {
     close_gate(disk, area)?;

@@ -1,12 +1,13 @@
 // Reading an area from its front to its end, in large pieces, each byte once.
-ghost use Rattle.std.specs.Prelude.{◌≡◌, ◌≤◌, ◌<◌, ◌+◌, ◌^◌, ℕ, List, length, drop, min, OnOk, IfOk, IfErr, IfSome, vec_len};
+ghost use Rattle.std.specs.Prelude.{◌≡◌, ◌≤◌, ◌+◌, ◌-◌, ℕ, List, length, min, OnOk, IfOk, IfErr, IfSome, vec_len};
 ghost use Rattle.arc_io.specs.Areas.{part};
-ghost use Rattle.arc_io.specs.Crashes.{IsQuiet, IsRead};
+ghost use Rattle.arc_io.specs.Crashes.{IsQuiet};
 ghost use Rattle.disk_journal.specs.Faults.{IsShown, IsOfContent, HasCounts};
 
 use crate::fault::OpenFault;
+use crate::filled::{read, read_front};
 use arc_data::Memory;
-use arc_io::{Area, Disk, Failed};
+use arc_io::{Area, Disk};
 use std::alloc::Global;
 
 // The last piece of an area that was read: so many bytes from this place on stand in the room's front.
@@ -50,18 +51,21 @@ impl Window {
         count
     }
 
-    // Reads the next piece into the window, from the place on.
+    // Reads the next piece into the window, from a place in the area on.
     fn slide<D: Disk>(
         &mut self,
         disk: &mut D,
         before: u64,
         area: Area,
+        len: u64,
         at: u64,
     ) -> Result<(), OpenFault>
         requires before { before ≤ (D.seen disk.old).faults }
+        requires len { IfSome (D.seen disk.old).told (λ s. len ≡ length (part area s)) }
+        requires within { at ≤ len }
         ensures place { OnOk result (self.new.at ≡ at) }
         ensures room { vec_len self.new.room ≡ vec_len self.old.room }
-        ensures count { OnOk result (IfSome (D.seen disk.old).told (λ s. self.new.count ≡ min (vec_len self.new.room) (length (drop at (part area s))))) }
+        ensures count { OnOk result (self.new.count ≡ min (vec_len self.new.room) (len - at)) }
         ensures piece { OnOk result (Shows area (D.seen disk.old).told self.new) }
         ensures quiet { IsQuiet (D.seen disk.old) (D.seen disk.new) }
         ensures later { (D.seen disk.old).faults ≤ (D.seen disk.new).faults }
@@ -69,26 +73,29 @@ impl Window {
         ensures counts { IfErr result (λ f. HasCounts f before (D.seen disk.new).faults) }
         ensures shown { IfErr result (λ f. (IsOfContent f → ⊥) × ((bytes : List ℕ) → IsShown f bytes)) }
     {
+        let count = (len - at).min(self.room.len() as u64) as usize;
         self.count = 0;
-        self.count = read(disk, before, area, at, &mut self.room)?;
+        read_front(disk, before, area, at, count, &mut self.room)?;
+        self.count = count;
         self.at = at;
         Ok(())
     }
 
-    // Fills the buffer with the bytes from the place on, or answers that fewer stand there.
+    // Fills the buffer with the bytes from the place on, all of which stand in the area.
     pub fn fill<D: Disk>(
         &mut self,
         disk: &mut D,
         before: u64,
         area: Area,
+        len: u64,
         at: u64,
         buf: &mut [u8],
-    ) -> Result<bool, OpenFault>
+    ) -> Result<(), OpenFault>
         requires before { before ≤ (D.seen disk.old).faults }
-        requires some { 0 < length buf.old }
-        requires fits { at + length buf.old < 2 ^ 64 }
+        requires len { IfSome (D.seen disk.old).told (λ s. len ≡ length (part area s)) }
+        requires within { at + length buf.old ≤ len }
         requires piece { Shows area (D.seen disk.old).told self.old }
-        ensures bytes { IfOk result (λ full. IfSome (D.seen disk.old).told (λ s. IsFilled (part area s) at full buf.new)) }
+        ensures bytes { OnOk result (IfSome (D.seen disk.old).told (λ s. IsFilled (part area s) at buf.new)) }
         ensures piece { OnOk result (Shows area (D.seen disk.old).told self.new) }
         ensures quiet { IsQuiet (D.seen disk.old) (D.seen disk.new) }
         ensures later { (D.seen disk.old).faults ≤ (D.seen disk.new).faults }
@@ -98,10 +105,17 @@ impl Window {
     {
         let given = self.give(at, buf);
         if given == buf.len() {
-            return Ok(true);
+            return Ok(());
         }
-        let full = self.fill_rest(disk, before, area, at + given as u64, &mut buf[given..])?;
-        Ok(full)
+        self.fill_rest(
+            disk,
+            before,
+            area,
+            len,
+            at + given as u64,
+            &mut buf[given..],
+        )?;
+        Ok(())
     }
 
     // The same for bytes of which none stands in the window. What would take a whole window is read past it.
@@ -110,13 +124,15 @@ impl Window {
         disk: &mut D,
         before: u64,
         area: Area,
+        len: u64,
         at: u64,
         buf: &mut [u8],
-    ) -> Result<bool, OpenFault>
+    ) -> Result<(), OpenFault>
         requires before { before ≤ (D.seen disk.old).faults }
-        requires some { 0 < length buf.old }
+        requires len { IfSome (D.seen disk.old).told (λ s. len ≡ length (part area s)) }
+        requires within { at + length buf.old ≤ len }
         requires piece { Shows area (D.seen disk.old).told self.old }
-        ensures bytes { IfOk result (λ full. IfSome (D.seen disk.old).told (λ s. IsFilled (part area s) at full buf.new)) }
+        ensures bytes { OnOk result (IfSome (D.seen disk.old).told (λ s. IsFilled (part area s) at buf.new)) }
         ensures piece { OnOk result (Shows area (D.seen disk.old).told self.new) }
         ensures quiet { IsQuiet (D.seen disk.old) (D.seen disk.new) }
         ensures later { (D.seen disk.old).faults ≤ (D.seen disk.new).faults }
@@ -125,36 +141,10 @@ impl Window {
         ensures shown { IfErr result (λ f. (IsOfContent f → ⊥) × ((bytes : List ℕ) → IsShown f bytes)) }
     {
         if buf.len() >= self.room.len() {
-            let count = read(disk, before, area, at, buf)?;
-            return Ok(count == buf.len());
+            return read(disk, before, area, at, buf);
         }
-        self.slide(disk, before, area, at)?;
-        Ok(self.give(at, buf) == buf.len())
-    }
-}
-
-// Reads as many bytes as stand from the place on and have room.
-pub fn read<D: Disk>(
-    disk: &mut D,
-    before: u64,
-    area: Area,
-    at: u64,
-    buf: &mut [u8],
-) -> Result<usize, OpenFault>
-    requires before { before ≤ (D.seen disk.old).faults }
-    ensures bound { IfOk result (λ n. n ≤ length buf.new) }
-    ensures bytes { IfOk result (λ n. IfSome (D.seen disk.old).told (λ s. IsRead (part area s) at n buf.new)) }
-    ensures quiet { IsQuiet (D.seen disk.old) (D.seen disk.new) }
-    ensures later { (D.seen disk.old).faults ≤ (D.seen disk.new).faults }
-    ensures met_none { OnOk result ((D.seen disk.new).faults ≡ (D.seen disk.old).faults) }
-    ensures counts { IfErr result (λ f. HasCounts f before (D.seen disk.new).faults) }
-    ensures shown { IfErr result (λ f. (IsOfContent f → ⊥) × ((bytes : List ℕ) → IsShown f bytes)) }
-{
-    match disk.read_at(area, at, buf) {
-        Ok(count) => Ok(count),
-        Err(Failed) => Err(OpenFault::DiskFault {
-            before,
-            now: disk.faults(),
-        }),
+        self.slide(disk, before, area, len, at)?;
+        let _ = self.give(at, buf);
+        Ok(())
     }
 }

@@ -9,6 +9,8 @@ mod arc_io_tests;
 #[cfg(test)]
 mod disk_journal_tests;
 #[cfg(test)]
+mod given_tests;
+#[cfg(test)]
 mod rows;
 #[cfg(test)]
 mod same;

@@ -3,7 +3,7 @@ ghost use Rattle.std.specs.Prelude.{◌≡◌, ◌≤◌, ◌+◌, ◌++◌, ◌
 ghost use Rattle.arc_io.specs.Causes.{next_count};
 ghost use Rattle.arc_io.specs.KeptCalls.{content_after, written, written_in, IsKeptWrite, IsKeptSync};
 ghost use Rattle.arc_io.specs.Areas.{part};
-ghost use Rattle.arc_io.specs.Crashes.{IsRead};
+ghost use Rattle.arc_io.specs.Crashes.{IsReadInPart, IsRead};
 ghost use Rattle.arc_io.specs.declared.disk.Area.TheVariants.{A, B};
 
 use super::disk_kept::{Deed, Fill, Kept};
@@ -229,9 +229,11 @@ fn keep_sync(past: &mut Vec<Kept>, call: u64, area: Area) -> Result<(), AllocErr
 }
 
 // Gives as many bytes as stand from the place on, up to the buffer's length.
+#[tactic(auto, using(crate::proofs::Given::all_given))]
 fn read_from(content: &[u8], at: u64, buf: &mut [u8]) -> usize
     ensures within { result ≤ length buf.new }
     ensures read { IsRead content.now at result buf.new }
+    ensures given { IsReadInPart content.now at result buf.new }
 {
     if at >= content.len() as u64 {
         return 0;
@@ -279,7 +281,8 @@ impl Disk for MemDisk {
 
     fn read_at(&mut self, area: Area, at: u64, buf: &mut [u8]) -> Result<usize, Failed>
         ensures bound { ReadsAtMost result buf.new }
-        ensures bytes { IfOk result (λ n. IsRead (part area (bytes_of self.old)) at n buf.new) }
+        ensures bytes { IfOk result (λ n. IsReadInPart (part area (bytes_of self.old)) at n buf.new) }
+        ensures all { IfOk result (λ n. IsRead (part area (bytes_of self.old)) at n buf.new) }
         ensures told { (disk_seen self.new).told ≡ (disk_seen self.old).told }
         ensures crash { (c : Areas) → (disk_seen self.new).may_leave c → (disk_seen self.old).may_leave c }
         ensures time { Elapses (disk_seen self.old) (disk_seen self.new) }

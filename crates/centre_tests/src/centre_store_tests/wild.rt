@@ -6,6 +6,7 @@ ghost use Rattle.disk_journal.specs.Faults.{IsOfContent};
 
 use super::opening::append;
 use super::summed::area_in_words;
+use crate::centre_core_tests::decoding::bytes_of;
 use crate::same::{holds, same};
 use arc_data::{Blob, Reply};
 use arc_io::WildDisk;
@@ -109,17 +110,17 @@ fn told(rt: &impl Abort, alloc: Global, disk: WildDisk) -> String {
 // A disk of which each read gives these bytes from their front, whatever is asked for, and which says this length of both areas.
 fn wild_disk(rt: &impl Abort, alloc: Global, bytes: &[u8], length: u64) -> WildDisk {
     let reads = [bytes, bytes, bytes, bytes, bytes, bytes];
-    wild_disk_of(rt, alloc, &reads, (length, length))
+    wild_disk_of(rt, alloc, &reads, &[length, length])
 }
 
 // A disk whose reads give these bytes one after the other, and which says these lengths.
-fn wild_disk_of(rt: &impl Abort, alloc: Global, bytes: &[&[u8]], lengths: (u64, u64)) -> WildDisk {
+fn wild_disk_of(rt: &impl Abort, alloc: Global, bytes: &[&[u8]], lengths: &[u64]) -> WildDisk {
     let mut reads = Vec::new(alloc);
     for bytes in bytes {
         let copy = Blob::of(alloc, bytes).expect(rt, "memory");
         reads.push(copy).expect(rt, "memory");
     }
-    let lengths = [lengths.0, lengths.1].to_vec(alloc).expect(rt, "memory");
+    let lengths = lengths.to_vec(alloc).expect(rt, "memory");
     WildDisk::new(reads, lengths)
 }
 
@@ -172,18 +173,109 @@ fn compare(rt: &impl Abort, alloc: Global, disk: (&[u8], u64), want: &str, what:
     same(rt, told.as_str(), want, what);
 }
 
-// A byte below the length that a read does not give counts as 00.
+// An area in words, the length that the disk says of both, how many bytes of its front each read gives, from this number to that, and what it
+// tells. A byte below the length that a read does not give counts as 00: a gate there is closed, a length is short or nothing, and a body ends
+// in zeros, so that it spells another event, or none.
+const FRONTS: &str = "\
+asm;100;12 12;WrongVersion { found: [0, 0, 0, 0] }
+asm;100;13 13;WrongVersion { found: [48, 0, 0, 0] }
+asm;100;14 14;WrongVersion { found: [48, 48, 0, 0] }
+asm;100;15 15;WrongVersion { found: [48, 48, 48, 0] }
+asm;100;16 16;0 taken
+asm;100;17 46;Damaged { at: 16 }
+asm;100;47 47;1 taken
+asm;100;48 59;Damaged { at: 47 }
+asm;100;60 61;2 taken
+asm;100;62 98;Damaged { at: 61 }
+asm;100;99 100;3 repeat
+asm;62;60 61;2 taken
+asm;62;62 62;Damaged { at: 61 }
+asm;99;60 61;2 taken
+asm;99;62 99;Damaged { at: 61 }
+asm;5000;16 16;0 taken
+asm;5000;17 46;Damaged { at: 16 }
+asm;5000;47 47;1 taken
+asm;5000;60 61;2 taken
+asm;5000;99 100;3 repeat
+1:;173;12 12;WrongVersion { found: [0, 0, 0, 0] }
+1:;173;16 16;0 taken
+1:;173;17 170;Damaged { at: 16 }
+1:;173;171 173;3 repeat
+1:;5000;16 16;0 taken
+1:;5000;17 170;Damaged { at: 16 }
+1:;5000;171 173;3 repeat
+1:s;187;171 172;3 repeat
+1:s;187;173 184;Damaged { at: 172 }
+1:s;187;185 187;4 repeat";
+
 #[test]
-fn a_read_that_gives_less_gives_zeros(rt: HostRuntime) {
+fn a_byte_that_no_read_gives_is_zero(rt: HostRuntime) {
+    for row in FRONTS.lines() {
+        compare_fronts(&rt, rt.alloc(), row);
+    }
+}
+
+fn compare_fronts(rt: &impl Abort, alloc: Global, row: &str) {
+    let (letters, rest) = row.split_once(';').expect(rt, "a row");
+    let (length, rest) = rest.split_once(';').expect(rt, "a row");
+    let (places, want) = rest.split_once(';').expect(rt, "a row");
+    let (first, last) = places.split_once(' ').expect(rt, "two places");
+    let length = length.parse().expect(rt, "a length");
+    let first = first.parse::<usize>().expect(rt, "a place");
+    let last = last.parse::<usize>().expect(rt, "a place");
+    let area = area_in_words(rt, alloc, letters);
+    for count in first..=last {
+        compare_front(rt, alloc, (&area, count), length, want);
+    }
+}
+
+// Of an area so many bytes are given.
+fn compare_front(rt: &impl Abort, alloc: Global, front: (&[u8], usize), length: u64, want: &str) {
+    let (area, count) = front;
+    let given = area.get(..count).expect(rt, "a front");
+    let told = told(rt, alloc, wild_disk(rt, alloc, given, length));
+    same(rt, (count, told.as_str()), (count, want), "a front");
+}
+
+// Of the name's twelve bytes the first that no read gives is another.
+#[test]
+fn a_name_that_no_read_gives_is_another(rt: HostRuntime) {
     let alloc = rt.alloc();
-    let nothing = (b"".as_slice(), 100);
-    compare(&rt, alloc, nothing, "NotJournal { byte: 0 }", "no byte");
-    let short = (b"ARC JOURNAL".as_slice(), 100);
-    compare(&rt, alloc, short, "NotJournal { byte: 11 }", "a front");
-    let head = (b"ARC JOURNAL 0001".as_slice(), 100);
-    compare(&rt, alloc, head, "0 taken", "a head");
-    let gate = (b"ARC JOURNAL 0001\x01".as_slice(), 100);
-    compare(&rt, alloc, gate, "Damaged { at: 16 }", "an open gate");
+    let area = area_in_words(&rt, alloc, "1:");
+    for count in 0..12usize {
+        let want = format!(in alloc; "NotJournal {{ byte: {count} }}").expect(&rt, "memory");
+        compare_front(&rt, alloc, (&area, count), 173, want.as_str());
+    }
+}
+
+// What the disk says of the length of the other area when a summary is put there, and what it then gives of the first gate there.
+const GROWING: &str = "\
+0;
+16;01
+17;
+17;00
+17;01
+5000;
+5000;ff
+18446744073709551615;01";
+
+// An area's length is another at each call, and the gate that is asked for may not be given: no call finds the disk down.
+#[test]
+fn a_length_may_grow(rt: HostRuntime) {
+    for row in GROWING.lines() {
+        compare_growing(&rt, rt.alloc(), row);
+    }
+}
+
+fn compare_growing(rt: &impl Abort, alloc: Global, row: &str) {
+    let (length, digits) = row.split_once(';').expect(rt, "a row");
+    let length = length.parse().expect(rt, "a length");
+    let gate = bytes_of(rt, alloc, digits);
+    let area = area_in_words(rt, alloc, "asm");
+    let area = area.as_slice();
+    let reads = [area, area, area, gate.as_slice()];
+    let told = told(rt, alloc, wild_disk_of(rt, alloc, &reads, &[100, 30, length]));
+    same(rt, told.as_str(), "3 repeat", row);
 }
 
 // A number by chance, from the one before it: the step of Knuth's MMIX.
@@ -305,7 +397,7 @@ fn a_thousand_pairs_of_areas_by_chance(rt: HostRuntime) {
 fn kind_of_pair(rt: &impl Abort, alloc: Global, chance: &mut u64) -> usize {
     let a = area_by_chance(rt, alloc, chance);
     let b = area_by_chance(rt, alloc, chance);
-    let lengths = (a.len() as u64, b.len() as u64);
+    let lengths = [a.len() as u64, b.len() as u64];
     let (first, second) = if below(chance, 2) == 0 {
         (&a, &b)
     } else {
@@ -317,6 +409,6 @@ fn kind_of_pair(rt: &impl Abort, alloc: Global, chance: &mut u64) -> usize {
         first.as_slice(),
         second.as_slice(),
     ];
-    let told = told(rt, alloc, wild_disk_of(rt, alloc, &reads, lengths));
+    let told = told(rt, alloc, wild_disk_of(rt, alloc, &reads, &lengths));
     kind_of(&told)
 }

@@ -26,7 +26,7 @@ returns-clause-bytes g c =
     let gate = at_first c.args.area (λ bytes open_gate. IsGate bytes at open_gate) o o c.in_ok-is_open.field-0 true (λ _. o) c.if-not-branch.false c.in_ok-is_open.ensures.gate in
     let size = at_first c.args.area (λ bytes k. take 4 (drop (at + 1) bytes) ≡ to_be_bytes w32 k) o (g.D.Disk.seen c.is_open.new.disk).told n n gated (λ _. n) c.in_ok-size.ensures.size in
     let most = at_first c.args.area (λ bytes k. k ≤ most_at at (get_or bytes (at + 5) 0)) o (g.D.Disk.seen c.is_open.new.disk).told n n gated (λ _. n) c.in_ok-size.ensures.no_more in
-    let body = at_first c.args.area (λ bytes full. IsFilled bytes (at + 5) full buf) o (g.D.Disk.seen c.read_size.new.disk).told c.in_ok-fill.field-0 true sized c.if-not-branch-2.false c.in_ok-fill.ensures.bytes in
+    let body = at_first c.args.area (λ bytes k. IsFilled bytes (at + 5) buf) o (g.D.Disk.seen c.read_size.new.disk).told n n sized (λ _. n) c.in_ok-fill.ensures.bytes in
     let long : length buf ≡ n = omega (arith, c.fill.auto.buf, c.deref_mut.ensures.len, c.in-Ok.ensures.len) in
     whole c.args.area o buf (with_items c.in-Ok.body buf) c.args.len at n c.requires.len gate size most c.in_ok-size.ensures.room.0 body long
     (with_items_is c.in-Ok.body buf (omega (arith, long, c.in-Ok.ensures.len))) c.in_ok-size.ensures.room.1

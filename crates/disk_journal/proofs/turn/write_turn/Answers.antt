@@ -1,14 +1,15 @@
-use Rattle.std.proofs.Common.{◌<◌, ◌^◌, [], ◌∷◌, ℕ, List, Option, Some, length}
+use Rattle.std.proofs.Common.{◌<◌, ◌^◌, ◌∙◌, [], ◌∷◌, ℕ, List, Option, Some, length}
 use Rattle.std.specs.Prelude.{IfSome}
-use Rattle.arc_io.specs.Areas.{part}
+use Rattle.arc_io.specs.Areas.{Areas, part}
 use Rattle.arc_io.specs.Disks.{DiskSeen}
 use Rattle.arc_io.specs.Crashes.{TornIn, IsWritten, OnlyIn, LeavesOnly}
 use Rattle.arc_io.specs.declared.disk.Area.{Area}
 use Rattle.disk_journal.specs.Journal.{IsAtRestIn, HasBodies, IsSettled, Keeps}
+use Rattle.disk_journal.specs.OtherArea.{IsSameBeside}
 use Rattle.disk_journal.specs.Standing.{other_of, generation_in, StandsForTurn}
 use Rattle.disk_journal.specs.Turning.{Changes, IsBeside, IsNextTo, IsShut, IsStaged, IsUndone}
 use Rattle.disk_journal.proofs.Gates.{on_ok, on_ok_both}
-use Rattle.disk_journal.proofs.Steps.{becomes_map, becomes_last, told_after, if_both, moments, moments_then, settled_after, torn_changes}
+use Rattle.disk_journal.proofs.Steps.{becomes_map, becomes_last, told_after, if_both, changes_then, changes_weaker, moments, moments_then, settled_after, torn_changes}
 use Rattle.disk_journal.proofs.Turns.{IsShutIn, IsReadyIn, undone_rests, beside_rests, undone_stands, beside_stands, opening_stands, opened_stands, opened_body, next_distinct}
 use Rattle.disk_journal.proofs.turn.write_turn.Goals as goal
 
@@ -149,3 +150,32 @@ returns-clause-turned g c = on_ok_both c.write_synced.result c.write_synced.ensu
       settled = settled_after area (TornIn area 16 1) two new (λ s t x. x.1)
           (ready_settled area summary bodies body old one two h undone shut durable beside c.in_ok-put_body.ensures.durable) run only;
     })
+
+-- the other area is left alone in each part
+module _ (area : Area) (old one two : DiskSeen) (undone : Changes (IsUndone area) old one) where
+  first_spares : Changes (IsSameBeside area) old one
+  first_spares = changes_weaker (IsUndone area) (IsSameBeside area) old one (λ s t x. x.0) undone
+
+  more_spares : (mid new : DiskSeen) → Changes (IsSameBeside area) old mid → Changes (IsSameBeside area) mid new → Changes (IsSameBeside area) old new
+  more_spares mid new first then = changes_then (IsSameBeside area) old mid new (λ s t u x y. y ∙ x) first then
+
+  second_spares : Changes (IsBeside area) one two → Changes (IsSameBeside area) old two
+  second_spares beside = more_spares one two first_spares (changes_weaker (IsBeside area) (IsSameBeside area) one two (λ s t x. x.0) beside)
+
+  third_spares : (new : DiskSeen) → Changes (IsBeside area) one two → Changes (TornIn area 16 1) two new → Changes (IsSameBeside area) old new
+  third_spares new beside run = more_spares two new (second_spares beside) (changes_weaker (TornIn area 16 1) (IsSameBeside area) two new (λ s t x. x.1) run)
+
+pub returns-in_err-close_gate-clause-spared : goal.returns-in_err-close_gate-clause-spared
+returns-in_err-close_gate-clause-spared g c =
+    first_spares c.args.area (g.D.Disk.seen c.args.disk.now) (g.D.Disk.seen c.close_gate.new.disk) (g.D.Disk.seen c.close_gate.new.disk) c.close_gate.ensures.undone
+
+pub returns-in_err-put_body-clause-spared : goal.returns-in_err-put_body-clause-spared
+returns-in_err-put_body-clause-spared g c =
+    second_spares c.args.area (g.D.Disk.seen c.args.disk.now) (g.D.Disk.seen c.close_gate.new.disk) (g.D.Disk.seen c.put_body.new.disk) c.close_gate.ensures.undone
+    c.put_body.ensures.beside
+
+pub returns-clause-spared : goal.returns-clause-spared
+returns-clause-spared g c =
+    third_spares c.args.area (g.D.Disk.seen c.args.disk.now) (g.D.Disk.seen c.close_gate.new.disk) (g.D.Disk.seen c.put_body.new.disk) c.close_gate.ensures.undone
+    (g.D.Disk.seen c.write_synced.new.disk) c.put_body.ensures.beside
+    (torn_changes c.args.area 16 1 (g.D.Disk.seen c.put_body.new.disk) (g.D.Disk.seen c.write_synced.new.disk) c.write_synced.ensures.torn c.write_synced.ensures.crash c.write_synced.ensures.any_moment)

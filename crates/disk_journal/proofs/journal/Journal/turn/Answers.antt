@@ -1,10 +1,13 @@
-use Rattle.std.proofs.Common.{◌≡◌, [], ◌∷◌, ℕ, List, Option, subst, sym, arith}
+use Rattle.std.proofs.Common.{◌≡◌, ◌∙◌, [], ◌∷◌, ℕ, List, Option, subst, sym, arith}
+use Rattle.arc_io.specs.Areas.{Areas, part, rest}
 use Rattle.arc_io.specs.Disks.{DiskSeen}
 use Rattle.arc_io.specs.declared.disk.Area.{Area}
 use Rattle.disk_journal.specs.Journal.{Keeps}
 use Rattle.disk_journal.specs.Standing.{other_of, generation_in}
-use Rattle.disk_journal.specs.Turning.{IsNextTo}
-use Rattle.disk_journal.proofs.Turns.{other_back, next_is}
+use Rattle.disk_journal.specs.OtherArea.{IsSameBeside, IsSameIn}
+use Rattle.disk_journal.specs.Turning.{Changes, IsNextTo}
+use Rattle.disk_journal.proofs.Steps.{changes_weaker}
+use Rattle.disk_journal.proofs.Turns.{other_back, other_rest, next_is}
 use Rattle.disk_journal.proofs.journal.Journal.turn.Goals as goal
 
 keeps_so : (disk : DiskSeen) (area next : Area) (summary : Option (List ℕ)) (bodies : List (List ℕ)) → next ≡ other_of area → Keeps disk area summary bodies
@@ -61,3 +64,16 @@ returns-in-Err-clause-told g c summary bodies h =
     let self = c.args.self.now in
     c.write_turn.ensures.told summary bodies (keeps_so (g.D.Disk.seen self.disk) self.area c.other-next.result summary bodies c.other-next.ensures h.kept)
     (next_to self.generation summary c.args.body.now h.generation c.requires.next)
+
+-- what is beside the other area is the one that was chosen
+spares_so : (area next : Area) (old new : DiskSeen) → next ≡ other_of area → Changes (IsSameBeside next) old new → Changes (IsSameIn area) old new
+spares_so area next old new is run =
+    changes_weaker (IsSameBeside next) (IsSameIn area) old new (λ s t same. sym (other_rest area next t is) ∙ same ∙ other_rest area next s is) run
+
+pub returns-in-Ok-clause-spared : goal.returns-in-Ok-clause-spared
+returns-in-Ok-clause-spared g c =
+    spares_so c.args.self.now.area c.other-next.result (g.D.Disk.seen c.args.self.now.disk) (g.D.Disk.seen c.write_turn.new.disk) c.other-next.ensures c.write_turn.ensures.spared
+
+pub returns-in-Err-clause-spared : goal.returns-in-Err-clause-spared
+returns-in-Err-clause-spared g c =
+    spares_so c.args.self.now.area c.other-next.result (g.D.Disk.seen c.args.self.now.disk) (g.D.Disk.seen c.write_turn.new.disk) c.other-next.ensures c.write_turn.ensures.spared
