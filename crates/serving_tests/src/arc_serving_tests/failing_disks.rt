@@ -5,10 +5,11 @@ ghost use Rattle.std.specs.Prelude.{◌≡◌, ◌<◌, ◌^◌, ◌+◌, length
 use super::{SETUP, serve_in_memory};
 use crate::doors::door_of;
 use crate::same::same;
+use arc_data::Memory;
 use arc_doors::{ListPulse, MemDoor};
 use arc_io::{Disk, Fill, MemDisk, MemPort};
-use arc_serving::{Crew, ServedStore, Station};
-use centre_core::Setup;
+use arc_serving::{Came, Crew, ServedStore, Station, Ticked, Worked, WorkerEnd};
+use centre_core::{Setup, Stop};
 use centre_store::Store;
 use disk_journal::{Limits, SHIPPED};
 use std::alloc::Global;
@@ -107,6 +108,21 @@ fn acknowledged_by(rt: &impl Abort, station: Station<Doors, Doors, ListPulse>) -
     total
 }
 
+// Each worker had its session, or its disk has failed once; and so the ticker.
+fn compare_came(rt: &impl Abort, came: Result<Came, Memory>) {
+    let came = came.expect(rt, "memory");
+    let down = Stop::Down { at_open: 0, now: 1 };
+    let Ticked { stop, refused } = came.ticked;
+    let is_one = refused == 0 && (stop == None || stop == Some(down));
+    same(rt, is_one, true, "the ticker");
+    for worked in came.lines.iter().chain(came.desks.iter()) {
+        let Worked { end, refused } = *worked;
+        let is_one = end == WorkerEnd::Quota || end == WorkerEnd::Stopped(down);
+        same(rt, is_one && refused == 0, true, "a worker");
+    }
+    drop(came);
+}
+
 // Serves the station over a store on which a run begins, where it does. How many alarms were acknowledged, and the disk.
 fn serve<R: Abort + Threads + Wait + Sync>(
     rt: &R,
@@ -128,7 +144,7 @@ fn serve<R: Abort + Threads + Wait + Sync>(
                 station,
                 came,
             } = serve_in_memory(rt, alloc, store, station, crew);
-            drop(came);
+            compare_came(rt, came);
             (acknowledged_by(rt, station), store.close())
         }
         Err(_) => (0, store.close()),
