@@ -167,7 +167,9 @@ fn compare_again(rt: &impl Abort, alloc: Global, disk: MemDisk, records: u64) {
     same(rt, end, Some(SessionEnd::InputEnded), "the end");
     let (counts, disk) = counts_of(rt, alloc, disk);
     drop(disk);
-    let again = AGAIN.get(found as usize).expect(rt, "at most three entries");
+    let again = AGAIN
+        .get(found as usize)
+        .expect(rt, "at most three entries");
     same(rt, counts, (*again, 1, 1), "the alarm stands once");
 }
 

@@ -90,7 +90,13 @@ fn run(rt: &impl Abort, alloc: Global, disk: MemDisk, records: u64, lines: usize
 
 // The disk of such a run that no call fails. It is played to its end.
 fn sound(rt: &impl Abort, alloc: Global, records: u64, lines: usize) -> MemDisk {
-    let ran = run(rt, alloc, MemDisk::new(alloc, Vec::new(alloc)), records, lines);
+    let ran = run(
+        rt,
+        alloc,
+        MemDisk::new(alloc, Vec::new(alloc)),
+        records,
+        lines,
+    );
     compare(rt, &ran, ScriptEnd::Done, front(OUTPUT, lines));
     let Played { ended, port } = ran;
     drop(port);
@@ -129,9 +135,12 @@ fn worked_again(found: u64) -> &'static str {
 fn said_again(rt: &impl Abort, alloc: Global, found: u64) -> Vec<u8> {
     let mut said = copied(rt, alloc, front(OUTPUT, 4));
     let worked = worked_again(found);
-    let total = AGAIN.get(found as usize).expect(rt, "at most seven entries");
+    let total = AGAIN
+        .get(found as usize)
+        .expect(rt, "at most seven entries");
     let behind = format!(in alloc; "{worked}X recorded {total}\n").expect(rt, "memory");
-    said.extend_from_slice(behind.as_bytes()).expect(rt, "memory");
+    said.extend_from_slice(behind.as_bytes())
+        .expect(rt, "memory");
     said
 }
 
@@ -230,7 +239,8 @@ fn compare_stops(rt: &impl Abort, alloc: Global, records: u64) {
 fn ends_of(rt: &impl Abort, alloc: Global, records: u64) -> Vec<u64> {
     let mut ends = Vec::new(alloc);
     for lines in 1..9usize {
-        ends.push(calls_of(rt, alloc, records, lines)).expect(rt, "memory");
+        ends.push(calls_of(rt, alloc, records, lines))
+            .expect(rt, "memory");
     }
     ends
 }

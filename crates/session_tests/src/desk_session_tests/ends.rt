@@ -77,8 +77,17 @@ fn try_slow(rt: &impl Abort, alloc: Global, fails_at: u64, end: &str, calls: u64
     panel.fails_at = fails_at;
     let ended = serve_desk(alloc, &mut hall, &mut panel);
     same(rt, word(ended), end, "the end");
-    let count = if fails_at == 0 { all.len() } else { fails_at.saturating_sub(1) as usize };
-    same(rt, Some(panel.written.as_slice()), all.get(..count), "written");
+    let count = if fails_at == 0 {
+        all.len()
+    } else {
+        fails_at.saturating_sub(1) as usize
+    };
+    same(
+        rt,
+        Some(panel.written.as_slice()),
+        all.get(..count),
+        "written",
+    );
     same(rt, hall.calls, calls, "asked");
     drop(panel);
     drop(hall);
