@@ -43,9 +43,6 @@ const DOWN: Stop = Stop::Down { at_open: 0, now: 1 };
 // How many bytes each of these has.
 const ACKNOWLEDGEMENT: usize = 28;
 
-// For how many records a journal has room: as it is shipped, and so few that checkpoints come.
-const ROOMS: [u64; 3] = [1_000_000, 1, 3];
-
 fn limits_of(records: u64) -> Limits
     ensures { result.bytes < 2 ^ 32 }
 {
@@ -209,10 +206,14 @@ fn sound<R: Abort + Threads + Wait + Sync>(rt: &R, alloc: Global, records: u64) 
 }
 
 #[test]
-fn a_station_over_a_disk_that_fails_at_each_of_its_calls(rt: HostRuntime) {
-    for records in ROOMS {
-        compare_faults(&rt, rt.alloc(), records);
-    }
+fn a_fault_within_a_served_station(rt: HostRuntime) {
+    compare_faults(&rt, rt.alloc(), SHIPPED.records);
+}
+
+#[test]
+fn a_fault_within_a_station_with_checkpoints(rt: HostRuntime) {
+    compare_faults(&rt, rt.alloc(), 1);
+    compare_faults(&rt, rt.alloc(), 3);
 }
 
 // Until no call fails.
@@ -244,10 +245,18 @@ fn has_failed<R: Abort + Threads + Wait + Sync>(
 }
 
 #[test]
-fn a_station_over_what_a_stop_leaves(rt: HostRuntime) {
-    for records in ROOMS {
-        compare_stops(&rt, rt.alloc(), records);
-    }
+fn a_stop_within_a_served_station(rt: HostRuntime) {
+    compare_stops(&rt, rt.alloc(), SHIPPED.records);
+}
+
+#[test]
+fn a_stop_within_a_station_where_each_record_makes_a_checkpoint(rt: HostRuntime) {
+    compare_stops(&rt, rt.alloc(), 1);
+}
+
+#[test]
+fn a_stop_within_a_station_where_every_third_record_makes_a_checkpoint(rt: HostRuntime) {
+    compare_stops(&rt, rt.alloc(), 3);
 }
 
 fn compare_stops<R: Abort + Threads + Wait + Sync>(rt: &R, alloc: Global, records: u64) {
@@ -265,14 +274,7 @@ fn compare_fills<R: Abort + Threads + Wait + Sync>(
     records: u64,
     call: u64,
 ) {
-    for fill in [
-        Fill::Old,
-        Fill::New,
-        Fill::Torn(0),
-        Fill::Torn(1),
-        Fill::Torn(0x0b),
-        Fill::Torn(0xff),
-    ] {
+    for fill in [Fill::Old, Fill::New, Fill::Torn(1), Fill::Torn(0xff)] {
         assert!(rt; call > 0 && call <= disk.calls());
         let left = disk.stopped(alloc, call, fill).expect(rt, "memory");
         compare_again(rt, alloc, left, records, 0);

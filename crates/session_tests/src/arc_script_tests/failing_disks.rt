@@ -46,14 +46,7 @@ const AGAIN: [u64; 8] = [7, 7, 8, 8, 9, 9, 8, 9];
 // For how many records a journal has room: as it is shipped, and so few that checkpoints come.
 const ROOMS: [u64; 4] = [1_000_000, 1, 2, 3];
 
-const FILLS: [Fill; 6] = [
-    Fill::Old,
-    Fill::New,
-    Fill::Torn(0),
-    Fill::Torn(1),
-    Fill::Torn(0x0b),
-    Fill::Torn(0xff),
-];
+const FILLS: [Fill; 4] = [Fill::Old, Fill::New, Fill::Torn(1), Fill::Torn(0xff)];
 
 // The first so many lines of a text.
 fn front(text: &[u8], lines: usize) -> &[u8] {
@@ -219,10 +212,18 @@ fn is_by_disk(end: ScriptEnd) -> bool {
 }
 
 #[test]
-fn a_script_over_what_a_stop_leaves(rt: HostRuntime) {
-    for records in ROOMS {
-        compare_stops(&rt, rt.alloc(), records);
-    }
+fn a_stop_within_a_script(rt: HostRuntime) {
+    compare_stops(&rt, rt.alloc(), SHIPPED.records);
+}
+
+#[test]
+fn a_stop_within_a_script_where_each_record_makes_a_checkpoint(rt: HostRuntime) {
+    compare_stops(&rt, rt.alloc(), 1);
+}
+
+#[test]
+fn a_stop_within_a_script_where_every_third_record_makes_a_checkpoint(rt: HostRuntime) {
+    compare_stops(&rt, rt.alloc(), 3);
 }
 
 fn compare_stops(rt: &impl Abort, alloc: Global, records: u64) {
