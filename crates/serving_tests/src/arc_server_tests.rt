@@ -1,4 +1,4 @@
-// What runs of the program rest on, by the public calls that they make: a line and a script over disks that fail, and doors that end or
+// What runs of the program rest on, by the public calls that they make: a line over disks that fail or stop, and doors that end or
 // fail. The program is no library: what it writes itself is shown by tools/check.
 mod ends;
 mod failing_disks;

@@ -2,6 +2,7 @@
 ghost use Rattle.std.specs.Prelude.{◌≤◌, length};
 ghost use Rattle.centre_core.specs.Setting.{IsSetting};
 
+mod failing_disks;
 mod links;
 mod memory;
 mod turns;
@@ -17,9 +18,9 @@ use std::process::Abort;
 use std::sync::Wait;
 use std::thread::Threads;
 
-const SETUP: &[u8] = b"account 5150\noperator ann 1234\n";
+const SETUP: &[u8] = b"account 1234\noperator ann 1234\noperator bob 5678\n";
 
-const BEAT: &[u8] = b"\nD3F60013\"NULL\"0000L0#5150[]\r";
+const BEAT: &[u8] = b"\n1EF20013\"NULL\"0000L0#1234[]\r";
 
 // A store in memory on which a run has begun.
 fn begun(rt: &impl Abort, alloc: Global) -> Store<MemDisk>

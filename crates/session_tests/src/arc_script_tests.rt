@@ -1,6 +1,8 @@
 // Whole scripts over a disk and a port in memory, byte for byte. Many more are played over the program, by tools/check/script.
 ghost use Rattle.std.specs.Prelude.{◌≡◌, ◌<◌, ◌^◌, false};
 
+mod failing_disks;
+
 use crate::same::same;
 use accounts::Setup;
 use arc_io::{Disk, ListClock, MemDisk, MemPort, Port};

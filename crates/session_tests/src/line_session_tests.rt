@@ -2,7 +2,7 @@
 ghost use Rattle.std.specs.Prelude.{◌≡◌, false};
 
 mod ends;
-mod panel;
+pub(crate) mod panel;
 mod pieces;
 mod replies;
 mod sealed;

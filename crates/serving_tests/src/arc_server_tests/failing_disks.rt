@@ -1,47 +1,45 @@
-// A line and a script over disks of which one call fails, whichever it is, and a line over what a stop within any call leaves.
-ghost use Rattle.std.specs.Prelude.{◌≡◌, ◌<◌, false, IfOk};
-ghost use Rattle.arc_io.specs.Memory.{port_seen};
+// A line with one alarm over disks of which one call fails or that stop within one, and over journals so short that checkpoints are made between:
+// nothing is acknowledged, and the next run acknowledges the alarm and has it once.
+ghost use Rattle.std.specs.Prelude.{◌≡◌, ◌<◌, ◌^◌, false};
 
 use super::SETUP;
-use crate::same::{holds, same};
-use arc_io::{Disk, Fill, ListClock, ListNoise, MemDisk, MemPort, MemSink, MemSource, Port};
-use arc_script::{ScriptEnd, ScriptEnded, run_script};
+use crate::same::same;
+use arc_io::{Disk, Fill, MemDisk, Port};
 use arc_serving::{SessionEnd, Side, serve};
-use centre_core::{Setup, Stop};
+use centre_core::{Centre, Setup, Stop};
 use centre_store::Store;
-use disk_journal::{Bodies, Journal, SHIPPED};
+use disk_journal::{Limits, SHIPPED};
 use std::alloc::Global;
 use std::process::Abort;
-use std::test::Fail;
+use test_fixtures::ports::port_of;
+use test_fixtures::stores::opened;
 
 const ALARM: &[u8] = b"\n2EE70027\"ADM-CID\"0001L0#1234[#1234|1131 01 001]\r";
 
 const ACKNOWLEDGEMENT: &[u8] = b"\n1BC10012\"ACK\"0001L0#1234[]\r";
 
-// A port with this input, whose clock stands still.
-fn port_at(alloc: Global, input: &[u8], clock: u64) -> Result<MemPort, Fail>
-    requires { clock < 253_402_300_800 }
-    ensures { IfOk result (λ port. (port_seen port).ended ≡ false) }
+// For how many records a journal has room: as it is shipped, and so few that checkpoints come.
+const ROOMS: [u64; 4] = [1_000_000, 1, 2, 3];
+
+// How many entries a second run leaves, by how many it found: an Adopt, a Start of each run that came so far, and one Message.
+const AGAIN: [u64; 4] = [3, 3, 4, 4];
+
+fn limits_of(records: u64) -> Limits
+    ensures { result.bytes < 2 ^ 32 }
 {
-    Ok(MemPort {
-        source: MemSource::new(input.to_vec(alloc)?, Vec::new(alloc)),
-        sink: MemSink::new(alloc, Vec::new(alloc)),
-        clock: ListClock::new([clock].to_vec(alloc)?),
-        noise: ListNoise::new(Vec::new(alloc)),
-    })
+    Limits { records, ..SHIPPED }
 }
 
 // Begins a run over the store and serves a line. How that ended, where the run began.
 fn serve_line<P: Port>(
+    rt: &impl Abort,
     alloc: Global,
     store: &mut Store<MemDisk>,
     port: &mut P,
 ) -> Option<SessionEnd>
     requires { (P.seen port.old).ended ≡ false }
 {
-    let Ok(setup) = Setup::read(alloc, SETUP) else {
-        return None;
-    };
+    let setup = Setup::read(alloc, SETUP).expect(rt, "a setup");
     let clock = port.now();
     match store.begin(alloc, setup, clock) {
         Ok(()) => Some(serve(Side::Lines, alloc, store, port)),
@@ -49,183 +47,152 @@ fn serve_line<P: Port>(
     }
 }
 
-// The same over a disk, which is given back.
-fn run_line<P: Port>(alloc: Global, disk: MemDisk, port: &mut P) -> (Option<SessionEnd>, MemDisk)
+// The same over a disk, which is given back, with room for so many records.
+fn run_line<P: Port>(
+    rt: &impl Abort,
+    alloc: Global,
+    disk: MemDisk,
+    records: u64,
+    port: &mut P,
+) -> (Option<SessionEnd>, MemDisk)
     requires { (P.seen port.old).ended ≡ false }
 {
-    match Store::open(alloc, disk, SHIPPED) {
+    match Store::open(alloc, disk, limits_of(records)) {
         Ok(store) => {
             let mut store = store;
-            let end = serve_line(alloc, &mut store, port);
+            let end = serve_line(rt, alloc, &mut store, port);
             (end, store.close())
         }
         Err(refused) => (None, refused.disk),
     }
 }
 
-// Six calls open a new area, and each of three records, of an Adopt, a Start and the alarm, takes four.
-#[test]
-fn an_alarm_over_a_disk_that_fails_at_each_of_its_calls(rt: HostRuntime) -> Result<(), Fail> {
-    for call in 1..40u64 {
-        compare_line(&rt, rt.alloc(), call)?;
-    }
-    Ok(())
-}
-
-// How a line ends over a disk that fails at this call: the 14 first ones come before it is served.
-fn end_at(call: u64) -> Option<SessionEnd> {
-    match call {
-        0..=14 => None,
-        15..=18 => Some(SessionEnd::Stopped(Stop::Down { at_open: 0, now: 1 })),
-        _ => Some(SessionEnd::InputEnded),
-    }
-}
-
-// Where the disk fails at this call, nothing is acknowledged, and the next run acknowledges the alarm and has it once.
-fn compare_line(rt: &impl Abort, alloc: Global, call: u64) -> Result<(), Fail> {
-    let mut port = port_at(alloc, ALARM, 1_000_000_000)?;
-    let failing = [call].to_vec(alloc)?;
-    let (end, disk) = run_line(alloc, MemDisk::new(alloc, failing), &mut port);
-    same(rt, (call, end), (call, end_at(call)), "the end");
-    let is_done = call > 18;
-    let faults = (call, u64::from(!is_done));
-    same(rt, (call, disk.faults()), faults, "the faults");
-    let answer = if is_done {
-        ACKNOWLEDGEMENT
-    } else {
-        b"".as_slice()
-    };
+// Such a run with this input: how it ended, and this is what it wrote.
+fn run(
+    rt: &impl Abort,
+    alloc: Global,
+    disk: MemDisk,
+    records: u64,
+    input: &[u8],
+    answer: &[u8],
+) -> (Option<SessionEnd>, MemDisk) {
+    let mut port = port_of(alloc, input).expect(rt, "memory");
+    let ran = run_line(rt, alloc, disk, records, &mut port);
     same(rt, port.sink.bytes(), answer, "the answer");
     drop(port);
-    if is_done {
-        drop(disk);
-        Ok(())
-    } else {
-        compare_again(rt, alloc, disk)
+    ran
+}
+
+// The disk of a run that no call fails, with the alarm or with no input.
+fn sound(rt: &impl Abort, alloc: Global, records: u64, input: &[u8], answer: &[u8]) -> MemDisk {
+    let disk = MemDisk::new(alloc, Vec::new(alloc));
+    let (end, disk) = run(rt, alloc, disk, records, input, answer);
+    same(rt, end, Some(SessionEnd::InputEnded), "the end");
+    disk
+}
+
+// How many calls of the disk a run has that is not served, and how many one with the alarm.
+fn calls_of(rt: &impl Abort, alloc: Global, records: u64) -> (u64, u64) {
+    let begun = sound(rt, alloc, records, b"", b"");
+    let done = sound(rt, alloc, records, ALARM, ACKNOWLEDGEMENT);
+    let calls = (begun.calls(), done.calls());
+    drop(begun);
+    drop(done);
+    calls
+}
+
+#[test]
+fn an_alarm_over_a_disk_that_fails_at_each_of_its_calls(rt: HostRuntime) {
+    for records in ROOMS {
+        compare_faults(&rt, rt.alloc(), records);
     }
+}
+
+fn compare_faults(rt: &impl Abort, alloc: Global, records: u64) {
+    let (begun, calls) = calls_of(rt, alloc, records);
+    // without checkpoints: six calls open a new area, and an Adopt, a Start and the alarm take four each
+    same(rt, records < 3 || (begun, calls) == (14, 18), true, "calls");
+    for call in 1..calls.saturating_add(1) {
+        compare_fault(rt, alloc, records, (call, begun));
+    }
+    compare_beyond(rt, alloc, records, calls.saturating_add(1));
+}
+
+fn failing_disk(rt: &impl Abort, alloc: Global, call: u64) -> MemDisk {
+    let failing = [call].to_vec(alloc).expect(rt, "memory");
+    MemDisk::new(alloc, failing)
+}
+
+// A call that is not made fails nothing.
+fn compare_beyond(rt: &impl Abort, alloc: Global, records: u64, call: u64) {
+    let disk = failing_disk(rt, alloc, call);
+    let (end, disk) = run(rt, alloc, disk, records, ALARM, ACKNOWLEDGEMENT);
+    let found = (end, disk.faults());
+    drop(disk);
+    same(rt, found, (Some(SessionEnd::InputEnded), 0), "no fault");
+}
+
+// The disk fails at this call, before the line is served or while it is: one fault, and no answer.
+fn compare_fault(rt: &impl Abort, alloc: Global, records: u64, calls: (u64, u64)) {
+    let (call, begun) = calls;
+    let disk = failing_disk(rt, alloc, call);
+    let (end, disk) = run(rt, alloc, disk, records, ALARM, b"");
+    let down = SessionEnd::Stopped(Stop::Down { at_open: 0, now: 1 });
+    let wanted = if call <= begun { None } else { Some(down) };
+    let found = (records, call, end, disk.faults());
+    same(rt, found, (records, call, wanted, 1), "the end");
+    compare_again(rt, alloc, disk, records);
+}
+
+// How many entries are recorded, how many incidents were opened, and how many signals the first one has.
+fn counts(centre: &Centre) -> (u64, u64, u64) {
+    let signals = match centre.table().get(1) {
+        Some(incident) => incident.signals,
+        None => 0,
+    };
+    (centre.recorded(), centre.table().opened(), signals)
+}
+
+// Those of what stands on a disk, which is given back.
+fn counts_of(rt: &impl Abort, alloc: Global, disk: MemDisk) -> ((u64, u64, u64), MemDisk) {
+    let store = opened(alloc, disk, SHIPPED).expect(rt, "opened");
+    let counts = counts(store.centre());
+    (counts, store.close())
 }
 
 // The next run over the disk, at the same clock, acknowledges the alarm and has it once.
-fn compare_again(rt: &impl Abort, alloc: Global, disk: MemDisk) -> Result<(), Fail> {
-    let mut port = port_at(alloc, ALARM, 1_000_000_000)?;
-    let (end, disk) = run_line(alloc, disk, &mut port);
+fn compare_again(rt: &impl Abort, alloc: Global, disk: MemDisk, records: u64) {
+    let ((found, _, _), disk) = counts_of(rt, alloc, disk);
+    let (end, disk) = run(rt, alloc, disk, records, ALARM, ACKNOWLEDGEMENT);
     same(rt, end, Some(SessionEnd::InputEnded), "the end");
-    same(rt, port.sink.bytes(), ACKNOWLEDGEMENT, "the answer");
-    drop(port);
-    same(rt, messages(alloc, disk)?, 1, "messages");
-    Ok(())
+    let (counts, disk) = counts_of(rt, alloc, disk);
+    drop(disk);
+    let again = AGAIN
+        .get(found as usize)
+        .expect(rt, "at most three entries");
+    same(rt, counts, (*again, 1, 1), "the alarm stands once");
 }
 
 // The run that no call fails is stopped within each of its calls, and what was not synced then is as each filling has it.
 #[test]
-fn an_alarm_over_what_a_stop_leaves(rt: HostRuntime) -> Result<(), Fail> {
-    let alloc = rt.alloc();
-    let disk = line_disk(&rt, alloc)?;
-    same(&rt, disk.calls(), 18, "calls");
-    for call in 1..19u64 {
-        compare_stops(&rt, alloc, &disk, call)?;
+fn an_alarm_over_what_a_stop_leaves(rt: HostRuntime) {
+    for records in ROOMS {
+        compare_stops(&rt, rt.alloc(), records);
     }
-    Ok(())
 }
 
-// The disk of such a run.
-fn line_disk(rt: &impl Abort, alloc: Global) -> Result<MemDisk, Fail> {
-    let mut port = port_at(alloc, ALARM, 1_000_000_000)?;
-    let disk = MemDisk::new(alloc, Vec::new(alloc));
-    let (end, disk) = run_line(alloc, disk, &mut port);
-    same(rt, end, Some(SessionEnd::InputEnded), "the end");
-    drop(port);
-    Ok(disk)
+fn compare_stops(rt: &impl Abort, alloc: Global, records: u64) {
+    let disk = sound(rt, alloc, records, ALARM, ACKNOWLEDGEMENT);
+    for call in 1..disk.calls().saturating_add(1) {
+        compare_fills(rt, alloc, records, &disk, call);
+    }
+    drop(disk);
 }
 
-fn compare_stops(rt: &impl Abort, alloc: Global, disk: &MemDisk, call: u64) -> Result<(), Fail> {
+fn compare_fills(rt: &impl Abort, alloc: Global, records: u64, disk: &MemDisk, call: u64) {
     for fill in [Fill::Old, Fill::New, Fill::Torn(1), Fill::Torn(0xff)] {
         assert!(rt; call > 0 && call <= disk.calls());
-        compare_again(rt, alloc, disk.stopped(alloc, call, fill)?)?;
+        let left = disk.stopped(alloc, call, fill).expect(rt, "memory");
+        compare_again(rt, alloc, left, records);
     }
-    Ok(())
-}
-
-// How many messages the disk's journal has.
-fn messages(alloc: Global, disk: MemDisk) -> Result<usize, Fail> {
-    match Journal::open(alloc, disk, SHIPPED) {
-        Ok((journal, bodies)) => {
-            drop(journal);
-            Ok(count(&bodies))
-        }
-        Err(refused) => {
-            drop(refused);
-            Err("no journal")?
-        }
-    }
-}
-
-// How many of the bodies begin with the byte of a message.
-fn count(bodies: &Bodies) -> usize {
-    let mut messages = 0usize;
-    for i in 0..bodies.count() {
-        if bodies.at(i).first() == Some(&3) {
-            messages = messages.saturating_add(1);
-        }
-    }
-    messages
-}
-
-// An alarm that is sent twice, worked by an operator and closed; and all is made anew over what the journal keeps.
-const WORKED: &[u8] = b"T 1000000000
-M 1 \"ADM-CID\"0001L0#1234[#1234|1131 01 001]
-M 1 \"ADM-CID\"0001L0#1234[#1234|1131 01 001]
-D 1 login ann 1234
-D 1 next
-D 1 act 1 note done
-D 1 close 1 real
-X
-";
-
-const WORKED_OUTPUT: &[u8] = b"T raised 0
-M 1 1BC10012\"ACK\"0001L0#1234[]
-M 1 1BC10012\"ACK\"0001L0#1234[]
-D 1 ok ann
-D 1 claimed 1 burglary 1234
-D 1 recorded 1 left 0
-D 1 closed 1
-X recorded 7
-";
-
-// Runs the script that a port gives over a disk, which is given back. Whether it was done.
-fn run_worked<D: Disk + Drop, P: Port>(
-    alloc: Global,
-    disk: D,
-    port: &mut P,
-) -> Result<(bool, D), Fail>
-    requires { (P.seen port.old).ended ≡ false }
-{
-    let Ok(setup) = Setup::read(alloc, SETUP) else {
-        return Err("no setup")?;
-    };
-    let ScriptEnded { end, disk, .. } = run_script(alloc, disk, setup, port, SHIPPED);
-    Ok((end == ScriptEnd::Done, disk))
-}
-
-#[test]
-fn a_script_over_a_disk_that_fails_at_each_of_its_calls(rt: HostRuntime) -> Result<(), Fail> {
-    for call in 1..50u64 {
-        compare_script(&rt, rt.alloc(), call)?;
-    }
-    Ok(())
-}
-
-// The disk fails at this call, and the script is ended by it behind some of its lines; or there are fewer calls, and it is done.
-fn compare_script(rt: &impl Abort, alloc: Global, call: u64) -> Result<(), Fail> {
-    let mut port = port_at(alloc, WORKED, 1_000_000_000)?;
-    let failing = [call].to_vec(alloc)?;
-    let (is_done, disk) = run_worked(alloc, MemDisk::new(alloc, failing), &mut port)?;
-    let faults = disk.faults();
-    drop(disk);
-    let written = port.sink.bytes();
-    holds(rt, WORKED_OUTPUT.starts_with(written), "whole lines");
-    let is_whole = written == WORKED_OUTPUT;
-    let wanted = (call, is_whole, u64::from(!is_whole));
-    same(rt, (call, is_done, faults), wanted, "done, faults");
-    Ok(())
 }

@@ -10,13 +10,24 @@ use arc_serving::{Came, Crew, Station, Ticked, Worked, WorkerEnd};
 use std::alloc::Global;
 use std::process::Abort;
 use test_fixtures::moments::BEGIN;
-use test_fixtures::ports::port_of;
+use test_fixtures::ports::{failing_port, port_of};
 
 // What two doors with a link each have written, and one without.
-const LINES: &[u8] = b"\n13940012\"ACK\"0000L0#5150[]\r|\n\n13940012\"ACK\"0000L0#5150[]\r|\n\n";
+const LINES: &[u8] = b"\nDE900012\"ACK\"0000L0#1234[]\r|\n\nDE900012\"ACK\"0000L0#1234[]\r|\n\n";
 
 // What one door with a desk has written.
 const DESKS: &[u8] = b"ok ann\nnone waiting\nbye\n|\n";
+
+const ALARM: &[u8] = b"\n2EE70027\"ADM-CID\"0001L0#1234[#1234|1131 01 001]\r";
+
+// What one door has written to a link that fails, and to one behind it with an alarm.
+const BEHIND: &[u8] = b"|\n1BC10012\"ACK\"0001L0#1234[]\r|\n";
+
+// A worker that served as many as were asked for.
+const SERVED: Worked = Worked {
+    end: WorkerEnd::Quota,
+    refused: 0,
+};
 
 // One more door, to one port with this input.
 fn add_door(rt: &impl Abort, alloc: Global, doors: &mut Vec<MemDoor<MemPort>>, input: &[u8])
@@ -102,7 +113,51 @@ fn lines_a_desk_and_a_ticker_are_served(rt: HostRuntime) {
     // Each frame was acknowledged, and each line of the desk answered. The third door was not used.
     compare_written(&rt, alloc, lines, LINES);
     compare_written(&rt, alloc, desks, DESKS);
-    compare_came(&rt, &came);
+    compare_came(&rt, &came, &[SERVED, SERVED], &[SERVED]);
+    drop(came);
+}
+
+// One door of lines with two links, of which the first one's first read fails.
+fn failing_first(
+    rt: &impl Abort,
+    alloc: Global,
+) -> Station<MemDoor<MemPort>, MemDoor<MemPort>, ListPulse>
+    ensures { length result.lines ≡ 1 }
+{
+    let first = failing_port(alloc, ALARM, &[1], &[]).expect(rt, "memory");
+    let second = port_of(alloc, ALARM).expect(rt, "memory");
+    let ports = Vec::from_array(alloc, [first, second]).expect(rt, "memory");
+    let door = door_of(rt, alloc, ports, Vec::new(alloc));
+    let lines = Vec::from_array(alloc, [door]).expect(rt, "memory");
+    Station {
+        lines,
+        desks: Vec::new(alloc),
+        pulse: ListPulse::new(Vec::new(alloc)),
+    }
+}
+
+// The worker goes on behind it, and the second link has its acknowledgement.
+#[test]
+fn a_link_whose_first_read_fails(rt: HostRuntime) {
+    let alloc = rt.alloc();
+    let crew = Crew {
+        lines: 1,
+        desks: 0,
+        sessions: 2,
+    };
+    let station = failing_first(&rt, alloc);
+    let (entries, station, came) = served(&rt, alloc, station, crew);
+    // An Adopt, a Start and one alarm.
+    same(&rt, entries, 3, "entries");
+    let Station {
+        lines,
+        desks,
+        pulse,
+    } = station;
+    drop(desks);
+    drop(pulse);
+    compare_written(&rt, alloc, lines, BEHIND);
+    compare_came(&rt, &came, &[SERVED], &[]);
     drop(came);
 }
 
@@ -111,14 +166,10 @@ fn compare_written(rt: &impl Abort, alloc: Global, doors: Vec<MemDoor<MemPort>>,
     same(rt, written.as_slice(), want, "written");
 }
 
-// Each worker served as many as were asked for, and the pulse ended.
-fn compare_came(rt: &impl Abort, came: &Came) {
-    let worked = Worked {
-        end: WorkerEnd::Quota,
-        refused: 0,
-    };
-    same(rt, came.lines.as_slice(), &[worked, worked], "lines");
-    same(rt, came.desks.as_slice(), &[worked], "desks");
+// What came of the workers of lines and of desks; and the pulse ended.
+fn compare_came(rt: &impl Abort, came: &Came, lines: &[Worked], desks: &[Worked]) {
+    same(rt, came.lines.as_slice(), lines, "lines");
+    same(rt, came.desks.as_slice(), desks, "desks");
     let Ticked { stop, refused } = came.ticked;
     same(rt, (stop, refused), (None, 0), "the ticker");
 }

@@ -1,5 +1,6 @@
 // How sessions end.
 use super::{SETUP, compare_written, word};
+use crate::line_session_tests::panel::Panel;
 use crate::same::same;
 use crate::told::Told;
 use arc_io::MemPort;
@@ -55,6 +56,40 @@ fn a_failed_write_ends_a_desk_that_is_fed(rt: HostRuntime) {
     compare_written(&rt, &port, b"ok ann\n", "fed");
     same(&rt, hall.calls, 1, "fed");
     drop(port);
+    drop(hall);
+}
+
+// What is typed comes in pieces of three bytes, and one byte of an answer is taken in each call, of which the thirtieth fails: what it would
+// have answered was carried out.
+#[test]
+fn answers_are_taken_one_byte_at_a_time(rt: HostRuntime) {
+    let alloc = rt.alloc();
+    try_slow(&rt, alloc, 0, "ended", 3);
+    try_slow(&rt, alloc, 30, "write", 3);
+}
+
+// How a session ends whose write of this number fails, behind the bytes of the writes before it, and how often the hall was asked.
+fn try_slow(rt: &impl Abort, alloc: Global, fails_at: u64, end: &str, calls: u64) {
+    let all = b"ok ann\nlist 7\nheld by ann\nclaimed 1 fire ?\n";
+    let mut hall = Told::new(rt, alloc, SETUP, None);
+    let input = INPUT.to_vec(alloc).expect(rt, "memory");
+    let mut panel = Panel::new(input, 3, Vec::new(alloc));
+    panel.fails_at = fails_at;
+    let ended = serve_desk(alloc, &mut hall, &mut panel);
+    same(rt, word(ended), end, "the end");
+    let count = if fails_at == 0 {
+        all.len()
+    } else {
+        fails_at.saturating_sub(1) as usize
+    };
+    same(
+        rt,
+        Some(panel.written.as_slice()),
+        all.get(..count),
+        "written",
+    );
+    same(rt, hall.calls, calls, "asked");
+    drop(panel);
     drop(hall);
 }
 

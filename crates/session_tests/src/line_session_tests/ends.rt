@@ -96,28 +96,35 @@ fn try_panel(rt: &impl Abort, alloc: Global, fails_at: u64, want: Came) {
     drop(panel);
 }
 
-// The reply to a repeat is cut off behind its first byte: the alarm stands once.
+// A setup with operators, an alarm of its account, and the acknowledgement.
+const STATION: &[u8] = b"account 1234\noperator ann 1234\noperator bob 5678\n";
+
+const BURGLARY: &[u8] = b"\n2EE70027\"ADM-CID\"0001L0#1234[#1234|1131 01 001]\r";
+
+const ACKNOWLEDGEMENT: &[u8] = b"\n1BC10012\"ACK\"0001L0#1234[]\r";
+
+// A panel that takes one byte of a reply in each call. The reply to a repeat is cut off behind its first byte: the alarm stands once.
 #[test]
 fn a_repeat_whose_reply_is_cut_off(rt: HostRuntime) {
     let alloc = rt.alloc();
-    let input = joined(&rt, alloc, &[ALARM, ALARM]);
-    let output = joined(&rt, alloc, &[ALARM_REPLY, b"\n"]);
+    let input = joined(&rt, alloc, &[BURGLARY, BURGLARY]);
+    let output = joined(&rt, alloc, &[ACKNOWLEDGEMENT, b"\n"]);
     let mut panel = Panel::new(input, 4_096, Vec::new(alloc));
     panel.fails_at = 30;
-    let came = session(&rt, alloc, SETUP, &mut panel);
+    let came = session(&rt, alloc, STATION, &mut panel);
     same(&rt, came, (LineEnd::WriteFault, 3), "the end");
     same(&rt, panel.written.as_slice(), output.as_slice(), "written");
     drop(panel);
 }
 
-// The first twenty bytes of an alarm.
-const PART: &[u8] = b"\nDEFF0027\"ADM-CID\"00";
+// The first twenty bytes of the alarm.
+const PART: &[u8] = b"\n2EE70027\"ADM-CID\"00";
 
 #[test]
 fn a_frame_that_breaks_off(rt: HostRuntime) {
     let alloc = rt.alloc();
     let mut port = failing_port(alloc, PART, &[2], &[]).expect(&rt, "memory");
-    let came = session(&rt, alloc, SETUP, &mut port);
+    let came = session(&rt, alloc, STATION, &mut port);
     same(&rt, came, (LineEnd::ReadFault, 2), "the end");
     same(&rt, port.sink.bytes(), b"", "nothing is written");
     drop(port);
