@@ -15,3 +15,4 @@ pub mod Writes
 pub mod Openings
 pub mod Begins
 pub mod StoreHalls
+pub mod Lives
