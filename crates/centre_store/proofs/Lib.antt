@@ -19,5 +19,6 @@ pub mod Recorded
 pub mod Reopened
 pub mod Opened
 pub mod Remains
+pub mod RunOfCalls
 pub mod Lived
 pub mod Ideal

@@ -23,14 +23,15 @@ use Rattle.centre_rules.specs.Marks.{text}
 use Rattle.centre_rules.specs.Summary.{nothing}
 use Rattle.centre_store.specs.Begins.{is_in_force, begun_after, StandsWithin}
 use Rattle.centre_store.specs.Given.{StandFor}
-use Rattle.centre_store.specs.Lives.{World, Open, Left, IsLeft, Submits, Enters, IsBehind, IsBehindNone, Reopens, Begins, IsBehindBegin, IsFirstRun, IsBehindFirst, Lives, IsAsked}
+use Rattle.centre_store.specs.Calls.{Submits}
+use Rattle.centre_store.specs.Lives.{World, Open, Left, IsBehind, IsBehindNone, Reopens, Begins, IsBehindBegin, IsFirstRun, IsBehindFirst, Lives, IsAsked}
 use Rattle.centre_store.specs.Stores.{Stored, HasFailed, StoreStands}
 use Rattle.centre_store.proofs.Begun.{adopted_entry, started_entry}
 use Rattle.centre_store.proofs.Holding.{kept_over}
 use Rattle.centre_store.proofs.PastSteps.{no_bodies}
-use Rattle.centre_store.proofs.Readable.{readable_more}
+use Rattle.centre_store.proofs.Readable.{last_moment, readable_more}
 use Rattle.centre_store.proofs.Summed.{nothing_is, summary_begins}
-use Rattle.centre_store.proofs.Remains.{IsFit, IsKeptIn, IsMore, fit_more, fit_oldest, more_delivered, more_added, kept_all, kept_either, stand_recorded, left_is, left_still, entered, cut, reopens}
+use Rattle.centre_store.proofs.Remains.{IsFit, IsKeptIn, IsMore, fit_more, fit_oldest, more_delivered, more_added, kept_all, kept_either, stand_recorded, left_is, left_still, enters, cut, reopens}
 
 -- of a list with one entry more in front, what ends it so begins so
 one_more : (h so first last begun : List Entry) (e : Entry) → so ≡ first ++ h → begun ≡ last ++ so → begun ≡ e ∷ h → (so ≡ h) ⊎ (so ≡ e ∷ h)
@@ -49,6 +50,9 @@ pub record IsGood {D : Type 0} (seen : D → DiskSeen) (x : Schedule) (ss : List
   pub steps : Each (IsStep x) ss
   pub fit : IsFit (history_after x ss)
   pub so : IsSo seen (history_after x ss) (ideal_after x ss) w
+
+none_before : nothing.recorded ≡ 0
+none_before = refl
 
 two_of : (x : Schedule) (ss : List Step) → Each (IsStep x) ss → 2 ≤ length (ideal_after x ss)
 two_of x ss steps =
@@ -77,7 +81,7 @@ module _ {D : Type 0} (seen : D → DiskSeen) (only_now : (d : D) (c : Areas) �
 
   first_stands : (s : Stored D) → IsFirstRun seen x s → StoreStands seen nothing s first_begun
   first_stands s (areas, opened, stands, r, has) =
-      has.begun nothing [] (reopens seen only_now [] areas opened fresh refl
+      has.begun nothing [] (reopens seen only_now nothing [] areas opened nothing_is tt (omega arith) refl
       (None, [], kept_over nothing [] None [] (summary_begins nothing nothing_is) refl (sym no_bodies), stands) r)
 
   first_fit : (s : Stored D) → IsFirstRun seen x s → IsFit first_begun
@@ -102,10 +106,10 @@ module _ {D : Type 0} (seen : D → DiskSeen) (only_now : (d : D) (c : Areas) �
   first_so (Left c) (s, run, left) =
       let h : List Entry = history_after x [] in
       let stands : StoreStands seen nothing s h = subst (λ (l : List Entry). StoreStands seen nothing s l) first_is (first_stands s run) in
-      let kept : StandFor nothing (recorded h) c = stand_recorded nothing h c (left_still seen only_now s h c run.4.up stands left) in
+      let kept : StandFor nothing (recorded h) c = stand_recorded nothing h c (left_still seen only_now nothing s h run.4.up stands c left) in
       (
         subst IsFit first_is (first_fit s run),
-        kept_all (beginning x) c (omega arith) (subst (λ (l : List Entry). StandFor nothing l c) (ideal [] tt tt) kept),
+        kept_all (beginning x) c (two_of x [] tt) (subst (λ (l : List Entry). StandFor nothing l c) (ideal [] tt tt) kept),
       )
 
   -- An event.
@@ -118,13 +122,13 @@ module _ {D : Type 0} (seen : D → DiskSeen) (only_now : (d : D) (c : Areas) �
   event_so : (h : List Entry) (w v : List Item) (old : Stored D) (e : Event) (clock : ℕ) (a : Bool) (world : World D) → recorded h ≡ entries w
       → recorded (next h e clock ∷ h) ≡ entries v → 2 ≤ length w → 2 ≤ length v → (a ≡ false → IsMore w v)
       → StoreStands seen nothing old h → (HasFailed seen old → ⊥) → IsBehind seen old e clock a world → IsSo seen (next h e clock ∷ h) v world
-  event_so h w v old e clock a (Open s) same after two more_two more stands up enters = (entered seen only_now old s h e clock stands enters, enters.up)
-  event_so h w v old e clock true (Left c) same after two more_two more stands up (s, enters, left) =
+  event_so h w v old e clock a (Open s) same after two more_two more stands up made = (enters seen only_now nothing old s h e clock stands made, made.up)
+  event_so h w v old e clock true (Left c) same after two more_two more stands up (s, made, left) =
       let k : List Entry = next h e clock ∷ h in
       kept_either k k v v c after after more_two more_two (inl refl)
-      (inl (left_still seen only_now s k c enters.up (entered seen only_now old s h e clock stands enters) left))
+      (inl (left_still seen only_now nothing s k made.up (enters seen only_now nothing old s h e clock stands made) c left))
   event_so h w v old e clock false (Left c) same after two more_two more stands up (s, call, left) =
-      kept_either h (next h e clock ∷ h) w v c same after two more_two (more refl) (cut seen only_now old s h e clock c up stands call left)
+      kept_either h (next h e clock ∷ h) w v c same after two more_two (more refl) (cut seen only_now nothing old s h e clock up stands call c left)
 
   event_good : (s : Step) (ss : List Step) (old : Stored D) (e : Event) (clock : ℕ) (a : Bool) (world : World D)
       → history_after x (s ∷ ss) ≡ next (history_after x ss) e clock ∷ history_after x ss → (a ≡ false → IsMore (ideal_after x ss) (ideal_after x (s ∷ ss)))
@@ -139,7 +143,7 @@ module _ {D : Type 0} (seen : D → DiskSeen) (only_now : (d : D) (c : Areas) �
       record {
         steps = steps;
         fit = subst IsFit (sym is)
-            (fit_more h e clock call.1.formed call.1.moment (omega (arith, stands.centre.entries, call.1.few)) good.fit);
+            (fit_more h e clock call.1.formed call.1.moment (omega (arith, stands.centre.entries, call.1.few, none_before)) good.fit);
         so = subst (λ (l : List Entry). IsSo seen l (ideal_after x (s ∷ ss)) world) (sym is)
             (event_so h (ideal_after x ss) (ideal_after x (s ∷ ss)) old e clock a world (ideal ss good.steps spaced.1) after (two_of x ss good.steps)
             (two_of x (s ∷ ss) steps) more stands good.so.1 behind);
@@ -152,7 +156,7 @@ module _ {D : Type 0} (seen : D → DiskSeen) (only_now : (d : D) (c : Areas) �
   none_so h w old (Open s) same two stands (all, up) = (all.stands nothing h stands, up)
   none_so h w old (Left c) same two stands (s, all, left) =
       kept_either h h w w c same same two two (inl refl)
-      (inl (left_is seen only_now old s c (StandFor nothing h) (all.any_moment nothing h stands) (all.met nothing h stands).area left))
+      (inl (left_is seen only_now nothing old s c (StandFor nothing h) (all.any_moment nothing h stands) (all.met nothing h stands).area left))
 
   -- A crash, an opening and a beginning.
 
@@ -183,7 +187,8 @@ module _ {D : Type 0} (seen : D → DiskSeen) (only_now : (d : D) (c : Areas) �
     rest_stands = subst (λ (l : List Entry). StandFor nothing l areas) (sym rest_ideal) so.stands
 
     pub rest_opens : (s : Stored D) → Reopens seen areas s → StoreStands seen nothing s rest
-    rest_opens s r = reopens seen only_now rest areas s rest_fit rest_whole rest_stands r
+    rest_opens s r =
+        reopens seen only_now nothing rest areas s nothing_is rest_fit.legal (last_moment nothing rest rest_fit.readable) rest_whole rest_stands r
 
     -- the setup in force is the schedule's
     in_force : is_in_force (text nothing (marks nothing rest)) x.text ≡ true
@@ -201,6 +206,7 @@ module _ {D : Type 0} (seen : D → DiskSeen) (only_now : (d : D) (c : Areas) �
     kept_count : (s : Stored D) → StoreStands seen nothing s rest → s.state.sum.recorded ≡ so.kept
     kept_count s w = omega (
       arith,
+      none_before,
       w.centre.recorded,
       ap length rest_whole,
       ap length rest_items,
@@ -235,7 +241,7 @@ module _ {D : Type 0} (seen : D → DiskSeen) (only_now : (d : D) (c : Areas) �
         length-drop (length (ideal_after x ss) - so.kept) (ideal_after x ss) in
         kept_either rest (next rest Start clock ∷ rest) w (i ∷ w) c (rest_whole ∙ rest_items) (ideal (Crash so.kept clock ∷ ss) steps (tt, spaced))
         (omega (arith, count, so.short, so.keeps.beginning)) (two_of x (Crash so.kept clock ∷ ss) steps) (inr (i, refl, refl))
-        (either_of clock c (left_is seen only_now opened s c (StandsWithin nothing rest x.text clock) (call.any_moment nothing rest stands r.up)
+        (either_of clock c (left_is seen only_now nothing opened s c (StandsWithin nothing rest x.text clock) (call.any_moment nothing rest stands r.up)
         (call.met nothing rest stands r.up) left))
 
     crash_good : (opened : Stored D) (clock : ℕ) (w : World D) → Reopens seen areas opened → IsBehindBegin seen opened x.text clock w
@@ -245,7 +251,7 @@ module _ {D : Type 0} (seen : D → DiskSeen) (only_now : (d : D) (c : Areas) �
         let stands : StoreStands seen nothing opened rest = rest_opens opened r in
         record {
           steps = (so.keeps, good.steps);
-          fit = fit_more rest Start clock tt call.1.moment (omega (arith, stands.centre.entries, call.1.few)) rest_fit;
+          fit = fit_more rest Start clock tt call.1.moment (omega (arith, stands.centre.entries, call.1.few, none_before)) rest_fit;
           so = crash_so opened clock w r behind (so.keeps, good.steps);
         }
 

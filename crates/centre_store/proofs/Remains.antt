@@ -7,30 +7,32 @@ use Rattle.std.proofs.lemmas.List.{length-map, length-drop}
 use Rattle.arc_data.specs.WellFormed.{IsWellFormed}
 use Rattle.arc_data.specs.declared.event.Event.{Event}
 use Rattle.arc_data.specs.declared.event.Message.{Message}
-use Rattle.arc_data.specs.declared.reply.Reply.{Reply}
 use Rattle.arc_io.specs.Areas.{Areas}
 use Rattle.arc_io.specs.Disks.{DiskSeen}
 use Rattle.arc_io.specs.Crashes.{LeavesOnly}
+use Rattle.arc_io.proofs.Moments.{started, weaker}
 use Rattle.centre_laws.specs.Schedules.{Item, IsKept, entries, next, oldest, stands, sent_item, item_of, message_entry, delivered, added}
 use Rattle.centre_laws.proofs.Lists.{oldest_recorded}
 use Rattle.centre_rules.proofs.Quiet.{legal_recorded}
 use Rattle.centre_rules.specs.Answers.{IsLegal, answer}
 use Rattle.centre_rules.specs.History.{Entry, IsMoment, is_recorded, last, moment_after, recorded}
 use Rattle.centre_rules.specs.Summary.{Summary, nothing}
-use Rattle.disk_journal.proofs.Steps.{file_at}
-use Rattle.disk_journal.specs.Standing.{AreasStand, GoesOn}
-use Rattle.centre_store.specs.Given.{IsFirst, StandFor}
-use Rattle.centre_store.specs.Lives.{IsLeft, Submits, Enters, Reopens}
+use Rattle.disk_journal.proofs.Steps.{file_at, if_map}
+use Rattle.disk_journal.specs.Standing.{GoesOn}
+use Rattle.disk_journal.specs.declared.journal.Journal.{Journal}
+use Rattle.event_codec.specs.Spelling.{spelling}
+use Rattle.centre_store.specs.Given.{IsFirst, IsGiven, StandFor, StandForEither, HasRecorded}
+use Rattle.centre_store.specs.Calls.{Submits, Enters, entry_after}
+use Rattle.centre_store.specs.Lives.{IsLeft, Reopens}
 use Rattle.centre_store.specs.Openings.{StandsForAll}
 use Rattle.centre_store.specs.Pasts.{AreKept}
 use Rattle.centre_store.specs.StoreHalls.{IsReadable}
 use Rattle.centre_store.specs.Stores.{Stored, HasFailed, StoreStands, Takes, IsToRecord}
 use Rattle.centre_store.proofs.Entered.{held}
 use Rattle.centre_store.proofs.Holding.{either_one, recorded_there}
-use Rattle.centre_store.proofs.Readable.{last_moment, readable_more}
+use Rattle.centre_store.proofs.Readable.{readable_more}
 use Rattle.centre_store.proofs.Recorded.{bodies_recorded, recorded_both, summary_recorded}
 use Rattle.centre_store.proofs.Reopened.{fewer}
-use Rattle.centre_store.proofs.Summed.{nothing_is}
 
 -- Histories.
 
@@ -163,47 +165,72 @@ kept_either h k w v areas same after two more_two more (inr new) =
 
 -- A store and a crash.
 
-module _ {D : Type 0} (seen : D → DiskSeen) (only_now : (d : D) (c : Areas) → (seen d).left_since (seen d).moment c → (seen d).may_leave c) where
+module _ {D : Type 0} (seen : D → DiskSeen) (only_now : (d : D) (c : Areas) → (seen d).left_since (seen d).moment c → (seen d).may_leave c) (b : Summary) where
   -- within a call, or of what is told behind it
   pub left_is : (old new : Stored D) (c : Areas) (P : Areas → Type 0) → LeavesOnly (seen old.journal.disk) (seen new.journal.disk) P
       → IfSome (seen new.journal.disk).told P → IsLeft seen old new c → P c
   left_is old new c P run met (inl left) = run.each c left
   left_is old new c P run met (inr told) = file_at P (seen new.journal.disk).told c told met
 
-  -- behind a call
-  pub left_still : (s : Stored D) (h : List Entry) (c : Areas) → (HasFailed seen s → ⊥) → StoreStands seen nothing s h → IsLeft seen s s c → StandFor nothing h c
-  left_still s h c up w (inl left) = (recorded_there seen s.journal nothing h (held seen nothing s h up w)).images c (only_now s.journal.disk c left)
-  left_still s h c up w (inr told) =
-      file_at (StandFor nothing h) (seen s.journal.disk).told c told (recorded_there seen s.journal nothing h (held seen nothing s h up w)).area
+  -- A store that stands for a history, and whose disk has not failed.
+  module _ (s : Stored D) (h : List Entry) (up : HasFailed seen s → ⊥) (w : StoreStands seen b s h) where
+    there : HasRecorded (seen s.journal.disk) b h
+    there = recorded_there seen s.journal b h (held seen b s h up w)
+
+    -- behind a call
+    pub still_moments : (P : Areas → Type 0) → ((c : Areas) → StandFor b h c → P c) → LeavesOnly (seen s.journal.disk) (seen s.journal.disk) P
+    still_moments P so = started (seen s.journal.disk) P (λ c left. so c (there.images c (only_now s.journal.disk c left)))
+
+    still_told : (P : Areas → Type 0) → ((c : Areas) → StandFor b h c → P c) → IfSome (seen s.journal.disk).told P
+    still_told P so = if_map (StandFor b h) P (seen s.journal.disk).told there.area so
+
+    pub left_still : (c : Areas) → IsLeft seen s s c → StandFor b h c
+    left_still c left = left_is s s c (StandFor b h) (still_moments (StandFor b h) (λ c is. is)) there.area left
 
   -- An event that is submitted.
 
-  pub entered : (old s : Stored D) (h : List Entry) (e : Event) (clock : ℕ) → StoreStands seen nothing old h → Enters seen old s e clock
-      → StoreStands seen nothing s (next h e clock ∷ h)
-  entered old s h e clock w enters =
-      let t : Takes seen nothing s h clock (record { caller = 0; event = e; at = enters.at; reply = enters.reply }) = enters.takes nothing h w in
-      let reply : enters.reply ≡ answer nothing h e (moment_after nothing h clock) = t.reply ∙ ap (answer nothing h e) t.at in
-      let same : record { caller = 0; event = e; at = enters.at; reply = enters.reply } ≡ next h e clock =
+  pub enters : (old s : Stored D) (h : List Entry) (e : Event) (clock : ℕ) → StoreStands seen b old h → Enters seen old s e clock
+      → StoreStands seen b s (entry_after b h e clock ∷ h)
+  enters old s h e clock w made =
+      let t : Takes seen b s h clock (record { caller = 0; event = e; at = made.at; reply = made.reply }) = made.takes b h w in
+      let reply : made.reply ≡ answer b h e (moment_after b h clock) = t.reply ∙ ap (answer b h e) t.at in
+      let same : record { caller = 0; event = e; at = made.at; reply = made.reply } ≡ entry_after b h e clock =
       λ i. record { caller = 0; event = e; at = t.at i; reply = reply i } in
-      subst (λ (x : Entry). StoreStands seen nothing s (x ∷ h)) same t.stands
+      subst (λ (x : Entry). StoreStands seen b s (x ∷ h)) same t.stands
 
-  module _ (old s : Stored D) (h : List Entry) (e : Event) (clock : ℕ) (c : Areas) (up : HasFailed seen old → ⊥) (w : StoreStands seen nothing old h)
-      (call : Submits seen old s e clock) (left : IsLeft seen old s c) where
-    cut_if : (t : Bool) → is_recorded (next h e clock).reply ≡ t → StandFor nothing h c ⊎ StandFor nothing (next h e clock ∷ h) c
-    cut_if true is = either_one nothing h (next h e clock) c is (left_is old s c _ (call.any_moment nothing h w) (call.met nothing h w).area left)
-    cut_if false is =
-        let still : s.journal.disk ≡ old.journal.disk =
-        ap (λ j. j.disk) (call.unrecorded nothing h w (λ (to : IsToRecord nothing h e clock). false≢true (sym is ∙ to))) in
-        inl (left_still old h c up w
-        (subst (λ (d : D). (seen d).left_since (seen old.journal.disk).moment c ⊎ ((seen d).told ≡ Some c)) still left))
-
+  module _ (old s : Stored D) (h : List Entry) (e : Event) (clock : ℕ) (up : HasFailed seen old → ⊥) (w : StoreStands seen b old h)
+      (call : Submits seen old s e clock) where
     -- a crash in the call leaves the entry or not
-    pub cut : StandFor nothing h c ⊎ StandFor nothing (next h e clock ∷ h) c
-    cut = cut_if (is_recorded (next h e clock).reply) refl
+    abbrev pub HasOrNot : Areas → Type 0
+    HasOrNot c = StandFor b h c ⊎ StandFor b (entry_after b h e clock ∷ h) c
+
+    -- an event that is not to be recorded writes nothing
+    still : is_recorded (entry_after b h e clock).reply ≡ false → s.journal.disk ≡ old.journal.disk
+    still is = ap (λ (j : Journal D). j.disk) (call.unrecorded b h w (λ (to : IsToRecord b h e clock). false≢true (sym is ∙ to)))
+
+    moments_if : (t : Bool) → is_recorded (entry_after b h e clock).reply ≡ t → LeavesOnly (seen old.journal.disk) (seen s.journal.disk) HasOrNot
+    moments_if true is =
+        weaker (seen old.journal.disk) (seen s.journal.disk) HasOrNot (StandForEither b h (spelling e (moment_after b h clock))) (call.any_moment b h w)
+        (λ c either. either_one b h (entry_after b h e clock) c is either)
+    moments_if false is =
+        subst (λ (d : D). LeavesOnly (seen old.journal.disk) (seen d) HasOrNot) (sym (still is)) (still_moments old h up w HasOrNot (λ c stands. inl stands))
+
+    told_if : (t : Bool) → is_recorded (entry_after b h e clock).reply ≡ t → IfSome (seen s.journal.disk).told HasOrNot
+    told_if true is =
+        if_map (StandForEither b h (spelling e (moment_after b h clock))) HasOrNot (seen s.journal.disk).told (call.met b h w).area
+        (λ c either. either_one b h (entry_after b h e clock) c is either)
+    told_if false is =
+        subst (λ (d : D). IfSome (seen d).told HasOrNot) (sym (still is)) (still_told old h up w HasOrNot (λ c stands. inl stands))
+
+    pub cut_moments : LeavesOnly (seen old.journal.disk) (seen s.journal.disk) HasOrNot
+    cut_moments = moments_if (is_recorded (entry_after b h e clock).reply) refl
+
+    pub cut : (c : Areas) → IsLeft seen old s c → HasOrNot c
+    cut c left = left_is old s c HasOrNot cut_moments (told_if (is_recorded (entry_after b h e clock).reply) refl) left
 
   -- What is opened over areas.
-  pub reopens : (h : List Entry) (areas : Areas) (s : Stored D) → IsFit h → recorded h ≡ h → StandFor nothing h areas → Reopens seen areas s
-      → StoreStands seen nothing s h
-  reopens h areas s fit whole stands r =
-      file_at (StandsForAll seen s) (seen r.disk).told r.again r.tells r.opened.every nothing h nothing_is fit.legal
-      (last_moment nothing h fit.readable) whole (stand_on nothing h areas r.again r.goes_on stands)
+  pub reopens : (h : List Entry) (areas : Areas) (s : Stored D) → IsGiven b → IsLegal b h → IsMoment (last b h) → recorded h ≡ h → StandFor b h areas
+      → Reopens seen areas s → StoreStands seen b s h
+  reopens h areas s given legal moment whole stands r =
+      file_at (StandsForAll seen s) (seen r.disk).told r.again r.tells r.opened.every b h given legal moment whole
+      (stand_on b h areas r.again r.goes_on stands)

@@ -1,25 +1,23 @@
 -- What a store lives through: the steps of a schedule are done to it by its calls, and a crash comes at any moment of one, or behind it. Of
 -- each call all that is known is what its clauses say. Which entries a crash keeps the disk decides.
-use Rattle.std.specs.Prelude.{◌≡◌, ◌≤◌, ◌<◌, ◌⊎◌, ◌^◌, ℕ, List, [], ◌∷◌, Bool, true, false, Some, None}
-use Rattle.arc_data.specs.WellFormed.{IsWellFormed}
+use Rattle.std.specs.Prelude.{◌≡◌, ◌<◌, ◌⊎◌, ◌^◌, ℕ, List, [], ◌∷◌, Bool, true, false, Some, None}
 use Rattle.arc_data.specs.declared.event.Event.{Event}
 use Rattle.arc_data.specs.declared.event.Event.TheVariants.{Message as Sent}
-use Rattle.arc_data.specs.declared.reply.Reply.{Reply}
 use Rattle.arc_io.specs.Areas.{Areas}
 use Rattle.arc_io.specs.Disks.{DiskSeen}
 use Rattle.arc_io.specs.Crashes.{LeavesOnly}
 use Rattle.centre_rules.specs.Summary.{Summary, nothing}
-use Rattle.centre_rules.specs.History.{Entry, IsMoment, moment_after}
+use Rattle.centre_rules.specs.History.{Entry, IsMoment}
 use Rattle.centre_laws.specs.Repeats.{TellsTheSame}
 use Rattle.centre_laws.specs.Schedules.{Step, Deliver, Other, Lose, Crash, Schedule, IsSchedule, IsStep, IsKept}
 use Rattle.centre_laws.specs.Schedules.{entries, ideal_list, history, oldest}
 use Rattle.centre_laws.specs.Sendings.{LosesNothing}
 use Rattle.disk_journal.specs.Standing.{AreasStand, GoesOn}
-use Rattle.event_codec.specs.Spelling.{spelling}
 use Rattle.centre_store.specs.Begins.{begun_after, LeavesWithin, TellsWithin}
-use Rattle.centre_store.specs.Given.{StandFor, StandForEither, HasRecorded, HasEither}
+use Rattle.centre_store.specs.Calls.{Submits, Enters}
+use Rattle.centre_store.specs.Given.{StandFor, HasRecorded}
 use Rattle.centre_store.specs.Openings.{IsOpened, CanOpen}
-use Rattle.centre_store.specs.Stores.{Stored, HasFailed, StoreStands, StandsOn, Takes, IsToRecord, IsSameJournal}
+use Rattle.centre_store.specs.Stores.{Stored, HasFailed, StoreStands, StandsOn}
 
 -- Between two calls there is an open store, whose disk has not failed. Behind a crash, or where the store was closed, there are the areas.
 pub data World (D : Type 0) : Type 0 where
@@ -30,30 +28,9 @@ pub data World (D : Type 0) : Type 0 where
 abbrev pub IsLeft : {D : Type 0} → (D → DiskSeen) → Stored D → Stored D → Areas → Type 0
 IsLeft seen old new c = (seen new.journal.disk).left_since (seen old.journal.disk).moment c ⊎ ((seen new.journal.disk).told ≡ Some c)
 
--- What is so of a call of `submit` with the event, whatever it answers, where it may be made and the disk has not failed before.
-pub record Submits {D : Type 0} (seen : D → DiskSeen) (old new : Stored D) (event : Event) (clock : ℕ) : Type 0 where
-  pub formed : IsWellFormed event
-  pub moment : IsMoment clock
-  pub few : old.state.entries < 2 ^ 48
-  pub any_moment : (b : Summary) (h : List Entry) → StoreStands seen b old h
-      → LeavesOnly (seen old.journal.disk) (seen new.journal.disk) (StandForEither b h (spelling event (moment_after b h clock)))
-  pub met : (b : Summary) (h : List Entry) → StoreStands seen b old h
-      → HasEither (seen new.journal.disk) b h (spelling event (moment_after b h clock))
-  pub unrecorded : (b : Summary) (h : List Entry) → StoreStands seen b old h → (IsToRecord b h event clock → ⊥)
-      → IsSameJournal old.journal new.journal
-
--- it answers Ok
-pub record Enters {D : Type 0} (seen : D → DiskSeen) (old new : Stored D) (event : Event) (clock : ℕ) : Type 0 where
-  pub submits : Submits seen old new event clock
-  pub at : ℕ
-  pub reply : Reply
-  pub takes : (b : Summary) (h : List Entry) → StoreStands seen b old h
-      → Takes seen b new h clock (record { caller = 0; event = event; at = at; reply = reply })
-  pub up : HasFailed seen new → ⊥
-
 -- what there is behind a call with an event; where it is acknowledged, the call has answered Ok before the crash
 abbrev pub IsBehind : {D : Type 0} → (D → DiskSeen) → Stored D → Event → ℕ → Bool → World D → Type 0
-IsBehind seen old event clock acknowledged (Open s) = Enters seen old s event clock
+IsBehind {D} seen old event clock acknowledged (Open s) = Enters seen old s event clock
 IsBehind {D} seen old event clock true (Left c) = (s : Stored D) × Enters seen old s event clock × IsLeft seen s s c
 IsBehind {D} seen old event clock false (Left c) = (s : Stored D) × Submits seen old s event clock × IsLeft seen old s c
 
@@ -65,7 +42,7 @@ pub record KeepsAll {D : Type 0} (seen : D → DiskSeen) (old new : Stored D) : 
   pub met : (b : Summary) (h : List Entry) → StoreStands seen b old h → HasRecorded (seen new.journal.disk) b h
 
 abbrev pub IsBehindNone : {D : Type 0} → (D → DiskSeen) → Stored D → World D → Type 0
-IsBehindNone seen old (Open s) = KeepsAll seen old s × (HasFailed seen s → ⊥)
+IsBehindNone {D} seen old (Open s) = KeepsAll seen old s × (HasFailed seen s → ⊥)
 IsBehindNone {D} seen old (Left c) = (s : Stored D) × KeepsAll seen old s × IsLeft seen old s c
 
 -- The areas are opened with Ok. Openings before it were broken off by crashes: what these left stands for whatever stood before.
@@ -91,7 +68,7 @@ pub record HasBegun {D : Type 0} (seen : D → DiskSeen) (old new : Stored D) (t
   pub up : HasFailed seen new → ⊥
 
 abbrev pub IsBehindBegin : {D : Type 0} → (D → DiskSeen) → Stored D → List ℕ → ℕ → World D → Type 0
-IsBehindBegin seen old text clock (Open s) = HasBegun seen old s text clock
+IsBehindBegin {D} seen old text clock (Open s) = HasBegun seen old s text clock
 IsBehindBegin {D} seen old text clock (Left c) = (s : Stored D) × Begins seen old s text clock × IsLeft seen old s c
 
 -- The first run has begun over areas that stand for nothing.
@@ -100,13 +77,13 @@ IsFirstRun {D} seen x s =
     (areas : Areas) × (opened : Stored D) × AreasStand areas None [] × Reopens seen areas opened × HasBegun seen opened s x.text x.first
 
 abbrev pub IsBehindFirst : {D : Type 0} → (D → DiskSeen) → Schedule → World D → Type 0
-IsBehindFirst seen x (Open s) = IsFirstRun seen x s
+IsBehindFirst {D} seen x (Open s) = IsFirstRun seen x s
 IsBehindFirst {D} seen x (Left c) = (s : Stored D) × IsFirstRun seen x s × IsLeft seen s s c
 
 -- What there is behind these steps, the newest of which stands first. A crash keeps as many entries as the opening behind it finds, and then
 -- a run begins. Where a crash comes before the call of a step is done, what it left is the world behind that step.
 abbrev pub Lives : {D : Type 0} → (D → DiskSeen) → Schedule → List Step → World D → Type 0
-Lives seen x [] w = IsBehindFirst seen x w
+Lives {D} seen x [] w = IsBehindFirst seen x w
 Lives {D} seen x (Deliver n m clock acknowledged ∷ earlier) w =
     (old : Stored D) × Lives seen x earlier (Open old) × IsBehind seen old (Sent m) clock acknowledged w
 Lives {D} seen x (Other event clock acknowledged ∷ earlier) w =

@@ -9,6 +9,7 @@ ghost use Rattle.centre_laws.specs.Schedules.{Schedule, Each};
 ghost use Rattle.centre_laws.specs.Spacing.{IsWellSpaced};
 ghost use Rattle.event_codec.specs.Spelling.{spelling};
 ghost use Rattle.centre_store.specs.Given.{IsGiven, StandFor, StandForEither};
+ghost use Rattle.centre_store.specs.Calls.{RunsLeaveAll};
 ghost use Rattle.centre_store.specs.Lives.{World, IsAsked, Lives, LivesIdeally};
 ghost use Rattle.centre_store.specs.Openings.{CanOpen, HasOneOpening};
 ghost use Rattle.centre_store.specs.Pasts.{AreKept};
@@ -35,6 +36,12 @@ pub fn law_torn_opens()
     ensures { (base : Summary) (h : List Entry) (e : Entry) (areas : Areas) → IsGiven base → IsLegal base h → AreKept (recorded h)
         → base.recorded + length (recorded h) < 2 ^ 48 → IsNextKept base h e → StandForEither base h (spelling e.event e.at) areas
         → CanOpen areas }
+{}
+
+/// A crash at any moment of a run of calls, each of which submits an event, leaves what was recorded before the run, and of its events that are
+/// recorded some first ones, each with the answer of one thread. A run may begin behind any call: so what was answered by then, is left.
+pub fn law_runs_leave<D: Disk>()
+    ensures { RunsLeaveAll D.seen }
 {}
 
 /// A store that lives through a well-spaced schedule, with crashes at any moment, stands for the ideal list: what a crash leaves can be opened,
