@@ -109,7 +109,7 @@ max_same : (n : ℕ) → max n n ≡ n
 max_same n = omega arith
 
 -- the induction, which begins with the Adopt and the Start
-ideal_to : QuietChangesNothing → (x : Schedule) (ss : List Step) → is_ok (setup_of x.text) ≡ true → Each (IsStep x) ss
+pub ideal_to : QuietChangesNothing → (x : Schedule) (ss : List Step) → is_ok (setup_of x.text) ≡ true → Each (IsStep x) ss
     → Each (IsSpacedStep x) ss → IsIdealTo x ss
 ideal_to quiet x [] setup ok spaced = record { same = rw (setup, max_none x.first, max_same x.first) refl; replies = tt }
 ideal_to quiet x (s ∷ ss) setup ok spaced = ideal_step quiet x s ss ok spaced.0 (ideal_to quiet x ss setup ok.1 spaced.1)

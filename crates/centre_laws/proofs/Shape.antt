@@ -53,7 +53,7 @@ over_acknowledged x n w over = record {
 }
 
 -- a crash leaves the beginning
-over_oldest : (x : Schedule) (kept : ℕ) (w : List Item) → 2 ≤ kept → IsOver x w → IsOver x (oldest kept w)
+pub over_oldest : (x : Schedule) (kept : ℕ) (w : List Item) → 2 ≤ kept → IsOver x w → IsOver x (oldest kept w)
 over_oldest x kept w two over = let dropped = length (over.later ++ beginning x) - kept in record {
   later = drop dropped over.later;
   is = ap (oldest kept) over.is ∙ oldest_over kept over.later (beginning x) two;
