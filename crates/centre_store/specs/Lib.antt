@@ -15,5 +15,3 @@ pub mod Writes
 pub mod Openings
 pub mod Begins
 pub mod StoreHalls
-pub mod Calls
-pub mod Lives
