@@ -3,7 +3,7 @@ use Rattle.std.proofs.Common.{◌≡◌, ℕ, List, [], ◌∷◌, ◌++◌, Boo
 use Rattle.std.proofs.Common.{inl, inr, refl, sym, ap, ◌∙◌, append_assoc, append-nil}
 use Rattle.std.specs.Prelude.{if◌then◌else◌, IsOk}
 use Rattle.std.specs.List.{find, list_any, IsDistinct}
-use Rattle.std.specs.Option.{option_map}
+use Rattle.std.specs.Option.{option_map, option_or}
 use Rattle.std.specs.Result.{result_unwrap_or}
 use Rattle.std.specs.Str.{bytes_eq}
 use Rattle.std.proofs.lemmas.Bool.{cases_Bool, cond-true, cond-false}
@@ -14,7 +14,7 @@ use Rattle.arc_data.specs.declared.setup_fault.SetupFault.{SetupFault}
 use Rattle.arc_data.specs.declared.setup_fault.SetupFault.TheVariants.{TooLarge}
 use Rattle.alarm_rules.specs.SetupLines.{AccountLine, Nothing, OfAccount, OfHours, OfKeyholder, OfPlan, OfOperator, OfLapse}
 use Rattle.alarm_rules.specs.Setups.{Account, Setup, Line, said_lines, account_part, accounts_in, account_declared, account_with, things}
-use Rattle.alarm_rules.specs.Setups.{fault_at, first_fault, setup_of, setup_of_lines, meaning, two_same, too_many, unless}
+use Rattle.alarm_rules.specs.Setups.{fault_at, first_fault, setup_of, setup_of_lines, meaning, bad_zone, two_same, too_many, unless}
 use Rattle.accounts.proofs.LimitLemmas.{or-none}
 use Rattle.accounts.proofs.StandLemmas.{map-map, told-more}
 
@@ -58,7 +58,9 @@ distinct-more earlier (n, None) none distinct = rw (append-nil (numbers_in earli
 distinct-more earlier (n, Some Nothing) none distinct = rw (append-nil (numbers_in earlier)) distinct
 distinct-more earlier (n, Some (OfAccount line)) none distinct =
     let declared = account_declared line.number earlier in
-    let same : two_same n declared ≡ None = (or-none (two_same n declared) (too_many n 2000 (length (accounts_in earlier))) none).0 in
+    let many = too_many n 2000 (length (accounts_in earlier)) in
+    let named = (or-none (bad_zone n line.zone) (option_or (two_same n declared) many) none).1 in
+    let same : two_same n declared ≡ None = (or-none (two_same n declared) many named).0 in
     let fresh = not-declared line.number earlier (map-none _ declared same) in
     IsDistinct-push nat_list_eq_equiv (numbers_in earlier) line.number distinct fresh
 distinct-more earlier (n, Some (OfHours line)) none distinct = rw (append-nil (numbers_in earlier)) distinct
