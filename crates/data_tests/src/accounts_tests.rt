@@ -366,7 +366,7 @@ fn parts_of_a_station(rt: HostRuntime) {
     );
 }
 
-// Sundays from eight to six in Berlin close at 16:00 GMT in September, and at 17:00 in January; and of an offset, the same hours.
+// Sundays from eight to six in Berlin close at 16:00 GMT in September, and at 17:00 in January. At an offset of an hour they close at 17:00 GMT in September, too.
 const HOURS: &[u8] = b"\
 account 1234 zone CET-1CEST,M3.5.0,M10.5.0/3
 account abcd offset 60
@@ -378,12 +378,27 @@ fn hours_by_zones(rt: HostRuntime) {
     let setup = copied(&rt, rt.alloc(), HOURS);
     assert!(&rt; setup.count() == 2);
     let berlin = &setup.account(0).week;
-    same_found(&rt, berlin.next_close(1_000_000_000), Some(1_000_051_200), "summer");
-    same_found(&rt, berlin.next_close(1_010_000_000), Some(1_010_336_400), "winter");
+    same_found(
+        &rt,
+        berlin.next_close(1_000_000_000),
+        Some(1_000_051_200),
+        "summer",
+    );
+    same_found(
+        &rt,
+        berlin.next_close(1_010_000_000),
+        Some(1_010_336_400),
+        "winter",
+    );
     holds(&rt, !berlin.in_hours(1_000_015_199), "before eight");
     holds(&rt, berlin.in_hours(1_000_015_200), "from eight on");
     let fixed = &setup.account(1).week;
-    same_found(&rt, fixed.next_close(1_000_000_000), Some(1_000_054_800), "an offset");
+    same_found(
+        &rt,
+        fixed.next_close(1_000_000_000),
+        Some(1_000_054_800),
+        "an offset",
+    );
 }
 
 #[test]

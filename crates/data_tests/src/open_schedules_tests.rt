@@ -117,7 +117,12 @@ fn a_week_tells_its_parts(rt: HostRuntime) {
     let week = week_of(&rt, "345 6/480-1080 0/0-1440").copy();
     holds(&rt, week.has_windows(), "its windows");
     // 1970 began at a quarter to six.
-    same(&rt, u64::from(local(0, week.zone()).minute), 345, "its zone");
+    same(
+        &rt,
+        u64::from(local(0, week.zone()).minute),
+        345,
+        "its zone",
+    );
     let sunday = Window {
         weekday: 6,
         from: 480,
