@@ -1,5 +1,5 @@
 -- What is read of an area, piece by piece.
-use Rattle.std.specs.Prelude.{◌≡◌, ◌≢◌, ◌≤◌, ◌<◌, ◌+◌, ◌++◌, ◌∷◌, ℕ, List, Bool, true, false}
+use Rattle.std.specs.Prelude.{◌≡◌, ◌≢◌, ◌≤◌, ◌+◌, ◌++◌, ◌∷◌, ℕ, List, Bool, true, false}
 use Rattle.std.specs.Prelude.{[], length, take, drop, Option, Some, None, IfSome, Vec, if◌then◌else◌, nat_lt}
 use Rattle.std.specs.Int.{from_be_bytes, w64}
 use Rattle.std.specs.declared.alloc.Global.{Global}

@@ -102,8 +102,18 @@ fn compare_front(rt: &impl Abort, alloc: Global, front: (&[u8], u64), length: u6
 fn a_piece_that_ends_early_is_filled_up(rt: HostRuntime) {
     let alloc = rt.alloc();
     // 2,000,000 bytes, of which less than a piece is left behind the first, and 3,000,000, of which more is.
-    compare_pieces(&rt, alloc, b"ARC JOURNAL 0001\x01\x00\x1e\x84\x80x", 2_000_022);
-    compare_pieces(&rt, alloc, b"ARC JOURNAL 0001\x01\x00\x2d\xc6\xc0x", 3_000_022);
+    compare_pieces(
+        &rt,
+        alloc,
+        b"ARC JOURNAL 0001\x01\x00\x1e\x84\x80x",
+        2_000_022,
+    );
+    compare_pieces(
+        &rt,
+        alloc,
+        b"ARC JOURNAL 0001\x01\x00\x2d\xc6\xc0x",
+        3_000_022,
+    );
 }
 
 fn compare_pieces(rt: &impl Abort, alloc: Global, front: &[u8], length: u64) {

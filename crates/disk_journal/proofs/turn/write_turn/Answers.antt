@@ -1,6 +1,6 @@
 use Rattle.std.proofs.Common.{◌<◌, ◌^◌, ◌∙◌, [], ◌∷◌, ℕ, List, Option, Some, length}
 use Rattle.std.specs.Prelude.{IfSome}
-use Rattle.arc_io.specs.Areas.{Areas, part}
+use Rattle.arc_io.specs.Areas.{part}
 use Rattle.arc_io.specs.Disks.{DiskSeen}
 use Rattle.arc_io.specs.Crashes.{TornIn, IsWritten, OnlyIn, LeavesOnly}
 use Rattle.arc_io.specs.declared.disk.Area.{Area}

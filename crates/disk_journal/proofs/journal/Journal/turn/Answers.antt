@@ -1,5 +1,4 @@
 use Rattle.std.proofs.Common.{◌≡◌, ◌∙◌, [], ◌∷◌, ℕ, List, Option, subst, sym, arith}
-use Rattle.arc_io.specs.Areas.{Areas, part, rest}
 use Rattle.arc_io.specs.Disks.{DiskSeen}
 use Rattle.arc_io.specs.declared.disk.Area.{Area}
 use Rattle.disk_journal.specs.Journal.{Keeps}
