@@ -22,20 +22,16 @@ use test_fixtures::stores::opened;
 
 type Doors = MemDoor<MemPort>;
 
-// Three alarms of one line, and three of another, each with its own number; and their acknowledgements.
+// Two alarms of one line, and two of another, each with its own number; and their acknowledgements.
 const ONE: &[u8] = b"\n2EE70027\"ADM-CID\"0001L0#1234[#1234|1131 01 001]\r\
-    \nE9E60027\"ADM-CID\"0002L0#1234[#1234|1131 01 001]\r\
-    \n6B180027\"ADM-CID\"0003L0#1234[#1234|1131 01 001]\r";
+    \nE9E60027\"ADM-CID\"0002L0#1234[#1234|1131 01 001]\r";
 
-const OTHER: &[u8] = b"\n27E70027\"ADM-CID\"0004L0#1234[#1234|1131 01 001]\r\
-    \nA5190027\"ADM-CID\"0005L0#1234[#1234|1131 01 001]\r\
-    \n62180027\"ADM-CID\"0006L0#1234[#1234|1131 01 001]\r";
+const OTHER: &[u8] = b"\n6B180027\"ADM-CID\"0003L0#1234[#1234|1131 01 001]\r\
+    \n27E70027\"ADM-CID\"0004L0#1234[#1234|1131 01 001]\r";
 
-const TO_ONE: &[u8] =
-    b"\n1BC10012\"ACK\"0001L0#1234[]\r\n14310012\"ACK\"0002L0#1234[]\r\nD1600012\"ACK\"0003L0#1234[]\r";
+const TO_ONE: &[u8] = b"\n1BC10012\"ACK\"0001L0#1234[]\r\n14310012\"ACK\"0002L0#1234[]\r";
 
-const TO_OTHER: &[u8] =
-    b"\n0BD10012\"ACK\"0004L0#1234[]\r\nCE800012\"ACK\"0005L0#1234[]\r\nC1700012\"ACK\"0006L0#1234[]\r";
+const TO_OTHER: &[u8] = b"\nD1600012\"ACK\"0003L0#1234[]\r\n0BD10012\"ACK\"0004L0#1234[]\r";
 
 // What a caller is told of the first fault of a disk.
 const DOWN: Stop = Stop::Down { at_open: 0, now: 1 };
@@ -189,19 +185,19 @@ fn compare_again<R: Abort + Threads + Wait + Sync>(
 ) {
     let faults = disk.faults();
     let (stand, disk) = signals_on(rt, alloc, disk);
-    let is_kept = acknowledged <= stand && stand <= 6;
+    let is_kept = acknowledged <= stand && stand <= 4;
     same(rt, is_kept, true, "what was acknowledged stands");
     let (again, disk) = run(rt, alloc, disk, records);
     let (signals, disk) = signals_on(rt, alloc, disk);
     let found = (again, signals, disk.faults());
     drop(disk);
-    same(rt, found, (6, 6, faults), "each stands once");
+    same(rt, found, (4, 4, faults), "each stands once");
 }
 
 // The disk of a run that no call fails.
 fn sound<R: Abort + Threads + Wait + Sync>(rt: &R, alloc: Global, records: u64) -> MemDisk {
     let (acknowledged, disk) = run(rt, alloc, MemDisk::new(alloc, Vec::new(alloc)), records);
-    same(rt, acknowledged, 6, "all are acknowledged");
+    same(rt, acknowledged, 4, "all are acknowledged");
     disk
 }
 
@@ -222,8 +218,8 @@ fn compare_faults<R: Abort + Threads + Wait + Sync>(rt: &R, alloc: Global, recor
     while call < 1_000 && has_failed(rt, alloc, records, call) {
         call += 1;
     }
-    // an Adopt, a Start and six alarms take four calls each, behind six that open the areas
-    same(rt, 38 < call && call < 1_000, true, "calls");
+    // an Adopt, a Start and four alarms take four calls each, behind six that open the areas
+    same(rt, 30 < call && call < 1_000, true, "calls");
 }
 
 // Whether the disk has failed at this call. Where it has not, all is acknowledged.
@@ -239,7 +235,7 @@ fn has_failed<R: Abort + Threads + Wait + Sync>(
     if faults == 0 {
         // another call of this disk would fail
         drop(disk);
-        same(rt, acknowledged, 6, "all are acknowledged");
+        same(rt, acknowledged, 4, "all are acknowledged");
         return false;
     }
     same(rt, faults, 1, "one fault");
@@ -267,13 +263,8 @@ fn a_stop_within_a_served_station(rt: HostRuntime) {
 }
 
 #[test]
-fn a_stop_within_a_station_where_each_record_makes_a_checkpoint(rt: HostRuntime) {
-    compare_stops(&rt, rt.alloc(), 1);
-}
-
-#[test]
-fn a_stop_within_a_station_where_every_third_record_makes_a_checkpoint(rt: HostRuntime) {
-    compare_stops(&rt, rt.alloc(), 3);
+fn a_stop_within_a_station_with_checkpoints(rt: HostRuntime) {
+    compare_stops(&rt, rt.alloc(), 2);
 }
 
 fn compare_stops<R: Abort + Threads + Wait + Sync>(rt: &R, alloc: Global, records: u64) {
