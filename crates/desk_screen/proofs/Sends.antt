@@ -36,7 +36,7 @@ due_typed true None (Some d) user number list c is = cc
 due_typed true None None None number list c is = absurd cc
 due_typed true None None (Some name) number list c is = absurd (polled_is number list c is)
 
-or_is : (asked before : Option Command) (c : Command) → option_or asked before ≡ Some c → (asked ≡ Some c) ⊎ ((asked ≡ None) × (before ≡ Some c))
+pub or_is : (asked before : Option Command) (c : Command) → option_or asked before ≡ Some c → (asked ≡ Some c) ⊎ ((asked ≡ None) × (before ≡ Some c))
 or_is (Some a) before c is = inl is
 or_is None before c is = inr (refl, is)
 
@@ -63,13 +63,13 @@ pub none_is : {A : Type 0} (o : Option A) → is_none o ≡ true → o ≡ None
 none_is None is = refl
 none_is (Some a) is = absurd cc
 
-three : (a b d : Bool) → (a && (b && d)) ≡ true → (b ≡ true) × (d ≡ true)
+pub three : (a b d : Bool) → (a && (b && d)) ≡ true → (b ≡ true) × (d ≡ true)
 three true true true is = (refl, refl)
 three true true false is = absurd cc
 three true false d is = absurd cc
 three false b d is = absurd cc
 
-first : (a b : Bool) → (a && b) ≡ true → a ≡ true
+pub first : (a b : Bool) → (a && b) ≡ true → a ≡ true
 first true b is = refl
 first false b is = absurd cc
 
