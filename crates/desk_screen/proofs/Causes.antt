@@ -1,5 +1,5 @@
 -- What one key causes.
-use Rattle.std.proofs.Common.{◌≡◌, ◌⊎◌, ℕ, List, [], ◌∷◌, Option, Some, None, refl, sym, ap, ◌∙◌, inl, inr, subst}
+use Rattle.std.proofs.Common.{◌≡◌, ◌⊎◌, ℕ, List, [], ◌∷◌, true, Option, Some, None, refl, sym, ap, ◌∙◌, inl, inr, subst}
 use Rattle.std.specs.List.{cons_option}
 use Rattle.arc_data.specs.Steps.{is_reached}
 use Rattle.arc_data.specs.declared.step.Outcome.{Outcome}
@@ -16,7 +16,7 @@ use Rattle.desk_screen.specs.Typing.{last_key, name, typed}
 use Rattle.desk_screen.specs.Whole.{AreActsIn, HasOneCause, IsActIn, IsCausedBy, asked_since, key_after, newest_key, since}
 use Rattle.desk_screen.specs.declared.own.Own.{Own}
 use Rattle.desk_screen.specs.declared.series.Kind.{Kind}
-use Rattle.desk_screen.proofs.Serial.{gone_own}
+use Rattle.desk_screen.proofs.Goes.{gone_own}
 
 -- the newest key is one of a series of this kind, and what was asked for since are its acts, for this incident, one at least
 record Ran (newest : Option ℕ) (asked : List Command) (number : ℕ) (kind : Kind) : Type 0 where
@@ -49,12 +49,12 @@ one_own (Some own) number other h k =
     let b : own ≡ k.0 = cc in
     sym h.2 ∙ ap (λ (x : Own). x.number) (sym a ∙ b) ∙ k.2
 
-one_kind : (newest : Option ℕ) (one other : List Command) (number incident : ℕ) (kind sort : Kind)
-    → Ran newest one number kind → Ran newest other incident sort → kind ≡ sort
-one_kind newest one other number incident kind sort h k =
+one_kind : (newest : Option ℕ) (one other : List Command) (number incident : ℕ) (kind twin : Kind)
+    → Ran newest one number kind → Ran newest other incident twin → kind ≡ twin
+one_kind newest one other number incident kind twin h k =
     let same_key : Some h.key ≡ Some k.key = sym h.newest_is ∙ k.newest_is in
     let at : h.key ≡ k.key = cc in
-    let both : Some kind ≡ Some sort = sym h.kind_is ∙ ap kind_of at ∙ k.kind_is in
+    let both : Some kind ≡ Some twin = sym h.kind_is ∙ ap kind_of at ∙ k.kind_is in
     cc
 
 -- a key of an outcome is none of a series
@@ -70,16 +70,16 @@ first_in_kind key kind step outcome is h = elim h as (λ _. outcome_in kind step
   | inr q ↦ same_kind q.0 q.1 q.2
 ]
   where
-    same_kind : (sort : Kind) → kind_of key ≡ Some sort → outcome_in sort step ≡ Some outcome → outcome_in kind step ≡ Some outcome
-    same_kind sort of it =
-        let both : Some sort ≡ Some kind = sym of ∙ is in
-        let at : sort ≡ kind = cc in
+    same_kind : (twin : Kind) → kind_of key ≡ Some twin → outcome_in twin step ≡ Some outcome → outcome_in kind step ≡ Some outcome
+    same_kind twin begins it =
+        let both : Some twin ≡ Some kind = sym begins ∙ is in
+        let at : twin ≡ kind = cc in
         subst (λ (k : Kind). outcome_in k step ≡ Some outcome) at it
 
 -- a command that is asked for behind anything but a key and a line of the desk
 no_cause : (s : Sitting) (t : Turn) (i : Input) (c : Command) {P : Type 0} → t.input ≡ i → ((key : ℕ) → Key key ≡ i → ⊥)
     → ((number : ℕ) (step : Step) → Displays (news i (way s)) number step → ⊥) → IsAsked s t c → P
-no_cause s t i c {P} came keyless dark h = absurd (elim h as (λ _. ⊥) [
+no_cause s t i c {P = P} came keyless dark h = absurd (elim h as (λ _. ⊥) [
   | inl k ↦ keyless k.0 (sym k.1 ∙ came)
   | inr n ↦ dark n.number n.step (subst (λ (j : Input). Displays (news j (way s)) n.number n.step) came n.shown)
 ])
@@ -105,7 +105,7 @@ leads_is (Some Rows) number h = absurd h
 
 key_act : (s : Sitting) (t : Turn) (key number : ℕ) (kind : Kind) (step : Step) (outcome : Outcome) → t.input ≡ Key key → kind_of key ≡ Some kind
     → IsAsked s t (Act number step outcome) → outcome_in kind step ≡ Some outcome
-key_act s t key number kind step outcome came of h = elim h as (λ _. outcome_in kind step ≡ Some outcome) [
+key_act s t key number kind step outcome came begins h = elim h as (λ _. outcome_in kind step ≡ Some outcome) [
   | inl k ↦ by_key k.0 (sym k.1 ∙ came) (of_act (own s) (last_key s) (typed s) (name s) k.0 k.2)
   | inr n ↦ absurd (dark n.number n.step (subst (λ (j : Input). Displays (news j (way s)) n.number n.step) came n.shown))
 ]
@@ -116,23 +116,23 @@ key_act s t key number kind step outcome came of h = elim h as (λ _. outcome_in
     by_key : (k : ℕ) → Key k ≡ Key key → IsKeyOf k step outcome → outcome_in kind step ≡ Some outcome
     by_key k same is =
         let at : k ≡ key = cc in
-        first_in_kind k kind step outcome (ap kind_of at ∙ of) is
+        first_in_kind k kind step outcome (ap kind_of at ∙ begins) is
 
     dark : (n : ℕ) (p : Step) → Displays (news (Key key) (way s)) n p → ⊥
     dark n p is = is
 
 key_ran : (s : Sitting) (t : Turn) (key number : ℕ) (kind : Kind) → t.input ≡ Key key → IsAllowed s t → kind_of key ≡ Some kind → LeadsOn t.asked number
     → Ran (Some key) (cons_option t.asked []) number kind
-key_ran s t key number kind came h of leads =
+key_ran s t key number kind came h begins leads =
     let l = leads_is t.asked number leads in
     record {
       key = key;
       newest_is = refl;
-      kind_is = of;
+      kind_is = begins;
       first = Act number l.step l.outcome;
       others = [];
       asked_are = ap (λ (a : Option Command). cons_option a []) l.act;
-      acts = ((refl, key_act s t key number kind l.step l.outcome came of (h.keyed (Act number l.step l.outcome) l.act)), tt);
+      acts = ((refl, key_act s t key number kind l.step l.outcome came begins (h.keyed (Act number l.step l.outcome) l.act)), tt);
     }
 
 no_key_answer : (line : List ℕ) (key : ℕ) → Key key ≡ Answer line → ⊥
@@ -145,7 +145,8 @@ next_act s t line number kind c came before gone h = elim h as (λ _. IsActIn nu
   | inr n ↦ subst (λ (d : Command). IsActIn number kind d) (sym n.act) (
     one_own (own s) n.number number (gone_own s n.number n.kind n.gone) (gone_own s number kind gone),
     subst (λ (k : Kind). outcome_in k n.step ≡ Some n.outcome)
-    (one_kind (newest_key s) (asked_since s) (asked_since s) n.number number n.kind kind (before n.number n.kind n.gone) (before number kind gone)) n.recorded)
+        (one_kind (newest_key s) (asked_since s) (asked_since s) n.number number n.kind kind (before n.number n.kind n.gone) (before number kind gone)) n.recorded,
+  )
 ]
 
 no_key_second : (key : ℕ) → Key key ≡ Second → ⊥
@@ -160,7 +161,7 @@ no_key_lost key is = cc
 ran_after : (i : Input) (s : Sitting) (t : Turn) (number : ℕ) (kind : Kind) → t.input ≡ i → IsAllowed s t
     → ((n : ℕ) (k : Kind) → HasGoneOn s n k → Ran (newest_key s) (asked_since s) n k)
     → GoesOn i (λ key. (kind_of key ≡ Some kind) × LeadsOn t.asked number)
-      (keeps (news i (way s)) (typed_of (way s)) t.asked (wish s) number ≡ true) (HasGoneOn s number kind)
+    (keeps (news i (way s)) (typed_of (way s)) t.asked (wish s) number ≡ true) (HasGoneOn s number kind)
     → Ran (key_after i (newest_key s)) (cons_option t.asked (since i (asked_since s))) number kind
 ran_after (Key key) s t number kind came h before g = key_ran s t key number kind came h g.0 g.1
 ran_after (Answer line) s t number kind came h before g =
@@ -183,7 +184,7 @@ one_at_most key (Some c) = tt
 answered : (s : Sitting) (t : Turn) (line : List ℕ) (asked : Option Command) → t.input ≡ Answer line → t.asked ≡ asked → IsAllowed s t → IsProper s
     → IsCausedBy (newest_key s) (asked_since s) → IsCausedBy (newest_key s) (cons_option asked (asked_since s))
 answered s t line None came is h p before = before
-answered s t line (Some c) came is h p before = elim h.keyed c is as (λ _. IsCausedBy (newest_key s) (c ∷ asked_since s)) [
+answered s t line (Some c) came is h p before = elim (h.keyed c is) as (λ _. IsCausedBy (newest_key s) (c ∷ asked_since s)) [
   | inl k ↦ absurd (no_key_answer line k.0 (sym k.1 ∙ came))
   | inr n ↦ next n
 ]
@@ -193,7 +194,7 @@ answered s t line (Some c) came is h p before = elim h.keyed c is as (λ _. IsCa
         let r = gone_ran s n.number n.kind p n.gone in
         subst (λ (key : Option ℕ). IsCausedBy key (c ∷ asked_since s)) (sym r.newest_is)
         (subst (λ (cs : List Command). IsCausedBy (Some r.key) (c ∷ cs)) (sym r.asked_are)
-        (n.number, n.kind, r.kind_is, subst (λ (d : Command). IsActIn n.number n.kind d) (sym n.act) (refl, n.recorded), r.acts))
+        (n.number, n.kind, r.kind_is, (subst (λ (d : Command). IsActIn n.number n.kind d) (sym n.act) (refl, n.recorded), r.acts)))
 
 -- a second, and the beginning or the end of a connection, add nothing
 silent : (s : Sitting) (t : Turn) (i : Input) (key : Option ℕ) (before : List Command) (asked : Option Command) → t.input ≡ i → ((k : ℕ) → Key k ≡ i → ⊥)

@@ -1,9 +1,9 @@
 pub mod Asked
 pub mod Causes
 pub mod Confirmed
+pub mod Goes
 pub mod Owns
 pub mod Sends
-pub mod Serial
 pub mod Told
 pub mod Turns
 pub mod Whole

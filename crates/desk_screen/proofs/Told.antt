@@ -205,7 +205,8 @@ asked_told s t number step outcome h = elim h as (λ _. IsTold (t ∷ s) number 
   | inl k ↦ inr (
     ap is_break k.1,
     subst (λ (i : Input). Leaves (news i (way s)) number) (sym k.1) tt,
-    ahead_told s number step (acted_is (own s) (last_key s) (typed s) (name s) k.0 number step outcome k.2))
+    ahead_told s number step (acted_is (own s) (last_key s) (typed s) (name s) k.0 number step outcome k.2),
+  )
   | inr n ↦ next_told (t ∷ s) n.number number n.step step n.outcome outcome n.act (ahead_told (t ∷ s) n.number n.step n.ahead)
 ]
 
@@ -247,8 +248,10 @@ displays_is i (Released one) about user before o number step shown is same ahead
 displays_is i (Closed one) about user before o number step shown is same ahead = absurd cc
 displays_is i (Listed total rows) about user before o number step shown is same ahead = absurd cc
 displays_is i (Shown view) about user before o number step shown is same ahead =
-    let at : view.number ≡ number = eqb-true view.number number shown in
-    (at, cases (is_break i) _ _ o (λ broken it. broken_is before o step it ahead)
-    (λ goes it. seen_tells user view before o step it (same ∙ sym at) ahead) is)
+    let at : view.number ≡ number = eqb-true view.number number shown in (
+      at,
+      cases (is_break i) _ _ o (λ broken it. broken_is before o step it ahead)
+          (λ goes it. seen_tells user view before o step it (same ∙ sym at) ahead) is,
+    )
 displays_is i Unknown about user before o number step shown is same ahead = absurd cc
 displays_is i Strange about user before o number step shown is same ahead = absurd cc

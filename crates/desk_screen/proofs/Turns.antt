@@ -20,10 +20,10 @@ use Rattle.desk_screen.proofs.Asked.{asks_is}
 use Rattle.desk_screen.proofs.Causes.{one_cause}
 use Rattle.desk_screen.proofs.Confirmed.{asked_confirmed}
 use Rattle.desk_screen.proofs.Owns.{owns_after}
-use Rattle.desk_screen.proofs.Serial.{next_is}
+use Rattle.desk_screen.proofs.Goes.{next_is}
 use Rattle.desk_screen.proofs.Told.{asked_told}
 use Rattle.desk_screen.proofs.Whole.{has_no_pin, sent_once}
-use Rattle.desk_screen.proofs.Sends.{connected_is, due_connected, due_alone, due_typed, fresh, wished, free_is}
+use Rattle.desk_screen.proofs.Sends.{connected_is, due_connected, due_alone, due_typed, fresh, wished, free_is, prompt}
 
 two : {A B C : Type 0} {a a' : A} {b b' : B} (f : A → B → C) → a ≡ a' → b ≡ b' → f a b ≡ f a' b'
 two {A} {B} {C} {a} {a'} {b} {b'} f p q = ap (λ x. f x b) p ∙ ap (f a') q
@@ -95,6 +95,9 @@ allowed i r old new s t h = let asked = λ (c : Command) (is : r.asked ≡ Some 
   told = λ number step outcome is. asked_told s (turn i r) number step outcome (asked (Act number step outcome) is).by;
   confirmed = λ number code is. asked_confirmed s (turn i r) number code (asked (Close number code) is).by;
   fresh = λ c is. fresh i r.asked old.session.wish c (due_typed _ _ _ _ _ _ c (sym t.session.sent ∙ is));
+  prompt = λ c is answer. t.session.sent
+      ∙ prompt i new.session.connected old.session.connected old.session.way r.asked old.session.wish _ _ _ c answer t.session.connected
+      (h.connected ∙ (asked c is).joined) is;
   joined = λ c is. (asked c is).joined;
   one = λ c is. (asked c is).free;
   bell = t.watch.rung ∙ four (λ w q n m. rings i (news i w) q n m) h.way h.queue h.quiet h.muted;

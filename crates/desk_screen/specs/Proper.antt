@@ -12,7 +12,7 @@ use Rattle.desk_wire.specs.declared.command.Command.{Command}
 use Rattle.desk_wire.specs.declared.command.Command.TheVariants.{Login, Quit, Next, Claim, Act, Release, Close, Show, List as Rows}
 use Rattle.desk_screen.specs.Asking.{number_meant}
 use Rattle.desk_screen.specs.Bell.{rings, quiet, muted}
-use Rattle.desk_screen.specs.Inputs.{Input, Key, Answer, Second, Made, Lost, Turn, Sitting, is_break, news}
+use Rattle.desk_screen.specs.Inputs.{Input, Key, Answer, Second, Made, Lost, Turn, Sitting, is_answer, is_break, news}
 use Rattle.desk_screen.specs.Orders.{way, way_left, wish, is_connected, connected_after, typed_of}
 use Rattle.desk_screen.specs.Owning.{own}
 use Rattle.desk_said.specs.declared.said.Said.{Said}
@@ -96,9 +96,9 @@ GoesOn Made begun kept before = ⊥
 GoesOn Lost begun kept before = ⊥
 
 -- A series of this kind goes on, for this incident. The newest key is one of the kind, and it asked for the first act. Ever since, the
--- incident has stood as the operator's own, the connection has stood, and each answer was one within the series (`keeps`): to each act that
--- it is recorded, and each other one showed the step of the next act, which was asked for at once, but for a list before the first act was
--- sent. No call was reached.
+-- incident has stood as the operator's own, the connection has stood, and each answer was one within the series (`keeps`): to each act
+-- that it is recorded, and each other one showed the step of the next act, which was asked for at once, but for a list before the first act
+-- was sent. No call was reached.
 abbrev pub HasGoneOn : Sitting → ℕ → Kind → Type 0
 HasGoneOn [] number kind = ⊥
 HasGoneOn (t ∷ s) number kind =
@@ -112,8 +112,8 @@ abbrev pub Displays : Said → ℕ → Step → Type 0
 Displays (Shown view) number step = (view.number ≡ number) × (view.expected ≡ Some step)
 Displays other number step = ⊥
 
--- A command is the next one of a series that has gone on until now: an act for its incident, still the operator's own, and for the step that
--- this very answer shows as expected, which is one of the series, with the outcome that the series records of it.
+-- A command is the next one of a series that has gone on until now: an act for its incident, still the operator's own, and for the step
+-- that this very answer shows as expected, which is one of the series, with the outcome that the series records of it.
 pub record IsNext (s : Sitting) (t : Turn) (c : Command) : Type 0 where
   pub number : ℕ
   pub kind : Kind
@@ -144,6 +144,8 @@ pub record IsAllowed (s : Sitting) (t : Turn) : Type 0 where
   pub keyed : (c : Command) → t.asked ≡ Some c → IsAsked s t c
   pub joined : (c : Command) → t.asked ≡ Some c → is_connected s ≡ true
   pub one : (c : Command) → t.asked ≡ Some c → (typed_of (way s) ≡ None) × (wish s ≡ None)
+  -- what a series asks for behind an answer is sent at once
+  pub prompt : (c : Command) → t.asked ≡ Some c → is_answer t.input ≡ true → t.sent ≡ Some (Typed c)
   -- the step of an act is the one that the desk told to expect, in this connection
   pub told : (number : ℕ) (step : Step) (outcome : Outcome) → t.asked ≡ Some (Act number step outcome) → IsTold (t ∷ s) number step
   -- a closing is confirmed: the key before was that of its code, for this very incident

@@ -90,8 +90,8 @@ abbrev pub leads_on : Option Command → Bool
 leads_on (Some (Act number step outcome)) = not (is_reached outcome)
 leads_on other = false
 
--- An answer within a series of an incident: to a command, that it is recorded; or one behind which the next step is asked for; or, where the
--- first command is still to be sent, a list.
+-- An answer within a series of an incident: to a command, that it is recorded; or one behind which the next step is asked for; or, where
+-- the first command is still to be sent, a list.
 abbrev pub keeps : Said → Option Command → Option Command → Option Command → ℕ → Bool
 keeps said (Some command) asked wish number = records said number
 keeps said None (Some next) wish number = leads_on (Some next)
@@ -134,8 +134,8 @@ series_after Second said way asked wish own before = before
 series_after Made said way asked wish own before = broken_off before
 series_after Lost said way asked wish own before = broken_off before
 
--- The series that the newest key began, or that it ended: what it records, of which incident, how many steps were recorded, and whether it
--- goes on.
+-- The series that the newest key began, or that it ended: what it records, of which incident, how many steps were recorded, and whether
+-- it goes on.
 unfoldable pub series : Sitting → Option Series
 series [] = None
 series (t ∷ s) = series_after t.input (news t.input (way s)) (typed_of (way s)) t.asked (wish s) (own (t ∷ s)) (series s)

@@ -68,7 +68,8 @@ IsCausedBy None (c ∷ cs) = ⊥
 IsCausedBy (Some key) (c ∷ []) = Unit {0}
 IsCausedBy (Some key) (c ∷ d ∷ cs) = (number : ℕ) × (kind : Kind) × (kind_of key ≡ Some kind) × AreActsIn number kind (c ∷ d ∷ cs)
 
--- At each moment of a sitting, what was asked for since the newest key is what that key may cause; without a key in the connection, nothing.
+-- At each moment of a sitting, what was asked for since the newest key is what that key may cause. Without a key in the connection nothing
+-- was asked for.
 abbrev pub HasOneCause : Sitting → Type 0
 HasOneCause [] = Unit {0}
 HasOneCause (t ∷ s) = IsCausedBy (newest_key (t ∷ s)) (asked_since (t ∷ s)) × HasOneCause s

@@ -133,11 +133,7 @@ impl Screen {
         let number = untold_number(&self.own);
         let (session, sent) = sending::told(&self.session, &said, &asked, number);
         self.session = session;
-        Reaction {
-            asked,
-            sent,
-            rung,
-        }
+        Reaction { asked, sent, rung }
     }
 
     // A second has passed.

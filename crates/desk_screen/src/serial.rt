@@ -1,5 +1,5 @@
 // What a series records, and what becomes of it.
-ghost use Rattle.std.specs.Prelude.{◌≡◌, ◌==◌, if◌then◌else◌};
+ghost use Rattle.std.specs.Prelude.{◌≡◌, ◌==◌, false, if◌then◌else◌};
 ghost use Rattle.std.specs.Option.{option_or};
 ghost use Rattle.alarm_rules.specs.SetupLines.{after};
 ghost use Rattle.desk_screen.specs.Series.{act_in, act_of, begun_by, broken_off, call_of, counted, first_in, heard_in, is_list, is_own};
@@ -109,7 +109,8 @@ fn records(said: &Said, number: u64) -> bool
 {
     match said {
         Said::Recorded {
-            number: incident, ..
+            number: incident,
+            ..
         } => *incident == number,
         _ => false,
     }
@@ -222,7 +223,11 @@ fn stopped(series: &Option<Series>) -> Option<Series>
 }
 
 /// The series behind a key, which begins one by the command that it asks for, or ends the one before.
-pub(crate) fn behind_key(key: u8, asked: &Option<Command>, series: &Option<Series>) -> Option<Series>
+pub(crate) fn behind_key(
+    key: u8,
+    asked: &Option<Command>,
+    series: &Option<Series>,
+) -> Option<Series>
     ensures { result ≡ option_or (after (kind_of key) (λ kind. begun_by kind asked.now)) (stopped series.now) }
 {
     match begun(key, asked) {

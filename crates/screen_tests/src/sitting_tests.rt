@@ -130,12 +130,24 @@ fn an_incident_from_its_ring_to_its_closing(rt: HostRuntime) {
     answer(&rt, &mut screen, "list 0", "-");
 }
 
-const NOTE: &str = "incident 1 burglary 1234 code 131 opened 1000000000 signals 1 restored no holder ann next note";
-const POLICE: &str = "incident 1 burglary 1234 code 131 opened 1000000000 signals 1 restored no holder ann next police";
-const PREMISES: &str = "incident 1 burglary 1234 code 131 opened 1000000000 signals 1 restored no holder ann next premises";
-const HOLDER1: &str = "incident 1 burglary 1234 code 131 opened 1000000000 signals 1 restored no holder ann next holder1";
-const HOLDER2: &str = "incident 1 burglary 1234 code 131 opened 1000000000 signals 1 restored no holder ann next holder2";
-const HOLDER3: &str = "incident 1 burglary 1234 code 131 opened 1000000000 signals 1 restored no holder ann next holder3";
+const NOTE: &str =
+    "incident 1 burglary 1234 code 131 opened 1000000000 signals 1 restored no holder ann next note";
+
+const POLICE: &str =
+    "incident 1 burglary 1234 code 131 opened 1000000000 signals 1 restored no holder ann next police";
+
+const PREMISES: &str =
+    "incident 1 burglary 1234 code 131 opened 1000000000 signals 1 restored no holder ann next premises";
+
+const HOLDER1: &str =
+    "incident 1 burglary 1234 code 131 opened 1000000000 signals 1 restored no holder ann next holder1";
+
+const HOLDER2: &str =
+    "incident 1 burglary 1234 code 131 opened 1000000000 signals 1 restored no holder ann next holder2";
+
+const HOLDER3: &str =
+    "incident 1 burglary 1234 code 131 opened 1000000000 signals 1 restored no holder ann next holder3";
+
 const MINE: &str = "list 1 1/burglary/1234/ann";
 
 // A screen at which ann holds incident 1, and this line of the desk has shown it.

@@ -86,11 +86,11 @@ off_is kind number recorded x is on =
 
 stopped_off : (before : Option Series) (x : Series) {P : Type 0} → stopped before ≡ Some x → x.is_on ≡ true → P
 stopped_off None x is on = absurd cc
-stopped_off (Some y) x {P} is on = off_is y.kind y.number y.recorded x {P} (passed y.is_on _ x is).1 on
+stopped_off (Some y) x {P = P} is on = off_is y.kind y.number y.recorded x {P = P} (passed y.is_on _ x is).1 on
 
 broken_off_is : (before : Option Series) (x : Series) {P : Type 0} → broken_off before ≡ Some x → x.is_on ≡ true → P
 broken_off_is None x is on = absurd cc
-broken_off_is (Some y) x {P} is on = off_is y.kind y.number y.recorded x {P} is on
+broken_off_is (Some y) x {P = P} is on = off_is y.kind y.number y.recorded x {P = P} is on
 
 -- whose own incident an act that a key asked for names
 act_own : (s : Sitting) (t : Turn) (key number : ℕ) (step : Step) (outcome : Outcome) → t.input ≡ Key key → IsAsked s t (Act number step outcome) → IsOwn (own (t ∷ s)) number
@@ -122,9 +122,10 @@ pressed_is s t key x pressed h on is =
     let k = then_is (kind_of key) (λ kind. begun_by kind t.asked) x is in
     let b = begun_is t.asked k.0 x k.2 in
     subst (λ (m : ℕ). Behind s t (Key key) m x.kind) b.same
-    (subst (λ (d : Kind). Behind s t (Key key) b.number d) b.one
-    (act_own s t key b.number b.step b.outcome pressed (h.keyed (Act b.number b.step b.outcome) b.act), k.1,
-    subst (λ (c : Option Command). LeadsOn c b.number) (sym b.act) (refl, not-true (is_reached b.outcome) (b.on ∙ on))))
+    (subst (λ (d : Kind). Behind s t (Key key) b.number d) b.one (
+      act_own s t key b.number b.step b.outcome pressed (h.keyed (Act b.number b.step b.outcome) b.act),
+      (k.1, subst (λ (c : Option Command). LeadsOn c b.number) (sym b.act) (refl, not-true (is_reached b.outcome) (b.on ∙ on))),
+    ))
 
 heard_is : (s : Sitting) (t : Turn) (line : List ℕ) (x : Series) → x.is_on ≡ true
     → ((y : Series) → series s ≡ Some y → y.is_on ≡ true → HasGoneOn s y.number y.kind)
@@ -137,7 +138,7 @@ heard_is s t line x on before is =
     let first_on = first y.is_on _ (ap (λ (z : Series). z.is_on) m.2 ∙ on) in
     subst (λ (n : ℕ). Behind s t (Answer line) n x.kind) (ap (λ (z : Series). z.number) m.2)
     (subst (λ (d : Kind). Behind s t (Answer line) y.number d) (ap (λ (z : Series). z.kind) m.2)
-    (own_same (own (t ∷ s)) y.number p.0, p.1, before y m.1 first_on))
+    (own_same (own (t ∷ s)) y.number p.0, (p.1, before y m.1 first_on)))
 
 gone_after : (s : Sitting) (t : Turn) (i : Input) (x : Series) → t.input ≡ i → IsAllowed s t → x.is_on ≡ true
     → ((y : Series) → series s ≡ Some y → y.is_on ≡ true → HasGoneOn s y.number y.kind)
