@@ -1,6 +1,7 @@
 -- Why a key asks for a command.
-use Rattle.std.proofs.Common.{◌≡◌, ℕ, List, Bool, true, false, cond, eqb, Option, Some, None, refl, ap, ◌∙◌, subst}
-use Rattle.std.specs.Option.{option_map}
+use Rattle.std.proofs.Common.{◌≡◌, ℕ, List, Bool, true, false, cond, eqb, Option, Some, None, refl, ap, ◌∙◌, inl, inr, subst}
+use Rattle.std.specs.Prelude.{nat_lt}
+use Rattle.std.specs.Option.{option_map, option_or}
 use Rattle.std.proofs.lemmas.Bool.{eqb-true}
 use Rattle.alarm_rules.specs.SetupLines.{after, provided}
 use Rattle.alarm_rules.specs.SetupWords.{is_pin, word_that}
@@ -9,22 +10,28 @@ use Rattle.arc_data.specs.declared.event.CloseCode.{CloseCode}
 use Rattle.arc_data.specs.declared.event.CloseCode.TheVariants.{Real, False, Test}
 use Rattle.arc_data.specs.declared.step.Outcome.{Outcome}
 use Rattle.arc_data.specs.declared.step.Outcome.TheVariants.{Reached, NoAnswer, Done}
+use Rattle.arc_data.specs.declared.step.Step.{Step}
+use Rattle.arc_data.specs.declared.step.Step.TheVariants.{Premises, Holder, Police, Fire, Ambulance, Guard, Note}
 use Rattle.desk_wire.specs.Names.{number_spelled}
 use Rattle.desk_wire.specs.declared.command.Command.{Command}
 use Rattle.desk_wire.specs.declared.command.Command.TheVariants.{Login, Next, Claim, Act, Release, Close, Show}
 use Rattle.desk_screen.specs.Asking.{act_at, acted, closed_by, code_of, key_asks, login_key, number_meant, outcome_of, work_key}
 use Rattle.desk_screen.specs.Owning.{own_number}
 use Rattle.desk_screen.specs.Proper.{IsFor, IsOwn, outcome_key, code_key}
+use Rattle.desk_screen.specs.Series.{act_in, call_of, first_in, kind_of, outcome_in}
 use Rattle.desk_screen.specs.Typing.{is_enter}
 use Rattle.desk_screen.specs.declared.own.Due.{Due}
 use Rattle.desk_screen.specs.declared.own.Due.TheVariants.{Untold, AllMet, Ahead}
 use Rattle.desk_screen.specs.declared.own.Own.{Own}
+use Rattle.desk_screen.specs.declared.series.Kind.{Kind}
+use Rattle.desk_screen.specs.declared.series.Kind.TheVariants.{Tasks, Unanswered, Reaching}
+use Rattle.desk_screen.proofs.Sends.{or_is}
 
-then_is : {A B : Type 0} (part : Option A) (rest : A → Option B) (b : B) → after part rest ≡ Some b → (a : A) × (part ≡ Some a) × (rest a ≡ Some b)
+pub then_is : {A B : Type 0} (part : Option A) (rest : A → Option B) (b : B) → after part rest ≡ Some b → (a : A) × (part ≡ Some a) × (rest a ≡ Some b)
 then_is None rest b is = absurd cc
 then_is (Some a) rest b is = (a, refl, is)
 
-mapped_is : {A B : Type 0} (f : A → B) (part : Option A) (b : B) → option_map f part ≡ Some b → (a : A) × (part ≡ Some a) × (f a ≡ b)
+pub mapped_is : {A B : Type 0} (f : A → B) (part : Option A) (b : B) → option_map f part ≡ Some b → (a : A) × (part ≡ Some a) × (f a ≡ b)
 mapped_is f None b is = absurd cc
 mapped_is f (Some a) b is = (a, refl, cc)
 
@@ -73,7 +80,52 @@ act_is (Some o) last typed name key outcome c by is = at o.due refl is
     at AllMet told it = absurd cc
     at (Ahead step) told it =
         let h = provided_is (fits step outcome) (Act o.number step outcome) c it in
-        subst (IsFor (Some o) last typed name key) h.1 (by, h.0, (o, refl, refl, told))
+        subst (IsFor (Some o) last typed name key) h.1 (inl by, h.0, (o, refl, refl, told))
+
+-- what a series records of a step fits it
+call_fits : (reached number : ℕ) (outcome : Outcome) → call_of reached number ≡ Some outcome → fits (Holder number) outcome ≡ true
+call_fits reached number outcome is =
+    either (nat_lt number reached) _ _ outcome (λ before it. said NoAnswer refl it)
+    (either (eqb number reached) _ _ outcome (λ same it. said Reached refl it) (nothing outcome)) is
+  where
+    said : (o : Outcome) → fits (Holder number) o ≡ true → Some o ≡ Some outcome → fits (Holder number) outcome ≡ true
+    said o fit it = let at : outcome ≡ o = cc in ap (fits (Holder number)) at ∙ fit
+
+pub fit_is : (kind : Kind) (step : Step) (outcome : Outcome) → outcome_in kind step ≡ Some outcome → fits step outcome ≡ true
+fit_is Tasks Premises outcome is = absurd cc
+fit_is Tasks (Holder n) outcome is = absurd cc
+fit_is Tasks Police outcome is = let at : outcome ≡ Done = cc in ap (fits Police) at
+fit_is Tasks Fire outcome is = let at : outcome ≡ Done = cc in ap (fits Fire) at
+fit_is Tasks Ambulance outcome is = let at : outcome ≡ Done = cc in ap (fits Ambulance) at
+fit_is Tasks Guard outcome is = let at : outcome ≡ Done = cc in ap (fits Guard) at
+fit_is Tasks Note outcome is = let at : outcome ≡ Done = cc in ap (fits Note) at
+fit_is Unanswered Premises outcome is = absurd cc
+fit_is Unanswered (Holder n) outcome is = let at : outcome ≡ NoAnswer = cc in ap (fits (Holder n)) at
+fit_is Unanswered Police outcome is = absurd cc
+fit_is Unanswered Fire outcome is = absurd cc
+fit_is Unanswered Ambulance outcome is = absurd cc
+fit_is Unanswered Guard outcome is = absurd cc
+fit_is Unanswered Note outcome is = absurd cc
+fit_is (Reaching reached) Premises outcome is = absurd cc
+fit_is (Reaching reached) (Holder n) outcome is = call_fits reached n outcome is
+fit_is (Reaching reached) Police outcome is = absurd cc
+fit_is (Reaching reached) Fire outcome is = absurd cc
+fit_is (Reaching reached) Ambulance outcome is = absurd cc
+fit_is (Reaching reached) Guard outcome is = absurd cc
+fit_is (Reaching reached) Note outcome is = absurd cc
+
+-- the first command of a series
+first_is : (own : Option Own) (last : Option ℕ) (typed : List ℕ) (name : Option (List ℕ)) (key : ℕ) (kind : Kind) (c : Command)
+    → kind_of key ≡ Some kind → first_in own kind ≡ Some c → IsFor own last typed name key c
+first_is None last typed name key kind c by is = absurd cc
+first_is (Some o) last typed name key kind c by is = at o.due refl is
+  where
+    at : (due : Due) → o.due ≡ due → act_in o.number kind due ≡ Some c → IsFor (Some o) last typed name key c
+    at Untold told it = absurd cc
+    at AllMet told it = absurd cc
+    at (Ahead step) told it =
+        let m = mapped_is (Act o.number step) (outcome_in kind step) c it in
+        subst (IsFor (Some o) last typed name key) m.2 (inr (kind, by, m.1), fit_is kind step m.0 m.1, (o, refl, refl, told))
 
 close_is : (own : Option Own) (last : Option ℕ) (typed : List ℕ) (name : Option (List ℕ)) (key : ℕ) (c : Command)
     → key ≡ 121 → closed_by last own ≡ Some c → IsFor own last typed name key c
@@ -121,10 +173,20 @@ work_is own last typed name key c is =
         let n = mapped_is Release (own_number own) c it in
         subst (IsFor own last typed name key) n.2 (eqb-true key 108 same, own_is own n.0 n.1)
 
-    act : after (outcome_of key) (acted own) ≡ Some c → IsFor own last typed name key c
-    act it =
+    one : after (outcome_of key) (acted own) ≡ Some c → IsFor own last typed name key c
+    one it =
         let outcome = then_is (outcome_of key) (acted own) c it in
         act_is own last typed name key outcome.0 c (outcome_is key outcome.0 outcome.1) outcome.2
+
+    first : after (kind_of key) (first_in own) ≡ Some c → IsFor own last typed name key c
+    first it =
+        let kind = then_is (kind_of key) (first_in own) c it in
+        first_is own last typed name key kind.0 c kind.1 kind.2
+
+    act : option_or (after (outcome_of key) (acted own)) (after (kind_of key) (first_in own)) ≡ Some c → IsFor own last typed name key c
+    act it =
+        elim (or_is (after (outcome_of key) (acted own)) (after (kind_of key) (first_in own)) c it) as (λ _. IsFor own last typed name key c)
+        [ inl p ↦ one p | inr p ↦ first p.1 ]
 
 -- a key asks for a command for its own reason
 pub asks_is : (user : Option (List ℕ)) (own : Option Own) (last : Option ℕ) (typed : List ℕ) (name : Option (List ℕ)) (key : ℕ) (c : Command)

@@ -1,12 +1,14 @@
 -- A closing is confirmed by the key before.
-use Rattle.std.proofs.Common.{◌≡◌, ℕ, List, [], ◌∷◌, Bool, true, false, cond, Option, Some, None, refl, ap, ◌∙◌}
+use Rattle.std.proofs.Common.{◌≡◌, ℕ, List, [], ◌∷◌, Bool, true, false, cond, Option, Some, None, refl, ap, ◌∙◌, inl, inr}
 use Rattle.std.proofs.lemmas.Bool.{eqb-true}
 use Rattle.arc_data.specs.declared.event.CloseCode.{CloseCode}
-use Rattle.desk_wire.specs.declared.command.Command.TheVariants.{Close}
-use Rattle.desk_screen.specs.Inputs.{Input, Key, Answer, Second, Made, Lost, Sitting, news}
+use Rattle.arc_data.specs.declared.step.Outcome.{Outcome}
+use Rattle.arc_data.specs.declared.step.Step.{Step}
+use Rattle.desk_wire.specs.declared.command.Command.TheVariants.{Act, Close}
+use Rattle.desk_screen.specs.Inputs.{Input, Key, Answer, Second, Made, Lost, Turn, Sitting, news}
 use Rattle.desk_screen.specs.Orders.{user, way}
 use Rattle.desk_screen.specs.Owning.{own, own_after, own_number, same_number, worked_on}
-use Rattle.desk_screen.specs.Proper.{Confirms, IsConfirmed, IsFor, IsOwn, code_key}
+use Rattle.desk_screen.specs.Proper.{Confirms, IsAsked, IsConfirmed, IsFor, IsOwn, code_key}
 use Rattle.desk_screen.specs.Typing.{last_after, last_key, name, tells_login, typed}
 use Rattle.desk_screen.specs.declared.own.Own.{Own}
 use Rattle.desk_screen.proofs.Asked.{own_is}
@@ -50,9 +52,17 @@ closed_is : (o : Option Own) (last : Option ℕ) (typed : List ℕ) (name : Opti
     → IsFor o last typed name key (Close number code) → (last ≡ Some (code_key code)) × IsOwn o number
 closed_is o last typed name key number code h = (h.1, h.2)
 
--- a closing that a key asks for
-pub asked_confirmed : (s : Sitting) (i : Input) (number : ℕ) (code : CloseCode)
-    → ((key : ℕ) × (i ≡ Key key) × IsFor (own s) (last_key s) (typed s) (name s) key (Close number code)) → IsConfirmed s number code
-asked_confirmed s i number code h =
-    let c = closed_is (own s) (last_key s) (typed s) (name s) h.0 number code h.2 in
-    confirmed_is s number code c.0 (number_is (own s) number c.1)
+-- a closing that is asked for
+pub asked_confirmed : (s : Sitting) (t : Turn) (number : ℕ) (code : CloseCode) → IsAsked s t (Close number code) → IsConfirmed s number code
+asked_confirmed s t number code h = elim h as (λ _. IsConfirmed s number code) [
+  | inl k ↦ by_key k.0 k.2
+  | inr n ↦ absurd (no_act n.number n.step n.outcome n.act)
+]
+  where
+    by_key : (key : ℕ) → IsFor (own s) (last_key s) (typed s) (name s) key (Close number code) → IsConfirmed s number code
+    by_key key is =
+        let c = closed_is (own s) (last_key s) (typed s) (name s) key number code is in
+        confirmed_is s number code c.0 (number_is (own s) number c.1)
+
+    no_act : (one : ℕ) (step : Step) (outcome : Outcome) → Close number code ≡ Act one step outcome → ⊥
+    no_act one step outcome is = cc

@@ -1,5 +1,7 @@
 pub mod Asked
+pub mod Causes
 pub mod Confirmed
+pub mod Goes
 pub mod Owns
 pub mod Sends
 pub mod Told

@@ -1,10 +1,10 @@
 -- What is sent, and why.
-use Rattle.std.proofs.Common.{◌≡◌, ◌⊎◌, ℕ, List, Bool, true, false, ◌&&◌, cond, Option, Some, None, refl, inl, inr}
+use Rattle.std.proofs.Common.{◌≡◌, ◌⊎◌, ℕ, List, Bool, true, false, ◌&&◌, cond, Option, Some, None, refl, ap, inl, inr}
 use Rattle.std.specs.Prelude.{is_none}
 use Rattle.std.specs.Option.{option_or}
 use Rattle.desk_wire.specs.declared.command.Command.{Command}
-use Rattle.desk_screen.specs.Inputs.{Input, is_break}
-use Rattle.desk_screen.specs.Orders.{due_order, polled, wish_asked, typed_of}
+use Rattle.desk_screen.specs.Inputs.{Input, Key, Answer, Second, Made, Lost, is_answer, is_break}
+use Rattle.desk_screen.specs.Orders.{connected_after, due_order, polled, way_left, wish_asked, typed_of}
 use Rattle.desk_screen.specs.Asking.{may_ask}
 use Rattle.desk_screen.specs.declared.order.Order.{Order}
 use Rattle.desk_screen.specs.declared.order.Order.TheVariants.{Typed}
@@ -36,7 +36,7 @@ due_typed true None (Some d) user number list c is = cc
 due_typed true None None None number list c is = absurd cc
 due_typed true None None (Some name) number list c is = absurd (polled_is number list c is)
 
-or_is : (asked before : Option Command) (c : Command) → option_or asked before ≡ Some c → (asked ≡ Some c) ⊎ ((asked ≡ None) × (before ≡ Some c))
+pub or_is : {A : Type 0} (asked before : Option A) (c : A) → option_or asked before ≡ Some c → (asked ≡ Some c) ⊎ ((asked ≡ None) × (before ≡ Some c))
 or_is (Some a) before c is = inl is
 or_is None before c is = inr (refl, is)
 
@@ -63,13 +63,13 @@ pub none_is : {A : Type 0} (o : Option A) → is_none o ≡ true → o ≡ None
 none_is None is = refl
 none_is (Some a) is = absurd cc
 
-three : (a b d : Bool) → (a && (b && d)) ≡ true → (b ≡ true) × (d ≡ true)
+pub three : (a b d : Bool) → (a && (b && d)) ≡ true → (b ≡ true) × (d ≡ true)
 three true true true is = (refl, refl)
 three true true false is = absurd cc
 three true false d is = absurd cc
 three false b d is = absurd cc
 
-first : (a b : Bool) → (a && b) ≡ true → a ≡ true
+pub first : (a b : Bool) → (a && b) ≡ true → a ≡ true
 first true b is = refl
 first false b is = absurd cc
 
@@ -82,3 +82,16 @@ pub free_is : (connected : Bool) (way : Option Order) (wish : Option Command) �
 free_is connected way wish may =
     let h = three connected (is_none (typed_of way)) (is_none wish) may in
     (none_is (typed_of way) h.0, none_is wish h.1)
+
+-- what is asked for behind a line of the desk is sent at once
+pub prompt : (i : Input) (connected before : Bool) (way : Option Order) (asked wish : Option Command) (user : Option (List ℕ)) (number : Option ℕ) (list : Bool) (c : Command)
+    → is_answer i ≡ true → connected ≡ connected_after i before → before ≡ true → asked ≡ Some c
+    → due_order connected (way_left i way) (wish_asked i asked wish) user number list ≡ Some (Typed c)
+prompt (Key key) connected before way asked wish user number list c answer is on by = absurd cc
+prompt (Answer line) true before way (Some d) wish user number list c answer is on by = let at : d ≡ c = cc in ap (λ (e : Command). Some (Typed e)) at
+prompt (Answer line) true before way None wish user number list c answer is on by = absurd cc
+prompt (Answer line) false true way asked wish user number list c answer is on by = absurd cc
+prompt (Answer line) false false way asked wish user number list c answer is on by = absurd cc
+prompt Second connected before way asked wish user number list c answer is on by = absurd cc
+prompt Made connected before way asked wish user number list c answer is on by = absurd cc
+prompt Lost connected before way asked wish user number list c answer is on by = absurd cc

@@ -1,7 +1,7 @@
 -- The step that stands as expected was told by the desk.
 use Rattle.std.proofs.Common.{◌≡◌, ◌⊎◌, ℕ, List, [], ◌∷◌, Bool, true, false, cond, eqb, Option, Some, None, refl, sym, ap, ◌∙◌, inl, inr, subst}
 use Rattle.std.specs.List.{find, list_any}
-use Rattle.std.proofs.lemmas.Bool.{eqb-true}
+use Rattle.std.proofs.lemmas.Bool.{eqb-false, eqb-true}
 use Rattle.arc_data.specs.declared.listing.Row.{Row}
 use Rattle.arc_data.specs.declared.listing.View.{View}
 use Rattle.arc_data.specs.declared.step.Outcome.{Outcome}
@@ -10,11 +10,12 @@ use Rattle.desk_wire.specs.declared.command.Command.TheVariants.{Act}
 use Rattle.desk_said.specs.declared.said.Said.{Said}
 use Rattle.desk_said.specs.declared.said.Said.TheVariants.{Welcome, Denied, What, Bye, Claimed, NoneWaiting, BusyWith, HeldBy, NotOpen}
 use Rattle.desk_said.specs.declared.said.Said.TheVariants.{NotYours, Expected, Missing, Recorded, Released, Closed, Listed, Shown, Unknown, Strange}
-use Rattle.desk_screen.specs.Inputs.{Input, Key, Sitting, is_break, news}
+use Rattle.desk_screen.specs.Inputs.{Input, Key, Turn, Sitting, is_break, news}
 use Rattle.desk_screen.specs.Orders.{user, way}
 use Rattle.desk_screen.specs.Owning.{dropped, due_of, held_in, is_held_by, is_shown_by, kept, lost_in, mere, own, own_after, own_told}
 use Rattle.desk_screen.specs.Owning.{owned_by, same_number, seen, told_at, with_due, worked_on}
-use Rattle.desk_screen.specs.Proper.{IsAhead, IsFor}
+use Rattle.desk_screen.specs.Proper.{Displays, IsAhead, IsAsked, IsFor}
+use Rattle.desk_screen.specs.Series.{shows}
 use Rattle.desk_screen.specs.Told.{IsTold, Leaves, Tells}
 use Rattle.desk_screen.specs.Typing.{last_key, name, typed}
 use Rattle.desk_screen.specs.declared.own.Due.{Due}
@@ -191,8 +192,66 @@ acted_is : (o : Option Own) (last : Option ℕ) (typed : List ℕ) (name : Optio
     → IsFor o last typed name key (Act number step outcome) → IsAhead o number step
 acted_is o last typed name key number step outcome h = h.2
 
--- an act that a key asks for
-pub asked_told : (s : Sitting) (i : Input) (number : ℕ) (step : Step) (outcome : Outcome)
-    → ((key : ℕ) × (i ≡ Key key) × IsFor (own s) (last_key s) (typed s) (name s) key (Act number step outcome)) → IsTold s number step
-asked_told s i number step outcome h =
-    ahead_told s number step (acted_is (own s) (last_key s) (typed s) (name s) h.0 number step outcome h.2)
+next_told : (s : Sitting) (one number : ℕ) (this step : Step) (that outcome : Outcome) → Act number step outcome ≡ Act one this that
+    → IsTold s one this → IsTold s number step
+next_told s one number this step that outcome act h =
+    let a : one ≡ number = cc in
+    let b : this ≡ step = cc in
+    subst (λ (n : ℕ). IsTold s n step) a (subst (λ (p : Step). IsTold s one p) b h)
+
+-- an act that is asked for
+pub asked_told : (s : Sitting) (t : Turn) (number : ℕ) (step : Step) (outcome : Outcome) → IsAsked s t (Act number step outcome) → IsTold (t ∷ s) number step
+asked_told s t number step outcome h = elim h as (λ _. IsTold (t ∷ s) number step) [
+  | inl k ↦ inr (
+    ap is_break k.1,
+    subst (λ (i : Input). Leaves (news i (way s)) number) (sym k.1) tt,
+    ahead_told s number step (acted_is (own s) (last_key s) (typed s) (name s) k.0 number step outcome k.2),
+  )
+  | inr n ↦ next_told (t ∷ s) n.number number n.step step n.outcome outcome n.act (ahead_told (t ∷ s) n.number n.step n.ahead)
+]
+
+-- an answer that shows the own incident tells the step that is ahead of it
+seen_tells : (user : Option (List ℕ)) (view : View) (before : Option Own) (o : Own) (step : Step) → seen user view before ≡ Some o → o.number ≡ view.number
+    → o.due ≡ Ahead step → view.expected ≡ Some step
+seen_tells user view None o step is same ahead = none_is o is
+seen_tells user view (Some one) o step is same ahead =
+    cases (eqb one.number view.number) _ _ o (λ _ it. cases (is_held_by user view.holder) _ _ o (λ _ this. shown this) (λ _ this. none_is o this) it) other is
+  where
+    shown : Some (record { number = view.number; due = due_of view.expected; view = Some view }) ≡ Some o → view.expected ≡ Some step
+    shown it =
+        let r : Own = record { number = view.number; due = due_of view.expected; view = Some view } in
+        let at : r ≡ o = cc in
+        due_is view.expected step (ap (λ (x : Own). x.due) at ∙ ahead)
+
+    other : eqb one.number view.number ≡ false → Some one ≡ Some o → view.expected ≡ Some step
+    other differs it =
+        let at : one ≡ o = cc in
+        let here : one.number ≡ view.number = ap (λ (x : Own). x.number) at ∙ same in
+        absurd (eqb-false one.number view.number differs here)
+
+pub displays_is : (i : Input) (said : Said) (about : Option ℕ) (user : Option (List ℕ)) (before : Option Own) (o : Own) (number : ℕ) (step : Step)
+    → shows said number ≡ true → own_after i said about user before ≡ Some o → o.number ≡ number → o.due ≡ Ahead step → Displays said number step
+displays_is i (Welcome who) about user before o number step shown is same ahead = absurd cc
+displays_is i Denied about user before o number step shown is same ahead = absurd cc
+displays_is i What about user before o number step shown is same ahead = absurd cc
+displays_is i Bye about user before o number step shown is same ahead = absurd cc
+displays_is i (Claimed one class account) about user before o number step shown is same ahead = absurd cc
+displays_is i NoneWaiting about user before o number step shown is same ahead = absurd cc
+displays_is i (BusyWith one) about user before o number step shown is same ahead = absurd cc
+displays_is i (HeldBy operator) about user before o number step shown is same ahead = absurd cc
+displays_is i (NotOpen one) about user before o number step shown is same ahead = absurd cc
+displays_is i (NotYours one) about user before o number step shown is same ahead = absurd cc
+displays_is i (Expected first) about user before o number step shown is same ahead = absurd cc
+displays_is i (Missing first) about user before o number step shown is same ahead = absurd cc
+displays_is i (Recorded one left) about user before o number step shown is same ahead = absurd cc
+displays_is i (Released one) about user before o number step shown is same ahead = absurd cc
+displays_is i (Closed one) about user before o number step shown is same ahead = absurd cc
+displays_is i (Listed total rows) about user before o number step shown is same ahead = absurd cc
+displays_is i (Shown view) about user before o number step shown is same ahead =
+    let at : view.number ≡ number = eqb-true view.number number shown in (
+      at,
+      cases (is_break i) _ _ o (λ broken it. broken_is before o step it ahead)
+          (λ goes it. seen_tells user view before o step it (same ∙ sym at) ahead) is,
+    )
+displays_is i Unknown about user before o number step shown is same ahead = absurd cc
+displays_is i Strange about user before o number step shown is same ahead = absurd cc

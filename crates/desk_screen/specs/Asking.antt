@@ -1,6 +1,6 @@
 -- Which command a key asks for.
 use Rattle.std.specs.Prelude.{ℕ, ◌==◌, List, Bool, ◌&&◌, Option, Some, None, is_none, if◌then◌else◌}
-use Rattle.std.specs.Option.{option_map}
+use Rattle.std.specs.Option.{option_map, option_or}
 use Rattle.alarm_rules.specs.SetupLines.{after, is_nil, provided}
 use Rattle.alarm_rules.specs.SetupWords.{is_pin, word_that}
 use Rattle.arc_data.specs.Steps.{fits}
@@ -13,6 +13,7 @@ use Rattle.desk_wire.specs.declared.command.Command.{Command}
 use Rattle.desk_wire.specs.declared.command.Command.TheVariants.{Login, Next, Claim, Act, Release, Close, Show}
 use Rattle.desk_screen.specs.Orders.{typed_of}
 use Rattle.desk_screen.specs.Owning.{own_number}
+use Rattle.desk_screen.specs.Series.{first_in, kind_of}
 use Rattle.desk_screen.specs.Typing.{is_enter}
 use Rattle.desk_screen.specs.declared.order.Order.{Order}
 use Rattle.desk_screen.specs.declared.own.Due.{Due}
@@ -54,7 +55,7 @@ closed_by last own = after (own_number own) (λ number. after last (λ key. opti
 abbrev pub number_meant : List ℕ → Option Own → Option ℕ
 number_meant typed own = if is_nil typed then own_number own else number_spelled typed
 
--- at work: `n` next, `c` claim, `s` show, `l` release, `y` close, or an outcome
+-- at work: `n` next, `c` claim, `s` show, `l` release, `y` close, an outcome, or the first command of a series
 abbrev pub work_key : Option Own → Option ℕ → List ℕ → ℕ → Option Command
 work_key own last typed key =
     if key == 110 then Some Next
@@ -62,7 +63,7 @@ work_key own last typed key =
     else if key == 115 then option_map Show (number_meant typed own)
     else if key == 108 then option_map Release (own_number own)
     else if key == 121 then closed_by last own
-    else after (outcome_of key) (acted own)
+    else option_or (after (outcome_of key) (acted own)) (after (kind_of key) (first_in own))
 
 abbrev pub key_asks : Option (List ℕ) → Option Own → Option ℕ → List ℕ → Option (List ℕ) → ℕ → Option Command
 key_asks None own last typed name key = login_key name typed key

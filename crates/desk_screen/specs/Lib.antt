@@ -5,6 +5,7 @@ pub mod Orders
 pub mod Owning
 pub mod Plain
 pub mod Proper
+pub mod Series
 pub mod Stands
 pub mod Steps
 pub mod Told

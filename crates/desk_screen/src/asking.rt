@@ -1,23 +1,26 @@
 // Which command a key asks for.
 ghost use Rattle.std.specs.Prelude.{◌≡◌, None, if◌then◌else◌};
-ghost use Rattle.std.specs.Option.{option_map};
+ghost use Rattle.std.specs.Option.{option_map, option_or};
 ghost use Rattle.alarm_rules.specs.SetupLines.{after};
 ghost use Rattle.alarm_rules.specs.SetupWords.{is_pin, word_that};
 ghost use Rattle.desk_wire.specs.Names.{number_spelled};
 ghost use Rattle.desk_wire.specs.declared.command.Command.TheVariants.{Claim, Release, Show};
 ghost use Rattle.desk_screen.specs.Asking.{act_at, acted, closed_by, code_of, key_asks, login_key, may_ask, number_meant, outcome_of, work_key};
 ghost use Rattle.desk_screen.specs.Owning.{own_number};
+ghost use Rattle.desk_screen.specs.Series.{first_in, kind_of, next_in};
 ghost use Rattle.desk_screen.specs.Typing.{is_enter};
 
 use crate::keyboard::Keyboard;
 use crate::masking::typed_of;
 use crate::own::{Due, Own};
 use crate::owning::own_number;
+use crate::serial::{first_by, next_in};
+use crate::series::Series;
 use crate::session::Session;
 use action_plans::fits;
 use alarm_rules::is_pin;
 use arc_data::{CloseCode, Outcome, Txt};
-use desk_said::number;
+use desk_said::{Said, number};
 use desk_wire::Command;
 
 /// Whether a key ends a line.
@@ -86,12 +89,22 @@ fn acted(own: &Option<Own>, outcome: Outcome) -> Option<Command>
     }
 }
 
+// The outcome of the step that is expected.
 fn outcome_key(own: &Option<Own>, key: u8) -> Option<Command>
     ensures { result ≡ after (outcome_of key) (acted own.now) }
 {
     match outcome_of(key) {
         Some(outcome) => acted(own, outcome),
         None => None,
+    }
+}
+
+fn step_key(own: &Option<Own>, key: u8) -> Option<Command>
+    ensures { result ≡ option_or (after (outcome_of key) (acted own.now)) (after (kind_of key) (first_in own.now)) }
+{
+    match outcome_key(own, key) {
+        Some(command) => Some(command),
+        None => first_by(own, key),
     }
 }
 
@@ -172,7 +185,7 @@ fn work_key(own: &Option<Own>, last: Option<u8>, typed: &Txt, key: u8) -> Option
         b's' => show(typed, own),
         b'l' => release(own),
         b'y' => closed_by(last, own),
-        _ => outcome_key(own, key),
+        _ => step_key(own, key),
     }
 }
 
@@ -192,4 +205,19 @@ pub(crate) fn key_asks(
         None => login_key(&keyboard.name, &keyboard.typed, key),
         Some(_) => work_key(own, keyboard.last, &keyboard.typed, key),
     }
+}
+
+/// The command that a series goes on with behind an answer, of a screen in this state and the own incident behind that answer.
+pub(crate) fn series_asks(
+    session: &Session,
+    said: &Said,
+    own: &Option<Own>,
+    series: &Option<Series>,
+) -> Option<Command>
+    ensures { result ≡ (if may_ask session.now.connected session.now.way session.now.wish then next_in said.now own.now series.now else None) }
+{
+    if !may_ask(session) {
+        return None;
+    }
+    next_in(said, own, series)
 }

@@ -6,9 +6,10 @@ ghost use Rattle.desk_screen.specs.Inputs.{Sitting, Key, Answer, Second, Made, L
 ghost use Rattle.desk_screen.specs.Plain.{answered_after};
 ghost use Rattle.desk_screen.specs.Stands.{IsTurn, StandsFor, turn};
 
-use crate::asking::{code_said, key_asks};
+use crate::asking::{code_said, key_asks, series_asks};
 use crate::deed::Deed;
 use crate::keyboard::Keyboard;
+use crate::masking::typed_of;
 use crate::order::Order;
 use crate::own::{Due, Own};
 use crate::owning::{own_number, own_told, same_number, untold_number, with_due, worked_on};
@@ -16,6 +17,8 @@ use crate::plain::Plain;
 use crate::queue::{Queue, Waiting};
 use crate::reaction::Reaction;
 use crate::sending;
+use crate::serial::{behind_key, broken_off, heard_in};
+use crate::series::Series;
 use crate::session::Session;
 use crate::watch::Watch;
 use arc_data::CloseCode;
@@ -30,6 +33,7 @@ pub struct Screen {
     pub(crate) watch: Watch,
     pub(crate) keyboard: Keyboard,
     pub(crate) answered: Option<Deed>,
+    pub(crate) series: Option<Series>,
 }
 
 // What a line says, where a command waits for it.
@@ -81,6 +85,7 @@ impl Screen {
             },
             keyboard: Keyboard::new(),
             answered: None,
+            series: None,
         }
     }
 
@@ -89,6 +94,7 @@ impl Screen {
         ensures { IsTurn (Key key) result self.old self.new }
     {
         let asked = key_asks(&self.session, &self.own, &self.keyboard, key);
+        self.series = behind_key(key, &asked, &self.series);
         let user = self.session.user;
         self.keyboard = self.keyboard.pressed(key, &user);
         self.watch.pressed(key, user.is_some());
@@ -115,13 +121,19 @@ impl Screen {
         let same = same_number(number, after);
         self.keyboard = self.keyboard.behind(&said, same);
         let rung = self.watch.told(&said);
-        let (session, sent) = sending::told(&self.session, &said, untold_number(&self.own));
+        let asked = series_asks(&self.session, &said, &self.own, &self.series);
+        self.series = heard_in(
+            &said,
+            &typed_of(&self.session.way),
+            &asked,
+            &self.session.wish,
+            &self.own,
+            &self.series,
+        );
+        let number = untold_number(&self.own);
+        let (session, sent) = sending::told(&self.session, &said, &asked, number);
         self.session = session;
-        Reaction {
-            asked: None,
-            sent,
-            rung,
-        }
+        Reaction { asked, sent, rung }
     }
 
     // A second has passed.
@@ -144,6 +156,7 @@ impl Screen {
     {
         self.own = with_due(Due::Untold, &self.own);
         self.keyboard = self.keyboard.begun_anew();
+        self.series = broken_off(&self.series);
         let (session, sent) = sending::made(&self.session, untold_number(&self.own));
         self.session = session;
         Reaction {
@@ -159,6 +172,7 @@ impl Screen {
     {
         self.own = with_due(Due::Untold, &self.own);
         self.keyboard = self.keyboard.begun_anew();
+        self.series = broken_off(&self.series);
         let (session, sent) = sending::lost(&self.session, untold_number(&self.own));
         self.session = session;
         Reaction {
@@ -255,6 +269,13 @@ impl Screen {
         ensures { result.now ≡ self.now.answered }
     {
         &self.answered
+    }
+
+    /// The series that the newest key began, or that it ended.
+    pub fn series(&self) -> &Option<Series>
+        ensures { result.now ≡ self.now.series }
+    {
+        &self.series
     }
 
     /// The code that the next `y` would close the own incident with.

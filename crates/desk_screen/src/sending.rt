@@ -165,13 +165,20 @@ pub(crate) fn keyed(
     sent(&next, number)
 }
 
-/// The session behind an answer, and what is sent.
-pub(crate) fn told(session: &Session, said: &Said, number: Option<u64>) -> (Session, Option<Order>)
-    ensures { (line : List ℕ) (r : Reaction) → r.asked ≡ None → r.sent ≡ result.1 → IsSession (Answer line) said.now r number session.now result.0 }
+/// The session behind an answer, behind which a series may ask for a command, and what is sent.
+pub(crate) fn told(
+    session: &Session,
+    said: &Said,
+    asked: &Option<Command>,
+    number: Option<u64>,
+) -> (Session, Option<Order>)
+    ensures { (line : List ℕ) (r : Reaction) → r.asked ≡ asked.now → r.sent ≡ result.1 → IsSession (Answer line) said.now r number session.now result.0 }
 {
     let mut next = *session;
     next.user = logged(said, &session.user);
     next.way = None;
+    next.wish = wish_asked(asked, &session.wish);
+    next.undone = undone_asked(asked, &session.undone);
     next.show_owed = owed(&session.way, session.show_owed);
     next.list_owed = owed(&session.way, session.list_owed);
     next.silence = 0;

@@ -57,10 +57,10 @@ pub page_same : (screen : Screen) (sites : Option (List ℕ)) (past : Past) (sho
     → page_row screen sites past shown rows moment index ≡ page_row (without_pin screen) sites past shown rows moment index
 page_same screen sites past shown rows moment index =
     ap (λ (row : Tone × List ℕ). if index == 0 then status screen.session screen.watch.total else if index == 1 then row
-    else if index == 2 then outcome screen.session.undone screen.answered else if index == rows - 1 then keys_row
+    else if index == 2 then outcome screen.session.undone screen.answered screen.series else if index == rows - 1 then keys_row
     else body_row shown screen sites past moment (index - 3))
     (prompt_same screen.session screen.keyboard screen.own)
     ∙ ap (λ (body : Tone × List ℕ). if index == 0 then status screen.session screen.watch.total
     else if index == 1 then prompt (without_pin screen).session (without_pin screen).keyboard screen.own
-    else if index == 2 then outcome screen.session.undone screen.answered else if index == rows - 1 then keys_row else body)
+    else if index == 2 then outcome screen.session.undone screen.answered screen.series else if index == rows - 1 then keys_row else body)
     (body_same shown screen sites past moment (index - 3))

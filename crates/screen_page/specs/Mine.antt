@@ -48,8 +48,8 @@ with_called before sites view step = before
 -- the keys that record a step
 abbrev pub keys_text : Step → List ℕ
 keys_text Premises = codes "   r reached, a no answer"
-keys_text (Holder number) = codes "   r reached, a no answer"
-keys_text other = codes "   d done"
+keys_text (Holder number) = codes "   r reached, a no answer; A nobody, u i o p"
+keys_text other = codes "   d done; D all tasks"
 
 -- the step that is expected, whom it calls, and the keys that record it
 abbrev pub ahead_row : Option (List ℕ) → Option View → Step → List ℕ

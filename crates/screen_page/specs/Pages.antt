@@ -58,7 +58,9 @@ help_texts =
     ∷ codes "12c    claim incident 12"
     ∷ codes "s, 12s show your incident, or incident 12"
     ∷ codes "r a    the call: reached, or no answer"
-    ∷ codes "d      the step is done"
+    ∷ codes "d D    the step is done; each task up to the next call is"
+    ∷ codes "A      no keyholder answered, from the one at NOW on"
+    ∷ codes "u i o p  keyholder 1, 2, 3, 4 reached, and none before him"
     ∷ codes "l      release your incident"
     ∷ codes "Ry     close it as real: R, and then y"
     ∷ codes "Fy Ty  close it as false, as test"
@@ -77,7 +79,7 @@ abbrev pub past_row : List (List ℕ) → ℕ → Tone × List ℕ
 past_row rows place = (Plainly, with_text [] (newest rows place))
 
 abbrev pub keys_row : Tone × List ℕ
-keys_row = (Faint, with_text [] (codes "n next c claim s show r a d step l release R F T close m mute h past ? help q quit"))
+keys_row = (Faint, with_text [] (codes "n next c claim s show r a d step A D uiop steps l release RFT close m mute ? help"))
 
 abbrev pub heading_row : Tone × List ℕ
 heading_row = (Heading, with_text [] (codes "   number   class        account           seen     holder"))
@@ -101,7 +103,7 @@ abbrev pub page_row : Screen → Option (List ℕ) → Past → Shown → ℕ �
 page_row screen sites past shown rows moment index =
     if index == 0 then status screen.session screen.watch.total
     else if index == 1 then prompt screen.session screen.keyboard screen.own
-    else if index == 2 then outcome screen.session.undone screen.answered
+    else if index == 2 then outcome screen.session.undone screen.answered screen.series
     else if index == rows - 1 then keys_row
     else body_row shown screen sites past moment (index - 3)
 

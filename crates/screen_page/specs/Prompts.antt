@@ -12,6 +12,7 @@ use Rattle.desk_screen.specs.Owning.{own_number}
 use Rattle.desk_screen.specs.declared.deed.Deed.{Deed}
 use Rattle.desk_screen.specs.declared.keyboard.Keyboard.{Keyboard}
 use Rattle.desk_screen.specs.declared.own.Own.{Own}
+use Rattle.desk_screen.specs.declared.series.Series.{Series}
 use Rattle.desk_screen.specs.declared.session.Session.{Session}
 use Rattle.screen_page.specs.Texts.{answered_row, login_row, status_row, undone_row, with_text, with_texts}
 use Rattle.screen_page.specs.declared.tone.Tone.{Tone}
@@ -73,11 +74,19 @@ prompt session keyboard own =
     if session.connected then awaited_or (awaited (typed_of session.way) session.wish) session keyboard own
     else (Plainly, with_text [] (codes "the screen goes on trying to connect; Ctrl-C leaves"))
 
--- the third row: what was not done, or else the last answer
-abbrev pub outcome : Option Command → Option Deed → Tone × List ℕ
-outcome (Some command) deed = (Grave, undone_row command)
-outcome None (Some deed) = (Plainly, answered_row deed)
-outcome None None = (Plainly, [])
+-- How far a series has come: how many steps the desk has recorded by its key, and whether it goes on.
+abbrev pub way_text : Bool → List ℕ
+way_text is_on = if is_on then codes " recorded by one key, goes on: " else codes " recorded by one key, ended: "
+
+abbrev pub series_row : Option Series → List ℕ
+series_row None = []
+series_row (Some series) = with_texts [] (decimal series.recorded ∷ way_text series.is_on ∷ [])
+
+-- the third row: how far a series has come, and what was not done, or else the last answer
+abbrev pub outcome : Option Command → Option Deed → Option Series → Tone × List ℕ
+outcome (Some command) deed series = (Grave, with_text (series_row series) (undone_row command))
+outcome None (Some deed) series = (Plainly, with_text (series_row series) (answered_row deed))
+outcome None None series = (Plainly, series_row series)
 
 -- Which keys leave the screen: `y` behind a `q` at work, and Ctrl-C and Ctrl-D at any time.
 unfoldable pub leaves : Option (List ℕ) → Option ℕ → ℕ → Bool

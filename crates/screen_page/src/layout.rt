@@ -129,16 +129,18 @@ fn help_text(place: usize) -> &'static [u8]
         1 => b"12c    claim incident 12",
         2 => b"s, 12s show your incident, or incident 12",
         3 => b"r a    the call: reached, or no answer",
-        4 => b"d      the step is done",
-        5 => b"l      release your incident",
-        6 => b"Ry     close it as real: R, and then y",
-        7 => b"Fy Ty  close it as false, as test",
-        8 => b"m      silence the bell for a minute",
-        9 => b"h      what you did in this sitting",
-        10 => b"qy     leave; Ctrl-C leaves at once",
-        11 => b"A B C D are the priorities 1 to 4; ! waits for somebody",
-        12 => b"the bell rings at a new incident of priority 1 or 2, and each 20 s while one waits",
-        13 => b"any key goes back to the incidents",
+        4 => b"d D    the step is done; each task up to the next call is",
+        5 => b"A      no keyholder answered, from the one at NOW on",
+        6 => b"u i o p  keyholder 1, 2, 3, 4 reached, and none before him",
+        7 => b"l      release your incident",
+        8 => b"Ry     close it as real: R, and then y",
+        9 => b"Fy Ty  close it as false, as test",
+        10 => b"m      silence the bell for a minute",
+        11 => b"h      what you did in this sitting",
+        12 => b"qy     leave; Ctrl-C leaves at once",
+        13 => b"A B C D are the priorities 1 to 4; ! waits for somebody",
+        14 => b"the bell rings at a new incident of priority 1 or 2, and each 20 s while one waits",
+        15 => b"any key goes back to the incidents",
         _ => b"",
     }
 }
@@ -170,7 +172,7 @@ fn keys_row() -> (Tone, Strip)
     ensures { result ≡ keys_row }
 {
     let strip = strip_of(
-        b"n next c claim s show r a d step l release R F T close m mute h past ? help q quit",
+        b"n next c claim s show r a d step A D uiop steps l release RFT close m mute ? help",
     );
     (Tone::Faint, strip)
 }
@@ -222,7 +224,7 @@ pub fn row(page: &Page, index: usize) -> (Tone, Strip)
     match index {
         0 => status(screen.session(), screen.total()),
         1 => prompt(screen),
-        2 => outcome(&screen.session().undone, screen.answered()),
+        2 => outcome(&screen.session().undone, screen.answered(), screen.series()),
         _ if index == last => keys_row(),
         _ => body_row(page, index - 3),
     }

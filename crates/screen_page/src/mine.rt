@@ -104,8 +104,9 @@ fn keys_text(step: Step) -> &'static [u8]
     ensures { result.now ≡ keys_text step }
 {
     match step {
-        Step::Premises | Step::Holder(_) => b"   r reached, a no answer",
-        _ => b"   d done",
+        Step::Premises => b"   r reached, a no answer",
+        Step::Holder(_) => b"   r reached, a no answer; A nobody, u i o p",
+        _ => b"   d done; D all tasks",
     }
 }
 

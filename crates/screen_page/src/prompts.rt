@@ -3,7 +3,7 @@ ghost use Rattle.std.specs.Prelude.{◌≡◌, ◌∷◌, [], codes};
 ghost use Rattle.desk_wire.specs.Laws.{spelling};
 ghost use Rattle.desk_screen.specs.Orders.{typed_of};
 ghost use Rattle.screen_page.specs.Prompts.{awaited, awaited_or, closing_row, code_word, confirmed, confirmed_or, is_key, leaves, leaving_row};
-ghost use Rattle.screen_page.specs.Prompts.{number_row, outcome, prompt, status, typed_row};
+ghost use Rattle.screen_page.specs.Prompts.{number_row, outcome, prompt, series_row, status, typed_row, way_text};
 ghost use Rattle.screen_page.specs.Texts.{with_texts};
 
 use crate::commands::spelled;
@@ -11,7 +11,7 @@ use crate::rows::{answered_row, login_row, status_row, undone_row};
 use crate::strip::{Strip, strip_of};
 use crate::tone::Tone;
 use arc_data::{CloseCode, Txt};
-use desk_screen::{Command, Deed, Keyboard, Order, Own, Screen, Session};
+use desk_screen::{Command, Deed, Order, Screen, Series, Session};
 
 /// The first row: the connection, the operator, the desk's silence, how many incidents are open.
 pub(crate) fn status(session: &Session, total: u64) -> (Tone, Strip)
@@ -137,14 +137,47 @@ pub(crate) fn prompt(screen: &Screen) -> (Tone, Strip)
     }
 }
 
-/// The third row: what was not done, or else the last answer.
-pub(crate) fn outcome(undone: &Option<Command>, answered: &Option<Deed>) -> (Tone, Strip)
-    ensures { result ≡ outcome undone.now answered.now }
+fn way_text(is_on: bool) -> &'static [u8]
+    ensures { result.now ≡ way_text is_on }
 {
+    if is_on {
+        b" recorded by one key, goes on: "
+    } else {
+        b" recorded by one key, ended: "
+    }
+}
+
+// How far a series has come.
+fn series_row(series: &Option<Series>) -> Strip
+    ensures { result ≡ series_row series.now }
+{
+    let mut strip = Strip::new();
+    if let Some(series) = series {
+        strip.put_number(series.recorded);
+        strip.put(way_text(series.is_on));
+    }
+    strip
+}
+
+/// The third row: how far a series has come, and what was not done, or else the last answer.
+pub(crate) fn outcome(
+    undone: &Option<Command>,
+    answered: &Option<Deed>,
+    series: &Option<Series>,
+) -> (Tone, Strip)
+    ensures { result ≡ outcome undone.now answered.now series.now }
+{
+    let mut strip = series_row(series);
     match (undone, answered) {
-        (Some(command), _) => (Tone::Grave, undone_row(command)),
-        (None, Some(deed)) => (Tone::Plainly, answered_row(deed)),
-        (None, None) => (Tone::Plainly, Strip::new()),
+        (Some(command), _) => {
+            strip.put(undone_row(command).bytes());
+            (Tone::Grave, strip)
+        }
+        (None, Some(deed)) => {
+            strip.put(answered_row(deed).bytes());
+            (Tone::Plainly, strip)
+        }
+        (None, None) => (Tone::Plainly, strip),
     }
 }
 

@@ -1,5 +1,6 @@
 // Sittings at a screen: what is sent to the desk, key by key and answer by answer, as the desk's guide has it.
 use desk_screen::{Command, Order, Poll, Reaction, Screen};
+use screen_page::order_line;
 use std::process::Abort;
 
 fn name_of(command: &Command) -> &'static str {
@@ -33,6 +34,15 @@ fn key(rt: &impl Abort, screen: &mut Screen, byte: u8, wanted: &str) {
 fn answer(rt: &impl Abort, screen: &mut Screen, line: &str, wanted: &str) {
     let reaction = screen.answer(line.as_bytes());
     assert!(rt; sent(&reaction) == wanted, "{line}");
+}
+
+// An answer behind which this very line goes out.
+fn leads_to(rt: &impl Abort, screen: &mut Screen, line: &str, wanted: &str) {
+    let reaction = screen.answer(line.as_bytes());
+    match &reaction.sent {
+        Some(order) => assert!(rt; order_line(order).bytes() == wanted.as_bytes(), "{line}"),
+        None => assert!(rt; false, "{line}"),
+    }
 }
 
 fn rings(rt: &impl Abort, screen: &mut Screen, line: &str, wanted: bool) {
@@ -118,6 +128,119 @@ fn an_incident_from_its_ring_to_its_closing(rt: HostRuntime) {
     key(&rt, &mut screen, b'y', "close");
     answer(&rt, &mut screen, "closed 1", "(list)");
     answer(&rt, &mut screen, "list 0", "-");
+}
+
+const NOTE: &str =
+    "incident 1 burglary 1234 code 131 opened 1000000000 signals 1 restored no holder ann next note";
+
+const POLICE: &str =
+    "incident 1 burglary 1234 code 131 opened 1000000000 signals 1 restored no holder ann next police";
+
+const PREMISES: &str =
+    "incident 1 burglary 1234 code 131 opened 1000000000 signals 1 restored no holder ann next premises";
+
+const HOLDER1: &str =
+    "incident 1 burglary 1234 code 131 opened 1000000000 signals 1 restored no holder ann next holder1";
+
+const HOLDER2: &str =
+    "incident 1 burglary 1234 code 131 opened 1000000000 signals 1 restored no holder ann next holder2";
+
+const HOLDER3: &str =
+    "incident 1 burglary 1234 code 131 opened 1000000000 signals 1 restored no holder ann next holder3";
+
+const MINE: &str = "list 1 1/burglary/1234/ann";
+
+// A screen at which ann holds incident 1, and this line of the desk has shown it.
+fn holding(rt: &impl Abort, shown: &str) -> Screen {
+    let mut screen = at_work(rt);
+    key(rt, &mut screen, b'n', "next");
+    answer(rt, &mut screen, "claimed 1 burglary 1234", "(show)");
+    answer(rt, &mut screen, shown, "(list)");
+    answer(rt, &mut screen, MINE, "-");
+    screen
+}
+
+#[test]
+fn one_key_records_each_task_up_to_a_call(rt: HostRuntime) {
+    let mut screen = holding(&rt, NOTE);
+    key(&rt, &mut screen, b'A', "-");
+    key(&rt, &mut screen, b'i', "-");
+    key(&rt, &mut screen, b'D', "act");
+    answer(&rt, &mut screen, "recorded 1 left 4", "(show)");
+    second(&rt, &mut screen, "-");
+    leads_to(&rt, &mut screen, POLICE, "act 1 police done");
+    answer(&rt, &mut screen, "recorded 1 left 3", "(show)");
+    answer(&rt, &mut screen, PREMISES, "(list)");
+    answer(&rt, &mut screen, MINE, "-");
+    // it has ended, also where the desk shows a task again
+    second(&rt, &mut screen, "(list)");
+    answer(&rt, &mut screen, POLICE, "-");
+}
+
+#[test]
+fn one_key_records_the_calls_of_keyholders(rt: HostRuntime) {
+    let mut screen = holding(&rt, HOLDER1);
+    key(&rt, &mut screen, b'D', "-");
+    second(&rt, &mut screen, "(list)");
+    // the list is on the way: the first act waits for its answer
+    key(&rt, &mut screen, b'A', "-");
+    leads_to(&rt, &mut screen, MINE, "act 1 holder1 noanswer");
+    answer(&rt, &mut screen, "recorded 1 left 3", "(show)");
+    leads_to(&rt, &mut screen, HOLDER2, "act 1 holder2 noanswer");
+    answer(&rt, &mut screen, "recorded 1 left 2", "(show)");
+    answer(&rt, &mut screen, PREMISES, "(list)");
+    let mut screen = holding(&rt, HOLDER1);
+    key(&rt, &mut screen, b'i', "act");
+    answer(&rt, &mut screen, "recorded 1 left 3", "(show)");
+    leads_to(&rt, &mut screen, HOLDER2, "act 1 holder2 reached");
+    answer(&rt, &mut screen, "recorded 1 left 1", "(show)");
+    answer(&rt, &mut screen, HOLDER3, "(list)");
+}
+
+// This line behind its first act ends a series: nothing but a look goes out, whatever the desk then shows.
+fn ends(rt: &impl Abort, line: &str) {
+    let mut screen = holding(rt, NOTE);
+    key(rt, &mut screen, b'D', "act");
+    answer(rt, &mut screen, line, "(list)");
+    answer(rt, &mut screen, MINE, "-");
+    second(rt, &mut screen, "(list)");
+    answer(rt, &mut screen, POLICE, "-");
+}
+
+#[test]
+fn another_answer_ends_a_series(rt: HostRuntime) {
+    ends(&rt, "expected police");
+    ends(&rt, "recorded 2 left 1");
+    ends(&rt, "what");
+}
+
+#[test]
+fn a_key_ends_a_series(rt: HostRuntime) {
+    let mut screen = holding(&rt, NOTE);
+    key(&rt, &mut screen, b'D', "act");
+    key(&rt, &mut screen, b'D', "-");
+    answer(&rt, &mut screen, "recorded 1 left 4", "(show)");
+    answer(&rt, &mut screen, POLICE, "(list)");
+    answer(&rt, &mut screen, MINE, "-");
+    key(&rt, &mut screen, b'D', "act");
+    answer(&rt, &mut screen, "recorded 1 left 3", "(show)");
+    key(&rt, &mut screen, b'x', "-");
+    answer(&rt, &mut screen, NOTE, "(list)");
+}
+
+#[test]
+fn a_lost_connection_ends_a_series(rt: HostRuntime) {
+    let mut screen = holding(&rt, NOTE);
+    key(&rt, &mut screen, b'D', "act");
+    assert!(rt; sent(&screen.lost()) == "-", "lost");
+    assert!(rt; sent(&screen.made()) == "-", "made");
+    for byte in b"ann\r1234".iter() {
+        key(&rt, &mut screen, *byte, "-");
+    }
+    key(&rt, &mut screen, b'\r', "login");
+    answer(&rt, &mut screen, "ok ann", "(show)");
+    answer(&rt, &mut screen, POLICE, "(list)");
+    answer(&rt, &mut screen, MINE, "-");
 }
 
 #[test]

@@ -21,4 +21,5 @@ returns c =
         name = ap (λ (k : Keyboard). k.name) c.begun_anew-self.ensures;
       };
       answered = refl;
+      series = c.broken_off-self.ensures;
     }

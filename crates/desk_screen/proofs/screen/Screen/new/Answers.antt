@@ -3,6 +3,7 @@ use Rattle.desk_screen.specs.Bell.{quiet, muted}
 use Rattle.desk_screen.specs.Orders.{is_connected, user, way, wish, undone, show_owed, list_owed}
 use Rattle.desk_screen.specs.Owning.{own}
 use Rattle.desk_screen.specs.Plain.{answered}
+use Rattle.desk_screen.specs.Series.{series}
 use Rattle.desk_screen.specs.Typing.{last_key, typed, name}
 use Rattle.desk_screen.specs.Watching.{silence, queue, total, clock}
 use Rattle.desk_screen.specs.declared.keyboard.Keyboard.{Keyboard}
@@ -11,10 +12,11 @@ use Rattle.desk_screen.proofs.Whole.{has_no_pin}
 use Rattle.desk_screen.proofs.screen.Screen.new.Goals as goal
 
 pub returns : goal.returns
-unfolding is_connected user way wish undone show_owed list_owed silence own queue total clock quiet muted last_key typed name answered
+unfolding is_connected user way wish undone show_owed list_owed silence own queue total clock quiet muted last_key typed name answered series
 returns c = record {
   proper = tt;
   once = tt;
+  cause = tt;
   pin = has_no_pin [];
   connected = refl;
   user = refl;
@@ -35,4 +37,5 @@ returns c = record {
   typed = ap (λ (k : Keyboard). k.typed) c.new-2.ensures;
   name = ap (λ (k : Keyboard). k.name) c.new-2.ensures;
   answered = refl;
+  series = refl;
 }

@@ -16,4 +16,5 @@ returns c =
       watch = c.pressed.ensures r old.session.user refl (sym c.is_some.ensures);
       typed = c.pressed-self.ensures Strange _;
       answered = refl;
+      series = c.behind_key-self.ensures;
     }

@@ -16,4 +16,5 @@ returns c =
       watch = c.ticked-rung.ensures r old.session.user refl;
       typed = record { last = refl; typed = refl; name = refl };
       answered = refl;
+      series = refl;
     }
