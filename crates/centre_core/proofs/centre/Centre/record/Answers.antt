@@ -14,14 +14,14 @@ returns-in-Adopt c =
     let s = c.args.self.now in
     let may = subst (λ (e : Event). MayRecord s e c.args.at c.args.reply.now c.args.setup c.args.carried.now) c.in-Adopt.is c.requires in
     let t : State =
-    the_view (record c.self.inside { recorded = c.self.inside.recorded + 1; last = c.args.at; accounts = c.adopt.new.self; queued = c.adopt-2.new.self }) in
+    the_view (record c.self.inside { recorded = c.self.inside.recorded + 1; last = c.args.at; accounts = c.adopt.new.self; queued = c.adopt-in-Adopt.new.self }) in
     let text = c.adopt.ensures.text ∙ sym c.in-Some.is in
-    let sum : sum_of c.args.at (c.self.inside.recorded + 1) c.adopt.new.self.text c.adopt.new.self.rows c.adopt-2.new.self
-    ≡ sum_of c.args.at (c.self.inside.recorded + 1) c.args.setup c.self.inside.accounts.rows c.adopt-2.new.self =
-    λ i. sum_of c.args.at (c.self.inside.recorded + 1) (text i) (c.adopt.ensures.rows i) c.adopt-2.new.self in
+    let sum : sum_of c.args.at (c.self.inside.recorded + 1) c.adopt.new.self.text c.adopt.new.self.rows c.adopt-in-Adopt.new.self
+    ≡ sum_of c.args.at (c.self.inside.recorded + 1) c.args.setup c.self.inside.accounts.rows c.adopt-in-Adopt.new.self =
+    λ i. sum_of c.args.at (c.self.inside.recorded + 1) (text i) (c.adopt.ensures.rows i) c.adopt-in-Adopt.new.self in
     subst (λ (e : Event). Records s t e c.args.at c.args.reply.now) (sym c.in-Adopt.is)
-    (records_adopted s t c.in-Adopt.text c.args.at c.args.reply.now c.args.setup c.args.carried.now c.self.inside.accounts.rows c.self.inside.queued c.adopt-2.new.self c.self.inside.last c.self.inside.recorded c.self.inside.accounts.text
-    may (c.adopt-2.ensures.marked c.in-Adopt.text) (ap (λ (x : State). x.sum) (sym c.self.view_is)) (ap (λ (x : State). x.entries) c.self.view_is) sum)
+    (records_adopted s t c.in-Adopt.text c.args.at c.args.reply.now c.args.setup c.args.carried.now c.self.inside.accounts.rows c.self.inside.queued c.adopt-in-Adopt.new.self c.self.inside.last c.self.inside.recorded c.self.inside.accounts.text
+    may (c.adopt-in-Adopt.ensures.marked c.in-Adopt.text) (ap (λ (x : State). x.sum) (sym c.self.view_is)) (ap (λ (x : State). x.entries) c.self.view_is) sum)
 
 pub invariant_of-self : goal.invariant_of-self
 invariant_of-self c =
@@ -31,8 +31,8 @@ invariant_of-self c =
       bound = c.self.invariant.bound;
       moment = c.requires.moment;
       valid = subst (λ o. IfSome o (λ x. IsOk (setup_of x))) (c.in-Some.is ∙ sym c.adopt.ensures.text) (valid_adopted c.args.setup c.in-Adopt.text may.setup);
-      counts = counts_up c.self.inside.recorded c.adopt-2.new.self.opened c.adopt-2.new.self.incidents (c.adopt-2.ensures.few _ c.self.invariant.counts);
-      acts = c.adopt-2.ensures.room c.self.invariant.acts;
+      counts = counts_up c.self.inside.recorded c.adopt-in-Adopt.new.self.opened c.adopt-in-Adopt.new.self.incidents (c.adopt-in-Adopt.ensures.few _ c.self.invariant.counts);
+      acts = c.adopt-in-Adopt.ensures.room c.self.invariant.acts;
     }
 
 pub mark-requires : goal.mark-requires

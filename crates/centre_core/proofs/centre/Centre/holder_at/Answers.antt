@@ -6,7 +6,7 @@ use Rattle.arc_data.specs.Incidents.{has_number}
 use Rattle.centre_rules.specs.State.{State}
 use Rattle.centre_rules.specs.History.{marks}
 use Rattle.centre_core.proofs.Ordered.{holder_is, holder_same}
-use Rattle.centre_core.proofs.holding.Centre.holder_at.Goals as goal
+use Rattle.centre_core.proofs.centre.Centre.holder_at.Goals as goal
 
 pub returns-clause-kept : goal.returns-clause-kept
 returns-clause-kept c =
