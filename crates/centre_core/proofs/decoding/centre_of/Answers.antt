@@ -12,7 +12,7 @@ use Rattle.summary_codec.specs.declared.summary.ReadSummary.{ReadSummary}
 use Rattle.summary_codec.specs.Parts.{row_of_read, summary_of_read}
 use Rattle.centre_core.specs.Decoding.{IsHeadFine, AreRowsFine, AreIncidentsFine, AreAllApart}
 use Rattle.centre_core.specs.Taken.{sum_of}
-use Rattle.centre_core.proofs.Decoded.{of_parts, head_of, rows_of, incidents_of, centre_fine}
+use Rattle.centre_core.proofs.Decoded.{of_parts, head_of, rows_of, incidents_of, apart_of, centre_fine}
 use Rattle.centre_core.proofs.decoding.centre_of.Goals as goal
 
 abbrev IsWhole : ReadSummary → Type 0
@@ -28,6 +28,15 @@ returns-then-not-are_parts c = λ w.
       rows_are = subst (AreRowsFine q.head.last) (sym c.deref.ensures.value) (rows_of q whole);
       incidents = subst (AreIncidentsFine q.head) (sym c.deref-2.ensures.value) (incidents_of q whole);
     }))
+
+pub returns-in_default-2 : goal.returns-in_default-2
+returns-in_default-2 c = λ w.
+    let q : ReadSummary = record { head = c.parts-rows.result.0; rows = c.parts-rows.result.1; incidents = c.parts-rows.result.2 } in
+    let same : q ≡ c.args.read = λ i. record { head = c.parts-rows.ensures.head i; rows = c.parts-rows.ensures.rows i; incidents = c.parts-rows.ensures.incidents i } in
+    let text : c.in-Some.accounts.text ≡ option_map (λ t. t.now) q.head.text = rw c.in-Some.is at c.in_ok-accounts.ensures.kept in
+    let not_apart : AreAllApart c.lapse_by-lapse.result q.head.last q.incidents.items → ⊥ = rw c.in_default-2.is at c.in_ok-queued.ensures.apart in
+    not_apart (subst (λ (l : Option ℕ). AreAllApart l q.head.last q.incidents.items) (sym (c.lapse_by-lapse.ensures (summary_of_read q) (sym text)))
+    (apart_of q (subst IsWhole (sym same) w)))
 
 pub invariant_of-result : goal.invariant_of-result
 invariant_of-result c =
