@@ -1,5 +1,5 @@
 -- What has been worked out for an event.
-use Rattle.std.proofs.Common.{◌≡◌, ◌≤◌, ℕ, List, [], length, true, false, Option, Some, None, refl, sym, ap, ◌∙◌, arith}
+use Rattle.std.proofs.Common.{◌≡◌, ◌≤◌, ℕ, List, [], ◌++◌, length, true, false, Option, Some, None, refl, sym, ap, ◌∙◌, arith}
 use Rattle.std.specs.Prelude.{◌&&◌, IsOk, Result, Ok, Err, option_and_then, unwrap_or}
 use Rattle.std.specs.List.{flat_map}
 use Rattle.std.specs.Result.{result_ok, result_unwrap_or}
@@ -14,8 +14,9 @@ use Rattle.arc_data.specs.declared.signal.Signal.{Signal}
 use Rattle.alarm_rules.specs.Setups.{Setup, setup_of, meaning}
 use Rattle.alarm_rules.specs.Signals.{signals, has_signals}
 use Rattle.centre_rules.specs.Summary.{Summary}
-use Rattle.centre_rules.specs.Marks.{Carried, force}
-use Rattle.centre_rules.specs.Carrying.{carried_by, carried_sent, if_in_force, raised}
+use Rattle.centre_rules.specs.Marks.{Mark, Carried, force}
+use Rattle.centre_rules.specs.Carrying.{carried_by, carried_sent, if_in_force, raised, raised_where, is_silent, is_late}
+use Rattle.arc_data.specs.declared.signal.Class.TheVariants.{CommFail, LateClose}
 use Rattle.centre_rules.specs.Answers.{answer_over, if_known, knows_account, repeat_of, taken_or}
 use Rattle.centre_core.specs.Kept.{IsWorked, IsPlain}
 
@@ -76,9 +77,20 @@ message_taken s m at setup signals_are xs in_force known read none are few = rec
 
 -- Ticks.
 
+-- what a Tick raises under a setup
+abbrev pub raised_under : Summary → List Mark → ℕ → Setup → List Carried
+raised_under s ms at setup = raised_where (is_silent s ms at) CommFail at setup ++ raised_where (is_late s ms at) LateClose at setup
+
 pub tick_worked : (s : Summary) (at : ℕ) (xs : List Carried) (r : Reply) → xs ≡ raised s [] at → length xs ≤ 4000 → r ≡ Raised (length xs) → IsWorked s Tick at r xs
 tick_worked s at xs r are few is = record {
   answer = is ∙ ap (λ (l : List Carried). Raised (length l)) are;
   carried = λ q. are;
   few = omega (arith, few);
 }
+
+pub raised_none : (s : Summary) (at : ℕ) → s.text ≡ None → raised s [] at ≡ []
+raised_none s at none =
+    ap (λ (o : Option (List ℕ)). if_in_force (option_and_then (λ t. result_ok (setup_of t)) o) (raised_under s [] at)) none
+
+pub raised_some : (s : Summary) (at : ℕ) (text : List ℕ) → s.text ≡ Some text → IsOk (setup_of text) → raised s [] at ≡ raised_under s [] at (meaning text)
+raised_some s at text is ok = ap (λ (o : Option Setup). if_in_force o (raised_under s [] at)) (force_is s text is ok)
