@@ -135,7 +135,7 @@ fn a_copy_goes_on_alike(rt: HostRuntime) {
 const GOES_ON: &str = "\
 62;message;repeat
 62;message other;repeat
-63;next;another reply
+63;next;busy
 64;close;closed
 65;beat;heard
 126;tick;raised 0";
