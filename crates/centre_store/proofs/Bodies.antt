@@ -12,7 +12,7 @@ use Rattle.arc_data.specs.declared.event.Event.TheVariants.{Claim, Next, Act, Re
 use Rattle.arc_data.specs.declared.event.Message.{Message}
 use Rattle.arc_data.specs.declared.incident.Incident.{Incident}
 use Rattle.centre_rules.specs.Summary.{Summary}
-use Rattle.centre_rules.specs.Cases.{incidents}
+use Rattle.centre_rules.specs.Standing.{standing}
 use Rattle.centre_rules.specs.Desks.{show_of, numbered}
 use Rattle.centre_rules.specs.History.{Entry, recorded, is_recorded, marks}
 use Rattle.centre_rules.specs.Answers.{answer}
@@ -94,6 +94,6 @@ shown_quiet number None is = false≢true is
 shown_quiet number (Some i) is = false≢true is
 
 pub kept_event : (b : Summary) (h : List Entry) (event : Event) (at : ℕ) → is_recorded (answer b h event at) ≡ true → IsKept event
-kept_event b h (Show number) at is = shown_quiet number (numbered number (incidents b (marks b h))) is
+kept_event b h (Show number) at is = shown_quiet number (numbered number (standing b (marks b h) at)) is
 kept_event b h Rows at is = false≢true is
 kept_event b h event at is = tt
