@@ -1,6 +1,5 @@
 -- A series goes on as the trace of its sitting shows.
 use Rattle.std.proofs.Common.{◌≡◌, ℕ, List, ◌∷◌, [], Bool, true, false, not, ◌&&◌, cond, eqb, Option, Some, None, refl, sym, ap, ◌∙◌, inl, inr, subst}
-use Rattle.std.specs.Option.{option_map, option_or}
 use Rattle.std.proofs.lemmas.Bool.{and_parts, eqb-true, not-true}
 use Rattle.alarm_rules.specs.SetupLines.{after}
 use Rattle.arc_data.specs.Steps.{is_reached}
@@ -10,8 +9,8 @@ use Rattle.desk_wire.specs.declared.command.Command.{Command}
 use Rattle.desk_wire.specs.declared.command.Command.TheVariants.{Login, Quit, Next, Claim, Act, Release, Close, Show, List as Rows}
 use Rattle.desk_screen.specs.Inputs.{Input, Key, Answer, Second, Made, Lost, Turn, Sitting, news}
 use Rattle.desk_screen.specs.Orders.{typed_of, user, way, wish}
-use Rattle.desk_screen.specs.Owning.{own, own_after, own_number, same_number, worked_on}
-use Rattle.desk_screen.specs.Proper.{Displays, GoesOn, HasGoneOn, IsAhead, IsAllowed, IsAsked, IsFor, IsNext, IsOwn, IsProper, LeadsOn}
+use Rattle.desk_screen.specs.Owning.{own, own_after, worked_on}
+use Rattle.desk_screen.specs.Proper.{Displays, GoesOn, HasGoneOn, IsAllowed, IsAsked, IsFor, IsNext, IsOwn, IsProper, LeadsOn}
 use Rattle.desk_screen.specs.Series.{act_in, act_of, begun_by, broken_off, heard_in, is_own, keeps, kind_of, next_in, outcome_in, series, series_after, shows, stopped}
 use Rattle.desk_screen.specs.Typing.{last_key, name, typed}
 use Rattle.desk_screen.specs.declared.own.Due.{Due}
@@ -19,7 +18,7 @@ use Rattle.desk_screen.specs.declared.own.Due.TheVariants.{Untold, AllMet, Ahead
 use Rattle.desk_screen.specs.declared.own.Own.{Own}
 use Rattle.desk_screen.specs.declared.series.Kind.{Kind}
 use Rattle.desk_screen.specs.declared.series.Series.{Series}
-use Rattle.desk_screen.proofs.Asked.{fit_is, mapped_is, own_is, then_is}
+use Rattle.desk_screen.proofs.Asked.{fit_is, mapped_is, then_is}
 use Rattle.desk_screen.proofs.Sends.{first, or_is, three}
 use Rattle.desk_screen.proofs.Told.{displays_is}
 

@@ -10,7 +10,7 @@ use Rattle.desk_wire.specs.declared.command.Command.TheVariants.{Act}
 use Rattle.desk_said.specs.declared.said.Said.{Said}
 use Rattle.desk_said.specs.declared.said.Said.TheVariants.{Welcome, Denied, What, Bye, Claimed, NoneWaiting, BusyWith, HeldBy, NotOpen}
 use Rattle.desk_said.specs.declared.said.Said.TheVariants.{NotYours, Expected, Missing, Recorded, Released, Closed, Listed, Shown, Unknown, Strange}
-use Rattle.desk_screen.specs.Inputs.{Input, Key, Turn, Sitting, is_break, news}
+use Rattle.desk_screen.specs.Inputs.{Input, Turn, Sitting, is_break, news}
 use Rattle.desk_screen.specs.Orders.{user, way}
 use Rattle.desk_screen.specs.Owning.{dropped, due_of, held_in, is_held_by, is_shown_by, kept, lost_in, mere, own, own_after, own_told}
 use Rattle.desk_screen.specs.Owning.{owned_by, same_number, seen, told_at, with_due, worked_on}

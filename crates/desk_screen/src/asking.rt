@@ -7,14 +7,15 @@ ghost use Rattle.desk_wire.specs.Names.{number_spelled};
 ghost use Rattle.desk_wire.specs.declared.command.Command.TheVariants.{Claim, Release, Show};
 ghost use Rattle.desk_screen.specs.Asking.{act_at, acted, closed_by, code_of, key_asks, login_key, may_ask, number_meant, outcome_of, work_key};
 ghost use Rattle.desk_screen.specs.Owning.{own_number};
-ghost use Rattle.desk_screen.specs.Series.{first_in, kind_of, next_in};
+ghost use Rattle.desk_screen.specs.Orders.{typed_of};
+ghost use Rattle.desk_screen.specs.Series.{first_in, heard_in, kind_of, next_in};
 ghost use Rattle.desk_screen.specs.Typing.{is_enter};
 
 use crate::keyboard::Keyboard;
 use crate::masking::typed_of;
 use crate::own::{Due, Own};
 use crate::owning::own_number;
-use crate::serial::{first_by, next_in};
+use crate::serial::{first_by, heard_in, next_in};
 use crate::series::Series;
 use crate::session::Session;
 use action_plans::fits;
@@ -207,8 +208,8 @@ pub(crate) fn key_asks(
     }
 }
 
-/// The command that a series goes on with behind an answer, of a screen in this state and the own incident behind that answer.
-pub(crate) fn series_asks(
+// The command that a series goes on with behind an answer.
+fn series_asks(
     session: &Session,
     said: &Said,
     own: &Option<Own>,
@@ -220,4 +221,21 @@ pub(crate) fn series_asks(
         return None;
     }
     next_in(said, own, series)
+}
+
+/// The command that a series goes on with behind an answer, and what becomes of the series, of a screen in this state and the own incident
+/// behind that answer.
+pub(crate) fn gone_on(
+    session: &Session,
+    said: &Said,
+    own: &Option<Own>,
+    series: &Option<Series>,
+) -> (Option<Command>, Option<Series>)
+    ensures asked { result.0 ≡ (if may_ask session.now.connected session.now.way session.now.wish then next_in said.now own.now series.now else None) }
+    ensures series { result.1 ≡ heard_in said.now (typed_of session.now.way) result.0 session.now.wish own.now series.now }
+{
+    let asked = series_asks(session, said, own, series);
+    let way = typed_of(&session.way);
+    let series = heard_in(said, &way, &asked, &session.wish, own, series);
+    (asked, series)
 }

@@ -6,10 +6,9 @@ ghost use Rattle.desk_screen.specs.Inputs.{Sitting, Key, Answer, Second, Made, L
 ghost use Rattle.desk_screen.specs.Plain.{answered_after};
 ghost use Rattle.desk_screen.specs.Stands.{IsTurn, StandsFor, turn};
 
-use crate::asking::{code_said, key_asks, series_asks};
+use crate::asking::{code_said, gone_on, key_asks};
 use crate::deed::Deed;
 use crate::keyboard::Keyboard;
-use crate::masking::typed_of;
 use crate::order::Order;
 use crate::own::{Due, Own};
 use crate::owning::{own_number, own_told, same_number, untold_number, with_due, worked_on};
@@ -17,7 +16,7 @@ use crate::plain::Plain;
 use crate::queue::{Queue, Waiting};
 use crate::reaction::Reaction;
 use crate::sending;
-use crate::serial::{behind_key, broken_off, heard_in};
+use crate::serial::{behind_key, broken_off};
 use crate::series::Series;
 use crate::session::Session;
 use crate::watch::Watch;
@@ -121,15 +120,8 @@ impl Screen {
         let same = same_number(number, after);
         self.keyboard = self.keyboard.behind(&said, same);
         let rung = self.watch.told(&said);
-        let asked = series_asks(&self.session, &said, &self.own, &self.series);
-        self.series = heard_in(
-            &said,
-            &typed_of(&self.session.way),
-            &asked,
-            &self.session.wish,
-            &self.own,
-            &self.series,
-        );
+        let (asked, series) = gone_on(&self.session, &said, &self.own, &self.series);
+        self.series = series;
         let number = untold_number(&self.own);
         let (session, sent) = sending::told(&self.session, &said, &asked, number);
         self.session = session;
