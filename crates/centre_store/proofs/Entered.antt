@@ -17,7 +17,7 @@ use Rattle.disk_journal.specs.declared.journal.Journal.{Journal}
 use Rattle.event_codec.specs.Spelling.{HasSpelling, spelling}
 use Rattle.centre_store.specs.Bodies.{need_of}
 use Rattle.centre_store.specs.Given.{IsGiven, StandForEither, HoldsRecorded, HasEither}
-use Rattle.centre_store.specs.Stores.{Stored, HasFailed, IsTorn, StoreStands, Takes, IsSameJournal, IsShownFull, Shows}
+use Rattle.centre_store.specs.Stores.{Stored, HasFailed, IsTorn, StoreStands, Takes, IsToRecord, IsSameJournal, IsShownFull, Shows}
 use Rattle.centre_store.specs.Writes.{HaveAll, IsFullAt, IsOverAt, IsOverThen, IsUnwritten}
 use Rattle.centre_store.proofs.Holding.{recorded_quiet, recorded_same, recorded_there, recorded_or, still_stands}
 use Rattle.centre_store.proofs.Written.{run_either, same_back}
@@ -30,6 +30,11 @@ stored s j n = record { state = s; journal = j; at_open = n }
 pub entry_is : (p : Plan) (caller : ℕ) (event : Event) (at : ℕ) (reply : Reply) → p.event ≡ event → at ≡ p.at → reply ≡ p.reply
     → entry_of caller p ≡ record { caller = caller; event = event; at = at; reply = reply }
 entry_is p caller event at reply event_is at_is reply_is = λ i. record { caller = caller; event = event_is i; at = sym at_is i; reply = sym reply_is i }
+
+-- an event of which a plan is recorded is one to record
+pub to_record : (b : Summary) (h : List Entry) (event : Event) (clock : ℕ) (p : Plan) → p.at ≡ moment_after b h clock → p.reply ≡ answer b h event p.at
+    → is_recorded p.reply ≡ true → IsToRecord b h event clock
+to_record b h event clock p at reply recorded = ap (λ (m : ℕ). is_recorded (answer b h event m)) (sym at) ∙ ap is_recorded (sym reply) ∙ recorded
 
 module _ {D : Type 0} (seen : D → DiskSeen) where
   -- while the disk has not failed the journal has the recorded entries of the history

@@ -53,7 +53,7 @@ fewer_step : (e : Entry) (h : List Entry) (t : Bool) → length (recorded h) ≤
 fewer_step e h true le = omega (arith, le)
 fewer_step e h false le = omega (arith, le)
 
-fewer : (h : List Entry) → length (recorded h) ≤ length h
+pub fewer : (h : List Entry) → length (recorded h) ≤ length h
 fewer [] = omega arith
 fewer (e ∷ h) = fewer_step e h (is_recorded e.reply) (fewer h)
 

@@ -122,7 +122,7 @@ first_once s t None one other = one ∙ sym other
 first_once s t (Some body) one other = (spells_one body one.0 other.0 s t one.1 other.1).summaries
 
 -- and that has a spelling
-nothing_is : IsSpelled nothing
+pub nothing_is : IsSpelled nothing
 nothing_is = record { generation = 1; fields = nothing_spelled.fields; besides = nothing_spelled.besides }
 
 pub first_spelled : (s : Summary) (first : Option (List ℕ)) → IsFirst s first → IsSpelled s

@@ -15,3 +15,5 @@ pub mod Writes
 pub mod Openings
 pub mod Begins
 pub mod StoreHalls
+pub mod Calls
+pub mod Lives

@@ -8,6 +8,8 @@ mod open;
 mod store;
 mod submit;
 
-pub use laws::{law_one_opening, law_recorded_opens, law_torn_opens};
+pub use laws::{
+    law_one_opening, law_recorded_opens, law_restarts_stand, law_runs_leave, law_torn_opens,
+};
 pub use open::entry_in;
 pub use store::Store;

@@ -15,7 +15,7 @@ ghost use Rattle.centre_store.specs.Bodies.{need_of};
 ghost use Rattle.centre_store.specs.Given.{StandForEither, HoldsRecorded, HasEither, summed_size};
 ghost use Rattle.centre_store.specs.StoreHalls.{is_told};
 ghost use Rattle.centre_store.specs.Stores.{HasFailed, IsStored, StoreStands, StandsOn, Takes, Shows};
-ghost use Rattle.centre_store.specs.Stores.{IsSameJournal, LeavesJournal, IsAsBefore};
+ghost use Rattle.centre_store.specs.Stores.{IsSameJournal, LeavesJournal, IsAsBefore, IsToRecord};
 ghost use Rattle.centre_store.specs.Orders.{IsDownWhereFailed, IsWornFirst, IsFullThen, StopsInOrder};
 ghost use Rattle.centre_store.specs.Writes.{HaveAll, HaveSome, IsOverAt, IsOverThen, IsWrittenOn, IsUnwritten};
 ghost use Rattle.centre_store.specs.Begins.{begun_after, adopted_after, is_in_force, IsAdoptWritten, LeavesWithin, TellsWithin, ShowsOfBegin, BeginsInOrder};
@@ -100,6 +100,8 @@ impl<D: Disk> Store<D> {
         ensures written { IfOk result (λ d. (b : Summary) (h : List Entry) → StoreStands D.seen b self.old h → is_recorded d.reply ≡ true
             → IsWrittenOn self.old.journal self.new.journal (summed_size b h) (need_of event)) }
         ensures quiet { IfOk result (λ d. is_recorded d.reply ≡ false → IsSameJournal self.old.journal self.new.journal) }
+        ensures unrecorded { (b : Summary) (h : List Entry) → StoreStands D.seen b self.old h → (IsToRecord b h event clock → ⊥)
+            → IsSameJournal self.old.journal self.new.journal }
 
         // When each stop comes, want of memory aside.
         ensures down { IsDownWhereFailed D.seen self.new result }
@@ -195,6 +197,8 @@ impl<D: Disk> Store<D> {
         ensures written { IfOk result (λ d. (b : Summary) (h : List Entry) → StoreStands D.seen b self.old h → is_recorded d.reply ≡ true
             → IsWrittenOn self.old.journal self.new.journal (summed_size b h) (need_of event)) }
         ensures quiet { IfOk result (λ d. is_recorded d.reply ≡ false → IsSameJournal self.old.journal self.new.journal) }
+        ensures unrecorded { (b : Summary) (h : List Entry) → StoreStands D.seen b self.old h → (IsToRecord b h event clock → ⊥)
+            → IsSameJournal self.old.journal self.new.journal }
 
         ensures down { IsDownWhereFailed D.seen self.new result }
         ensures already { HasFailed D.seen self.old → self.new ≡ self.old }

@@ -14,7 +14,7 @@ use Rattle.centre_store.specs.Stores.{Stored, HasFailed, StoreStands, IsOverWith
 use Rattle.centre_store.specs.Given.{summed_size}
 use Rattle.centre_store.specs.Writes.{IsWrittenOn}
 use Rattle.centre_store.proofs.Bodies.{kept_event}
-use Rattle.centre_store.proofs.Entered.{all, shown, still_either, still_met, takes_quiet, takes_written, written_moment, written_either, stands_stopped}
+use Rattle.centre_store.proofs.Entered.{all, to_record, shown, still_either, still_met, takes_quiet, takes_written, written_moment, written_either, stands_stopped}
 use Rattle.centre_store.proofs.Written.{written_over}
 use Rattle.centre_store.proofs.Ordered.{one_of_stops}
 use Rattle.centre_store.proofs.store.Store.enter.Goals as goal
@@ -222,3 +222,15 @@ returns-then-quiet-clause-full g c up few b h w to over =
     let same : c.in-Ok.ready.reply ≡ answer b h c.args.event (moment_after b h c.args.clock) =
     c.in-Ok.ensures.reply b h stands ∙ ap (answer b h c.args.event) (c.in-Ok.ensures.at b h stands) in
     absurd (false≢true (sym (is_quiet _ _ c.quiet.ensures c.if-quiet.true) ∙ ap is_recorded same ∙ to))
+
+pub returns-in-Ok-write-clause-unrecorded : goal.returns-in-Ok-write-clause-unrecorded
+returns-in-Ok-write-clause-unrecorded g c b h w none =
+    let was = subst (λ (x : Stored g.row.D.Denot). StoreStands g.D.Disk.seen b x h) (sym c.self.view_is) w in
+    absurd (none (to_record b h c.args.event c.args.clock c.in-Ok.ready (c.in-Ok.ensures.at b h (c.in-Ok.ensures.stays b h was.centre))
+    (c.in-Ok.ensures.reply b h (c.in-Ok.ensures.stays b h was.centre)) (not_quiet _ _ c.quiet.ensures c.if-quiet.false)))
+
+pub returns-in-Err-clause-unrecorded : goal.returns-in-Err-clause-unrecorded
+returns-in-Err-clause-unrecorded g c b h w none =
+    let was = subst (λ (x : Stored g.row.D.Denot). StoreStands g.D.Disk.seen b x h) (sym c.self.view_is) w in
+    absurd (none (to_record b h c.args.event c.args.clock c.in-Ok.ready (c.in-Ok.ensures.at b h (c.in-Ok.ensures.stays b h was.centre))
+    (c.in-Ok.ensures.reply b h (c.in-Ok.ensures.stays b h was.centre)) (not_quiet _ _ c.quiet.ensures c.if-quiet.false)))

@@ -1,0 +1,236 @@
+-- What remains of a store behind a crash: areas that stand for what was recorded, or for it with one entry more; and what is opened over them.
+use Rattle.std.proofs.Common.{◌≡◌, ◌≤◌, ◌<◌, ◌^◌, ◌⊎◌, ◌-◌, ℕ, zero, suc, List, [], ◌∷◌, ◌++◌, length, take, drop, Bool, true, false, cond, map, Option, Some, None, inl, inr, refl, sym, ap, subst, ◌∙◌, arith, length-append}
+use Rattle.std.specs.Prelude.{IfSome}
+use Rattle.std.specs.List.{AllByRecursion}
+use Rattle.std.proofs.lemmas.Bool.{false≢true}
+use Rattle.std.proofs.lemmas.List.{length-map, length-drop}
+use Rattle.arc_data.specs.WellFormed.{IsWellFormed}
+use Rattle.arc_data.specs.declared.event.Event.{Event}
+use Rattle.arc_data.specs.declared.event.Message.{Message}
+use Rattle.arc_io.specs.Areas.{Areas}
+use Rattle.arc_io.specs.Disks.{DiskSeen}
+use Rattle.arc_io.specs.Crashes.{LeavesOnly}
+use Rattle.arc_io.proofs.Moments.{started, weaker}
+use Rattle.centre_laws.specs.Schedules.{Item, IsKept, entries, next, oldest, stands, sent_item, item_of, message_entry, delivered, added}
+use Rattle.centre_laws.proofs.Lists.{oldest_recorded}
+use Rattle.centre_rules.proofs.Quiet.{legal_recorded}
+use Rattle.centre_rules.specs.Answers.{IsLegal, answer}
+use Rattle.centre_rules.specs.History.{Entry, IsMoment, is_recorded, last, moment_after, recorded}
+use Rattle.centre_rules.specs.Summary.{Summary, nothing}
+use Rattle.disk_journal.proofs.Steps.{file_at, if_map}
+use Rattle.disk_journal.specs.Standing.{GoesOn}
+use Rattle.disk_journal.specs.declared.journal.Journal.{Journal}
+use Rattle.event_codec.specs.Spelling.{spelling}
+use Rattle.centre_store.specs.Given.{IsFirst, IsGiven, StandFor, StandForEither, HasRecorded}
+use Rattle.centre_store.specs.Calls.{Submits, Enters, entry_after}
+use Rattle.centre_store.specs.Lives.{IsLeft, Reopens}
+use Rattle.centre_store.specs.Openings.{StandsForAll}
+use Rattle.centre_store.specs.Pasts.{AreKept}
+use Rattle.centre_store.specs.StoreHalls.{IsReadable}
+use Rattle.centre_store.specs.Stores.{Stored, HasFailed, StoreStands, Takes, IsToRecord}
+use Rattle.centre_store.proofs.Entered.{held}
+use Rattle.centre_store.proofs.Holding.{either_one, recorded_there}
+use Rattle.centre_store.proofs.Readable.{readable_more}
+use Rattle.centre_store.proofs.Recorded.{bodies_recorded, recorded_both, summary_recorded}
+use Rattle.centre_store.proofs.Reopened.{fewer}
+
+-- Histories.
+
+-- what stays so of a history: it is legal, can be read again, and is not too long
+pub record IsFit (h : List Entry) : Type 0 where
+  pub legal : IsLegal nothing h
+  pub readable : IsReadable nothing h
+  pub few : length (recorded h) ≤ 2 ^ 48
+
+-- with one entry more
+pub fit_more : (h : List Entry) (e : Event) (clock : ℕ) → IsWellFormed e → IsMoment clock → length h < 2 ^ 48 → IsFit h → IsFit (next h e clock ∷ h)
+fit_more h e clock formed moment few fit =
+    let count : length (recorded (next h e clock ∷ h)) ≤ length (next h e clock ∷ h) = fewer (next h e clock ∷ h) in
+    record {
+      legal = (record { event = formed; reply = refl; late = omega arith }, fit.legal);
+      readable = readable_more nothing h (next h e clock) clock refl formed moment refl refl fit.readable;
+      few = omega (arith, count, few);
+    }
+
+legal_drop : (b : Summary) (n : ℕ) (h : List Entry) → IsLegal b h → IsLegal b (drop n h)
+legal_drop b zero h legal = legal
+legal_drop b (suc n) [] legal = legal
+legal_drop b (suc n) (e ∷ h) legal = legal_drop b n h legal.1
+
+kept_drop : (n : ℕ) (h : List Entry) → AreKept h → AreKept (drop n h)
+kept_drop zero h kept = kept
+kept_drop (suc n) [] kept = kept
+kept_drop (suc n) (e ∷ h) kept = kept_drop n h kept.1
+
+-- the oldest of its recorded entries
+pub fit_oldest : (n : ℕ) (h : List Entry) → IsFit h → IsFit (oldest n (recorded h))
+fit_oldest n h fit =
+    let lost : ℕ = length (recorded h) - n in
+    let whole : recorded (oldest n (recorded h)) ≡ oldest n (recorded h) = oldest_recorded n h in
+    record {
+      legal = legal_drop nothing lost (recorded h) (legal_recorded nothing h fit.legal);
+      readable = (fit.readable.0, subst AreKept (sym whole) (kept_drop lost (recorded h) fit.readable.1));
+      few = omega (arith, ap length whole, length-drop lost (recorded h), fit.few);
+    }
+
+-- Areas.
+
+-- what stands for a history stands for its recorded entries
+pub stand_recorded : (b : Summary) (h : List Entry) (areas : Areas) → StandFor b h areas → StandFor b (recorded h) areas
+stand_recorded b h areas (first, bodies, k, stands) = (
+  first,
+  bodies,
+  record {
+    later = recorded k.later;
+    summed = recorded k.summed;
+    split = ap recorded k.split ∙ recorded_both k.later k.summed;
+    first_is = subst (λ (s : Summary). IsFirst s first) (summary_recorded b k.summed) k.first_is;
+    bodies_are = k.bodies_are ∙ bodies_recorded k.later;
+  },
+  stands,
+)
+
+stand_on : (b : Summary) (h : List Entry) (one other : Areas) → GoesOn one other → StandFor b h one → StandFor b h other
+stand_on b h one other on (first, bodies, k, stands) = (first, bodies, k, on first bodies stands)
+
+-- What was left of an ideal list.
+
+-- areas stand for the oldest of it, so many
+pub record IsKeptIn (w : List Item) (areas : Areas) : Type 0 where
+  pub kept : ℕ
+  pub keeps : IsKept kept w
+  pub short : kept ≤ length w
+  pub stands : StandFor nothing (oldest kept (entries w)) areas
+
+-- another list has one item more, which is not acknowledged, or none
+abbrev pub IsMore : List Item → List Item → Type 0
+IsMore w v = (v ≡ w) ⊎ ((i : Item) × (i.acknowledged ≡ false) × (v ≡ i ∷ w))
+
+more_or : (t : Bool) (i : Item) (w : List Item) → i.acknowledged ≡ false → IsMore w (cond t w (i ∷ w))
+more_or true i w free = inl refl
+more_or false i w free = inr (i, free, refl)
+
+or_more : (t : Bool) (i : Item) (w : List Item) → i.acknowledged ≡ false → IsMore w (cond t (i ∷ w) w)
+or_more true i w free = inr (i, free, refl)
+or_more false i w free = inl refl
+
+pub more_delivered : (n : ℕ) (m : Message) (clock : ℕ) (w : List Item) → IsMore w (delivered n m clock false w)
+more_delivered n m clock w = more_or (stands n w) (sent_item n false (message_entry w m clock)) w refl
+
+pub more_added : (e : Entry) (w : List Item) → IsMore w (added e false w)
+more_added e w = or_more (is_recorded e.reply) (item_of false e) w refl
+
+-- all of it
+pub kept_all : (w : List Item) (areas : Areas) → 2 ≤ length w → StandFor nothing (entries w) areas → IsKeptIn w areas
+kept_all w areas two stands =
+    let none : length w - length w ≡ 0 = omega arith in
+    let nought : length (entries w) - length w ≡ 0 = omega (arith, length-map w (λ (i : Item). i.entry)) in
+    record {
+      kept = length w;
+      keeps = record {
+        beginning = two;
+        acknowledged = subst (λ (k : ℕ). AllByRecursion (λ (i : Item). i.acknowledged ≡ false) (take k w)) (sym none) tt;
+      };
+      short = omega arith;
+      stands = subst (λ (k : ℕ). StandFor nothing (drop k (entries w)) areas) (sym nought) stands;
+    }
+
+-- all but the newest, which is not acknowledged
+kept_less : (i : Item) (w : List Item) (areas : Areas) → 2 ≤ length w → i.acknowledged ≡ false → StandFor nothing (entries w) areas → IsKeptIn (i ∷ w) areas
+kept_less i w areas two free stands =
+    let one : length (i ∷ w) - length w ≡ 1 = omega arith in
+    let single : length (entries (i ∷ w)) - length w ≡ 1 = omega (arith, length-map w (λ (j : Item). j.entry)) in
+    record {
+      kept = length w;
+      keeps = record {
+        beginning = two;
+        acknowledged = subst (λ (k : ℕ). AllByRecursion (λ (j : Item). j.acknowledged ≡ false) (take k (i ∷ w))) (sym one) (free, tt);
+      };
+      short = omega arith;
+      stands = subst (λ (k : ℕ). StandFor nothing (drop k (entries (i ∷ w))) areas) (sym single) stands;
+    }
+
+kept_but : (w v : List Item) (areas : Areas) → 2 ≤ length w → IsMore w v → StandFor nothing (entries w) areas → IsKeptIn v areas
+kept_but w v areas two (inl same) stands = subst (λ (l : List Item). IsKeptIn l areas) (sym same) (kept_all w areas two stands)
+kept_but w v areas two (inr (i, free, same)) stands =
+    subst (λ (l : List Item). IsKeptIn l areas) (sym same) (kept_less i w areas two free stands)
+
+-- the areas have the recorded entries of a history, or of it with one entry more; these are the lists
+pub kept_either : (h k : List Entry) (w v : List Item) (areas : Areas) → recorded h ≡ entries w → recorded k ≡ entries v → 2 ≤ length w → 2 ≤ length v → IsMore w v
+    → StandFor nothing h areas ⊎ StandFor nothing k areas → IsKeptIn v areas
+kept_either h k w v areas same after two more_two more (inl old) =
+    kept_but w v areas two more (subst (λ (l : List Entry). StandFor nothing l areas) same (stand_recorded nothing h areas old))
+kept_either h k w v areas same after two more_two more (inr new) =
+    kept_all v areas more_two (subst (λ (l : List Entry). StandFor nothing l areas) after (stand_recorded nothing k areas new))
+
+-- A store and a crash.
+
+module _ {D : Type 0} (seen : D → DiskSeen) (only_now : (d : D) (c : Areas) → (seen d).left_since (seen d).moment c → (seen d).may_leave c) (b : Summary) where
+  -- within a call, or of what is told behind it
+  pub left_is : (old new : Stored D) (c : Areas) (P : Areas → Type 0) → LeavesOnly (seen old.journal.disk) (seen new.journal.disk) P
+      → IfSome (seen new.journal.disk).told P → IsLeft seen old new c → P c
+  left_is old new c P run met (inl left) = run.each c left
+  left_is old new c P run met (inr told) = file_at P (seen new.journal.disk).told c told met
+
+  -- A store that stands for a history, and whose disk has not failed.
+  module _ (s : Stored D) (h : List Entry) (up : HasFailed seen s → ⊥) (w : StoreStands seen b s h) where
+    there : HasRecorded (seen s.journal.disk) b h
+    there = recorded_there seen s.journal b h (held seen b s h up w)
+
+    -- behind a call
+    pub still_moments : (P : Areas → Type 0) → ((c : Areas) → StandFor b h c → P c) → LeavesOnly (seen s.journal.disk) (seen s.journal.disk) P
+    still_moments P so = started (seen s.journal.disk) P (λ c left. so c (there.images c (only_now s.journal.disk c left)))
+
+    still_told : (P : Areas → Type 0) → ((c : Areas) → StandFor b h c → P c) → IfSome (seen s.journal.disk).told P
+    still_told P so = if_map (StandFor b h) P (seen s.journal.disk).told there.area so
+
+    pub left_still : (c : Areas) → IsLeft seen s s c → StandFor b h c
+    left_still c left = left_is s s c (StandFor b h) (still_moments (StandFor b h) (λ c is. is)) there.area left
+
+  -- An event that is submitted.
+
+  pub enters : (old s : Stored D) (h : List Entry) (e : Event) (clock : ℕ) → StoreStands seen b old h → Enters seen old s e clock
+      → StoreStands seen b s (entry_after b h e clock ∷ h)
+  enters old s h e clock w made =
+      let t : Takes seen b s h clock (record { caller = 0; event = e; at = made.at; reply = made.reply }) = made.takes b h w in
+      let reply : made.reply ≡ answer b h e (moment_after b h clock) = t.reply ∙ ap (answer b h e) t.at in
+      let same : record { caller = 0; event = e; at = made.at; reply = made.reply } ≡ entry_after b h e clock =
+      λ i. record { caller = 0; event = e; at = t.at i; reply = reply i } in
+      subst (λ (x : Entry). StoreStands seen b s (x ∷ h)) same t.stands
+
+  module _ (old s : Stored D) (h : List Entry) (e : Event) (clock : ℕ) (up : HasFailed seen old → ⊥) (w : StoreStands seen b old h)
+      (call : Submits seen old s e clock) where
+    -- a crash in the call leaves the entry or not
+    abbrev pub HasOrNot : Areas → Type 0
+    HasOrNot c = StandFor b h c ⊎ StandFor b (entry_after b h e clock ∷ h) c
+
+    -- an event that is not to be recorded writes nothing
+    still : is_recorded (entry_after b h e clock).reply ≡ false → s.journal.disk ≡ old.journal.disk
+    still is = ap (λ (j : Journal D). j.disk) (call.unrecorded b h w (λ (to : IsToRecord b h e clock). false≢true (sym is ∙ to)))
+
+    moments_if : (t : Bool) → is_recorded (entry_after b h e clock).reply ≡ t → LeavesOnly (seen old.journal.disk) (seen s.journal.disk) HasOrNot
+    moments_if true is =
+        weaker (seen old.journal.disk) (seen s.journal.disk) HasOrNot (StandForEither b h (spelling e (moment_after b h clock))) (call.any_moment b h w)
+        (λ c either. either_one b h (entry_after b h e clock) c is either)
+    moments_if false is =
+        subst (λ (d : D). LeavesOnly (seen old.journal.disk) (seen d) HasOrNot) (sym (still is)) (still_moments old h up w HasOrNot (λ c stands. inl stands))
+
+    told_if : (t : Bool) → is_recorded (entry_after b h e clock).reply ≡ t → IfSome (seen s.journal.disk).told HasOrNot
+    told_if true is =
+        if_map (StandForEither b h (spelling e (moment_after b h clock))) HasOrNot (seen s.journal.disk).told (call.met b h w).area
+        (λ c either. either_one b h (entry_after b h e clock) c is either)
+    told_if false is =
+        subst (λ (d : D). IfSome (seen d).told HasOrNot) (sym (still is)) (still_told old h up w HasOrNot (λ c stands. inl stands))
+
+    pub cut_moments : LeavesOnly (seen old.journal.disk) (seen s.journal.disk) HasOrNot
+    cut_moments = moments_if (is_recorded (entry_after b h e clock).reply) refl
+
+    pub cut : (c : Areas) → IsLeft seen old s c → HasOrNot c
+    cut c left = left_is old s c HasOrNot cut_moments (told_if (is_recorded (entry_after b h e clock).reply) refl) left
+
+  -- What is opened over areas.
+  pub reopens : (h : List Entry) (areas : Areas) (s : Stored D) → IsGiven b → IsLegal b h → IsMoment (last b h) → recorded h ≡ h → StandFor b h areas
+      → Reopens seen areas s → StoreStands seen b s h
+  reopens h areas s given legal moment whole stands r =
+      file_at (StandsForAll seen s) (seen r.disk).told r.again r.tells r.opened.every b h given legal moment whole
+      (stand_on b h areas r.again r.goes_on stands)
