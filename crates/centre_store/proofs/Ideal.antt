@@ -1,11 +1,11 @@
 -- What a store that lives through a schedule is behind it: each crash has kept what was acknowledged, and the store stands for the ideal list.
-use Rattle.std.proofs.Common.{◌≡◌, ℕ, List, Bool, true, subst, arith}
+use Rattle.std.proofs.Common.{◌≡◌, List, true, subst, arith}
 use Rattle.std.specs.Prelude.{is_ok}
 use Rattle.alarm_rules.specs.Setups.{setup_of}
 use Rattle.arc_io.specs.Areas.{Areas}
 use Rattle.arc_io.specs.Disks.{DiskSeen}
 use Rattle.centre_laws.specs.Repeats.{QuietChangesNothing, TellsTheSame}
-use Rattle.centre_laws.specs.Schedules.{Schedule, IsSchedule, Each, entries, history, ideal_list}
+use Rattle.centre_laws.specs.Schedules.{Schedule, IsSchedule, Each, history}
 use Rattle.centre_laws.specs.Sendings.{RestartsLoseNothing}
 use Rattle.centre_laws.specs.Spacing.{IsWellSpaced}
 use Rattle.centre_rules.specs.History.{Entry, recorded}

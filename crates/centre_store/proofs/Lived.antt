@@ -1,12 +1,12 @@
 -- A store that lives through a schedule stands for its history, and the areas that a crash leaves for the oldest of its ideal list. By
 -- induction on the steps.
-use Rattle.std.proofs.Common.{◌≡◌, ◌≤◌, ◌<◌, ◌^◌, ◌⊎◌, ◌-◌, ℕ, List, [], ◌∷◌, ◌++◌, length, drop, Bool, true, false, Option, Some, None, inl, inr, refl, sym, ap, subst, ◌∙◌, arith, length-append}
+use Rattle.std.proofs.Common.{◌≡◌, ◌≤◌, ◌⊎◌, ◌-◌, ℕ, List, [], ◌∷◌, ◌++◌, length, drop, Bool, true, false, Option, Some, None, inl, inr, refl, sym, ap, subst, ◌∙◌, arith, length-append}
 use Rattle.std.specs.Prelude.{is_ok, if◌then◌else◌}
 use Rattle.std.proofs.lemmas.List.{length-map, length-drop}
 use Rattle.std.proofs.lemmas.Slice.Eq.{bytes_eq-Decides}
 use Rattle.arc_data.specs.declared.event.Event.{Event}
 use Rattle.arc_data.specs.declared.event.Event.TheVariants.{Adopt, Start, Message as Sent}
-use Rattle.arc_data.specs.declared.reply.Reply.TheVariants.{Adopted, Started}
+use Rattle.arc_data.specs.declared.reply.Reply.TheVariants.{Adopted}
 use Rattle.alarm_rules.specs.Setups.{setup_of}
 use Rattle.arc_io.specs.Areas.{Areas}
 use Rattle.arc_io.specs.Disks.{DiskSeen}
@@ -18,7 +18,7 @@ use Rattle.centre_laws.proofs.Once.{ideal_to}
 use Rattle.centre_laws.proofs.Shape.{over, over_oldest}
 use Rattle.centre_laws.proofs.Upon.{IsOver, text_stays}
 use Rattle.centre_rules.specs.Answers.{if_known}
-use Rattle.centre_rules.specs.History.{Entry, Extends, marks, moment_after, recorded}
+use Rattle.centre_rules.specs.History.{Entry, marks, moment_after, recorded}
 use Rattle.centre_rules.specs.Marks.{text}
 use Rattle.centre_rules.specs.Summary.{nothing}
 use Rattle.centre_store.specs.Begins.{is_in_force, begun_after, StandsWithin}
@@ -106,8 +106,7 @@ module _ {D : Type 0} (seen : D → DiskSeen) (only_now : (d : D) (c : Areas) �
   first_so (Left c) (s, run, left) =
       let h : List Entry = history_after x [] in
       let stands : StoreStands seen nothing s h = subst (λ (l : List Entry). StoreStands seen nothing s l) first_is (first_stands s run) in
-      let kept : StandFor nothing (recorded h) c = stand_recorded nothing h c (left_still seen only_now nothing s h run.4.up stands c left) in
-      (
+      let kept : StandFor nothing (recorded h) c = stand_recorded nothing h c (left_still seen only_now nothing s h run.4.up stands c left) in (
         subst IsFit first_is (first_fit s run),
         kept_all (beginning x) c (two_of x [] tt) (subst (λ (l : List Entry). StandFor nothing l c) (ideal [] tt tt) kept),
       )

@@ -1,12 +1,12 @@
 -- What a crash at any moment of a run of calls leaves: by the calls one after another.
-use Rattle.std.proofs.Common.{◌≡◌, ◌⊎◌, ℕ, List, [], ◌∷◌, ◌++◌, inl, inr, refl, sym, ap, subst, ◌∙◌, append_assoc}
+use Rattle.std.proofs.Common.{◌⊎◌, List, [], ◌∷◌, inl, inr, refl, sym, ap, subst}
 use Rattle.arc_io.specs.Areas.{Areas}
 use Rattle.arc_io.specs.Disks.{DiskSeen}
 use Rattle.arc_io.specs.Crashes.{LeavesOnly}
 use Rattle.arc_io.proofs.Moments.{joined, weaker}
 use Rattle.centre_rules.specs.History.{Entry, Extends}
 use Rattle.centre_rules.specs.Summary.{Summary}
-use Rattle.centre_store.specs.Calls.{Submission, Submits, entry_after, entered, AreEntered, AreSubmitted, StandsBetween, RunsLeaveAll}
+use Rattle.centre_store.specs.Calls.{Submission, Submits, entry_after, entered, AreEntered, AreSubmitted, StandsBetween}
 use Rattle.centre_store.specs.Given.{StandFor}
 use Rattle.centre_store.specs.Stores.{Stored, HasFailed, StoreStands}
 use Rattle.centre_store.proofs.Remains.{cut_moments, enters, still_moments}
@@ -20,7 +20,7 @@ all_extends b h (call ∷ earlier) =
     extends_more h (entered b h earlier) (entry_after b (entered b h earlier) call.event call.clock) (all_extends b h earlier)
 
 module _ {D : Type 0} (seen : D → DiskSeen) (only_now : (d : D) (c : Areas) → (seen d).left_since (seen d).moment c → (seen d).may_leave c)
-    (b : Summary) (h : List Entry) (first : Stored D) (w : StoreStands seen b first h) (up : HasFailed seen first → ⊥) where
+    (b : Summary) (h : List Entry) (first : Stored D) (w : StoreStands seen b first h) (first_up : HasFailed seen first → ⊥) where
   -- the store behind calls that were answered by Ok
   pub record IsBehindAll (calls : List Submission) (s : Stored D) : Type 0 where
     pub stands : StoreStands seen b s (entered b h calls)
@@ -48,8 +48,8 @@ module _ {D : Type 0} (seen : D → DiskSeen) (only_now : (d : D) (c : Areas) �
   begins : IsBehindAll [] first
   begins = record {
     stands = w;
-    up = up;
-    run = still_moments seen only_now b first h up w (StandsBetween b h h)
+    up = first_up;
+    run = still_moments seen only_now b first h first_up w (StandsBetween b h h)
         (λ c stands. record { so_far = h; from_h = ([], refl); to_x = ([], refl); stands = stands });
   }
 

@@ -70,10 +70,10 @@ pub record StandsBetween (b : Summary) (h x : List Entry) (areas : Areas) : Type
   pub to_x : Extends so_far x
   pub stands : StandFor b so_far areas
 
--- Of a store that stands for h, and of any events that are submitted then one after another: a crash at any moment from there on, within any
--- of the calls, leaves the recorded entries of h and of some first ones of the events, each of which has the answer of one thread.
+-- Of a store that stands for h, and of any events that are submitted then one after another: a crash at any moment from there on, within
+-- any of the calls, leaves the recorded entries of h and of some first ones of the events, each of which has the answer of one thread.
 abbrev pub RunsLeaveAll : {D : Type 0} → (D → DiskSeen) → Type 0
 RunsLeaveAll {D} seen =
-    (b : Summary) (h : List Entry) (first last : Stored D) (calls : List Submission) → StoreStands seen b first h → (HasFailed seen first → ⊥)
-    → AreSubmitted seen first calls last
+    (b : Summary) (h : List Entry) (first last : Stored D) (calls : List Submission)
+    → StoreStands seen b first h → (HasFailed seen first → ⊥) → AreSubmitted seen first calls last
     → LeavesOnly (seen first.journal.disk) (seen last.journal.disk) (StandsBetween b h (entered b h calls))

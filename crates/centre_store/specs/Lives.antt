@@ -45,7 +45,8 @@ abbrev pub IsBehindNone : {D : Type 0} → (D → DiskSeen) → Stored D → Wor
 IsBehindNone {D} seen old (Open s) = KeepsAll seen old s × (HasFailed seen s → ⊥)
 IsBehindNone {D} seen old (Left c) = (s : Stored D) × KeepsAll seen old s × IsLeft seen old s c
 
--- The areas are opened with Ok. Openings before it were broken off by crashes: what these left stands for whatever stood before.
+-- The areas are opened with Ok. Openings before it were refused or broken off by crashes: what these left stands for whatever stood
+-- before.
 pub record Reopens {D : Type 0} (seen : D → DiskSeen) (areas : Areas) (s : Stored D) : Type 0 where
   pub again : Areas
   pub goes_on : GoesOn areas again
@@ -80,8 +81,8 @@ abbrev pub IsBehindFirst : {D : Type 0} → (D → DiskSeen) → Schedule → Wo
 IsBehindFirst {D} seen x (Open s) = IsFirstRun seen x s
 IsBehindFirst {D} seen x (Left c) = (s : Stored D) × IsFirstRun seen x s × IsLeft seen s s c
 
--- What there is behind these steps, the newest of which stands first. A crash keeps as many entries as the opening behind it finds, and then
--- a run begins. Where a crash comes before the call of a step is done, what it left is the world behind that step.
+-- What there is behind these steps, the newest of which stands first. A crash keeps as many entries as the opening behind it finds, and
+-- then a run begins. Where a crash comes before the call of a step is done, what it left is the world behind that step.
 abbrev pub Lives : {D : Type 0} → (D → DiskSeen) → Schedule → List Step → World D → Type 0
 Lives {D} seen x [] w = IsBehindFirst seen x w
 Lives {D} seen x (Deliver n m clock acknowledged ∷ earlier) w =

@@ -13,6 +13,7 @@ ghost use Rattle.centre_core.specs.Setting.{IsSetting};
 ghost use Rattle.event_codec.specs.Spelling.{IsKept, HasSpelling, spelling};
 ghost use Rattle.centre_store.specs.Bodies.{need_of};
 ghost use Rattle.centre_store.specs.Given.{StandForEither, HoldsRecorded, HasEither, summed_size};
+ghost use Rattle.centre_store.specs.Calls.{Submits, Enters};
 ghost use Rattle.centre_store.specs.StoreHalls.{is_told};
 ghost use Rattle.centre_store.specs.Stores.{HasFailed, IsStored, StoreStands, StandsOn, Takes, Shows};
 ghost use Rattle.centre_store.specs.Stores.{IsSameJournal, LeavesJournal, IsAsBefore, IsToRecord};
@@ -102,6 +103,11 @@ impl<D: Disk> Store<D> {
         ensures quiet { IfOk result (λ d. is_recorded d.reply ≡ false → IsSameJournal self.old.journal self.new.journal) }
         ensures unrecorded { (b : Summary) (h : List Entry) → StoreStands D.seen b self.old h → (IsToRecord b h event clock → ⊥)
             → IsSameJournal self.old.journal self.new.journal }
+
+        // What the laws of many calls go by.
+        ensures submits { (HasFailed D.seen self.old → ⊥) → self.old.state.entries < 2 ^ 48
+            → Submits D.seen self.old self.new event clock }
+        ensures enters { OnOk result ((HasFailed D.seen self.old → ⊥) → Enters D.seen self.old self.new event clock) }
 
         // When each stop comes, want of memory aside.
         ensures down { IsDownWhereFailed D.seen self.new result }
