@@ -10,7 +10,7 @@ use Rattle.centre_laws.specs.Sendings.{RestartsLoseNothing}
 use Rattle.centre_laws.specs.Spacing.{IsWellSpaced}
 use Rattle.centre_rules.specs.History.{Entry, recorded}
 use Rattle.centre_rules.specs.Summary.{nothing}
-use Rattle.centre_store.specs.Lives.{World, Open, Left, Lives, IsAsked, IsIdealWorld, LivesIdeally}
+use Rattle.centre_store.specs.Lives.{World, Open, Left, Lives, IsStepButKept, IsIdealWorld, LivesIdeally}
 use Rattle.centre_store.specs.Stores.{StoreStands}
 use Rattle.centre_store.proofs.Lived.{IsGood, ideal, lived, rest_fit, rest_ideal, rest_opens, rest_stands, rest}
 use Rattle.centre_store.proofs.Recorded.{opens_recorded}
@@ -31,7 +31,7 @@ module _ {D : Type 0} (seen : D → DiskSeen) (only_now : (d : D) (c : Areas) �
             (rest_opens seen only_now quiet x setup x.steps areas spaced good s r);
       }
 
-  pub lives_ideally : Each (IsAsked x) x.steps → IsWellSpaced x → (w : World D) → Lives seen x x.steps w → LivesIdeally seen x w
+  pub lives_ideally : Each (IsStepButKept x) x.steps → IsWellSpaced x → (w : World D) → Lives seen x x.steps w → LivesIdeally seen x w
   lives_ideally asked spaced w life =
       let good : IsGood seen x x.steps w = lived seen only_now quiet x setup x.steps w asked spaced life in
       let schedule : IsSchedule x = record { setup = setup; steps = good.steps } in

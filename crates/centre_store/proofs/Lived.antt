@@ -24,7 +24,7 @@ use Rattle.centre_rules.specs.Summary.{nothing}
 use Rattle.centre_store.specs.Begins.{is_in_force, begun_after, StandsWithin}
 use Rattle.centre_store.specs.Given.{StandFor}
 use Rattle.centre_store.specs.Calls.{Submits}
-use Rattle.centre_store.specs.Lives.{World, Open, Left, IsBehind, IsBehindNone, Reopens, Begins, IsBehindBegin, IsFirstRun, IsBehindFirst, Lives, IsAsked}
+use Rattle.centre_store.specs.Lives.{World, Open, Left, IsBehind, IsBehindNone, Reopens, Begins, IsBehindBegin, IsFirstRun, IsBehindFirst, Lives, IsStepButKept}
 use Rattle.centre_store.specs.Stores.{Stored, HasFailed, StoreStands}
 use Rattle.centre_store.proofs.Begun.{adopted_entry, started_entry}
 use Rattle.centre_store.proofs.Holding.{kept_over}
@@ -260,7 +260,7 @@ module _ {D : Type 0} (seen : D → DiskSeen) (only_now : (d : D) (c : Areas) �
         subst (λ (k : ℕ). IsGood seen x (Crash k clock ∷ ss) w) (sym (is ∙ kept_count opened (rest_opens opened r))) (crash_good opened clock w r behind)
 
   -- The induction.
-  pub lived : (ss : List Step) (w : World D) → Each (IsAsked x) ss → Each (IsSpacedStep x) ss → Lives seen x ss w → IsGood seen x ss w
+  pub lived : (ss : List Step) (w : World D) → Each (IsStepButKept x) ss → Each (IsSpacedStep x) ss → Lives seen x ss w → IsGood seen x ss w
   lived [] w asked spaced life = let first = first_so w life in record { steps = tt; fit = first.0; so = first.1 }
   lived (Deliver n m clock a ∷ ss) w asked spaced (old, before, behind) =
       event_good (Deliver n m clock a) ss old (Sent m) clock a w refl

@@ -95,9 +95,9 @@ Lives {D} seen x (Crash kept clock ∷ earlier) w =
     × (kept ≡ opened.state.sum.recorded) × IsBehindBegin seen opened x.text clock w
 
 -- what a step of a schedule is, but for what a crash keeps
-abbrev pub IsAsked : Schedule → Step → List Step → Type 0
-IsAsked x (Crash kept clock) earlier = Unit {0}
-IsAsked x other earlier = IsStep x other earlier
+abbrev pub IsStepButKept : Schedule → Step → List Step → Type 0
+IsStepButKept x (Crash kept clock) earlier = Unit {0}
+IsStepButKept x other earlier = IsStep x other earlier
 
 -- The store stands for the schedule's history, centre and journal. Areas can be opened, and each opening with Ok gives a store that stands
 -- for the oldest of the ideal list, so many: the first two entries and each that is acknowledged are among them.

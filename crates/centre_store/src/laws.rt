@@ -10,7 +10,7 @@ ghost use Rattle.centre_laws.specs.Spacing.{IsWellSpaced};
 ghost use Rattle.event_codec.specs.Spelling.{spelling};
 ghost use Rattle.centre_store.specs.Given.{IsGiven, StandFor, StandForEither};
 ghost use Rattle.centre_store.specs.Calls.{RunsLeaveAll};
-ghost use Rattle.centre_store.specs.Lives.{World, IsAsked, Lives, LivesIdeally};
+ghost use Rattle.centre_store.specs.Lives.{World, IsStepButKept, Lives, LivesIdeally};
 ghost use Rattle.centre_store.specs.Openings.{CanOpen, HasOneOpening};
 ghost use Rattle.centre_store.specs.Pasts.{AreKept};
 ghost use Rattle.centre_store.specs.Stores.{IsNextKept};
@@ -48,7 +48,7 @@ pub fn law_runs_leave<D: Disk>()
 /// an opening loses nothing that was acknowledged and doubles nothing, and the centre that it gives, and each later one, answers as a
 /// centre of one thread that was told just the ideal list and never crashed. Checkpoints may come at any time.
 pub fn law_restarts_stand<D: Disk>()
-    ensures { (x : Schedule) (w : World D) → is_ok (setup_of x.text) ≡ true → Each (IsAsked x) x.steps → IsWellSpaced x
+    ensures { (x : Schedule) (w : World D) → is_ok (setup_of x.text) ≡ true → Each (IsStepButKept x) x.steps → IsWellSpaced x
         → Lives D.seen x x.steps w → LivesIdeally D.seen x w }
 {
     law_repeats();

@@ -141,7 +141,12 @@ fn a_hold_that_lapses(rt: HostRuntime) {
 fn see_lapse(rt: &impl Abort, centre: &Centre) {
     same(rt, centre.last(), BEGIN + 1002, "the last moment");
     same(rt, centre.lapse(), Some(300), "the seconds");
-    same(rt, holder(rt, centre, 1302), Txt::of(b"bob"), "before it lapses");
+    same(
+        rt,
+        holder(rt, centre, 1302),
+        Txt::of(b"bob"),
+        "before it lapses",
+    );
     same(rt, holder(rt, centre, 1303), None, "behind that");
 }
 

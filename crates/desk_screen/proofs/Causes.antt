@@ -9,7 +9,7 @@ use Rattle.desk_wire.specs.declared.command.Command.TheVariants.{Login, Quit, Ne
 use Rattle.desk_screen.specs.Inputs.{Input, Key, Answer, Second, Made, Lost, Turn, Sitting, news}
 use Rattle.desk_screen.specs.Orders.{typed_of, way, wish}
 use Rattle.desk_screen.specs.Owning.{own}
-use Rattle.desk_screen.specs.Proper.{Displays, GoesOn, HasGoneOn, IsAllowed, IsAsked, IsFor, IsKeyOf, IsNext, IsOwn, IsProper, LeadsOn, outcome_key}
+use Rattle.desk_screen.specs.Proper.{Displays, GoesOn, HasGoneOn, IsAllowed, IsKeyed, IsFor, IsKeyOf, IsNext, IsOwn, IsProper, LeadsOn, outcome_key}
 use Rattle.desk_screen.specs.Series.{keeps, kind_of, outcome_in}
 use Rattle.desk_screen.specs.Typing.{last_key, name, typed}
 use Rattle.desk_screen.specs.Whole.{AreActsIn, HasOneCause, IsActIn, IsCausedBy, asked_since, key_after, newest_key, since}
@@ -77,7 +77,7 @@ first_in_kind key kind step outcome is h = elim h as (λ _. outcome_in kind step
 
 -- a command that is asked for behind anything but a key and a line of the desk
 no_cause : (s : Sitting) (t : Turn) (i : Input) (c : Command) {P : Type 0} → t.input ≡ i → ((key : ℕ) → Key key ≡ i → ⊥)
-    → ((number : ℕ) (step : Step) → Displays (news i (way s)) number step → ⊥) → IsAsked s t c → P
+    → ((number : ℕ) (step : Step) → Displays (news i (way s)) number step → ⊥) → IsKeyed s t c → P
 no_cause s t i c {P = P} came keyless dark h = absurd (elim h as (λ _. ⊥) [
   | inl k ↦ keyless k.0 (sym k.1 ∙ came)
   | inr n ↦ dark n.number n.step (subst (λ (j : Input). Displays (news j (way s)) n.number n.step) came n.shown)
@@ -103,7 +103,7 @@ leads_is (Some (Show one)) number h = absurd h
 leads_is (Some Rows) number h = absurd h
 
 key_act : (s : Sitting) (t : Turn) (key number : ℕ) (kind : Kind) (step : Step) (outcome : Outcome) → t.input ≡ Key key → kind_of key ≡ Some kind
-    → IsAsked s t (Act number step outcome) → outcome_in kind step ≡ Some outcome
+    → IsKeyed s t (Act number step outcome) → outcome_in kind step ≡ Some outcome
 key_act s t key number kind step outcome came begins h = elim h as (λ _. outcome_in kind step ≡ Some outcome) [
   | inl k ↦ by_key k.0 (sym k.1 ∙ came) (of_act (own s) (last_key s) (typed s) (name s) k.0 k.2)
   | inr n ↦ absurd (dark n.number n.step (subst (λ (j : Input). Displays (news j (way s)) n.number n.step) came n.shown))
@@ -138,7 +138,7 @@ no_key_answer : (line : List ℕ) (key : ℕ) → Key key ≡ Answer line → �
 no_key_answer line key is = cc
 
 next_act : (s : Sitting) (t : Turn) (line : List ℕ) (number : ℕ) (kind : Kind) (c : Command) → t.input ≡ Answer line
-    → ((n : ℕ) (k : Kind) → HasGoneOn s n k → Ran (newest_key s) (asked_since s) n k) → HasGoneOn s number kind → IsAsked s t c → IsActIn number kind c
+    → ((n : ℕ) (k : Kind) → HasGoneOn s n k → Ran (newest_key s) (asked_since s) n k) → HasGoneOn s number kind → IsKeyed s t c → IsActIn number kind c
 next_act s t line number kind c came before gone h = elim h as (λ _. IsActIn number kind c) [
   | inl k ↦ absurd (no_key_answer line k.0 (sym k.1 ∙ came))
   | inr n ↦ subst (λ (d : Command). IsActIn number kind d) (sym n.act) (

@@ -8,7 +8,7 @@ use Rattle.desk_wire.specs.declared.command.Command.TheVariants.{Act, Close}
 use Rattle.desk_screen.specs.Inputs.{Input, Key, Answer, Second, Made, Lost, Turn, Sitting, news}
 use Rattle.desk_screen.specs.Orders.{user, way}
 use Rattle.desk_screen.specs.Owning.{own, own_after, own_number, same_number, worked_on}
-use Rattle.desk_screen.specs.Proper.{Confirms, IsAsked, IsConfirmed, IsFor, IsOwn, code_key}
+use Rattle.desk_screen.specs.Proper.{Confirms, IsKeyed, IsConfirmed, IsFor, IsOwn, code_key}
 use Rattle.desk_screen.specs.Typing.{last_after, last_key, name, tells_login, typed}
 use Rattle.desk_screen.specs.declared.own.Own.{Own}
 use Rattle.desk_screen.proofs.Asked.{own_is}
@@ -53,7 +53,7 @@ closed_is : (o : Option Own) (last : Option ℕ) (typed : List ℕ) (name : Opti
 closed_is o last typed name key number code h = (h.1, h.2)
 
 -- a closing that is asked for
-pub asked_confirmed : (s : Sitting) (t : Turn) (number : ℕ) (code : CloseCode) → IsAsked s t (Close number code) → IsConfirmed s number code
+pub asked_confirmed : (s : Sitting) (t : Turn) (number : ℕ) (code : CloseCode) → IsKeyed s t (Close number code) → IsConfirmed s number code
 asked_confirmed s t number code h = elim h as (λ _. IsConfirmed s number code) [
   | inl k ↦ by_key k.0 k.2
   | inr n ↦ absurd (no_act n.number n.step n.outcome n.act)

@@ -10,7 +10,7 @@ use Rattle.desk_wire.specs.declared.command.Command.TheVariants.{Login, Quit, Ne
 use Rattle.desk_screen.specs.Inputs.{Input, Key, Answer, Second, Made, Lost, Turn, Sitting, news}
 use Rattle.desk_screen.specs.Orders.{typed_of, user, way, wish}
 use Rattle.desk_screen.specs.Owning.{own, own_after, worked_on}
-use Rattle.desk_screen.specs.Proper.{Displays, GoesOn, HasGoneOn, IsAllowed, IsAsked, IsFor, IsNext, IsOwn, IsProper, LeadsOn}
+use Rattle.desk_screen.specs.Proper.{Displays, GoesOn, HasGoneOn, IsAllowed, IsKeyed, IsFor, IsNext, IsOwn, IsProper, LeadsOn}
 use Rattle.desk_screen.specs.Series.{act_in, act_of, begun_by, broken_off, heard_in, is_own, keeps, kind_of, next_in, outcome_in, series, series_after, shows, stopped}
 use Rattle.desk_screen.specs.Typing.{last_key, name, typed}
 use Rattle.desk_screen.specs.declared.own.Due.{Due}
@@ -92,7 +92,7 @@ broken_off_is None x is on = absurd cc
 broken_off_is (Some y) x {P = P} is on = off_is y.kind y.number y.recorded x {P = P} is on
 
 -- whose own incident an act that a key asked for names
-act_own : (s : Sitting) (t : Turn) (key number : ℕ) (step : Step) (outcome : Outcome) → t.input ≡ Key key → IsAsked s t (Act number step outcome) → IsOwn (own (t ∷ s)) number
+act_own : (s : Sitting) (t : Turn) (key number : ℕ) (step : Step) (outcome : Outcome) → t.input ≡ Key key → IsKeyed s t (Act number step outcome) → IsOwn (own (t ∷ s)) number
 act_own s t key number step outcome pressed h = elim h as (λ _. IsOwn (own (t ∷ s)) number) [
   | inl k ↦ own_then (own (t ∷ s)) (own s) number (left_by s t (Key key) pressed refl) (ahead_own (own s) (last_key s) (typed s) (name s) k.0 k.2)
   | inr n ↦ next_own n

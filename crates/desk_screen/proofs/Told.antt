@@ -14,7 +14,7 @@ use Rattle.desk_screen.specs.Inputs.{Input, Turn, Sitting, is_break, news}
 use Rattle.desk_screen.specs.Orders.{user, way}
 use Rattle.desk_screen.specs.Owning.{dropped, due_of, held_in, is_held_by, is_shown_by, kept, lost_in, mere, own, own_after, own_told}
 use Rattle.desk_screen.specs.Owning.{owned_by, same_number, seen, told_at, with_due, worked_on}
-use Rattle.desk_screen.specs.Proper.{Displays, IsAhead, IsAsked, IsFor}
+use Rattle.desk_screen.specs.Proper.{Displays, IsAhead, IsKeyed, IsFor}
 use Rattle.desk_screen.specs.Series.{shows}
 use Rattle.desk_screen.specs.Told.{IsTold, Leaves, Tells}
 use Rattle.desk_screen.specs.Typing.{last_key, name, typed}
@@ -200,7 +200,7 @@ next_told s one number this step that outcome act h =
     subst (λ (n : ℕ). IsTold s n step) a (subst (λ (p : Step). IsTold s one p) b h)
 
 -- an act that is asked for
-pub asked_told : (s : Sitting) (t : Turn) (number : ℕ) (step : Step) (outcome : Outcome) → IsAsked s t (Act number step outcome) → IsTold (t ∷ s) number step
+pub asked_told : (s : Sitting) (t : Turn) (number : ℕ) (step : Step) (outcome : Outcome) → IsKeyed s t (Act number step outcome) → IsTold (t ∷ s) number step
 asked_told s t number step outcome h = elim h as (λ _. IsTold (t ∷ s) number step) [
   | inl k ↦ inr (
     ap is_break k.1,

@@ -9,7 +9,7 @@ use Rattle.desk_screen.specs.Orders.{way, way_left, way_sent, wish, wish_asked, 
 use Rattle.desk_screen.specs.Orders.{undone, undone_asked, undone_lost, list_owed, list_paid, owed_after, show_owed, show_paid, typed_of}
 use Rattle.desk_screen.specs.Owning.{own, own_after, own_number, same_number, worked_on}
 use Rattle.desk_screen.specs.Plain.{answered, answered_after}
-use Rattle.desk_screen.specs.Proper.{IsAllowed, IsAsked}
+use Rattle.desk_screen.specs.Proper.{IsAllowed, IsKeyed}
 use Rattle.desk_screen.specs.Series.{next_in, series, series_after}
 use Rattle.desk_screen.specs.Stands.{IsTurn, StandsFor, asked_at, turn}
 use Rattle.desk_screen.specs.Typing.{last_key, last_after, name, name_after, typed, typed_after}
@@ -48,7 +48,7 @@ asked_may true asks c is = (refl, is)
 asked_may false asks c is = absurd cc
 
 record Asked (s : Sitting) (i : Input) (r : Reaction) (c : Command) : Type 0 where
-  by : IsAsked s (turn i r) c
+  by : IsKeyed s (turn i r) c
   free : (typed_of (way s) ≡ None) × (wish s ≡ None)
   joined : is_connected s ≡ true
 

@@ -127,8 +127,8 @@ pub record IsNext (s : Sitting) (t : Turn) (c : Command) : Type 0 where
   pub fit : fits step outcome ≡ true
 
 -- Why a command is asked for: it is that of the key which was pressed, or the next one of a series, which an earlier key began.
-abbrev pub IsAsked : Sitting → Turn → Command → Type 0
-IsAsked s t c = ((key : ℕ) × (t.input ≡ Key key) × IsFor (own s) (last_key s) (typed s) (name s) key c) ⊎ IsNext s t c
+abbrev pub IsKeyed : Sitting → Turn → Command → Type 0
+IsKeyed s t c = ((key : ℕ) × (t.input ≡ Key key) × IsFor (own s) (last_key s) (typed s) (name s) key c) ⊎ IsNext s t c
 
 -- What is so of a turn behind a sitting.
 pub record IsAllowed (s : Sitting) (t : Turn) : Type 0 where
@@ -141,7 +141,7 @@ pub record IsAllowed (s : Sitting) (t : Turn) : Type 0 where
   pub fresh : (c : Command) → t.sent ≡ Some (Typed c) → is_break t.input ≡ false
   -- he asks by a key, and by that of a series also for its next commands, over a connection, where none of his commands waits for its turn
   -- or its answer
-  pub keyed : (c : Command) → t.asked ≡ Some c → IsAsked s t c
+  pub keyed : (c : Command) → t.asked ≡ Some c → IsKeyed s t c
   pub joined : (c : Command) → t.asked ≡ Some c → is_connected s ≡ true
   pub one : (c : Command) → t.asked ≡ Some c → (typed_of (way s) ≡ None) × (wish s ≡ None)
   -- what a series asks for behind an answer is sent at once

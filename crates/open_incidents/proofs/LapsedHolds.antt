@@ -67,9 +67,9 @@ module _ (lapse : Option ℕ) (at : ℕ) where
       head_free i is [] (filter is_free (standing_of lapse at is)) here refl
       ∙ ap (lesser (stands i)) rest ∙ lesser_stood i (both is)
       ∙ ap (option_map stands) (
-        sym (in_parts (Some i) (best is) (least (lapsed lapse at is)))
-        ∙ sym (ap (λ (b : Bool). earlier (least (cond b (i ∷ filter is_free is) (filter is_free is))) (least (lapsed lapse at (i ∷ is)))) e
-        ∙ ap (λ (b : Bool). earlier (lesser i (best is)) (least (filter (λ j. has_lapsed lapse j.touched at) (cond b (i ∷ holders is) (holders is))))) f)
+      sym (in_parts (Some i) (best is) (least (lapsed lapse at is)))
+      ∙ sym (ap (λ (b : Bool). earlier (least (cond b (i ∷ filter is_free is) (filter is_free is))) (least (lapsed lapse at (i ∷ is)))) e
+      ∙ ap (λ (b : Bool). earlier (lesser i (best is)) (least (filter (λ j. has_lapsed lapse j.touched at) (cond b (i ∷ holders is) (holders is))))) f)
       )
   one_more i is high false true e f g rise rest =
       let here : is_free (stands i) ≡ true = ap (λ (b : Bool). is_none (cond b None i.holder)) g in
@@ -79,20 +79,20 @@ module _ (lapse : Option ℕ) (at : ℕ) where
       head_free i is [] (filter is_free (standing_of lapse at is)) here refl
       ∙ ap (lesser (stands i)) rest ∙ lesser_stood i (both is)
       ∙ ap (option_map stands) (
-        sym (in_parts (Some i) (best is) rest_) ∙ sym (ap (λ (o : Option Incident). earlier o rest_) (swap_least i (best is) others))
-        ∙ in_parts (best is) (Some i) rest_
-        ∙ sym (ap (λ (b : Bool). earlier (least (cond b (i ∷ filter is_free is) (filter is_free is))) (least (lapsed lapse at (i ∷ is)))) e
-        ∙ ap (λ (b : Bool). earlier (best is) (least (filter (λ j. has_lapsed lapse j.touched at) (cond b (i ∷ holders is) (holders is))))) f
-        ∙ ap (λ (b : Bool). earlier (best is) (least (cond b (i ∷ lapsed lapse at is) (lapsed lapse at is)))) g)
+      sym (in_parts (Some i) (best is) rest_) ∙ sym (ap (λ (o : Option Incident). earlier o rest_) (swap_least i (best is) others))
+      ∙ in_parts (best is) (Some i) rest_
+      ∙ sym (ap (λ (b : Bool). earlier (least (cond b (i ∷ filter is_free is) (filter is_free is))) (least (lapsed lapse at (i ∷ is)))) e
+      ∙ ap (λ (b : Bool). earlier (best is) (least (filter (λ j. has_lapsed lapse j.touched at) (cond b (i ∷ holders is) (holders is))))) f
+      ∙ ap (λ (b : Bool). earlier (best is) (least (cond b (i ∷ lapsed lapse at is) (lapsed lapse at is)))) g)
       )
   one_more i is high false false e f g rise rest =
       let here : is_free (stands i) ≡ false = ap (λ (b : Bool). is_none (cond b None i.holder)) g ∙ e in
       ap (λ (b : Bool). least (cond b (stands i ∷ filter is_free (standing_of lapse at is)) (filter is_free (standing_of lapse at is)))) here
       ∙ rest
       ∙ ap (option_map stands) (
-        sym (ap (λ (b : Bool). earlier (least (cond b (i ∷ filter is_free is) (filter is_free is))) (least (lapsed lapse at (i ∷ is)))) e
-        ∙ ap (λ (b : Bool). earlier (best is) (least (filter (λ j. has_lapsed lapse j.touched at) (cond b (i ∷ holders is) (holders is))))) f
-        ∙ ap (λ (b : Bool). earlier (best is) (least (cond b (i ∷ lapsed lapse at is) (lapsed lapse at is)))) g)
+      sym (ap (λ (b : Bool). earlier (least (cond b (i ∷ filter is_free is) (filter is_free is))) (least (lapsed lapse at (i ∷ is)))) e
+      ∙ ap (λ (b : Bool). earlier (best is) (least (filter (λ j. has_lapsed lapse j.touched at) (cond b (i ∷ holders is) (holders is))))) f
+      ∙ ap (λ (b : Bool). earlier (best is) (least (cond b (i ∷ lapsed lapse at is) (lapsed lapse at is)))) g)
       )
 
   held_is : (holder : Option (List ℕ)) → is_some holder ≡ cond (is_none holder) false true

@@ -10,12 +10,7 @@ use arc_data::{Incident, Listing, Memory, Reply, Row};
 use std::alloc::Global;
 
 /// How many incidents are open, and the first 16 by priority and number. The error is want of memory.
-pub fn list(
-    alloc: Global,
-    items: &[Incident],
-    at: u64,
-    lapse: Option<u64>,
-) -> Result<Reply, Memory>
+pub fn list(alloc: Global, items: &[Incident], at: u64, lapse: Option<u64>) -> Result<Reply, Memory>
     ensures { IfOk result (λ reply. reply ≡ on_list (standing_of lapse at items.now)) }
 {
     let mut first = Vec::new(alloc);

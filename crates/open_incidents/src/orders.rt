@@ -78,13 +78,7 @@ pub fn act(table: &Table, acted: Acted, number: u64, lapse: Option<u64>) -> Repl
 }
 
 /// The answer to a release.
-pub fn release(
-    table: &Table,
-    operator: &Txt,
-    number: u64,
-    at: u64,
-    lapse: Option<u64>,
-) -> Reply
+pub fn release(table: &Table, operator: &Txt, number: u64, at: u64, lapse: Option<u64>) -> Reply
     ensures { result ≡ on_release operator.now number (standing_of lapse at table.now.incidents) }
 {
     match open_at(table, number, at, lapse) {

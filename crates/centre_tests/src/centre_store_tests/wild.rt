@@ -274,7 +274,11 @@ fn compare_growing(rt: &impl Abort, alloc: Global, row: &str) {
     let area = area_in_words(rt, alloc, "asm");
     let area = area.as_slice();
     let reads = [area, area, area, gate.as_slice()];
-    let told = told(rt, alloc, wild_disk_of(rt, alloc, &reads, &[100, 30, length]));
+    let told = told(
+        rt,
+        alloc,
+        wild_disk_of(rt, alloc, &reads, &[100, 30, length]),
+    );
     same(rt, told.as_str(), "3 repeat", row);
 }
 

@@ -70,8 +70,7 @@ returns-in-None c =
     let none : find (is_of x.account x.class) is ≡ None =
     map_none (λ (i : Incident). i.number) (find (is_of x.account x.class) is)
     (sym (c.find.ensures ∙ ap (λ (l : List Incident). number_of (find (is_of x.account x.class) l)) c.table.ensures.incidents) ∙ not_some c.find.result (sym c.is_some.ensures ∙ c.if-is_some.false)) in
-    let free : (stands x).holder ≡ None = sym c.holder_at.ensures ∙ c.in-None.is in
-    (
+    let free : (stands x).holder ≡ None = sym c.holder_at.ensures ∙ c.in-None.is in (
       λ t. (
         apart_every is x none,
         every_back (λ other. IsHeldApart other (stands x)) stands is (free_every (standing_of c.args.lapse c.args.at is) (stands x) free),

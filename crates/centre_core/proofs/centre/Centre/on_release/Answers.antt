@@ -7,7 +7,7 @@ use Rattle.centre_core.proofs.Ordered.{answer_of, of_table}
 use Rattle.centre_core.proofs.centre.Centre.on_release.Goals as goal
 
 pub returns : goal.returns
-returns c = 
+returns c =
     let of = λ (is : List Incident). on_release c.args.operator.now c.args.number (standing_of c.lapse.result c.args.at is) in
     c.if_known.ensures
     ∙ answer_of c.args.self.now.sum c.args.operator.now c.knows_operator.result c.release-reply.result (on_release c.args.operator.now c.args.number) c.args.at c.lapse.result
