@@ -16,13 +16,15 @@ use Rattle.arc_data.specs.declared.step.Step.{Step}
 use Rattle.centre_laws.proofs.Numbering.{rise}
 use Rattle.centre_laws.proofs.Replies.{answer_may, may_answer}
 use Rattle.centre_rules.proofs.Steps.{incidents_step}
+use Rattle.centre_rules.proofs.Stood.{stood_found}
 use Rattle.centre_store.specs.Given.{IsGiven}
 use Rattle.arc_script.proofs.GivenSummaries.{given_ascends}
 use Rattle.centre_rules.specs.Answers.{answer, if_known, knows_operator, IsLegal}
 use Rattle.centre_rules.specs.Cases.{has_number, incidents, opened, Ascends, Incident}
 use Rattle.centre_rules.specs.Desks.{close_of, close_when, holds, numbered}
 use Rattle.centre_rules.specs.History.{Entry, act_marks, acted_by, claim_marks, close_marks, is_recorded, marks, marks_of, onto, release_marks}
-use Rattle.centre_rules.specs.Marks.{force, Acts, Claims, Closes, Mark, Releases}
+use Rattle.centre_rules.specs.Marks.{force, lapse, Acts, Claims, Closes, Mark, Releases}
+use Rattle.centre_rules.specs.Standing.{standing}
 use Rattle.centre_rules.specs.Summary.{Summary}
 use Rattle.centre_rules.specs.Tables.{touched_by}
 use Rattle.desk_session.specs.Events.{command_in, event_by, event_of, text_of as said_of}
@@ -172,14 +174,15 @@ close_found false operator number n f is = absurd cc
 numbers : (base : Summary) → IsGiven base → (h : List Entry) → Ascends 0 (incidents base (marks base h)) (opened base (marks base h))
 numbers base given h = rise base h (given_ascends base given)
 
-closes_one : (base : Summary) → IsGiven base → (b : Bool) (operator : List ℕ) (number n : ℕ) (h : List Entry)
-    → if_known b (close_of operator number (numbered number (incidents base (marks base h)))) ≡ Closed n
+closes_one : (base : Summary) → IsGiven base → (b : Bool) (operator : List ℕ) (number n : ℕ) (h : List Entry) (now : ℕ)
+    → if_known b (close_of operator number (numbered number (standing base (marks base h) now))) ≡ Closed n
     → Falls base (marks base h) (Closes n ∷ marks base h) 1
-closes_one base given b operator number n h is =
+closes_one base given b operator number n h now is =
     let ms = marks base h in
-    let found = close_found b operator number n (numbered number (incidents base ms)) is in
-    let there : numbered n (incidents base ms) ≡ Some found.incident = ap (λ k. numbered k (incidents base ms)) found.same ∙ found.is in
-    let less = dropped n 0 (incidents base ms) (opened base ms) found.incident (numbers base given h) there in
+    let found = close_found b operator number n (numbered number (standing base ms now)) is in
+    let stood : numbered n (standing base ms now) ≡ Some found.incident = ap (λ k. numbered k (standing base ms now)) found.same ∙ found.is in
+    let there = stood_found (lapse base ms) now n (incidents base ms) found.incident stood in
+    let less = dropped n 0 (incidents base ms) (opened base ms) there.incident (numbers base given h) there.found in
     let step = ap length (incidents_step base (Closes n) ms) in
     omega (arith, less, step)
 
@@ -204,12 +207,12 @@ quiet_zero : (reply : Reply) → is_recorded reply ≡ false → fall_of reply �
 quiet_zero (Closed n) is = absurd (false≢true (sym is))
 quiet_zero reply is = refl
 
-close_falls : (base : Summary) → IsGiven base → (operator : List ℕ) (number : ℕ) (h : List Entry) (b : Bool) (reply : Reply) (f : Option Incident)
-    → f ≡ numbered number (incidents base (marks base h)) → reply ≡ if_known b (close_of operator number f)
+close_falls : (base : Summary) → IsGiven base → (operator : List ℕ) (number : ℕ) (h : List Entry) (now : ℕ) (b : Bool) (reply : Reply) (f : Option Incident)
+    → f ≡ numbered number (standing base (marks base h) now) → reply ≡ if_known b (close_of operator number f)
     → Falls base (marks base h) (onto (close_marks reply) (marks base h)) (fall_of reply)
-close_falls base given operator number h b (Closed n) f at is =
-    closes_one base given b operator number n h (ap (λ (o : Option Incident). if_known b (close_of operator number o)) (sym at) ∙ sym is)
-close_falls base given operator number h b reply f at is = omega arith
+close_falls base given operator number h now b (Closed n) f at is =
+    closes_one base given b operator number n h now (ap (λ (o : Option Incident). if_known b (close_of operator number o)) (sym at) ∙ sym is)
+close_falls base given operator number h now b reply f at is = omega arith
 
 event_falls : (base : Summary) → IsGiven base → (h : List Entry) (event : Event) (at : ℕ) (reply : Reply) → is_desked event ≡ true → may_answer event reply ≡ true
     → reply ≡ answer base h event at
@@ -237,7 +240,7 @@ event_falls base given h (E.Release operator number) at reply is may same =
     stays_if base (is_closed reply) ms (onto (release_marks reply) ms) (may_close (E.Release operator number) reply (λ n. refl) may)
     (releases_stay base reply ms)
 event_falls base given h (E.Close operator number code) at reply is may same =
-    close_falls base given operator number h (knows_operator (force base (marks base h)) operator) reply (numbered number (incidents base (marks base h)))
+    close_falls base given operator number h at (knows_operator (force base (marks base h)) operator) reply (numbered number (standing base (marks base h) at))
     refl same
 event_falls base given h (E.Show number) at reply is may same =
     let ms = marks base h in stays_if base (is_closed reply) ms ms (may_close (E.Show number) reply (λ n. refl) may) (omega arith)

@@ -13,7 +13,8 @@ use Rattle.std.specs.Str.{bytes_eq}
 use Rattle.alarm_rules.specs.Plans.{expected_step}
 use Rattle.alarm_rules.specs.Setups.{Setup, meaning, has_operator}
 use Rattle.centre_core.specs.Halls.{HallSeen, IsKept, TookEvent}
-use Rattle.centre_rules.specs.Cases.{Incident, incidents}
+use Rattle.centre_rules.specs.Cases.{Incident}
+use Rattle.centre_rules.specs.Standing.{standing}
 use Rattle.centre_rules.specs.Desks.{numbered, held_by, best, holds, claim_unless, claim_from, claim_of, next_of, act_when, act_of, release_of, close_when, close_of, show_of}
 use Rattle.centre_rules.specs.Summary.{Summary}
 use Rattle.centre_rules.specs.Marks.{Mark, force}
@@ -86,22 +87,22 @@ module _ (b : Summary) (ms : List Mark) (setup : Setup) (operator : List ℕ) (f
   answers_known Quit event at is told = cc
   answers_known Next event at is told =
       let it : event ≡ TheNext operator = cc in
-      asked_known _ (next_told (held_by operator (incidents b ms)) (best (incidents b ms))) (ap (λ (e : Event). answer_over b ms e at) (sym it) ∙ told)
+      asked_known _ (next_told (held_by operator (standing b ms at)) (best (standing b ms at))) (ap (λ (e : Event). answer_over b ms e at) (sym it) ∙ told)
   answers_known (Claim number) event at is told =
       let it : event ≡ TheClaim operator number = cc in
-      asked_known _ (claim_told operator (incidents b ms) number (numbered number (incidents b ms))) (ap (λ (e : Event). answer_over b ms e at) (sym it) ∙ told)
+      asked_known _ (claim_told operator (standing b ms at) number (numbered number (standing b ms at))) (ap (λ (e : Event). answer_over b ms e at) (sym it) ∙ told)
   answers_known (Act number step outcome) event at is told =
       let it : event ≡ TheAct operator number step outcome = cc in
-      asked_known _ (act_told (acted_by operator step outcome at) number (numbered number (incidents b ms))) (ap (λ (e : Event). answer_over b ms e at) (sym it) ∙ told)
+      asked_known _ (act_told (acted_by operator step outcome at) number (numbered number (standing b ms at))) (ap (λ (e : Event). answer_over b ms e at) (sym it) ∙ told)
   answers_known (Release number) event at is told =
       let it : event ≡ TheRelease operator number = cc in
-      asked_known _ (release_told operator number (numbered number (incidents b ms))) (ap (λ (e : Event). answer_over b ms e at) (sym it) ∙ told)
+      asked_known _ (release_told operator number (numbered number (standing b ms at))) (ap (λ (e : Event). answer_over b ms e at) (sym it) ∙ told)
   answers_known (Close number code) event at is told =
       let it : event ≡ TheClose operator number code = cc in
-      asked_known _ (close_told operator number (numbered number (incidents b ms))) (ap (λ (e : Event). answer_over b ms e at) (sym it) ∙ told)
+      asked_known _ (close_told operator number (numbered number (standing b ms at))) (ap (λ (e : Event). answer_over b ms e at) (sym it) ∙ told)
   answers_known (Show number) event at is told =
       let it : event ≡ TheShow number = cc in
-      show_told number (numbered number (incidents b ms)) (ap (λ (e : Event). answer_over b ms e at) (sym it) ∙ told)
+      show_told number (numbered number (standing b ms at)) (ap (λ (e : Event). answer_over b ms e at) (sym it) ∙ told)
   answers_known Rows event at is told =
       let it : event ≡ TheList = cc in
       let shown = ap (λ (e : Event). answer_over b ms e at) (sym it) ∙ told in cc
