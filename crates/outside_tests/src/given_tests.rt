@@ -102,22 +102,14 @@ fn compare_front(rt: &impl Abort, alloc: Global, front: (&[u8], u64), length: u6
 fn a_piece_that_ends_early_is_filled_up(rt: HostRuntime) {
     let alloc = rt.alloc();
     // 2,000,000 bytes, of which less than a piece is left behind the first, and 3,000,000, of which more is.
-    compare_pieces(
-        &rt,
-        alloc,
-        b"ARC JOURNAL 0001\x01\x00\x1e\x84\x80x",
-        2_000_022,
-    );
-    compare_pieces(
-        &rt,
-        alloc,
-        b"ARC JOURNAL 0001\x01\x00\x2d\xc6\xc0x",
-        3_000_022,
-    );
+    let two = b"ARC JOURNAL 0001\x01\x00\x1e\x84\x80x";
+    compare_pieces(&rt, alloc, &[b"", b"", two, b"abc"], 2_000_022);
+    let three = b"ARC JOURNAL 0001\x01\x00\x2d\xc6\xc0x";
+    compare_pieces(&rt, alloc, &[b"", b"", three, b"abc"], 3_000_022);
 }
 
-fn compare_pieces(rt: &impl Abort, alloc: Global, front: &[u8], length: u64) {
-    let disk = disk_of(rt, alloc, &[b"", b"", front, b"abc"], length);
+fn compare_pieces(rt: &impl Abort, alloc: Global, given: &[&[u8]], length: u64) {
+    let disk = disk_of(rt, alloc, given, length);
     let bodies = match Journal::open(alloc, disk, SHIPPED) {
         Ok((_, bodies)) => bodies,
         Err(_) => Bodies::new(alloc),
