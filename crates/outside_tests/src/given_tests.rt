@@ -110,10 +110,14 @@ fn a_piece_that_ends_early_is_filled_up(rt: HostRuntime) {
 
 fn compare_pieces(rt: &impl Abort, alloc: Global, given: &[&[u8]], length: u64) {
     let disk = disk_of(rt, alloc, given, length);
-    let bodies = match Journal::open(alloc, disk, SHIPPED) {
-        Ok((_, bodies)) => bodies,
-        Err(_) => Bodies::new(alloc),
-    };
+    match Journal::open(alloc, disk, SHIPPED) {
+        Ok((_, bodies)) => compare_one(rt, &bodies, length),
+        Err(_) => same(rt, "refused", "opened", "an opening"),
+    }
+}
+
+// There is one body.
+fn compare_one(rt: &impl Abort, bodies: &Bodies, length: u64) {
     same(rt, bodies.count(), 1, "one body");
     if bodies.count() == 1 {
         compare_body(rt, bodies.at(0), length);
