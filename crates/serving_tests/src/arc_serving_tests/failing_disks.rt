@@ -214,12 +214,14 @@ fn a_fault_within_a_station_with_checkpoints(rt: HostRuntime) {
 
 // Until no call fails.
 fn compare_faults<R: Abort + Threads + Wait + Sync>(rt: &R, alloc: Global, records: u64) {
-    let mut call = 1u64;
-    while call < 1_000 && has_failed(rt, alloc, records, call) {
-        call += 1;
+    for call in 1..1_000 {
+        if !has_failed(rt, alloc, records, call) {
+            // an Adopt, a Start and four alarms take four calls each, behind six that open the areas
+            same(rt, 30 < call, true, "calls");
+            return;
+        }
     }
-    // an Adopt, a Start and four alarms take four calls each, behind six that open the areas
-    same(rt, 30 < call && call < 1_000, true, "calls");
+    panic!(rt; "each call fails");
 }
 
 // Whether the disk has failed at this call. Where it has not, all is acknowledged.

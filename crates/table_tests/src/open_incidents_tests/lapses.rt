@@ -130,27 +130,36 @@ fn one_left_behind_and_claimed_anew(rt: HostRuntime) {
     drop(queued);
 }
 
-// Who is shown to hold the first, and in the list.
-fn compare_shown(rt: &impl Abort, alloc: Global, queued: &QueuedTable, at: u64, want: Option<Txt>) {
+// Who is shown to hold the first.
+fn compare_shown(rt: &impl Abort, queued: &QueuedTable, at: u64, want: Option<Txt>) {
     match show(queued.table(), 1, at, LAPSE) {
         Reply::Shown(view) => same(rt, view.holder, want, "shown"),
         _ => panic!(rt; "not shown"),
     }
+}
+
+// And in the list.
+fn compare_listed(
+    rt: &impl Abort,
+    alloc: Global,
+    queued: &QueuedTable,
+    at: u64,
+    want: Option<Txt>,
+) {
     let reply = list(alloc, queued.table().items(), at, LAPSE).expect(rt, "memory");
-    match reply {
-        Reply::Listed(listing) => {
-            assert!(rt; 0 < listing.count());
-            same(rt, listing.row(0).holder, want, "listed");
-        }
-        _ => panic!(rt; "no list"),
-    }
+    let Reply::Listed(listing) = reply else {
+        panic!(rt; "no list");
+    };
+    assert!(rt; 0 < listing.count());
+    same(rt, listing.row(0).holder, want, "listed");
 }
 
 #[test]
 fn who_is_shown(rt: HostRuntime) {
     let queued = claimed(&rt, rt.alloc(), Class::Fire, Class::Burglary, 1);
-    let ann = text(&rt, b"ann");
-    compare_shown(&rt, rt.alloc(), &queued, 1300, Some(ann));
-    compare_shown(&rt, rt.alloc(), &queued, 1301, None);
+    compare_shown(&rt, &queued, 1300, Some(text(&rt, b"ann")));
+    compare_listed(&rt, rt.alloc(), &queued, 1300, Some(text(&rt, b"ann")));
+    compare_shown(&rt, &queued, 1301, None);
+    compare_listed(&rt, rt.alloc(), &queued, 1301, None);
     drop(queued);
 }
