@@ -10,8 +10,8 @@ use Rattle.arc_data.specs.declared.plan.Planned.{Planned}
 use Rattle.arc_data.specs.declared.signal.Class.{Class}
 use Rattle.arc_data.specs.declared.window.Window.{Window}
 use Rattle.zone_rules.specs.Zones.{Zone, fixed_zone}
-use Rattle.alarm_rules.specs.SetupWords.{word_that, account_named, key_spelled, number_between, seconds_spelled}
-use Rattle.alarm_rules.specs.SetupWords.{minutes_spelled, zone_spelled, day_named, minute_named, is_phone, is_pin, class_named, planned_named}
+use Rattle.alarm_rules.specs.SetupWords.{word_that, account_named, key_spelled, number_between, seconds_spelled, minutes_spelled}
+use Rattle.alarm_rules.specs.SetupWords.{zone_spelled, day_named, minute_named, is_phone, is_pin, class_named, planned_named}
 
 -- an account: its number in capitals, the bytes of its key and the seconds of its interval, where it has them, and its zone, which
 -- is none where the text that names it is no rule
