@@ -106,11 +106,14 @@ unnumbered ss b e n m is all = absurd (none-some n is)
 traced_step : (s : Step) (ss : List Step) (w : List Item) → AreTraced (s ∷ ss) w → AreTraced (s ∷ ss) (after_step s w)
 traced_step (Deliver n m via clock b) ss w all = let P = IsTraced (Deliver n m via clock b ∷ ss) in
     delivered_has (AllByRecursion P) n m via clock b w all (all_map P (acknowledge_item n) (λ i t. t) w all)
-    (λ _. ((λ k a is agree. let own : k ≡ n = sym (same_Some n k is) in record {
-      via = via;
-      event = ap (λ (l : Message). Sent l via) (agree.0 own);
-      line = inl (own, refl);
-    }), all))
+    (λ _. (
+      (λ k a is agree. let own : k ≡ n = sym (same_Some n k is) in record {
+        via = via;
+        event = ap (λ (l : Message). Sent l via) (agree.0 own);
+        line = inl (own, refl);
+      }),
+      all,
+    ))
 traced_step (Other e clock b) ss w all = let new = next (entries w) e clock in
     added_has (AreTraced (Other e clock b ∷ ss)) new b w all (λ _. (unnumbered (Other e clock b ∷ ss) b new, all))
 traced_step Lose ss w all = all
