@@ -502,7 +502,12 @@ fn close(bytes: &[u8]) -> Option<(Event, &[u8])>
     Some((event, rest))
 }
 
-fn event_fields(alloc: Global, version: u8, tag: u8, bytes: &[u8]) -> Result<Option<(Event, &[u8])>, Memory>
+fn event_fields(
+    alloc: Global,
+    version: u8,
+    tag: u8,
+    bytes: &[u8],
+) -> Result<Option<(Event, &[u8])>, Memory>
     ensures { IfOk result (λ found. MatchOption found (fields_at version tag bytes.now ≡ None) (λ x. fields_at version tag bytes.now ≡ Some (x.0, x.1.now))) }
 {
     match tag {
