@@ -331,7 +331,7 @@ fn via_at<'a>(version: u8, code: &Txt, bytes: &'a [u8]) -> Option<(Txt, &'a [u8]
 fn name_of_one(code: &Txt) -> Txt
     ensures { result ≡ name_of_one code.now }
 {
-    if code.bytes() == b"-" {
+    if code.bytes() == b"-".as_slice() {
         Txt::empty()
     } else {
         via_of_one()
