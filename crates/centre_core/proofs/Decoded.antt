@@ -15,7 +15,7 @@ use Rattle.incidents.specs.Tables.{TableValue}
 use Rattle.open_incidents.specs.Marked.{HasActRoom}
 use Rattle.summary_rules.specs.Fields.{Given, IsIncident}
 use Rattle.summary_rules.specs.Lists.{Every, EveryTwo}
-use Rattle.summary_rules.specs.Conditions.{HasRowBy, HasIncidentBy, IsRowBefore, IsHeldApart, AreMessages, IsCount, AreSteps, AreActsOf, IsSummary}
+use Rattle.summary_rules.specs.Conditions.{HasRowBy, HasIncidentBy, IsRowBefore, IsHeldApart, AreMessages, IsCount, AreSteps, AreActsOf, HaveNamesIn, IsSummary}
 use Rattle.summary_rules.proofs.Everies.{every_weaker, every_map}
 use Rattle.summary_rules.proofs.Pairs.{every_both}
 use Rattle.summary_codec.specs.declared.head.Head.{Head}

@@ -1,6 +1,7 @@
 -- What a centre's summary is written of.
 use Rattle.std.specs.Prelude.{ℕ}
 use Rattle.centre_rules.specs.Summary.{Summary}
+use Rattle.event_codec.specs.Spelling.{IsVersion}
 use Rattle.summary_rules.specs.Fields.{HasFields}
 use Rattle.summary_rules.specs.Conditions.{IsSummary}
 

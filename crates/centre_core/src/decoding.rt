@@ -3,9 +3,10 @@ ghost use Rattle.std.specs.Prelude.{◌≡◌, ◌≤◌, ◌↔◌, ◌^◌, Li
 ghost use Rattle.std.specs.Option.{option_map};
 ghost use Rattle.arc_data.specs.Incidents.{Ascends};
 ghost use Rattle.arc_data.specs.Moments.{IsMoment};
+ghost use Rattle.event_codec.specs.Spelling.{IsVersion};
 ghost use Rattle.summary_rules.specs.Lists.{Every, EveryTwo};
 ghost use Rattle.summary_rules.specs.Fields.{HasFields};
-ghost use Rattle.summary_rules.specs.Conditions.{IsApart};
+ghost use Rattle.summary_rules.specs.Conditions.{HaveNamesIn, IsApart};
 ghost use Rattle.summary_codec.specs.Parts.{row_of_read, summary_of_read};
 ghost use Rattle.centre_core.specs.Decoding.{IsNoSpelling, IsDecoded, IsNoSummary, IsKeptOf, IsReadBefore, AreRowsFine, ArePartsFine, AreAllApart, IsHeldApartAt, IsSetupGiven, IsTextFine};
 

@@ -6,7 +6,7 @@ use Rattle.std.proofs.lemmas.Bool.{false≢true}
 use Rattle.alarm_rules.specs.Setups.{setup_of}
 use Rattle.summary_rules.specs.Fields.{Given, IsIncident}
 use Rattle.summary_rules.specs.Lists.{Every}
-use Rattle.summary_rules.specs.Conditions.{IsSummary}
+use Rattle.summary_rules.specs.Conditions.{HaveNamesIn, IsSummary}
 use Rattle.summary_codec.specs.declared.head.Head.{Head}
 use Rattle.summary_codec.specs.declared.summary.ReadSummary.{ReadSummary}
 use Rattle.summary_codec.specs.Parts.{row_of_read, summary_of_read}
