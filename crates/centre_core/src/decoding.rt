@@ -45,11 +45,7 @@ pub fn decode_summary(
 }
 
 // The centre that keeps what was read. None where that is not what a summary has to be.
-fn centre_of(
-    alloc: Global,
-    version: u8,
-    read: ReadSummary<'_>,
-) -> Result<Option<Centre>, Memory>
+fn centre_of(alloc: Global, version: u8, read: ReadSummary<'_>) -> Result<Option<Centre>, Memory>
     requires fields { HasFields read.head.generation (summary_of_read read) }
     requires names { HaveNamesIn version read.incidents.items }
     ensures { IfOk result (λ found. MatchOption found (IsNoSummary version read.entry) (IsKeptOf version read.entry)) }
