@@ -15,7 +15,7 @@ use Rattle.incidents.specs.Tables.{TableValue}
 use Rattle.open_incidents.specs.Marked.{HasActRoom}
 use Rattle.summary_rules.specs.Fields.{Given, IsIncident}
 use Rattle.summary_rules.specs.Lists.{Every, EveryTwo}
-use Rattle.summary_rules.specs.Conditions.{HasRowBy, HasIncidentBy, IsRowBefore, IsHeldApart, AreMessages, IsCount, AreSteps, AreActsOf, HaveNamesIn, IsSummary}
+use Rattle.summary_rules.specs.Conditions.{HasRowBy, HasIncidentBy, IsRowBefore, IsHeldApart, AreMessages, IsCount, AreSteps, AreActsOf, AreNamedIn, IsSummary}
 use Rattle.summary_rules.proofs.Everies.{every_weaker, every_map}
 use Rattle.summary_rules.proofs.Pairs.{every_both}
 use Rattle.summary_codec.specs.declared.head.Head.{Head}
@@ -44,7 +44,7 @@ two_back S f (x ∷ xs) w = (every_back (S (f x)) f xs w.0, two_back S f xs w.1)
 -- The parts and the whole.
 
 pub of_parts : (version : ℕ) (r : ReadSummary) → IsHeadFine version r.head → AreRowsFine r.head.last r.rows.items → AreIncidentsFine r.head r.incidents.items
-    → IsTextFine r.head → AreAllApart (lapse (summary_of_read r) []) r.head.last r.incidents.items → HaveNamesIn version r.incidents.items
+    → IsTextFine r.head → AreAllApart (lapse (summary_of_read r) []) r.head.last r.incidents.items → AreNamedIn version r.incidents.items
     → IsSummary version r.head.generation (summary_of_read r)
 of_parts version r h rows is text apart names = record {
   last = h.last;

@@ -6,7 +6,7 @@ ghost use Rattle.arc_data.specs.Moments.{IsMoment};
 ghost use Rattle.event_codec.specs.Spelling.{IsVersion};
 ghost use Rattle.summary_rules.specs.Lists.{Every, EveryTwo};
 ghost use Rattle.summary_rules.specs.Fields.{HasFields};
-ghost use Rattle.summary_rules.specs.Conditions.{HaveNamesIn, IsApart};
+ghost use Rattle.summary_rules.specs.Conditions.{AreNamedIn, IsApart};
 ghost use Rattle.summary_codec.specs.Parts.{row_of_read, summary_of_read};
 ghost use Rattle.centre_core.specs.Decoding.{IsNoSpelling, IsDecoded, IsNoSummary, IsKeptOf, IsReadBefore, AreRowsFine, ArePartsFine, AreAllApart, IsHeldApartAt, IsSetupGiven, IsTextFine};
 
@@ -47,7 +47,7 @@ pub fn decode_summary(
 // The centre that keeps what was read. None where that is not what a summary has to be.
 fn centre_of(alloc: Global, version: u8, read: ReadSummary<'_>) -> Result<Option<Centre>, Memory>
     requires fields { HasFields read.head.generation (summary_of_read read) }
-    requires names { HaveNamesIn version read.incidents.items }
+    requires names { AreNamedIn version read.incidents.items }
     ensures { IfOk result (λ found. MatchOption found (IsNoSummary version read.entry) (IsKeptOf version read.entry)) }
 {
     let (head, rows, incidents) = read.parts();

@@ -6,7 +6,7 @@ use Rattle.std.proofs.lemmas.Bool.{false≢true}
 use Rattle.alarm_rules.specs.Setups.{setup_of}
 use Rattle.summary_rules.specs.Fields.{Given, IsIncident}
 use Rattle.summary_rules.specs.Lists.{Every}
-use Rattle.summary_rules.specs.Conditions.{HaveNamesIn, IsSummary}
+use Rattle.summary_rules.specs.Conditions.{AreNamedIn, IsSummary}
 use Rattle.summary_codec.specs.declared.head.Head.{Head}
 use Rattle.summary_codec.specs.declared.summary.ReadSummary.{ReadSummary}
 use Rattle.summary_codec.specs.Parts.{row_of_read, summary_of_read}
@@ -67,7 +67,7 @@ returns c =
           (rw c.in-Some.is at c.in_ok-accounts.ensures.text)
           (subst (λ (l : Option ℕ). AreAllApart l q.head.last q.incidents.items) (c.lapse_by-lapse.ensures (summary_of_read q) (sym text))
           (rw c.in-Some-2.is at c.in_ok-queued.ensures.apart))
-          (subst (λ (r : ReadSummary). HaveNamesIn c.args.version r.incidents.items) (sym same) c.requires.names));
+          (subst (λ (r : ReadSummary). AreNamedIn c.args.version r.incidents.items) (sym same) c.requires.names));
       entries = ap (λ (h : Head). h.recorded) c.parts-rows.ensures.head;
       sum = sum ∙ ap summary_of_read same;
     }
