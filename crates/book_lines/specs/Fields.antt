@@ -62,6 +62,7 @@ fields_of before carried (Next operator) reply = got_fields operator reply befor
 fields_of before carried (Act operator number step outcome) reply =
     order_fields (codes "act") operator number before ++ step_name step ++ codes " " ++ outcome_name outcome ++ tab ++ tab
 fields_of before carried (Release operator number) reply = order_fields (codes "release") operator number before ++ tab ++ tab
-fields_of before carried (Close operator number code) reply = order_fields (codes "close") operator number before ++ code_name code ++ tab ++ tab
+fields_of before carried (Close operator number code) reply =
+    order_fields (codes "close") operator number before ++ code_name code ++ tab ++ tab
 fields_of before carried (Show number) reply = []
 fields_of before carried Rows reply = []

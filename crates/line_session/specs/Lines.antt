@@ -40,8 +40,8 @@ IsTaken name (Err Spent) stream piece s = input_limit ≤ length (stream ++ piec
 IsTaken name (Err (Stopped stop)) stream piece s = Unit {0}
 
 -- A session of a line of this name over the whole pieces that these bytes end behind a stream.
-pub record ServesBytes (name : List ℕ) (end : Result (Unit {0}) LineEnd) (stream bytes : List ℕ) (b : Summary) (h : List Entry) (c : Change)
-    : Type 0 where
+pub record ServesBytes (name : List ℕ) (end : Result (Unit {0}) LineEnd) (stream bytes : List ℕ) (b : Summary) (h : List Entry)
+    (c : Change) : Type 0 where
   pub whole : List (List ℕ)
   pub ended : bodies (stream ++ bytes) ≡ bodies stream ++ whole
   pub session : IsLine name (ending_of end) b whole h c

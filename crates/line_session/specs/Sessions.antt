@@ -24,7 +24,8 @@ ending_of end = answered
 abbrev pub HasStopped : List ℕ → Summary → HallSeen → HallSeen → List Entry → Stop → List ℕ → ℕ → Type 0
 HasStopped name b hall hall' x stop body reading =
     let told = verdict_of (meaning hall.text) reading body in
-    ((stop ≡ Memory) × TakesMemory told) ⊎ ((event : Event) × (event_of name told ≡ Some event) × IsStopOf b hall hall' x stop event reading)
+    ((stop ≡ Memory) × TakesMemory told)
+    ⊎ ((event : Event) × (event_of name told ≡ Some event) × IsStopOf b hall hall' x stop event reading)
 
 -- The rules of a session of a line of this name: its turns, why it stops, and that no turn is recorded behind the last that was answered.
 abbrev pub line_rules : List ℕ → Summary → HallSeen → HallSeen → Rules Turn

@@ -30,8 +30,10 @@ with_via before (byte ∷ bytes) = with_texts before (codes " via " ∷ (byte �
 abbrev pub viewed_row : ℕ → Option View → ℕ → List ℕ
 viewed_row number None moment = with_texts [] (codes "YOURS " ∷ decimal number ∷ [])
 viewed_row number (Some view) moment =
-    with_via (with_texts [] (codes "YOURS " ∷ decimal number ∷ codes " " ∷ name_of view.class ∷ codes " account " ∷ view.account ∷ codes " code "
-    ∷ view.code ∷ codes " since " ∷ age (moment - view.at) ∷ codes " signals " ∷ decimal view.signals ∷ restored_text view.restored ∷ [])) view.via
+    with_via
+    (with_texts [] (codes "YOURS " ∷ decimal number ∷ codes " " ∷ name_of view.class ∷ codes " account " ∷ view.account ∷ codes " code "
+    ∷ view.code ∷ codes " since " ∷ age (moment - view.at) ∷ codes " signals " ∷ decimal view.signals ∷ restored_text view.restored ∷ []))
+    view.via
 
 -- what the file of sites says of its account
 abbrev pub site_text : Option (List ℕ) → List ℕ → List ℕ
