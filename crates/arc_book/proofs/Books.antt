@@ -120,7 +120,7 @@ module _ (o : Options) (all : Option (List ℕ)) (s s' k0 k k' : PortSeen) (page
       let f = failed_on k0.written k.written k'.written page (last_line status) (area_book o c.told) (text_but status other (area_book o c.told) c.text) front in
       record {
         version = c.version;
-    told = c.told;
+        told = c.told;
         area = if_some {P = IsEnd status c.told} all (λ bytes is. tt) c.ended;
         written = (status, f);
         causes = omega (arith, c.later, rose);

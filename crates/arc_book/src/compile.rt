@@ -59,7 +59,16 @@ pub(crate) fn compile<S: Source, K: Sink>(
     match tape.open(source) {
         Ok(Front::Journal(version)) => {
             let mut centre = Centre::empty(alloc);
-            walk(alloc, options, version, source, sink, tape, page, &mut centre)
+            walk(
+                alloc,
+                options,
+                version,
+                source,
+                sink,
+                tape,
+                page,
+                &mut centre,
+            )
         }
         Ok(Front::Fresh) => Status::Done,
         Ok(Front::Refused(fault)) => Status::Journal(fault),

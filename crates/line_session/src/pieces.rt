@@ -64,7 +64,14 @@ impl Pieces {
             let (count, cut) = self.cutter.feed(&bytes[at..]);
             at += count;
             if is_whole(cut) {
-                answer(alloc, hall, port, name, self.cutter.body(), &mut self.buffers)?;
+                answer(
+                    alloc,
+                    hall,
+                    port,
+                    name,
+                    self.cutter.body(),
+                    &mut self.buffers,
+                )?;
             }
         }
         Ok(())
