@@ -8,6 +8,7 @@ use Rattle.arc_io.specs.Areas.{Areas, part}
 use Rattle.arc_io.specs.Crashes.{Becomes, IsQuiet, TornIn}
 use Rattle.arc_io.specs.Disks.{DiskSeen}
 use Rattle.arc_io.specs.declared.disk.Area.{Area}
+use Rattle.arc_io.proofs.Moments.{quiet_then}
 use Rattle.disk_journal.specs.Records.{head_of, front, AtRest, IsVersion, Stands}
 use Rattle.disk_journal.specs.Reading.{IsFilled, IsFound, found_or_none, generation_found}
 use Rattle.disk_journal.specs.Standing.{is_live, version_of, generation_of, generation_now, version_now, choice, chosen, chosen_part, all_of, summary_in, records_in, GoesOn, AreasStand, IsDistinct, generation_in}
@@ -232,6 +233,23 @@ pub read_result : {T E : Type 0} (area : Area) (len : ℕ) (o m : Option Areas) 
 read_result area len o m (Ok x) version_in bodies_of same at is =
     subst (λ (p : Option Areas). IfSome p (IsAtRestIn area (version_in x) None (bodies_of x))) (sym same) (read_rests area (version_in x) (bodies_of x) len o is at)
 read_result area len o m (Err e) version_in bodies_of same at is = tt
+
+-- nothing is written into an area of more than 17 bytes
+pub quiet_long : (o : Option Areas) (old new : DiskSeen) → IsQuiet old new → IfSome o (λ s. 17 < length (chosen_part s) → IsQuiet old new)
+quiet_long None old new quiet = tt
+quiet_long (Some s) old new quiet = λ long. quiet
+
+pub short_long : (area : Area) (o : Option Areas) (old new : DiskSeen) → IfSome o (IsShort area) → IfSome o (λ s. 17 < length (chosen_part s) → IsQuiet old new)
+short_long area None old new short = tt
+short_long area (Some s) old new short = λ long.
+    let few : length (chosen_part s) ≤ 17 = subst (λ (x : Area). length (part x s) ≤ 17) (sym short.0) short.1 in absurd (omega (arith, few, long))
+
+pub long_later : (old mid new : DiskSeen) → IsQuiet old mid → IfSome mid.told (λ s. 17 < length (chosen_part s) → IsQuiet mid new)
+    → IfSome old.told (λ s. 17 < length (chosen_part s) → IsQuiet old new)
+long_later old mid new quiet so =
+    if_map (λ s. 17 < length (chosen_part s) → IsQuiet mid new) (λ s. 17 < length (chosen_part s) → IsQuiet old new) old.told
+    (subst (λ (p : Option Areas). IfSome p (λ s. 17 < length (chosen_part s) → IsQuiet mid new)) quiet.same so)
+    (λ s x long. quiet_then old mid new quiet (x long))
 
 pub held_file : (version : ℕ) (found : Option ℕ) (bodies : List (List ℕ)) (area : Area) (o : Option Areas) → IfSome o (IsAtRestIn area version None bodies)
     → IfSome o (IsAtRestIn area version (summary_in (is_some found) bodies) (records_in (is_some found) bodies))

@@ -40,7 +40,6 @@ HasBodies area version bodies areas = AtRest version (part area areas) bodies
 
 -- No call of the journal has answered a fault of the disk, and bodies of its version stand in its area up to its closed gate.
 pub record Works {D : Type 0} (seen : D → DiskSeen) (j : Journal D) : Type 0 where
-  pub known : IsVersion j.version
   pub bodies : List (List ℕ)
   pub used : j.used ≡ size bodies
   pub few : j.limits.bytes < 2 ^ 32

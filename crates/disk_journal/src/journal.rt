@@ -97,9 +97,13 @@ impl<D: Disk> Journal<D> {
         ensures goes_on { Changes GoesOn (D.seen disk) (D.seen (disk_after result)) }
         ensures spared { SparesOther (D.seen disk) (D.seen (disk_after result)) }
 
-        // Where the bytes of the area are refused, or some body stands there, nothing was written.
+        // Where the bytes of the area are refused, or some body stands there, nothing was written; nor where they are more than 17, or are
+        // those of the first version.
         ensures unwritten { IfErr result (λ r. IsOfContent r.fault → IsQuiet (D.seen disk) (D.seen r.disk)) }
         ensures untouched { IfOk result (λ r. (r.1 ≡ [] → ⊥) → IsQuiet (D.seen disk) (D.seen r.0.disk)) }
+        ensures first { IfOk result (λ r. r.0.version ≡ 1 → IsQuiet (D.seen disk) (D.seen r.0.disk)) }
+        ensures long { IfSome (D.seen disk).told (λ s. 17 < length (chosen_part s)
+            → IsQuiet (D.seen disk) (D.seen (disk_after result))) }
         ensures later { (D.seen disk).faults ≤ (D.seen (disk_after result)).faults }
 
         // An opening that answers Ok met no fault.

@@ -525,6 +525,8 @@ fn take_up<D: Disk>(
     ensures shown { IfErr result (λ f. IfSome (D.seen disk.old).told (λ s. IsShown f (part area s))) }
     ensures unwritten { IfErr result (λ f. IsOfContent f → IsQuiet (D.seen disk.old) (D.seen disk.new)) }
     ensures untouched { IfOk result (λ r. (r.bodies ≡ [] → ⊥) → IsQuiet (D.seen disk.old) (D.seen disk.new)) }
+    ensures first { IfOk result (λ r. r.version ≡ 1 → IsQuiet (D.seen disk.old) (D.seen disk.new)) }
+    ensures long { IfSome (D.seen disk.old).told (λ s. 17 < length (chosen_part s) → IsQuiet (D.seen disk.old) (D.seen disk.new)) }
     ensures goes_on { Changes GoesOn (D.seen disk.old) (D.seen disk.new) }
     ensures spared { SparesOther (D.seen disk.old) (D.seen disk.new) }
     ensures later { (D.seen disk.old).faults ≤ (D.seen disk.new).faults }
@@ -550,6 +552,8 @@ pub fn load<D: Disk>(alloc: Global, disk: &mut D) -> Result<Loaded, OpenFault>
     ensures shown { IfErr result (λ f. IfSome (D.seen disk.old).told (λ s. IsShown f (chosen_part s))) }
     ensures unwritten { IfErr result (λ f. IsOfContent f → IsQuiet (D.seen disk.old) (D.seen disk.new)) }
     ensures untouched { IfOk result (λ r. (r.bodies ≡ [] → ⊥) → IsQuiet (D.seen disk.old) (D.seen disk.new)) }
+    ensures first { IfOk result (λ r. r.version ≡ 1 → IsQuiet (D.seen disk.old) (D.seen disk.new)) }
+    ensures long { IfSome (D.seen disk.old).told (λ s. 17 < length (chosen_part s) → IsQuiet (D.seen disk.old) (D.seen disk.new)) }
     ensures goes_on { Changes GoesOn (D.seen disk.old) (D.seen disk.new) }
     ensures spared { SparesOther (D.seen disk.old) (D.seen disk.new) }
     ensures later { (D.seen disk.old).faults ≤ (D.seen disk.new).faults }

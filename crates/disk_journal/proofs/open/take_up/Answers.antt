@@ -1,6 +1,6 @@
-use Rattle.std.proofs.Common.{◌≡◌}
+use Rattle.std.proofs.Common.{◌≡◌, arith}
 use Rattle.disk_journal.specs.Records.{size}
-use Rattle.disk_journal.proofs.Opens.{is_short, begun_goes_on, begun_chosen, begun_result, begun_version}
+use Rattle.disk_journal.proofs.Opens.{is_short, begun_goes_on, begun_chosen, begun_result, begun_version, read_version, short_long}
 use Rattle.disk_journal.proofs.Steps.{torn_changes}
 use Rattle.disk_journal.proofs.open.take_up.Goals as goal
 
@@ -16,6 +16,16 @@ pub returns-then-len-le17-clause-version : goal.returns-then-len-le17-clause-ver
 returns-then-len-le17-clause-version g c =
     let o = (g.D.Disk.seen c.args.disk.now).told in
     begun_version c.args.area o c.begin.result (λ r. r.version) c.begin.ensures.version (is_short c.args.area o c.args.len c.requires.chosen c.if-len-le17.true)
+
+pub returns-else-len-le17-clause-version : goal.returns-else-len-le17-clause-version
+returns-else-len-le17-clause-version g c =
+    read_version c.args.area c.args.len (g.D.Disk.seen c.args.disk.now).told c.read_area.result (λ r. r.version) (λ r. r.bodies) (omega arith)
+    c.requires.chosen c.read_area.ensures.bytes
+
+pub returns-then-len-le17-clause-long : goal.returns-then-len-le17-clause-long
+returns-then-len-le17-clause-long g c =
+    let o = (g.D.Disk.seen c.args.disk.now).told in
+    short_long c.args.area o (g.D.Disk.seen c.args.disk.now) (g.D.Disk.seen c.begin.new.disk) (is_short c.args.area o c.args.len c.requires.chosen c.if-len-le17.true)
 
 pub returns-then-len-le17-clause-goes_on : goal.returns-then-len-le17-clause-goes_on
 returns-then-len-le17-clause-goes_on g c =

@@ -32,7 +32,6 @@ returns-in-Ok-clause-works g c =
     let w = c.requires.works in
     let body = c.args.body.now in
     record {
-      known = w.known;
       bodies = w.bodies ++ body ∷ [];
       used = omega (arith, w.used, size-more w.bodies body);
       few = w.few;

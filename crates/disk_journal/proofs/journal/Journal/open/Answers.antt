@@ -11,7 +11,6 @@ pub returns-in-Ok-clause-works : goal.returns-in-Ok-clause-works
 returns-in-Ok-clause-works g c =
     let loaded = c.in-Ok.loaded in
     record {
-      known = c.in-Ok.ensures.known;
       bodies = loaded.bodies;
       used = c.in-Ok.ensures.used;
       few = c.requires.few;

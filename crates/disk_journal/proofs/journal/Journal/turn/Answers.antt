@@ -1,4 +1,4 @@
-use Rattle.std.proofs.Common.{◌≡◌, ◌∙◌, [], ◌∷◌, ℕ, List, Option, refl, subst, sym, inr, arith}
+use Rattle.std.proofs.Common.{◌≡◌, ◌∙◌, [], ◌∷◌, ℕ, List, Option, refl, subst, sym, arith}
 use Rattle.arc_io.specs.Disks.{DiskSeen}
 use Rattle.arc_io.specs.declared.disk.Area.{Area}
 use Rattle.disk_journal.specs.Journal.{Keeps}
@@ -18,7 +18,6 @@ next_to generation summary body is next = subst (λ (n : ℕ). IsNextTo n body) 
 
 pub returns-in-Ok-clause-works : goal.returns-in-Ok-clause-works
 returns-in-Ok-clause-works g c = record {
-  known = inr refl;
   bodies = c.args.body.now ∷ [];
   used = omega arith;
   few = c.requires.works.few;
