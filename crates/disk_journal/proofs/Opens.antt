@@ -99,7 +99,7 @@ found_stands version found bodies areas is stands =
     (live_is version found bodies (chosen_part areas) is stands, subst (Stands version (chosen_part areas)) (all_in (is_some found) bodies) stands)
 
 -- an area of at most 17 bytes stands for no body, whatever a first write leaves there
-no_body : (version : ℕ) (bytes : List ℕ) (bodies : List (List ℕ)) → length bytes ≤ 17 → Stands version bytes bodies → bodies ≡ []
+pub no_body : (version : ℕ) (bytes : List ℕ) (bodies : List (List ℕ)) → length bytes ≤ 17 → Stands version bytes bodies → bodies ≡ []
 no_body version bytes bodies short (inl stands) = stands.1
 no_body version bytes [] short (inr at) = refl
 no_body version bytes (b ∷ bodies) short (inr at) =
