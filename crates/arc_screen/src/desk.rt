@@ -257,11 +257,18 @@ impl Desk {
         self.react(rt, &reaction);
     }
 
-    /// A second has passed.
-    pub fn second(&mut self, rt: &HostRuntime) {
-        self.is_due = true;
+    // A second has passed.
+    fn second(&mut self, rt: &HostRuntime) {
         let reaction = self.screen.second();
         self.react(rt, &reaction);
+    }
+
+    /// So many seconds have passed.
+    pub fn pass(&mut self, rt: &HostRuntime, seconds: u64) {
+        self.is_due = true;
+        for _ in 0..seconds {
+            self.second(rt);
+        }
         let _ = ask_size(&mut rt.stdout());
     }
 

@@ -17,6 +17,9 @@ const USAGE: &str = "usage: arc_screen [HOST PORT [SITES [COLUMNS ROWS]]]
 A screen of the operator's desk at this port, 127.0.0.1 9010 where none is named. SITES is a file of sites and keyholders.
 station/arc-screen starts it with the terminal's mode set; the page arc-screen(1) has its keys.";
 
+// How many seconds are made up for at once, where the program stood still: the rest follows behind the next keys.
+const MINUTE: u64 = 60;
+
 // The arguments.
 fn arguments<R: Env + AllocGlobal>(rt: &R) -> io::Result<Vec<String>> {
     let mut words = Vec::new(rt.alloc());
@@ -51,10 +54,10 @@ fn run(rt: &HostRuntime, words: &Words) -> io::Result<()> {
             return Ok(());
         }
         desk.take_answers(rt);
-        let passed = begun.elapsed(rt)?.as_secs();
-        if passed > seconds {
-            seconds = passed;
-            desk.second(rt);
+        let passed = begun.elapsed(rt)?.as_secs().saturating_sub(seconds).min(MINUTE);
+        if passed > 0 {
+            seconds = seconds.saturating_add(passed);
+            desk.pass(rt, passed);
             desk.take_answers(rt);
         }
         desk.draw(rt)?;

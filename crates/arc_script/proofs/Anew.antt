@@ -10,7 +10,7 @@ use Rattle.arc_io.specs.Seen.{PortSeen}
 use Rattle.centre_core.specs.declared.hall.Stop.{Stop}
 use Rattle.centre_rules.specs.History.{Entry, IsMoment, recorded}
 use Rattle.centre_rules.specs.Summary.{Summary}
-use Rattle.centre_store.specs.Begins.{begun_after, IsOfBegin}
+use Rattle.centre_store.specs.Begins.{begun_after, event_of_begin}
 use Rattle.centre_store.specs.Given.{HoldsRecorded}
 use Rattle.centre_store.specs.Openings.{IsOpened, IsRefused}
 use Rattle.centre_store.specs.Stores.{Stored, StoreStands}
@@ -181,7 +181,7 @@ module _ {D : Type 0} (seen : D → DiskSeen) (script script' : Script) (s mid s
       }
 
   stopped : (stop : Stop) (x : List Entry) → StoreStands seen from.anew s' x → BegunAgain stop from.anew place.setup moment from.kept x
-      → HasShown seen s' stop moment (IsOfBegin place.setup)
+      → HasShown seen s' stop moment (λ event. event ≡ event_of_begin s'.state.sum.text place.setup)
       → StoppedAt seen b place h Reopen stop script.tally script'.tally s'
   stopped stop x stands until cause =
       let adds = adds_again stop from.anew place.setup moment from.kept x until in
@@ -227,7 +227,7 @@ module _ {D : Type 0} (seen : D → DiskSeen) (script script' : Script) (s mid s
   pub stopped_on : (r : Result (Unit {0}) Stop)
       → IfErr r (λ stop. (base : Summary) (k : List Entry) → StoreStands seen base mid k
       → (x : List Entry) × StoreStands seen base s' x × BegunAgain stop base script'.setup moment k x)
-      → IfErr r (λ stop. HasShown seen s' stop moment (IsOfBegin script'.setup))
+      → IfErr r (λ stop. HasShown seen s' stop moment (λ event. event ≡ event_of_begin s'.state.sum.text script'.setup))
       → IfErr r (λ stop. (b : Begun D) (place : Place) (count : ℕ) (h : List Entry) → Between seen b place count h script s
       → HoldsRecorded seen s.journal place.base h → clock_of place.asked ≡ Some moment
       → StoppedAt seen b place h Reopen stop script.tally script'.tally s')
@@ -238,7 +238,7 @@ module _ {D : Type 0} (seen : D → DiskSeen) (script script' : Script) (s mid s
       let at = stops on.anew on.kept on.stands in
       stopped seen script script' s mid s' anew moment b place count h between held set stop at.0 at.1
       (subst (λ (l : List ℕ). BegunAgain stop on.anew l moment on.kept at.0) same at.2)
-      (subst (λ (l : List ℕ). HasShown seen s' stop moment (IsOfBegin l)) same cause)
+      (subst (λ (l : List ℕ). HasShown seen s' stop moment (λ event. event ≡ event_of_begin s'.state.sum.text l)) same cause)
 
 -- The journal was not opened again.
 shut : {D : Type 0} (seen : D → DiskSeen) (script : Script) (s : Stored D) (r : OpenRefused D) → s.at_open ≤ (seen s.journal.disk).faults

@@ -98,7 +98,7 @@ module _ {D : Type 0} (seen : D → DiskSeen) (b : Begun D) (place : Place) (cou
 
   pub stopped_at : (stop : Stop) (waiting : List (List ℕ))
       → Halted seen place.base (λ x st.
-      (CameTo stop (Tells (seen b.disk)) place waiting h x st asked × HasShown seen s' stop moment (Submits place.setup place.asked moment waiting asked))
+      (CameTo stop (Tells (seen b.disk)) place waiting h x st asked × HasShown seen s' stop moment (Submits s'.state.sum.text place.setup place.asked moment waiting asked))
       ⊎ ((stop ≡ Memory) × IsStepOf (Tells (seen b.disk)) place h x st asked)) script.tally script'.tally s'
       → StoppedAt seen b place h asked stop script.tally script'.tally s'
   stopped_at stop waiting out =

@@ -60,14 +60,14 @@ module _ {D : Type 0} (seen : D → DiskSeen) (script script' : Script) (s s' : 
   pub time_stops : (r : Result (Unit {0}) Stop)
       → IfErr r (λ stop. (base : Summary) (h : List Entry) → StoreStands seen base s h
       → TickStops seen script.clock base script.setup at h stop s')
-      → IfErr r (λ stop. HasShown seen s' stop at (IsOfTime script.clock script.setup))
+      → IfErr r (λ stop. HasShown seen s' stop at (IsOfTime s'.state.sum.text script.clock script.setup))
       → IfErr r (λ stop. Stops seen moment a script script' s s' stop)
   time_stops (Ok done) stops shown = tt
   time_stops (Err stop) stops shown = λ b place count h between next holds.
       let tally : script'.tally ≡ script.tally = ap (λ (k : Script). k.tally) rest in
       let there = subst (λ (n : ℕ). TickStops seen script.clock place.base script.setup n h stop s') same
       (stops place.base h between.store.stands) in
-      let by = subst (λ (n : ℕ). HasShown seen s' stop n (IsOfTime script.clock script.setup)) same shown in
+      let by = subst (λ (n : ℕ). HasShown seen s' stop n (IsOfTime s'.state.sum.text script.clock script.setup)) same shown in
       subst (λ (k : Asked). StoppedAt seen b place h k stop script.tally script'.tally s') (sym whose)
       (time_stopped seen b place count h moment script script' s s' between fits tally stop stays there by)
 
@@ -78,7 +78,7 @@ abbrev pub CameSoFar : {D : Type 0} → Summary → (D → DiskSeen) → Type 0 
     → Type 0
 CameSoFar base seen Told setup moment before asked h s' stop x st =
     ((waiting : List (List ℕ)) × CameTo stop Told (placed base setup before) waiting h x st asked
-    × HasShown seen s' stop moment (Submits setup before moment waiting asked))
+    × HasShown seen s' stop moment (Submits s'.state.sum.text setup before moment waiting asked))
     ⊎ ((stop ≡ Memory) × IsStepOf Told (placed base setup before) h x st asked)
 
 module _ {D : Type 0} (seen : D → DiskSeen) (script script' : Script) (s s' : Stored D) (a : Asked) (moment : ℕ) (stays : Stays seen script script' s s')

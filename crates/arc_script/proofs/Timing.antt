@@ -105,7 +105,7 @@ module _ {D : Type 0} (seen : D → DiskSeen) (b : Begun D) (place : Place) (cou
         counts = counts_none st script.tally script'.tally refl adds.repeats adds.closed same;
       }
 
-  stop_with : (stop : Stop) → Stays seen script script' s s' → HasShown seen s' stop moment (IsOfTime (clock_of place.asked) place.setup)
+  stop_with : (stop : Stop) → Stays seen script script' s s' → HasShown seen s' stop moment (IsOfTime s'.state.sum.text (clock_of place.asked) place.setup)
       → (x : List Entry) → StoreStands seen place.base s' x → (adds : Adds h x)
       → CameFor stop (Tells (seen b.disk)) place [] h x (step_of place.base 0 moment (clock_of place.asked) place.setup h adds.entries) (Time moment)
       → StoppedAt seen b place h (Time moment) stop script.tally script'.tally s'
@@ -126,11 +126,11 @@ module _ {D : Type 0} (seen : D → DiskSeen) (b : Begun D) (place : Place) (cou
       }
 
   pub time_stopped : (stop : Stop) → Stays seen script script' s s' → TickStops seen script.clock place.base script.setup moment h stop s'
-      → HasShown seen s' stop moment (IsOfTime script.clock script.setup)
+      → HasShown seen s' stop moment (IsOfTime s'.state.sum.text script.clock script.setup)
       → StoppedAt seen b place h (Time moment) stop script.tally script'.tally s'
   time_stopped stop stays stops shown =
-      let by = subst (λ (l : List ℕ). HasShown seen s' stop moment (IsOfTime (clock_of place.asked) l)) between.setup
-      (subst (λ (c : Option ℕ). HasShown seen s' stop moment (IsOfTime c script.setup)) between.clock.is shown) in
+      let by = subst (λ (l : List ℕ). HasShown seen s' stop moment (IsOfTime s'.state.sum.text (clock_of place.asked) l)) between.setup
+      (subst (λ (c : Option ℕ). HasShown seen s' stop moment (IsOfTime s'.state.sum.text c script.setup)) between.clock.is shown) in
       elim stops.came as (λ came. StoppedAt seen b place h (Time moment) stop script.tally script'.tally s') [
         | inl until ↦
             let begun = subst (λ (l : List ℕ). BegunUntil (clock_of place.asked) place.base l moment h stops.history) between.setup

@@ -115,7 +115,7 @@ pub record StoppedAt {D : Type 0} (seen : D → DiskSeen) (b : Begun D) (place :
   pub clock : ℕ
   pub came : CameFor stop (Tells (seen b.disk)) place waiting h history partial asked
   pub set : clock_of (asked ∷ place.asked) ≡ Some clock
-  pub cause : HasShown seen s stop clock (Submits place.setup place.asked clock waiting asked)
+  pub cause : HasShown seen s stop clock (Submits s.state.sum.text place.setup place.asked clock waiting asked)
   pub stands : StoreStands seen partial.base s history
   pub limits_are : s.journal.limits ≡ b.limits
   pub later : (seen b.disk).faults ≤ s.at_open

@@ -6,7 +6,7 @@ use Rattle.arc_data.specs.declared.event.Event.TheVariants.{Tick}
 use Rattle.arc_io.specs.Disks.{DiskSeen}
 use Rattle.centre_core.specs.declared.hall.Stop.{Stop}
 use Rattle.centre_core.specs.declared.hall.Stop.TheVariants.{Memory}
-use Rattle.centre_store.specs.Begins.{IsOfBegin}
+use Rattle.centre_store.specs.Begins.{event_of_begin}
 use Rattle.centre_store.specs.Stores.{Stored, Shows}
 use Rattle.dc09_message.specs.Verdicts.{verdict_of}
 use Rattle.desk_session.specs.Events as Desk
@@ -25,10 +25,11 @@ HasShown seen s stop moment IsOne = (stop ≡ Memory) ⊎ ((event : Event) × Is
 abbrev pub IsSentFor : Stop → ℕ → ℕ → Type 0
 IsSentFor stop count sent = (sent ≡ suc count) ⊎ ((stop ≡ Memory) × (sent ≡ count))
 
--- a `T`, by the moment that was set before: the first begins a run, and each ticks
-abbrev pub IsOfTime : Option ℕ → List ℕ → Event → Type 0
-IsOfTime None setup event = IsOfBegin setup event ⊎ (event ≡ Tick)
-IsOfTime (Some last) setup event = event ≡ Tick
+-- a `T`, by the moment that was set before: the first begins a run where this text is in force, or none, and ticks once it is the setup's;
+-- each other ticks
+abbrev pub IsOfTime : Option (List ℕ) → Option ℕ → List ℕ → Event → Type 0
+IsOfTime force None setup event = (event ≡ event_of_begin force setup) ⊎ ((force ≡ Some setup) × (event ≡ Tick))
+IsOfTime force (Some last) setup event = event ≡ Tick
 
 -- the first of the frames that have no turn: the event of its verdict at this moment
 abbrev pub IsOfFrame : List ℕ → ℕ → List (List ℕ) → Event → Type 0
@@ -40,13 +41,14 @@ abbrev pub IsOfCommand : List ℕ → List Asked → ℕ → List ℕ → Event 
 IsOfCommand setup before desk text event =
     Desk.event_of (Desk.acts_over (meaning setup) None (desk_read desk before)) (Desk.command_in text) ≡ Some event
 
--- Behind what was asked before, the next line submits this event at this moment: of `L` and `M`, where these frames have no turn.
-abbrev pub Submits : List ℕ → List Asked → ℕ → List (List ℕ) → Asked → Event → Type 0
-Submits setup before clock waiting (Time moment) event = IsOfTime (clock_of before) setup event
-Submits setup before clock waiting (Feed line digits) event = IsOfFrame setup clock waiting event
-Submits setup before clock waiting (Message line body) event = IsOfFrame setup clock waiting event
-Submits setup before clock waiting (Command desk text) event = IsOfCommand setup before desk text event
-Submits setup before clock waiting Reopen event = IsOfBegin setup event
+-- Behind what was asked before, the next line submits this event at this moment: of `L` and `M`, where these frames have no turn; of `X`
+-- and of the first `T`, where this text is in force, or none.
+abbrev pub Submits : Option (List ℕ) → List ℕ → List Asked → ℕ → List (List ℕ) → Asked → Event → Type 0
+Submits force setup before clock waiting (Time moment) event = IsOfTime force (clock_of before) setup event
+Submits force setup before clock waiting (Feed line digits) event = IsOfFrame setup clock waiting event
+Submits force setup before clock waiting (Message line body) event = IsOfFrame setup clock waiting event
+Submits force setup before clock waiting (Command desk text) event = IsOfCommand setup before desk text event
+Submits force setup before clock waiting Reopen event = event ≡ event_of_begin force setup
 
 -- the stop for which a desk ended; the other ends that it has on a page are for want of memory
 abbrev pub stop_in : DeskEnd → Stop

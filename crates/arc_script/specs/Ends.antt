@@ -162,7 +162,7 @@ pub record IsHalted {D : Type 0} {lines : List (ℕ × List ℕ)} (seen : D → 
   pub came : CameFor stop (Tells (seen b.disk)) (place_after (placed b.base b.setup []) played.steps) waiting played.history history
       partial asked
   pub set : clock_of (asked ∷ asked_after [] played.steps) ≡ Some clock
-  pub cause : HasShown seen last stop clock (Submits b.setup (asked_after [] played.steps) clock waiting asked)
+  pub cause : HasShown seen last stop clock (Submits last.state.sum.text b.setup (asked_after [] played.steps) clock waiting asked)
   pub stands : StoreStands seen partial.base last history
   pub limits_are : last.journal.limits ≡ b.limits
   pub later : (seen b.disk).faults ≤ last.at_open

@@ -2,7 +2,7 @@
 ghost use Rattle.std.specs.Prelude.{◌≡◌, ◌<◌, ◌≤◌, ◌⊎◌, List, Some, OnOk, OnErr, IfErr};
 ghost use Rattle.centre_rules.specs.History.{Entry};
 ghost use Rattle.centre_rules.specs.Summary.{Summary};
-ghost use Rattle.centre_store.specs.Begins.{adopted_after, begun_after, IsOfBegin};
+ghost use Rattle.centre_store.specs.Begins.{adopted_after, begun_after, event_of_begin};
 ghost use Rattle.centre_store.specs.Stores.{StoreStands};
 ghost use Rattle.arc_script.specs.Causes.{HasShown};
 ghost use Rattle.centre_store.specs.StoreHalls.{is_told};
@@ -28,7 +28,8 @@ pub(crate) fn begin<D: Disk>(
     ensures stop { OnErr result ((base : Summary) (h : List Entry) → StoreStands D.seen base store.old h
         → StoreStands D.seen base store.new h
         ⊎ StoreStands D.seen base store.new (adopted_after base h script.now.setup moment)) }
-    ensures cause { IfErr result (λ s. HasShown D.seen store.new s moment (IsOfBegin script.now.setup)) }
+    ensures cause { IfErr result (λ s. HasShown D.seen store.new s moment
+        (λ event. event ≡ event_of_begin store.new.state.sum.text script.now.setup)) }
     ensures tells { is_told (D.seen store.new.journal.disk).told ≡ is_told (D.seen store.old.journal.disk).told }
     ensures at_open { store.new.at_open ≡ store.old.at_open }
     ensures limits { store.new.journal.limits ≡ store.old.journal.limits }

@@ -3,7 +3,7 @@ ghost use Rattle.std.specs.Prelude.{◌≡◌, ◌<◌, ℕ, List, Some, IfErr, 
 ghost use Rattle.std.specs.Io.KnownBytes.{append_known};
 ghost use Rattle.centre_rules.specs.History.{Entry};
 ghost use Rattle.centre_rules.specs.Summary.{Summary};
-ghost use Rattle.centre_store.specs.Begins.{begun_after, IsOfBegin};
+ghost use Rattle.centre_store.specs.Begins.{begun_after, event_of_begin};
 ghost use Rattle.centre_store.specs.Given.{HoldsRecorded};
 ghost use Rattle.centre_store.specs.Stores.{StoreStands};
 ghost use Rattle.script_lines.specs.Lines.{Reopen};
@@ -79,7 +79,8 @@ fn begin_again<D: Disk>(
     ensures stop { IfErr result (λ stop. (base : Summary) (h : List Entry) → StoreStands D.seen base store.old h
         → (x : List Entry) × StoreStands D.seen base store.new x
         × BegunAgain stop base script.now.setup moment h x) }
-    ensures cause { IfErr result (λ s. HasShown D.seen store.new s moment (IsOfBegin script.now.setup)) }
+    ensures cause { IfErr result (λ s. HasShown D.seen store.new s moment
+        (λ event. event ≡ event_of_begin store.new.state.sum.text script.now.setup)) }
     ensures tells { is_told (D.seen store.new.journal.disk).told ≡ is_told (D.seen store.old.journal.disk).told }
     ensures at_open { store.new.at_open ≡ store.old.at_open }
     ensures limits { store.new.journal.limits ≡ store.old.journal.limits }

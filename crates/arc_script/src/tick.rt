@@ -43,7 +43,7 @@ pub(crate) fn tick<D: Disk>(
     ensures stop { IfErr result (λ s. (base : Summary) (h : List Entry) → StoreStands D.seen base store.old h
         → TickStops D.seen script.old.clock base script.old.setup moment h s store.new) }
     ensures cause { IfErr result (λ s. HasShown D.seen store.new s moment
-        (IsOfTime script.old.clock script.old.setup)) }
+        (IsOfTime store.new.state.sum.text script.old.clock script.old.setup)) }
     ensures tells { is_told (D.seen store.new.journal.disk).told ≡ is_told (D.seen store.old.journal.disk).told }
     ensures at_open { store.new.at_open ≡ store.old.at_open }
     ensures limits { store.new.journal.limits ≡ store.old.journal.limits }
@@ -82,7 +82,7 @@ fn begin_first<D: Disk>(
         → (x : List Entry) × StoreStands D.seen base store.new x
         × BegunUntil script.now.clock base script.now.setup moment h x) }
     ensures cause { IfErr result (λ s. HasShown D.seen store.new s moment
-        (IsOfTime script.now.clock script.now.setup)) }
+        (IsOfTime store.new.state.sum.text script.now.clock script.now.setup)) }
     ensures tells { is_told (D.seen store.new.journal.disk).told ≡ is_told (D.seen store.old.journal.disk).told }
     ensures at_open { store.new.at_open ≡ store.old.at_open }
     ensures limits { store.new.journal.limits ≡ store.old.journal.limits }

@@ -1,6 +1,7 @@
 -- How a run begins over a history.
 use Rattle.std.proofs.Common.{◌≡◌, ℕ, List, [], ◌∷◌, Bool, true, false, inl, inr, refl, sym, ap, subst, ◌∙◌}
-use Rattle.std.specs.Prelude.{if◌then◌else◌, IsOk, is_ok, IfSome, Result, Ok, Err, IfErr, OnErr}
+use Rattle.std.specs.Prelude.{if◌then◌else◌, Option, Some, IsOk, is_ok, IfSome, Result, Ok, Err, IfErr, OnErr}
+use Rattle.std.proofs.lemmas.Slice.Eq.{bytes_eq-Decides}
 use Rattle.arc_data.specs.declared.event.Event.{Event}
 use Rattle.arc_data.specs.declared.event.Event.TheVariants.{Adopt, Start}
 use Rattle.arc_data.specs.declared.reply.Reply.{Reply}
@@ -20,7 +21,7 @@ use Rattle.disk_journal.proofs.Steps.{if_map}
 use Rattle.event_codec.specs.Spelling.{spelling}
 use Rattle.centre_store.specs.Given.{StandForIn, StandForEither, HasEither}
 use Rattle.centre_store.specs.Stores.{Stored, HasFailed, StoreStands, Takes, Shows}
-use Rattle.centre_store.specs.Begins.{is_in_force, adopted_after, begun_after, IsOfBegin, StandsWithin}
+use Rattle.centre_store.specs.Begins.{is_in_force, adopted_after, begun_after, event_of_begin, StandsWithin, ShowsOfBegin}
 use Rattle.centre_store.proofs.Entered.{held}
 use Rattle.centre_store.proofs.Holding.{either_one, recorded_there}
 
@@ -158,13 +159,24 @@ pub known_force : (b : Summary) (s : State) (h : List Entry) (setup : List ℕ) 
     → is_in_force (text b (marks b h)) setup ≡ v
 known_force b s h setup v w is = ap (λ t. is_in_force t setup) (sym w.same.text) ∙ is
 
--- The cause of a stop.
+-- The cause of a stop: the event that is next met it.
 
-pub cause_of : {A D : Type 0} (seen : D → DiskSeen) (s : Stored D) (setup : List ℕ) (clock : ℕ)
-    (event : Event) (r : Result A Stop) → IsOfBegin setup event → IfErr r (λ stop. Shows seen s stop event clock)
-    → IfErr r (λ stop. (x : Event) × IsOfBegin setup x × Shows seen s stop x clock)
-cause_of seen s setup clock event (Ok a) of shows = tt
-cause_of seen s setup clock event (Err stop) of shows = (event, of, shows)
+-- it is the Adopt, where another text is in force or none
+pub adopt_next : (force : Option (List ℕ)) (setup : List ℕ) → is_in_force force setup ≡ false → event_of_begin force setup ≡ Adopt setup
+adopt_next force setup other = ap (λ (v : Bool). if v then Start else Adopt setup) other
+
+-- behind it the Start
+pub start_next : (force : Option (List ℕ)) (setup : List ℕ) → force ≡ Some setup → event_of_begin force setup ≡ Start
+start_next force setup is =
+    ap (λ (v : Bool). if v then Start else Adopt setup)
+    (ap (λ (t : Option (List ℕ)). is_in_force t setup) is ∙ (bytes_eq-Decides setup setup).1 refl)
+
+pub cause_of : {A D : Type 0} (seen : D → DiskSeen) (s : Stored D) (setup : List ℕ) (clock : ℕ) (event : Event) (r : Result A Stop) (stop : Stop)
+    → r ≡ Err stop → event_of_begin s.state.sum.text setup ≡ event → Shows seen s stop event clock
+    → IfErr r (λ x. ShowsOfBegin seen s setup clock x)
+cause_of {A} seen s setup clock event r stop on next shows =
+    subst (λ (x : Result A Stop). IfErr x (λ y. ShowsOfBegin seen s setup clock y)) (sym on)
+    (subst (λ (e : Event). Shows seen s stop e clock) (sym next) shows)
 
 pub on_err : {T E P : Type 0} (r : Result T E) → P → OnErr r P
 on_err (Ok x) p = tt

@@ -33,9 +33,9 @@ begun_after b h setup clock =
     record { caller = 0; event = Start; at = moment_after b (adopted_after b h setup clock) clock; reply = Started }
     ∷ adopted_after b h setup clock
 
--- one of the two events
-abbrev pub IsOfBegin : List ℕ → Event → Type 0
-IsOfBegin setup event = (event ≡ Adopt setup) ⊎ (event ≡ Start)
+-- the one of the two events that is next where this text is in force, or none: the Adopt, until the setup's is, and then the Start
+abbrev pub event_of_begin : Option (List ℕ) → List ℕ → Event
+event_of_begin force setup = if is_in_force force setup then Start else Adopt setup
 
 -- the areas stand for h, or for h with the Adopt, or for h with both
 pub record StandsWithin (b : Summary) (h : List Entry) (setup : List ℕ) (clock : ℕ) (areas : Areas) : Type 0 where
@@ -56,9 +56,9 @@ TellsWithin seen old new setup clock =
     (b : Summary) (h : List Entry) → StoreStands seen b old h → (HasFailed seen old → ⊥)
     → IfSome (seen new.journal.disk).told (StandsWithin b h setup clock)
 
--- what the store shows after a stop, which one of the two events met
+-- what the store shows after a stop, which the event met that is next by the text in force there
 abbrev pub ShowsOfBegin : {D : Type 0} → (D → DiskSeen) → Stored D → List ℕ → ℕ → Stop → Type 0
-ShowsOfBegin seen s setup clock stop = (event : Event) × IsOfBegin setup event × Shows seen s stop event clock
+ShowsOfBegin seen s setup clock stop = Shows seen s stop (event_of_begin s.state.sum.text setup) clock
 
 -- the journal has the record of the Adopt
 abbrev pub IsAdoptWritten : {D : Type 0} → (D → DiskSeen) → Stored D → Stored D → List ℕ → Type 0

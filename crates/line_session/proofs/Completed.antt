@@ -71,6 +71,6 @@ complete_by name (stopped stop) b hall hall' h x bodies rest turns behind a take
 )
 
 -- a session is complete
-pub completes : {name : List ℕ} {end : Ending} {b : Summary} {bodies : List (List ℕ)} {h : List Entry} {hall hall' : HallSeen} {p p' : PortSeen} (s : IsLine name end b bodies h (changed hall hall' p p'))
+pub completes : (name : List ℕ) {end : Ending} {b : Summary} {bodies : List (List ℕ)} {h : List Entry} {hall hall' : HallSeen} {p p' : PortSeen} (s : IsLine name end b bodies h (changed hall hall' p p'))
     → IsComplete end (meaning hall.text) s.turns s.behind s.added.text bodies
-completes {name} {end} {b} {bodies} {h} {hall} {hall'} {p} {p'} s = complete_by name end b hall hall' h s.history bodies s.left s.turns s.behind s.added s.taken s.ended s.each
+completes name {end} {b} {bodies} {h} {hall} {hall'} {p} {p'} s = complete_by name end b hall hall' h s.history bodies s.left s.turns s.behind s.added s.taken s.ended s.each

@@ -33,8 +33,8 @@ IsAtRest (Stopped stop) = ⊥
 
 module _ (name : List ℕ) (b : Summary) (h : List Entry) where
   answered_line : (end : LineEnd) (read : List ℕ) {hall hall' : HallSeen} {p p' : PortSeen} → IsAtRest end → IsLine name answered b (bodies read) h (changed hall hall' p p') → Goes h (λ w. ServesLine name end read b w (changed hall hall' p p'))
-  answered_line InputEnded read rest s = (s.history, entries_of line_turns s.turns, record { session = s; to = refl; made = refl; ahead = tt; complete = completes s })
-  answered_line ReadFault read rest s = (s.history, entries_of line_turns s.turns, record { session = s; to = refl; made = refl; ahead = tt; complete = completes s })
+  answered_line InputEnded read rest s = (s.history, entries_of line_turns s.turns, record { session = s; to = refl; made = refl; ahead = tt; complete = completes name s })
+  answered_line ReadFault read rest s = (s.history, entries_of line_turns s.turns, record { session = s; to = refl; made = refl; ahead = tt; complete = completes name s })
   answered_line Spent read rest s = absurd rest
   answered_line WriteFault read rest s = absurd rest
   answered_line (Stopped stop) read rest s = absurd rest
@@ -64,7 +64,7 @@ module _ (name : List ℕ) (b : Summary) (h : List Entry) where
             to = refl;
             made = refl;
             ahead = reads_no_further line_turns bodies stream piece first.turns short (all_pieces line_turns first) (line_rules name b mid hall') (ending_of (Err end)) n.session.history n.session.turns n.session.behind n.session.added n.session.left n.session.ended;
-            complete = completes session;
+            complete = completes name session;
           },
         )
 

@@ -34,7 +34,7 @@ code_word Test = codes "TEST"
 
 -- what a confirming key would do: behind `q`, and behind the key of a code where an incident is the operator's own
 abbrev pub leaving_row : List ℕ
-leaving_row = with_text [] (codes "leave? y leaves. What you hold stays yours: release it first")
+leaving_row = with_text [] (codes "leave? y leaves. What you hold stays yours, until it lapses: release it first")
 
 abbrev pub closing_row : ℕ → CloseCode → List ℕ
 closing_row number code =

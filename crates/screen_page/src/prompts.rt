@@ -60,7 +60,7 @@ fn closing_row(number: u64, code: CloseCode) -> Strip
 fn leaving_row() -> Strip
     ensures { result ≡ leaving_row }
 {
-    strip_of(b"leave? y leaves. What you hold stays yours: release it first")
+    strip_of(b"leave? y leaves. What you hold stays yours, until it lapses: release it first")
 }
 
 // What a confirming key would do.

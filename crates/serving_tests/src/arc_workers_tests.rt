@@ -250,6 +250,38 @@ fn a_worker_goes_on_behind_a_checkpoint(rt: HostRuntime) {
     check(&rt, rt.alloc(), &beat_within(135), wanted, ACKNOWLEDGEMENT);
 }
 
+// An area whose summary says that 281,474,976,710,654 entries are recorded, and has nothing else.
+const NEARLY_WORN: &[u8] = b"ARC JOURNAL 0001\x01\0\0\0\x2b\
+    \x0b\0\0\0\0\0\0\0\x01\0\0\0\0\x3b\x9a\xca\0\0\0\xff\xff\xff\xff\xff\xfe\
+    \0\0\0\0\0\0\0\0\0\0\0\0\0\0\0\0\0\0\0";
+
+const WORN: u64 = 1 << 48;
+
+// A gate before a store over it, of which an Adopt and a Start were the last entries.
+fn worn(rt: &impl Abort, alloc: Global) -> Blank<MemDisk> {
+    let area = NEARLY_WORN.to_vec(alloc).expect(rt, "memory");
+    let disk = MemDisk::of(alloc, area, Vec::new(alloc), Vec::new(alloc)).expect(rt, "memory");
+    let limits = Limits {
+        bytes: 1_000,
+        records: 9,
+    };
+    blank_of(rt, alloc, disk, limits, SETUP)
+}
+
+#[test]
+fn a_worn_store_stops_a_worker(rt: HostRuntime) {
+    let alloc = rt.alloc();
+    let case = beat_within(1_000);
+    let mut door = door_of(&rt, alloc, &case);
+    let told = work(&rt, alloc, worn(&rt, alloc), &mut door, &case);
+    compare_links(&rt, door, 1, b"");
+    let worked = Worked {
+        end: WorkerEnd::Stopped(Stop::Worn { count: WORN }),
+        refused: 0,
+    };
+    same(&rt, told, (worked, WORN), "the end");
+}
+
 // A ticker at a gate of its name. What came of it, and how many entries the store has then.
 fn tick_at<R: Wait, D: Disk + Drop, N: GateName>(
     rt: &R,
@@ -334,4 +366,18 @@ fn a_ticker_goes_on_behind_a_checkpoint(rt: HostRuntime) {
         records: 2,
     };
     compare_ticks(&rt, rt.alloc(), room, &mut pulse, (None, 5));
+}
+
+#[test]
+fn a_worn_store_stops_the_ticker(rt: HostRuntime) {
+    let alloc = rt.alloc();
+    let mut pulse = three_moments(&rt, alloc);
+    let (ticked, entries) = tick(&rt, alloc, worn(&rt, alloc), &mut pulse);
+    let Ticked { stop, refused } = ticked;
+    let stopped = Some(Stop::Worn { count: WORN });
+    same(&rt, (stop, entries), (stopped, WORN), "the end");
+    same(&rt, refused, 0, "refused");
+    let flag = AtomicBool::new(false);
+    let next = pulse.next(&rt, &flag);
+    same(&rt, next, Some(BEGIN + 61), "left in the pulse");
 }

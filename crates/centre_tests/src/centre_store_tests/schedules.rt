@@ -9,7 +9,7 @@ use crate::same::same;
 use arc_io::{Fill, MemDisk, MemSink};
 use arc_report::report;
 use centre_core::{Centre, Done, Setup};
-use centre_store::Store;
+use centre_store::{Store, law_restarts_stand, law_runs_leave};
 use disk_journal::Limits;
 use std::alloc::Global;
 use std::process::Abort;
@@ -274,6 +274,12 @@ fn a_crash_where_every_second_record_makes_a_checkpoint(rt: HostRuntime) {
 #[test]
 fn a_crash_where_bytes_make_checkpoints(rt: HostRuntime) {
     go_through_all(&rt, rt.alloc(), (560, 99));
+}
+
+#[test]
+fn the_laws_of_restarts_are_of_any_disk() {
+    law_restarts_stand::<MemDisk>();
+    law_runs_leave::<MemDisk>();
 }
 
 fn go_through_all(rt: &impl Abort, alloc: Global, room: (u32, u64)) {

@@ -306,7 +306,7 @@ const WORDS: [&str; 16] = [
     "5:", "3:sm",
 ];
 
-// An area by chance: records, of whose bytes some are changed, cut behind some byte, and joined with others.
+// An area by chance: records or noise, of whose bytes some are changed, cut behind some byte, and joined with others.
 fn area_by_chance(rt: &impl Abort, alloc: Global, chance: &mut u64) -> Vec<u8> {
     let mut area = part_by_chance(rt, alloc, chance);
     change_some(chance, &mut area);
@@ -319,7 +319,31 @@ fn area_by_chance(rt: &impl Abort, alloc: Global, chance: &mut u64) -> Vec<u8> {
     area
 }
 
+// What stands before noise: nothing, the head, an open gate behind it, or that and the front of a short length.
+const BEFORE_NOISE: [&[u8]; 4] = [
+    b"",
+    b"ARC JOURNAL 0001",
+    b"ARC JOURNAL 0001\x01",
+    b"ARC JOURNAL 0001\x01\0\0\0",
+];
+
+// Bytes by chance, of which three of four stand behind a head.
+fn noise_by_chance(rt: &impl Abort, alloc: Global, chance: &mut u64) -> Vec<u8> {
+    let place = below(chance, 4) as usize;
+    let front = BEFORE_NOISE.get(place).copied().unwrap_or(b"");
+    let mut noise = Vec::new(alloc);
+    append(rt, &mut noise, front);
+    for _ in 0..below(chance, 200) {
+        let byte = below(chance, 256) as u8;
+        noise.push(byte).expect(rt, "memory");
+    }
+    noise
+}
+
 fn part_by_chance(rt: &impl Abort, alloc: Global, chance: &mut u64) -> Vec<u8> {
+    if below(chance, 4) == 0 {
+        return noise_by_chance(rt, alloc, chance);
+    }
     let place = below(chance, 16) as usize;
     let words = WORDS.get(place).copied().unwrap_or("asm");
     area_in_words(rt, alloc, words)

@@ -8,7 +8,7 @@ use arc_io::{Disk, Fill, MemDisk, Port};
 use arc_serving::{SessionEnd, Side, serve};
 use centre_core::{Centre, Setup, Stop};
 use centre_store::Store;
-use disk_journal::{Limits, SHIPPED};
+use disk_journal::{Limits, OpenFault, SHIPPED};
 use std::alloc::Global;
 use std::process::Abort;
 use test_fixtures::ports::port_of;
@@ -30,20 +30,28 @@ fn limits_of(records: u64) -> Limits
     Limits { records, ..SHIPPED }
 }
 
-// Begins a run over the store and serves a line. How that ended, where the run began.
+// How a run ended: its journal was not opened, its beginning stopped, or it served its line.
+type Ran = Result<Result<SessionEnd, Stop>, OpenFault>;
+
+const SERVED: Ran = Ok(Ok(SessionEnd::InputEnded));
+
+// How many calls an opening has over a new area.
+const OPENING: u64 = 6;
+
+// Begins a run over the store and serves a line.
 fn serve_line<P: Port>(
     rt: &impl Abort,
     alloc: Global,
     store: &mut Store<MemDisk>,
     port: &mut P,
-) -> Option<SessionEnd>
+) -> Result<SessionEnd, Stop>
     requires { (P.seen port.old).ended ≡ false }
 {
     let setup = Setup::read(alloc, SETUP).expect(rt, "a setup");
     let clock = port.now();
     match store.begin(alloc, setup, clock) {
-        Ok(()) => Some(serve(Side::Lines, alloc, store, port)),
-        Err(_) => None,
+        Ok(()) => Ok(serve(Side::Lines, alloc, store, port)),
+        Err(stop) => Err(stop),
     }
 }
 
@@ -54,16 +62,16 @@ fn run_line<P: Port>(
     disk: MemDisk,
     records: u64,
     port: &mut P,
-) -> (Option<SessionEnd>, MemDisk)
+) -> (Ran, MemDisk)
     requires { (P.seen port.old).ended ≡ false }
 {
     match Store::open(alloc, disk, limits_of(records)) {
         Ok(store) => {
             let mut store = store;
             let end = serve_line(rt, alloc, &mut store, port);
-            (end, store.close())
+            (Ok(end), store.close())
         }
-        Err(refused) => (None, refused.disk),
+        Err(refused) => (Err(refused.fault), refused.disk),
     }
 }
 
@@ -75,7 +83,7 @@ fn run(
     records: u64,
     input: &[u8],
     answer: &[u8],
-) -> (Option<SessionEnd>, MemDisk) {
+) -> (Ran, MemDisk) {
     let mut port = port_of(alloc, input).expect(rt, "memory");
     let ran = run_line(rt, alloc, disk, records, &mut port);
     same(rt, port.sink.bytes(), answer, "the answer");
@@ -87,7 +95,7 @@ fn run(
 fn sound(rt: &impl Abort, alloc: Global, records: u64, input: &[u8], answer: &[u8]) -> MemDisk {
     let disk = MemDisk::new(alloc, Vec::new(alloc));
     let (end, disk) = run(rt, alloc, disk, records, input, answer);
-    same(rt, end, Some(SessionEnd::InputEnded), "the end");
+    same(rt, end, SERVED, "the end");
     disk
 }
 
@@ -110,7 +118,7 @@ fn an_alarm_over_a_disk_that_fails_at_each_of_its_calls(rt: HostRuntime) {
 
 fn compare_faults(rt: &impl Abort, alloc: Global, records: u64) {
     let (begun, calls) = calls_of(rt, alloc, records);
-    // without checkpoints: six calls open a new area, and an Adopt, a Start and the alarm take four each
+    // without checkpoints: behind the opening an Adopt, a Start and the alarm take four each
     same(rt, records < 3 || (begun, calls) == (14, 18), true, "calls");
     for call in 1..calls.saturating_add(1) {
         compare_fault(rt, alloc, records, (call, begun));
@@ -129,18 +137,29 @@ fn compare_beyond(rt: &impl Abort, alloc: Global, records: u64, call: u64) {
     let (end, disk) = run(rt, alloc, disk, records, ALARM, ACKNOWLEDGEMENT);
     let found = (end, disk.faults());
     drop(disk);
-    same(rt, found, (Some(SessionEnd::InputEnded), 0), "no fault");
+    same(rt, found, (SERVED, 0), "no fault");
 }
 
-// The disk fails at this call, before the line is served or while it is: one fault, and no answer.
+// How a run ends whose call of this number fails: in the opening, in the beginning, whose last call has the other number, or behind it.
+fn failed_at(call: u64, begun: u64) -> Ran {
+    if call <= OPENING {
+        return Err(OpenFault::DiskFault { before: 0, now: 1 });
+    }
+    let down = Stop::Down { at_open: 0, now: 1 };
+    if call <= begun {
+        return Ok(Err(down));
+    }
+    Ok(Ok(SessionEnd::Stopped(down)))
+}
+
+// The disk fails at this call, before the line is served or while it is: one fault, which the cause shows, and no answer.
 fn compare_fault(rt: &impl Abort, alloc: Global, records: u64, calls: (u64, u64)) {
     let (call, begun) = calls;
     let disk = failing_disk(rt, alloc, call);
     let (end, disk) = run(rt, alloc, disk, records, ALARM, b"");
-    let down = SessionEnd::Stopped(Stop::Down { at_open: 0, now: 1 });
-    let wanted = if call <= begun { None } else { Some(down) };
     let found = (records, call, end, disk.faults());
-    same(rt, found, (records, call, wanted, 1), "the end");
+    let wanted = (records, call, failed_at(call, begun), 1);
+    same(rt, found, wanted, "the end");
     compare_again(rt, alloc, disk, records);
 }
 
@@ -164,7 +183,7 @@ fn counts_of(rt: &impl Abort, alloc: Global, disk: MemDisk) -> ((u64, u64, u64),
 fn compare_again(rt: &impl Abort, alloc: Global, disk: MemDisk, records: u64) {
     let ((found, _, _), disk) = counts_of(rt, alloc, disk);
     let (end, disk) = run(rt, alloc, disk, records, ALARM, ACKNOWLEDGEMENT);
-    same(rt, end, Some(SessionEnd::InputEnded), "the end");
+    same(rt, end, SERVED, "the end");
     let (counts, disk) = counts_of(rt, alloc, disk);
     drop(disk);
     let again = AGAIN

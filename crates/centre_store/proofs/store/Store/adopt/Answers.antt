@@ -1,29 +1,27 @@
-use Rattle.std.proofs.Common.{◌≡◌, ◌∙◌, List, ℕ, rules, inr, refl, subst, sym}
-use Rattle.std.specs.Prelude.{false, Err, IfErr, IsOk}
-use Rattle.arc_data.specs.declared.event.Event.TheVariants.{Adopt, Start}
+use Rattle.std.proofs.Common.{◌≡◌, ◌∙◌, List, ℕ, rules, refl, ap, subst, sym}
+use Rattle.std.specs.Prelude.{false, Err, IsOk}
+use Rattle.arc_data.specs.declared.event.Event.TheVariants.{Adopt}
 use Rattle.alarm_rules.specs.Setups.{setup_of}
+use Rattle.centre_rules.specs.Summary.{Summary}
 use Rattle.centre_store.specs.Begins.{is_in_force}
 use Rattle.centre_store.specs.Bodies.{need_of}
 use Rattle.centre_store.specs.Given.{summed_size}
 use Rattle.centre_store.specs.Orders.{StopsInOrder}
-use Rattle.centre_store.specs.Stores.{Shows}
 use Rattle.centre_store.specs.Writes.{IsWrittenOn}
-use Rattle.centre_store.proofs.Begun.{still_within, still_tells, adopt_within, adopt_tells, adopt_recorded, adopted_stands, known_force, cause_of}
+use Rattle.centre_store.proofs.Begun.{still_within, still_tells, adopt_within, adopt_tells, adopt_recorded, adopted_stands, known_force, adopt_next, cause_of}
 use Rattle.centre_store.proofs.Ordered.{order_on, before_on}
 use Rattle.centre_store.proofs.store.Store.adopt.Goals as goal
 
-pub returns-in_err-check_disk-clause-cause : goal.returns-in_err-check_disk-clause-cause
-returns-in_err-check_disk-clause-cause g c =
-    let shows : IfErr c.from_residual.result (λ s. Shows g.D.Disk.seen c.args.self.now s Start c.args.clock) = search rules in
-    cause_of g.D.Disk.seen c.args.self.now c.args.setup.now c.args.clock Start c.from_residual.result (inr refl) shows
-
-pub returns-in_err-check_count-clause-cause : goal.returns-in_err-check_count-clause-cause
-returns-in_err-check_count-clause-cause g c =
-    let shows : IfErr c.from_residual-in_err-check_count.result (λ s. Shows g.D.Disk.seen c.args.self.now s Start c.args.clock) = search rules in
-    cause_of g.D.Disk.seen c.args.self.now c.args.setup.now c.args.clock Start c.from_residual-in_err-check_count.result (inr refl) shows
-
-pub returns-in_default-clause-cause : goal.returns-in_default-clause-cause
-returns-in_default-clause-cause g c = (Start, inr refl, tt)
+pub returns-in_err-enter-clause-cause : goal.returns-in_err-enter-clause-cause
+returns-in_err-enter-clause-cause g c =
+    let same : c.in-Ok.text ≡ c.args.setup.now = c.in-Ok.ensures ∙ c.text-bytes.ensures.value in
+    let is : is_in_force c.args.self.now.state.sum.text c.args.setup.now ≡ false = sym c.has_in_force.ensures ∙ c.if-has_in_force.false in
+    let other : is_in_force c.enter.new.self.state.sum.text c.args.setup.now ≡ false =
+    ap (λ (s : Summary). is_in_force s.text c.args.setup.now) c.in_err-enter.ensures.sum ∙ is in
+    let result = c.from_residual-in_err-enter.result in
+    let on : result ≡ Err c.in_err-enter.field-0.0 = search rules in
+    cause_of g.D.Disk.seen c.enter.new.self c.args.setup.now c.args.clock (Adopt c.in-Ok.text) result c.in_err-enter.field-0.0 on
+    (adopt_next c.enter.new.self.state.sum.text c.args.setup.now other ∙ ap Adopt (sym same)) c.in_err-enter.ensures.cause
 
 pub returns-then-has_in_force-clause-any_moment : goal.returns-then-has_in_force-clause-any_moment
 returns-then-has_in_force-clause-any_moment g c b h w up =

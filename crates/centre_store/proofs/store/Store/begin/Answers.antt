@@ -1,9 +1,10 @@
-use Rattle.std.proofs.Common.{◌≡◌, inl, inr, refl, rules}
-use Rattle.std.specs.Prelude.{Err, IsErr}
+use Rattle.std.proofs.Common.{◌≡◌, ◌∙◌, inl, inr, refl, ap, rules}
+use Rattle.std.specs.Prelude.{Some, Err, IsErr}
 use Rattle.arc_data.specs.declared.event.Event.TheVariants.{Adopt, Start}
 use Rattle.arc_io.proofs.Moments.{joined}
+use Rattle.centre_rules.specs.Summary.{Summary}
 use Rattle.centre_store.specs.Begins.{adopted_after, StandsWithin}
-use Rattle.centre_store.proofs.Begun.{within_start, start_tells, started_stands, on_err}
+use Rattle.centre_store.proofs.Begun.{within_start, start_tells, started_stands, start_next, cause_of, on_err}
 use Rattle.centre_store.proofs.Ordered.{order_on, order_past, before_on}
 use Rattle.centre_store.proofs.store.Store.begin.Goals as goal
 
@@ -32,6 +33,15 @@ returns-clause-begun g c b h w =
     started_stands g.D.Disk.seen b c.enter.new.self (adopted_after b h c.args.setup c.args.clock) c.args.clock
     c.in_ok-enter.field-0.at c.in_ok-enter.field-0.reply
     (c.in_ok-enter.ensures.done b (adopted_after b h c.args.setup c.args.clock) 0 (c.in_ok-adopt.ensures.adopted b h w))
+
+pub returns-in_err-enter-clause-cause : goal.returns-in_err-enter-clause-cause
+returns-in_err-enter-clause-cause g c =
+    let result = c.from_residual-in_err-enter.result in
+    let on : result ≡ Err c.in_err-enter.field-0.0 = search rules in
+    let text : c.enter.new.self.state.sum.text ≡ Some c.args.setup =
+    ap (λ (s : Summary). s.text) c.in_err-enter.ensures.sum ∙ c.in_ok-adopt.ensures.text in
+    cause_of g.D.Disk.seen c.enter.new.self c.args.setup c.args.clock Start result c.in_err-enter.field-0.0 on
+    (start_next c.enter.new.self.state.sum.text c.args.setup text) c.in_err-enter.ensures.cause
 
 pub returns-in_err-enter-clause-order : goal.returns-in_err-enter-clause-order
 returns-in_err-enter-clause-order g c up =
