@@ -123,19 +123,19 @@ either_one b h e areas is (first, bodies, kept, inl old) = inl (first, bodies, k
 either_one b h e areas is (first, bodies, kept, inr new) = inr (first, bodies ++ body_in 2 e ∷ [], kept_more b h e first bodies is kept, new)
 
 -- they have a new summary, of all of it, in the second version, or not yet
-abbrev pub IsTurned : ℕ → Summary → List Entry → Areas → Type 0
-IsTurned version b h areas = StandForIn version b h areas ⊎ StandForIn 2 b h areas
+abbrev pub IsAnew : ℕ → Summary → List Entry → Areas → Type 0
+IsAnew version b h areas = StandForIn version b h areas ⊎ StandForIn 2 b h areas
 
 pub stand_turned : (version : ℕ) (b : Summary) (h : List Entry) (generation : ℕ) (first : Option (List ℕ)) (bodies : List (List ℕ)) (next : List ℕ) (areas : Areas)
-    → IsKeptAs version b h first bodies → IsSpelling 2 generation (summary_of b h) next → StandsForTurn version first bodies next areas → IsTurned version b h areas
+    → IsKeptAs version b h first bodies → IsSpelling 2 generation (summary_of b h) next → StandsForTurn version first bodies next areas → IsAnew version b h areas
 stand_turned version b h generation first bodies next areas kept spells (inl old) = inl (first, bodies, kept, old)
 stand_turned version b h generation first bodies next areas kept spells (inr new) = inr (Some next, [], summed_up 2 b h generation next spells, new)
 
-pub turned_any : (version : ℕ) (b : Summary) (h : List Entry) (areas : Areas) → IsTurned version b h areas → StandFor b h areas
+pub turned_any : (version : ℕ) (b : Summary) (h : List Entry) (areas : Areas) → IsAnew version b h areas → StandFor b h areas
 turned_any version b h areas (inl old) = (version, old)
 turned_any version b h areas (inr new) = (2, new)
 
-pub turned_two : (b : Summary) (h : List Entry) (areas : Areas) → IsTurned 2 b h areas → StandForIn 2 b h areas
+pub turned_two : (b : Summary) (h : List Entry) (areas : Areas) → IsAnew 2 b h areas → StandForIn 2 b h areas
 turned_two b h areas (inl old) = old
 turned_two b h areas (inr new) = new
 
@@ -267,7 +267,7 @@ module _ {D : Type 0} (seen : D → DiskSeen) where
     pub recorded_turned : (k : Journal D) → Turns j k next → HoldsRecorded seen k b h
     recorded_turned k turned = (Some next, [], summed_up 2 b h generation next spells, turned version holds.0 holds.1 holds.3)
 
-    module _ (new : D) (P : Areas → Type 0) (so : (c : Areas) → IsTurned version b h c → P c) where
+    module _ (new : D) (P : Areas → Type 0) (so : (c : Areas) → IsAnew version b h c → P c) where
       pub turned_moments : TurnRuns j new next → LeavesOnly (seen j.disk) (seen new) P
       turned_moments run =
           weaker (seen j.disk) (seen new) P (StandsForTurn version holds.0 holds.1 next) (run version holds.0 holds.1 holds.3)

@@ -1,5 +1,5 @@
 -- How what a journal has in the first version gets into the second, and what an opening leaves at each moment.
-use Rattle.std.proofs.Common.{◌≡◌, ◌≤◌, ◌<◌, ◌+◌, ◌⊎◌, ℕ, List, [], ◌∷◌, length, Option, Some, None, inl, inr, ⊎_elim, refl, sym, ap, ◌∙◌, subst, arith}
+use Rattle.std.proofs.Common.{◌≡◌, ◌≤◌, ◌<◌, ◌+◌, ◌^◌, ◌⊎◌, ℕ, List, [], ◌∷◌, length, Option, Some, None, inl, inr, ⊎_elim, refl, sym, ap, ◌∙◌, subst, arith}
 use Rattle.std.specs.Prelude.{IfSome}
 use Rattle.arc_io.specs.Areas.{Areas, part}
 use Rattle.arc_io.specs.Crashes.{Becomes, Follows, IsQuiet, LeavesOnly}
@@ -30,7 +30,7 @@ use Rattle.centre_store.proofs.NextSummary.{far}
 use Rattle.centre_store.proofs.Opened.{all_told, opened_all, opened_holds, refused}
 use Rattle.centre_store.proofs.Reopened.{HaveEach, have_each, kept_each}
 use Rattle.centre_store.proofs.Summed.{text_long}
-use Rattle.centre_store.proofs.Written.{spelled}
+use Rattle.centre_store.proofs.Written.{turn_spelled}
 
 -- Two runs in one.
 
@@ -100,6 +100,9 @@ may_move seen j s b h all = far seen 1 j b h all.holds
 -- the body that was made is the summary, and so long
 module _ {D : Type 0} (seen : D → DiskSeen) (j : Journal D) (s : State) (body : List ℕ)
     (is : (b : Summary) (h : List Entry) → IsSpelled b → StandsFor b s h → body ≡ summary_text 2 (j.generation + 1) (summary_of b h)) where
+  pub move_spells : s.entries ≤ 2 ^ 48 → IsMoment s.sum.last → length body ≤ 4_294_967_295 → IsSummaryOf seen j s body
+  move_spells few moment short b h all = (j.generation + 1, turn_spelled seen 1 j s body is few moment (may_move seen j s) short b h all)
+
   pub move_size : (b : Summary) (h : List Entry) → HaveAllIn seen 1 j s b h → length body ≡ written_length b h
   move_size b h all = ap length (is b h all.given all.stands) ∙ text_long 2 (j.generation + 1) (summary_of b h)
 

@@ -31,7 +31,7 @@ use Rattle.centre_store.specs.Writes.{HaveAllIn, HaveSomeIn, HaveAll, HaveSome, 
 use Rattle.centre_store.proofs.Summed.{text_long}
 use Rattle.centre_store.proofs.Distinct.{distinct_more}
 use Rattle.centre_store.proofs.Holding.{Adds, Runs, Tells, TurnRuns, TurnTells, Turns, stand_either, recorded_same, recorded_more, recorded_moments, recorded_either}
-use Rattle.centre_store.proofs.Holding.{IsTurned as IsAnew, recorded_turned, turned_moments, turned_told, turned_there}
+use Rattle.centre_store.proofs.Holding.{IsAnew, recorded_turned, turned_moments, turned_told, turned_there}
 use Rattle.centre_store.proofs.NextSummary.{next_to, next_spelled, followed}
 
 -- The same but for the room.
@@ -150,21 +150,21 @@ module _ {D : Type 0} (seen : D → DiskSeen) (version : ℕ) (j : Journal D) (s
     text : body ≡ summary_text 2 (j.generation + 1) (summary_of b h)
     text = is b h all.given all.stands
 
-    spelled : IsSpelling 2 (j.generation + 1) (summary_of b h) body
-    spelled =
+    pub turn_spelled : IsSpelling 2 (j.generation + 1) (summary_of b h) body
+    turn_spelled =
         let long : length (summary_text 2 (j.generation + 1) (summary_of b h)) < 2 ^ 32 = omega (arith, ap length text, short) in
         subst (IsSpelling 2 (j.generation + 1) (summary_of b h)) (sym text)
         (next_spelled seen version j b h all.holds s all.stands few (followed b h all) all.given moment long)
 
     pub turn_has : (k : Journal D) → Turns seen j k body → HoldsRecorded seen k b h
-    turn_has k turned = recorded_turned seen version j b h (j.generation + 1) body spelled all.holds k turned
+    turn_has k turned = recorded_turned seen version j b h (j.generation + 1) body turn_spelled all.holds k turned
 
     module _ (new : D) (P : Areas → Type 0) (so : (c : Areas) → IsAnew version b h c → P c) where
       pub turn_moments : TurnRuns seen j new body → LeavesOnly (seen j.disk) (seen new) P
-      turn_moments run = turned_moments seen version j b h (j.generation + 1) body spelled all.holds new P so run
+      turn_moments run = turned_moments seen version j b h (j.generation + 1) body turn_spelled all.holds new P so run
 
       pub turn_told : TurnTells seen j new body → IfSome (seen new).told P
-      turn_told told = turned_told seen version j b h (j.generation + 1) body spelled all.holds new P so told
+      turn_told told = turned_told seen version j b h (j.generation + 1) body turn_spelled all.holds new P so told
 
 -- where it is of the second version
 module _ {D : Type 0} (seen : D → DiskSeen) (j : Journal D) (s : State) (body : List ℕ)
@@ -180,7 +180,7 @@ module _ {D : Type 0} (seen : D → DiskSeen) (j : Journal D) (s : State) (body 
       → ((d : D) (t : ℕ) (c : Areas) → t ≤ (seen d).moment → (seen d).may_leave c → (seen d).left_since t c)
       → TurnRuns seen j new body → TurnTells seen j new body → HasRecorded (seen new) b h
   turn_met b h all new counts_now run told =
-      turned_there seen j new b h (j.generation + 1) body (spelled seen 2 j s body is few moment may_follow short_body b h all) counts_now run told all.holds
+      turned_there seen j new b h (j.generation + 1) body (turn_spelled seen 2 j s body is few moment may_follow short_body b h all) counts_now run told all.holds
 
 -- Records.
 
