@@ -1,34 +1,33 @@
 -- How what a journal has in the first version gets into the second, and what an opening leaves at each moment.
-use Rattle.std.proofs.Common.{◌≡◌, ◌≤◌, ◌<◌, ◌+◌, ◌^◌, ◌⊎◌, ℕ, List, [], ◌∷◌, length, Option, Some, None, inl, inr, ⊎_elim, refl, sym, ap, ◌∙◌, subst, arith}
+use Rattle.std.proofs.Common.{◌≡◌, ◌≤◌, ◌+◌, ◌^◌, ◌⊎◌, ℕ, List, [], length, Option, Some, None, inl, inr, ⊎_elim, refl, sym, ap, ◌∙◌, subst}
 use Rattle.std.specs.Prelude.{IfSome}
-use Rattle.arc_io.specs.Areas.{Areas, part}
-use Rattle.arc_io.specs.Crashes.{Becomes, Follows, IsQuiet, LeavesOnly}
+use Rattle.arc_io.specs.Areas.{Areas}
+use Rattle.arc_io.specs.Crashes.{Becomes, IsQuiet, LeavesOnly}
 use Rattle.arc_io.specs.Disks.{DiskSeen}
-use Rattle.arc_io.proofs.Moments.{started, weaker, joined, quiet_start}
+use Rattle.arc_io.proofs.Moments.{started, weaker, joined}
 use Rattle.centre_core.specs.Summing.{IsSpelled}
-use Rattle.centre_rules.specs.Answers.{IsLegal}
 use Rattle.centre_rules.specs.History.{Entry, IsMoment, last, recorded}
 use Rattle.centre_rules.specs.State.{State, StandsFor}
 use Rattle.centre_rules.specs.Summary.{Summary}
 use Rattle.centre_rules.specs.Sums.{summary_of}
-use Rattle.disk_journal.specs.Journal.{Holds, IsAtRestIn, IsOpen, IsSettled}
-use Rattle.disk_journal.specs.OtherArea.{IsSameIn, SparesOther}
-use Rattle.disk_journal.specs.Standing.{AreasStand, StandsForTurn, GoesOn as StandsOn, chosen, chosen_part, version_of, version_now, generation_now}
+use Rattle.disk_journal.specs.Journal.{Holds, IsAtRestIn, IsOpen}
+use Rattle.disk_journal.specs.OtherArea.{IsSameIn}
+use Rattle.disk_journal.specs.Standing.{AreasStand, StandsForTurn, GoesOn as StandsOn}
 use Rattle.disk_journal.specs.Turning.{Changes}
 use Rattle.disk_journal.specs.declared.fault.OpenFault.{OpenFault}
 use Rattle.disk_journal.specs.declared.fault.OpenFault.TheVariants.{DiskFault, NotJournal, WrongVersion, Damaged, TooWide, Memory}
 use Rattle.disk_journal.specs.declared.journal.Journal.{Journal}
 use Rattle.disk_journal.specs.Faults.{HasCounts, IsOfContent}
 use Rattle.disk_journal.proofs.Chosen.{rest_stands}
-use Rattle.disk_journal.proofs.Steps.{becomes_map, becomes_then, changes_map, file_at, if_map, if_both, quiet_changes}
+use Rattle.disk_journal.proofs.Steps.{becomes_then, changes_map, file_at, if_map}
 use Rattle.summary_rules.specs.Spelling.{summary_text}
-use Rattle.centre_store.specs.Given.{IsGiven, IsKeptAs, StandFor, GoesOn, HoldsRecorded, HoldsRecordedIn, written_length}
-use Rattle.centre_store.specs.Openings.{IsChosenSame, IsMoved, IsOfBodies, IsRefused, IsRestored, IsSummaryOf, IsTooWide, IsUnmoved, StandsForMove}
-use Rattle.centre_store.specs.Writes.{HaveAllIn, HaveSomeIn, IsSummedUp, IsTurned}
-use Rattle.centre_store.proofs.Holding.{TurnRuns, summed_up}
+use Rattle.centre_store.specs.Given.{IsKeptAs, StandFor, GoesOn, written_length}
+use Rattle.centre_store.specs.Openings.{IsChosenSame, IsRefused, IsRestored, IsSummaryOf, IsUnmoved, StandsForMove}
+use Rattle.centre_store.specs.Writes.{HaveAllIn, HaveSomeIn}
+use Rattle.centre_store.proofs.Holding.{summed_up}
 use Rattle.centre_store.proofs.NextSummary.{far}
 use Rattle.centre_store.proofs.Opened.{all_told, opened_all, opened_holds, refused}
-use Rattle.centre_store.proofs.Reopened.{HaveEach, have_each, kept_each}
+use Rattle.centre_store.proofs.Reopened.{have_each, kept_each}
 use Rattle.centre_store.proofs.Summed.{text_long}
 use Rattle.centre_store.proofs.Written.{turn_spelled}
 

@@ -1,6 +1,5 @@
 -- What a store stands for that was opened again over what areas gave then, said over the summary from before.
-use Rattle.std.proofs.Common.{◌≡◌, ◌≤◌, ◌<◌, ◌⊎◌, ℕ, List, [], ◌∷◌, ◌++◌, Bool, true, false, cond, map, reverse, length, Option, Some, None, inl, inr, ⊎_elim, refl, sym, ap, subst, ◌∙◌, arith, length-append}
-use Rattle.std.specs.Prelude.{IfSome}
+use Rattle.std.proofs.Common.{◌≡◌, ◌≤◌, ◌<◌, ◌⊎◌, ℕ, List, [], ◌∷◌, ◌++◌, Bool, true, false, cond, map, reverse, length, Option, Some, None, ⊎_elim, refl, sym, ap, subst, ◌∙◌, arith, length-append}
 use Rattle.std.proofs.lemmas.List.{length-map}
 use Rattle.std.proofs.lemmas.Bool.{cases_lt}
 use Rattle.arc_io.specs.Areas.{Areas}
@@ -20,7 +19,6 @@ use Rattle.disk_journal.specs.Standing.{AreasStand, all_of, chosen_part}
 use Rattle.disk_journal.specs.declared.journal.Journal.{Journal}
 use Rattle.disk_journal.proofs.Once.{one_standing}
 use Rattle.disk_journal.proofs.Opens.{no_body}
-use Rattle.disk_journal.proofs.Steps.{if_map}
 use Rattle.centre_store.specs.Bodies.{body_in, bodies_in, AreNamedIn}
 use Rattle.centre_store.specs.Given.{IsGiven, IsKeptAs, StandFor}
 use Rattle.centre_store.specs.Openings.{IsRestored}

@@ -1,5 +1,4 @@
-use Rattle.std.proofs.Common.{◌≡◌, ◌≤◌, ◌+◌, ℕ, List, length, rules, ap}
-use Rattle.arc_io.specs.Disks.{DiskSeen}
+use Rattle.std.proofs.Common.{◌≡◌, ℕ, rules, ap}
 use Rattle.centre_core.specs.declared.hall.Stop.TheVariants.{Down}
 use Rattle.centre_store.specs.Given.{StandForIn}
 use Rattle.centre_store.proofs.Holding.{recorded_works, turned_two}
