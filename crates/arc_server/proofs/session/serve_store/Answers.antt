@@ -36,7 +36,7 @@ returns-clause-served g c r q' h counted begun =
       later = later;
       handed = c.close-disk.ensures;
       ends = kept last (seen r.disk).faults c.close-disk.result
-          (stands_by seen c.args.side end e.serves.0 base (record { from = h; to = history; made = made }) first last p p' went.2) later c.close-disk.ensures;
+          (stands_by seen c.args.side line_name end e.serves.0 base (record { from = h; to = history; made = made }) first last p p' went.2) later c.close-disk.ensures;
       status_is = over_is c.status_over.result c.status_over.ensures.over counted c.faults.ensures
           (c.status_of_session-status.ensures.made p c.read_faults-reads.ensures c.write_faults-writes.ensures);
     }
