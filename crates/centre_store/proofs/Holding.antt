@@ -21,6 +21,7 @@ use Rattle.event_codec.specs.Spelling.{spelling, IsNamedIn}
 use Rattle.summary_rules.specs.Conditions.{IsSpelling}
 use Rattle.centre_store.specs.Bodies.{body_in, bodies_in, AreNamedIn}
 use Rattle.centre_store.specs.Given.{IsFirst, IsKeptAs, StandForIn, StandFor, StandForEither, HoldsRecordedIn, HoldsRecorded, HasRecorded, HasEither}
+use Rattle.centre_store.specs.Pasts.{IsPast}
 use Rattle.centre_store.specs.Stores.{IsSameJournal}
 use Rattle.centre_store.proofs.Bodies.{bodies_more, bodies_same}
 use Rattle.centre_store.proofs.Distinct.{distinct_more, distinct_bodies}
@@ -47,6 +48,10 @@ named_two Rows = tt
 pub all_named : (h : List Entry) → AreNamedIn 2 h
 all_named [] = tt
 all_named (e ∷ h) = (named_two e.event, all_named h)
+
+-- so a past of either version is one of the second, with its bodies as they are written
+pub past_two : (version : ℕ) (base : Summary) (bodies : List (List ℕ)) (h : List Entry) → IsPast version base bodies h → IsPast 2 base (bodies_in 2 h) h
+past_two version base bodies h p = record { legal = p.legal; kept = p.kept; named = all_named h; few = p.few; is = refl }
 
 named_quiet : (version : ℕ) (e : Entry) (h : List Entry) → is_recorded e.reply ≡ false → AreNamedIn version (recorded h) → AreNamedIn version (recorded (e ∷ h))
 named_quiet version e h quiet named = subst (AreNamedIn version) (sym (ap (λ (t : Bool). cond t (e ∷ recorded h) (recorded h)) quiet)) named
@@ -134,6 +139,9 @@ stand_turned version b h generation first bodies next areas kept spells (inr new
 pub turned_any : (version : ℕ) (b : Summary) (h : List Entry) (areas : Areas) → IsAnew version b h areas → StandFor b h areas
 turned_any version b h areas (inl old) = (version, old)
 turned_any version b h areas (inr new) = (2, new)
+
+pub two_any : (o : Option Areas) (b : Summary) (h : List Entry) → IfSome o (StandForIn 2 b h) → IfSome o (StandFor b h)
+two_any o b h stands = if_map (StandForIn 2 b h) (StandFor b h) o stands (λ c is. (2, is))
 
 pub turned_two : (b : Summary) (h : List Entry) (areas : Areas) → IsAnew 2 b h areas → StandForIn 2 b h areas
 turned_two b h areas (inl old) = old
