@@ -32,7 +32,7 @@ use Rattle.centre_store.proofs.Summed.{spelling_distinct}
 
 -- the second tells each
 named_two : (event : Event) → IsNamedIn 2 event
-named_two (Sent m via) one = absurd (omega (arith, one))
+named_two (Sent m via) = λ one. absurd (omega (arith, one))
 named_two (Adopt text) = tt
 named_two Start = tt
 named_two (Beat account) = tt

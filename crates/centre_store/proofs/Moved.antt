@@ -4,6 +4,7 @@ use Rattle.std.specs.Prelude.{IfSome}
 use Rattle.arc_io.specs.Areas.{Areas}
 use Rattle.arc_io.specs.Crashes.{Becomes, IsQuiet, LeavesOnly}
 use Rattle.arc_io.specs.Disks.{DiskSeen}
+use Rattle.arc_io.specs.declared.disk.Area.{Area}
 use Rattle.arc_io.proofs.Moments.{started, weaker, joined}
 use Rattle.centre_core.specs.Summing.{IsSpelled}
 use Rattle.centre_rules.specs.History.{Entry, IsMoment, last, recorded}
@@ -130,11 +131,11 @@ module _ {D : Type 0} (seen : D → DiskSeen) (disk : D) (j : Journal D) (given 
         (file_at (IsAtRestIn j.area j.version o.summary o.bodies) (seen j.disk).told d is holds.kept.file)
 
     moved_on : (d c : Areas) → AreasStand d j.version o.summary o.bodies → StandsForMove seen j s o.summary o.bodies c → GoesOn d c
-    moved_on d c there moves b h given legal moment whole stands =
+    moved_on d c there moves b h over legal moment whole stands =
         let kept : IsKeptAs 1 b h o.summary o.bodies =
         subst (λ (v : ℕ). IsKeptAs v b h o.summary o.bodies) one (kept_each seen disk j given s o r holds d there b h stands) in
         let all : HaveAllIn seen 1 j s b h =
-        subst (λ (v : ℕ). HaveAllIn seen v j s b h) one (have_each seen disk j given s o r holds d there b h given legal moment whole stands) in
+        subst (λ (v : ℕ). HaveAllIn seen v j s b h) one (have_each seen disk j given s o r holds d there b h over legal moment whole stands) in
         from kept all moves
       where
         from : IsKeptAs 1 b h o.summary o.bodies → HaveAllIn seen 1 j s b h → StandsForMove seen j s o.summary o.bodies c → StandFor b h c
@@ -166,7 +167,7 @@ module _ {D : Type 0} (seen : D → DiskSeen) (disk : D) (j : Journal D) (given 
     pub move_kept : (new : D) → Changes (IsSameIn j.area) (seen j.disk) (seen new) → Changes IsChosenSame (seen j.disk) (seen new)
     move_kept new kept =
         changes_map (IsSameIn j.area) IsChosenSame (IsAtRestIn j.area j.version o.summary o.bodies) (seen j.disk) (seen new) holds.kept.settled holds.kept.file kept
-        (λ a t at same. subst (λ (x : _). IsSameIn x a t) (sym at.chosen_is) same)
+        (λ a t at same. subst (λ (x : Area). IsSameIn x a t) (sym at.chosen_is) same)
 
     -- why it was not done
     pub move_refused : (new : Journal D) (fault : OpenFault) → IsUnmoved seen j new s fault → IfSome (seen disk).told (IsRefused fault)

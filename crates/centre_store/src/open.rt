@@ -1,6 +1,6 @@
 // How a store is opened: the recorded events are read and taken in again, one after another. What was recorded in the first version is then
 // written in the second.
-ghost use Rattle.std.specs.Prelude.{◌≡◌, ◌≤◌, ◌<◌, ◌↔◌, ◌^◌, ◌++◌, [], ◌∷◌, ℕ, List, Option, true, false, length, take, drop, OnOk, IfOk, IfErr, IfSome, IfNone, IsTrue};
+ghost use Rattle.std.specs.Prelude.{◌≡◌, ◌⊎◌, ◌≤◌, ◌<◌, ◌↔◌, ◌+◌, ◌^◌, ◌++◌, [], ◌∷◌, ℕ, List, Option, true, false, length, take, drop, OnOk, IfOk, IfErr, IfSome, IfNone, IsTrue};
 ghost use Rattle.arc_io.specs.Areas.{Areas};
 ghost use Rattle.arc_io.specs.Crashes.{Becomes, IsQuiet, LeavesOnly};
 ghost use Rattle.centre_rules.specs.Summary.{Summary};
