@@ -19,13 +19,14 @@ use Rattle.disk_journal.specs.Faults.{HasCounts, IsOfContent}
 use Rattle.disk_journal.specs.OtherArea.{SparesOther}
 use Rattle.disk_journal.specs.Standing.{GoesOn}
 use Rattle.disk_journal.specs.declared.journal.OpenRefused.{OpenRefused}
-use Rattle.line_session.specs.Lines as Line
+use Rattle.line_session.specs.Lines.{LineValue}
 use Rattle.script_lines.specs.Lines.{Asked, Reopen, spelling}
 use Rattle.arc_script.specs.Begun.{Begun}
 use Rattle.arc_script.specs.Between.{Between, CarriedOut, ShutAt, StoppedAt}
 use Rattle.arc_script.specs.Carrying.{CountsMore, HasRead, HaveTaken}
 use Rattle.arc_script.specs.Causes.{HasShown}
 use Rattle.arc_script.specs.Ends.{BegunAgain, Tells}
+use Rattle.arc_script.specs.Feeding.{AreNew}
 use Rattle.arc_script.specs.Fed.{clock_of}
 use Rattle.arc_script.specs.Halting.{closing}
 use Rattle.arc_script.specs.Pages.{counted_line}
@@ -55,8 +56,8 @@ read_more setup (Some desk) few more less read = record {
   few = (let short = read.few in omega (arith, short, less));
 }
 
-taken_anew : (setup : List ℕ) (count : ℕ) (before : List Asked) (lines : List Line.LineValue) (desks : List Desk.DeskValue)
-    → All (Line.TookStream []) lines → All IsNewDesk desks → HaveTaken (meaning setup) count (Reopen ∷ before) lines desks
+taken_anew : (setup : List ℕ) (count : ℕ) (before : List Asked) (lines : List LineValue) (desks : List Desk.DeskValue)
+    → AreNew lines → All IsNewDesk desks → HaveTaken (meaning setup) count (Reopen ∷ before) lines desks
 taken_anew setup count before lines desks new_lines new_desks =
     let none = taken_none setup lines desks new_lines new_desks in
     record {
@@ -72,7 +73,7 @@ pub record IsAnew {D : Type 0} (seen : D → DiskSeen) (script script' : Script)
   pub setup : script'.setup ≡ script.setup
   pub limits : script'.limits ≡ script.limits
   pub clock : script'.clock ≡ script.clock
-  pub lines : All (Line.TookStream []) script'.lines.items
+  pub lines : AreNew script'.lines.items
   pub desks : All IsNewDesk script'.desks.items
   pub tally : script'.tally ≡ closing script.tally script.opened_before s.state.sum
   pub tells : is_told (seen s'.journal.disk).told ≡ is_told (seen s.journal.disk).told
@@ -83,7 +84,7 @@ pub made_anew : {D : Type 0} (seen : D → DiskSeen) (script closed script' : Sc
     → disk ≡ s.journal.disk → closed ≡ record script { tally = closing script.tally script.opened_before s.state.sum }
     → IsOpened seen disk mid → SparesOther (seen disk) (seen mid.journal.disk)
     → mid.journal.limits ≡ closed.limits → mid.at_open ≡ (seen mid.journal.disk).faults → (seen disk).faults ≤ (seen mid.journal.disk).faults
-    → All (Line.TookStream []) script'.lines.items → All IsNewDesk script'.desks.items
+    → AreNew script'.lines.items → All IsNewDesk script'.desks.items
     → script' ≡ record closed {
       lines = script'.lines;
       desks = script'.desks;

@@ -23,6 +23,7 @@ use Rattle.line_session.specs.Turns.{Turn, line_turns, AreTurns}
 use Rattle.script_lines.specs.Lines.{Asked, Time, Feed, Message, Command, Reopen}
 use Rattle.session_rules.specs.Turns.{entries_of, readings_of, noise_of}
 use Rattle.arc_script.specs.Fed.{clock_of, line_fed, desk_read}
+use Rattle.arc_script.specs.Names.{line_name}
 use Rattle.arc_script.specs.Pages.{head_of}
 
 -- Where a line of a script stands: behind what was asked before (the newest first), under this setup, over this summary.
@@ -68,14 +69,14 @@ pub record Ticks (place : Place) (moment : ℕ) (h x : List Entry) (s : Step) : 
       ++ line_of (entry_after place.base (before_tick (clock_of place.asked) place.base place.setup moment h) Tick moment).reply
 
 -- The turns of a line that took what it was fed before and is fed these bytes: one for each whole frame that ends in them, at the moment
--- that was set last, with zeros for noise. They stand behind one another in the history, and nothing else does. More frames may have no
--- turn.
+-- that was set last, with zeros for noise. They stand behind one another in the history, under the line's name, and nothing else does. More
+-- frames may have no turn.
 pub record FeedsLine (place : Place) (line : ℕ) (bytes : List ℕ) (h x : List Entry) (turns : List Turn) (more : List (List ℕ))
     : Type 0 where
   pub clock : ℕ
   pub set : clock_of place.asked ≡ Some clock
   pub ended : bodies (line_fed line place.asked ++ bytes) ≡ bodies (line_fed line place.asked) ++ map (λ t. t.body) turns ++ more
-  pub are : AreTurns place.base (meaning place.setup) 0 h x turns
+  pub are : AreTurns (line_name line) place.base (meaning place.setup) 0 h x turns
   pub legal : IsLegal place.base x
   pub readings : readings_of line_turns turns ≡ replicate (length turns) clock
   pub noise : noise_of line_turns turns ≡ replicate (length (noise_of line_turns turns)) 0

@@ -99,13 +99,15 @@ serves_at_gate side t p q read given back end pass b base from goes =
     subst (λ (x : List Entry). Serves side tcp end read b (record { from = h; to = x; made = made_between p q }) (changed (gate_seen t p) (gate_seen t q) given back)) ended
     (subst (λ (es : List Entry). Serves side tcp end read b (record { from = h; to = to; made = es }) (changed (gate_seen t p) (gate_seen t q) given back)) entries goes.2)
 
--- the same, where the pass was taken out of the hall
-pub serves_left : (side : Side) (t : Terms) (p q m : PassSeen) (read : List ℕ) (given back : PortSeen) (end : SessionEnd) → IsPass t p → q ≡ m
-    → ((b : Summary) (h : List Entry) → AtSeen t p b h → Goes h (λ w. Serves side tcp end read b w (changed (gate_seen t p) (gate_seen t m) given back)))
+-- the same, where the pass was taken out of the hall, and the line's name is that of a link
+pub serves_left : (side : Side) (t : Terms) (p q m : PassSeen) (read : List ℕ) (given back : PortSeen) (name : List ℕ) (end : SessionEnd) → IsPass t p → q ≡ m → name ≡ tcp
+    → ((b : Summary) (h : List Entry) → AtSeen t p b h → Goes h (λ w. Serves side name end read b w (changed (gate_seen t p) (gate_seen t m) given back)))
     → (b : Summary) (base : List Entry) → t.stood b base → ServesAtGate side t b base p q read (record { given = given; back = back; end = end; entries = made_between p q })
-serves_left side t p q m read given back end pass left w b base from = serves_at_gate side t p q read given back end pass b base from
-    (subst (λ (k : PassSeen). Goes (p.since ++ base) (λ v. Serves side tcp end read b v (changed (gate_seen t p) (gate_seen t k) given back)))
-    (sym left) (w b (p.since ++ base) (record { base = base; from = from; seen = refl; pass = pass })))
+serves_left side t p q m read given back name end pass left named w b base from =
+    let went = subst (λ (n : List ℕ). Goes (p.since ++ base) (λ v. Serves side n end read b v (changed (gate_seen t p) (gate_seen t m) given back))) named
+    (w b (p.since ++ base) (record { base = base; from = from; seen = refl; pass = pass })) in
+    serves_at_gate side t p q read given back end pass b base from
+    (subst (λ (k : PassSeen). Goes (p.since ++ base) (λ v. Serves side tcp end read b v (changed (gate_seen t p) (gate_seen t k) given back))) (sym left) went)
 
 -- what a pass made in a session
 makes_in_session : (side : Side) (t : Terms) (p q : PassSeen) (read : List ℕ) (s : Served) (b : Summary) (base : List Entry) → IsPass t p → t.stood b base

@@ -23,7 +23,8 @@ fn line() -> Txt
     Txt::of(b"0").unwrap()
 }
 
-fn via() -> Txt
+/// The name of a line.
+pub fn via() -> Txt
     ensures formed { is_name result ≡ true }
     ensures value { result ≡ codes "line" }
 {
