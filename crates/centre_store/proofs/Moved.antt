@@ -23,7 +23,7 @@ use Rattle.disk_journal.proofs.Chosen.{rest_stands}
 use Rattle.disk_journal.proofs.Steps.{becomes_then, changes_map, file_at, if_map}
 use Rattle.summary_rules.specs.Spelling.{summary_text}
 use Rattle.centre_store.specs.Given.{IsKeptAs, StandFor, GoesOn, written_length}
-use Rattle.centre_store.specs.Openings.{IsChosenSame, IsRefused, IsRestored, IsSummaryOf, IsUnmoved, StandsForMove}
+use Rattle.centre_store.specs.Openings.{CanOpen, IsChosenSame, IsRefused, IsRestored, IsSummaryOf, IsUnmoved, StandsForMove}
 use Rattle.centre_store.specs.Writes.{HaveAllIn, HaveSomeIn}
 use Rattle.centre_store.proofs.Holding.{summed_up}
 use Rattle.centre_store.proofs.NextSummary.{far}
@@ -168,6 +168,20 @@ module _ {D : Type 0} (seen : D → DiskSeen) (disk : D) (j : Journal D) (given 
     move_kept new kept =
         changes_map (IsSameIn j.area) IsChosenSame (IsAtRestIn j.area j.version o.summary o.bodies) (seen j.disk) (seen new) holds.kept.settled holds.kept.file kept
         (λ a t at same. subst (λ (x : Area). IsSameIn x a t) (sym at.chosen_is) same)
+
+    -- where a body of the second version may be as long as what they have, the areas can be opened
+    pub move_opens : ((b : Summary) (h : List Entry) → HaveAllIn seen 1 j s b h → written_length b h ≤ 4_294_967_295) → IfSome (seen disk).told CanOpen
+    move_opens short =
+        if_map (λ (a : Areas). AreasStand a j.version o.summary o.bodies) CanOpen (seen disk).told o.stands
+        (λ a is. record {
+          version = j.version;
+          base = r.base;
+          bodies = o.bodies;
+          past = r.replayed.past;
+          gives = (o.summary, r.first_is, is);
+          is_past = r.replayed.is_past;
+          can_be = λ first. short r.base r.replayed.past had_one.all;
+        })
 
     -- why it was not done
     pub move_refused : (new : Journal D) (fault : OpenFault) → IsUnmoved seen j new s fault → IfSome (seen disk).told (IsRefused fault)

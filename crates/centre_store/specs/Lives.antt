@@ -45,8 +45,8 @@ abbrev pub IsBehindNone : {D : Type 0} → (D → DiskSeen) → Stored D → Wor
 IsBehindNone {D} seen old (Open s) = KeepsAll seen old s × (HasFailed seen s → ⊥)
 IsBehindNone {D} seen old (Left c) = (s : Stored D) × KeepsAll seen old s × IsLeft seen old s c
 
--- The areas are opened with Ok. Openings before it were refused or broken off by crashes: what these left stands for all for which the areas
--- stood before.
+-- The areas are opened with Ok. Openings before it were refused or broken off by crashes: what these left stands for all for which the
+-- areas stood before.
 pub record Reopens {D : Type 0} (seen : D → DiskSeen) (areas : Areas) (s : Stored D) : Type 0 where
   pub again : Areas
   pub goes_on : GoesOn areas again

@@ -13,10 +13,10 @@ use Rattle.centre_store.specs.Given.{IsGiven, HoldsRecordedIn, summed_size}
 use Rattle.centre_store.specs.Stores.{IsSameJournal}
 
 -- the centre stands for the history over a summary that areas give, and the journal has in a version what was recorded
-pub record HaveAllIn {D : Type 0} (seen : D → DiskSeen) (version : ℕ) (j : Journal D) (s : State) (b : Summary) (h : List Entry) : Type 0 where
+pub record HaveAllIn {D : Type 0} (seen : D → DiskSeen) (v : ℕ) (j : Journal D) (s : State) (b : Summary) (h : List Entry) : Type 0 where
   pub given : IsGiven b
   pub stands : StandsFor b s h
-  pub holds : HoldsRecordedIn seen version j b h
+  pub holds : HoldsRecordedIn seen v j b h
 
 -- as it is written
 abbrev pub HaveAll : {D : Type 0} → (D → DiskSeen) → Journal D → State → Summary → List Entry → Type 0

@@ -10,12 +10,12 @@ ghost use Rattle.disk_journal.specs.Faults.{IsOfContent, HasCounts};
 ghost use Rattle.disk_journal.specs.Journal.{Works, Holds, IsOpen};
 ghost use Rattle.disk_journal.specs.OtherArea.{IsSameIn, SparesOther};
 ghost use Rattle.disk_journal.specs.Records.{size, front as bytes_before};
-ghost use Rattle.disk_journal.specs.Standing.{all_of, version_now};
+ghost use Rattle.disk_journal.specs.Standing.{all_of, chosen_part, version_now, GoesOn as StandsOn};
 ghost use Rattle.disk_journal.specs.Turning.{Changes};
 ghost use Rattle.event_codec.specs.Spelling.{IsVersion, HasSpellingIn, spelling_in};
-ghost use Rattle.centre_store.specs.Given.{GoesOn, HoldsRecorded};
+ghost use Rattle.centre_store.specs.Given.{GoesOn, HoldsRecorded, written_length};
 ghost use Rattle.centre_store.specs.Pasts.{IsPast, HasNoNext, IsReplayed};
-ghost use Rattle.centre_store.specs.Openings.{IsOpened, IsMoved, IsChosenSame, IsRefused, IsRestored, StandsForMove, IsUnmoved, IsOfReplay, IsOfBodies, disk_of};
+ghost use Rattle.centre_store.specs.Openings.{IsOpened, CanOpen, IsMoved, IsChosenSame, IsRefused, IsRestored, StandsForMove, IsUnmoved, IsOfReplay, IsOfBodies, disk_of};
 ghost use Rattle.centre_store.specs.Writes.{HaveAllIn, HaveSomeIn, IsSummedUp};
 
 use crate::store::Store;
@@ -30,13 +30,13 @@ use std::alloc::Global;
 const MOST: u64 = 4_294_967_295;
 
 impl<D: Disk> Store<D> {
-    /// Opens the journal of both areas (at most `limits.bytes` bytes in an area, below 2^32, and `limits.records` records behind its summary),
-    /// and takes its events in again, over the summary where it has one. An area of at most 17 bytes is a new one. What an area of the first
-    /// version has, and it is no new one, is summed up in the second version in the other area, which counts from then on; no limit is looked
-    /// at for it. Damaged comes, besides the journal's own cases, where a first body that begins as that of a summary spells none, or
-    /// another one is no spelling of an event, or its event would be quiet after those before it, or its moment is less than the one before;
-    /// its place is that of the first such body's gate. TooWide comes where that summary would have more than 4,294,967,295 bytes. The
-    /// other faults are the journal's.
+    /// Opens the journal of both areas (at most `limits.bytes` bytes in an area, below 2^32, and `limits.records` records behind its
+    /// summary), and takes its events in again, over the summary where it has one. An area of at most 17 bytes is a new one. What another
+    /// one of the first version has is summed up in the second version in the other area, which counts from then on; no limit is looked at
+    /// for it. Damaged comes, besides the journal's own cases, where a first body that begins as that of a summary spells none, or another
+    /// one is no spelling of an event, or its event would be quiet after those before it, or its moment is less than the one before; its
+    /// place is that of the first such body's gate. TooWide comes where that summary would have more than 4,294,967,295 bytes. The other
+    /// faults are the journal's.
     pub fn open(alloc: Global, disk: D, limits: Limits) -> Result<Store<D>, OpenRefused<D>>
         requires few { limits.bytes < 2 ^ 32 }
 
@@ -57,8 +57,13 @@ impl<D: Disk> Store<D> {
         ensures kept { IfSome (D.seen disk).told (λ s. version_now s ≡ 1 → Changes IsChosenSame (D.seen disk) (D.seen (disk_of result))) }
         ensures spared { IfSome (D.seen disk).told (λ s. version_now s ≡ 2 → SparesOther (D.seen disk) (D.seen (disk_of result))) }
 
-        // Where the areas' bytes are refused, nothing was written.
+        // Where the areas' bytes are refused, nothing was written. Nor is anything written over more than 17 bytes, whatever they are and
+        // whatever is answered, but for those of the first version that can be opened; over fewer, all that stood there stands.
         ensures unwritten { IfErr result (λ r. IsOfContent r.fault → IsQuiet (D.seen disk) (D.seen r.disk)) }
+        ensures long { IfSome (D.seen disk).told (λ s. 17 < length (chosen_part s)
+            → IsQuiet (D.seen disk) (D.seen (disk_of result)) ⊎ ((version_now s ≡ 1) × CanOpen s)) }
+        ensures fresh { IfSome (D.seen disk).told (λ s. length (chosen_part s) ≤ 17
+            → Changes StandsOn (D.seen disk) (D.seen (disk_of result))) }
         ensures later { (D.seen disk).faults ≤ (D.seen (disk_of result)).faults }
 
         // An opening that answers Ok met no fault.
@@ -111,6 +116,8 @@ fn restore<D: Disk>(
     ensures still { journal.old.version ≡ 2 → journal.new ≡ journal.old }
     ensures unwritten { IfErr result (λ f. IsOfContent f → journal.new ≡ journal.old) }
     ensures unread { IfErr result (λ f. IsOfContent f → (bodies.now ≡ [] → ⊥) ⊎ (journal.old.version ≡ 1)) }
+    ensures written { (disk : D) → IsOpen D.seen disk journal.old bodies.now
+        → (journal.new ≡ journal.old) ⊎ ((journal.old.version ≡ 1) × IfSome (D.seen disk).told CanOpen) }
     ensures limits { journal.new.limits ≡ journal.old.limits }
     ensures later { (D.seen journal.old.disk).faults ≤ (D.seen journal.new.disk).faults }
     ensures met_none { OnOk result ((D.seen journal.new.disk).faults ≡ (D.seen journal.old.disk).faults) }
@@ -136,6 +143,8 @@ fn move_on<D: Disk>(
         → OnOk result (HoldsRecorded D.seen journal.new b h) }
     ensures moved { OnOk result ((journal.new.generation ≡ journal.old.generation + 1) × IsSummedUp journal.new) }
     ensures fault { IfErr result (IsUnmoved D.seen journal.old journal.new centre.now) }
+    ensures written { (journal.new ≡ journal.old)
+        ⊎ ((b : Summary) (h : List Entry) → HaveAllIn D.seen 1 journal.old centre.now b h → written_length b h ≤ 4_294_967_295) }
 
     ensures any_moment { (first : Option (List ℕ)) (bodies : List (List ℕ)) → Holds D.seen journal.old 1 first bodies
         → LeavesOnly (D.seen journal.old.disk) (D.seen journal.new.disk) (StandsForMove D.seen journal.old centre.now first bodies) }
@@ -227,12 +236,7 @@ fn replay(
 }
 
 // Takes the event of a body in. False where no entry goes on with it.
-fn take_in(
-    centre: &mut Centre,
-    alloc: Global,
-    version: u8,
-    body: &[u8],
-) -> Result<bool, Memory>
+fn take_in(centre: &mut Centre, alloc: Global, version: u8, body: &[u8]) -> Result<bool, Memory>
     requires version { IsVersion version }
     ensures taken { IfOk result (λ taken. taken ≡ true → (base : Summary) (front : List (List ℕ))
         → IsReplayed version base front centre.old → IsReplayed version base (front ++ body.now ∷ []) centre.new) }
