@@ -78,7 +78,7 @@ taken_sum {version} o p body centre page page' none u =
         bodies = [];
         past = [];
         is_first = (u.generation, u.spelling);
-        is_past = record { legal = tt; kept = tt; few = omega (arith, u.spelling.besides.recorded); is = sym (no_bodies version) };
+        is_past = record { legal = tt; kept = tt; named = tt; few = omega (arith, u.spelling.besides.recorded); is = sym (no_bodies version) };
       };
       is = sym (ap (λ (l : List (List ℕ)). l ++ body ∷ []) none);
       stands = u.stands;

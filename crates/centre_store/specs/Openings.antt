@@ -1,9 +1,10 @@
 -- What an opening shows.
-use Rattle.std.specs.Prelude.{◌≡◌, ◌⊎◌, ◌<◌, ◌+◌, ℕ, List, Option, Some, None, IfSome, Result, Ok, Err}
+use Rattle.std.specs.Prelude.{◌≡◌, ◌⊎◌, ◌<◌, ◌+◌, ℕ, List, [], Option, Some, None, IfSome, Result, Ok, Err}
 use Rattle.arc_io.specs.Areas.{Areas}
 use Rattle.arc_io.specs.Disks.{DiskSeen}
 use Rattle.centre_core.specs.Decoding.{IsNoSpelling}
 use Rattle.centre_rules.specs.Summary.{Summary}
+use Rattle.centre_rules.specs.Sums.{summary_of}
 use Rattle.centre_rules.specs.Answers.{IsLegal}
 use Rattle.centre_rules.specs.History.{Entry, IsMoment, last, recorded}
 use Rattle.centre_rules.specs.State.{State}
@@ -63,6 +64,15 @@ IsMoved j areas = version_now areas ≡ 1 → (j.generation ≡ generation_now a
 -- of two states of a disk: the area that is chosen in the first is the same in the second
 abbrev pub IsChosenSame : Areas → Areas → Type 0
 IsChosenSame before after = IsSameIn (chosen before) before after
+
+-- the body spells in the second version the summary of all that the journal has in the first, whatever the centre stands for
+abbrev pub IsSummaryOf : {D : Type 0} → (D → DiskSeen) → Journal D → State → List ℕ → Type 0
+IsSummaryOf seen j s body = (b : Summary) (h : List Entry) → HaveAllIn seen 1 j s b h → IsFirst 2 (summary_of b h) (Some body)
+
+-- the areas stand for what the journal had in the first version, or for such a summary
+abbrev pub StandsForMove : {D : Type 0} → (D → DiskSeen) → Journal D → State → Option (List ℕ) → List (List ℕ) → Areas → Type 0
+StandsForMove seen j s first bodies areas =
+    AreasStand areas 1 first bodies ⊎ ((next : List ℕ) × IsSummaryOf seen j s next × AreasStand areas 2 (Some next) [])
 
 -- Why a summary in the second version of all that the journal has in the first was not put there: want of memory; it is too wide, and has
 -- so many bytes; the disk failed.

@@ -1,21 +1,21 @@
 // How a store is opened: the recorded events are read and taken in again, one after another. What was recorded in the first version is then
 // written in the second.
-ghost use Rattle.std.specs.Prelude.{◌≡◌, ◌≤◌, ◌<◌, ◌↔◌, ◌^◌, ◌++◌, [], ◌∷◌, ℕ, List, Option, true, false, length, take, drop, OnOk, IfOk, IfErr, IfSome, IfNone, IsTrue};
+ghost use Rattle.std.specs.Prelude.{◌≡◌, ◌⊎◌, ◌≤◌, ◌<◌, ◌↔◌, ◌+◌, ◌^◌, ◌++◌, [], ◌∷◌, ℕ, List, Option, true, false, length, take, drop, OnOk, IfOk, IfErr, IfSome, IfNone, IsTrue};
 ghost use Rattle.arc_io.specs.Areas.{Areas};
 ghost use Rattle.arc_io.specs.Crashes.{Becomes, IsQuiet, LeavesOnly};
 ghost use Rattle.centre_rules.specs.Summary.{Summary};
 ghost use Rattle.centre_rules.specs.History.{Entry, is_recorded};
 ghost use Rattle.centre_rules.specs.State.{StandsFor, entry_of};
 ghost use Rattle.disk_journal.specs.Faults.{IsOfContent, HasCounts};
-ghost use Rattle.disk_journal.specs.Journal.{Works, IsOpen};
+ghost use Rattle.disk_journal.specs.Journal.{Works, Holds, IsOpen};
 ghost use Rattle.disk_journal.specs.OtherArea.{IsSameIn, SparesOther};
 ghost use Rattle.disk_journal.specs.Records.{size, front as bytes_before};
 ghost use Rattle.disk_journal.specs.Standing.{all_of, version_now};
 ghost use Rattle.disk_journal.specs.Turning.{Changes};
 ghost use Rattle.event_codec.specs.Spelling.{IsVersion, HasSpellingIn, spelling_in};
-ghost use Rattle.centre_store.specs.Given.{StandFor, GoesOn, HoldsRecorded};
+ghost use Rattle.centre_store.specs.Given.{GoesOn, HoldsRecorded};
 ghost use Rattle.centre_store.specs.Pasts.{IsPast, HasNoNext, IsReplayed};
-ghost use Rattle.centre_store.specs.Openings.{IsOpened, IsMoved, IsChosenSame, IsRefused, IsRestored, IsUnmoved, IsOfReplay, IsOfBodies, disk_of};
+ghost use Rattle.centre_store.specs.Openings.{IsOpened, IsMoved, IsChosenSame, IsRefused, IsRestored, StandsForMove, IsUnmoved, IsOfReplay, IsOfBodies, disk_of};
 ghost use Rattle.centre_store.specs.Writes.{HaveAllIn, HaveSomeIn, IsSummedUp};
 
 use crate::store::Store;
@@ -106,7 +106,8 @@ fn restore<D: Disk>(
         → Becomes (D.seen journal.old.disk).told (D.seen journal.new.disk).told GoesOn }
     ensures moved { OnOk result (journal.old.version ≡ 1
         → (journal.new.generation ≡ journal.old.generation + 1) × IsSummedUp journal.new) }
-    ensures kept { Changes (IsSameIn journal.old.area) (D.seen journal.old.disk) (D.seen journal.new.disk) }
+    ensures kept { (disk : D) → IsOpen D.seen disk journal.old bodies.now
+        → Changes IsChosenSame (D.seen journal.old.disk) (D.seen journal.new.disk) }
     ensures still { journal.old.version ≡ 2 → journal.new ≡ journal.old }
     ensures unwritten { IfErr result (λ f. IsOfContent f → journal.new ≡ journal.old) }
     ensures unread { IfErr result (λ f. IsOfContent f → (bodies.now ≡ [] → ⊥) ⊎ (journal.old.version ≡ 1)) }
@@ -136,10 +137,10 @@ fn move_on<D: Disk>(
     ensures moved { OnOk result ((journal.new.generation ≡ journal.old.generation + 1) × IsSummedUp journal.new) }
     ensures fault { IfErr result (IsUnmoved D.seen journal.old journal.new centre.now) }
 
-    ensures any_moment { (b : Summary) (h : List Entry) → HaveAllIn D.seen 1 journal.old centre.now b h
-        → LeavesOnly (D.seen journal.old.disk) (D.seen journal.new.disk) (StandFor b h) }
-    ensures told { (b : Summary) (h : List Entry) → HaveAllIn D.seen 1 journal.old centre.now b h
-        → IfSome (D.seen journal.new.disk).told (StandFor b h) }
+    ensures any_moment { (first : Option (List ℕ)) (bodies : List (List ℕ)) → Holds D.seen journal.old 1 first bodies
+        → LeavesOnly (D.seen journal.old.disk) (D.seen journal.new.disk) (StandsForMove D.seen journal.old centre.now first bodies) }
+    ensures told { (first : Option (List ℕ)) (bodies : List (List ℕ)) → Holds D.seen journal.old 1 first bodies
+        → IfSome (D.seen journal.new.disk).told (StandsForMove D.seen journal.old centre.now first bodies) }
     ensures kept { Changes (IsSameIn journal.old.area) (D.seen journal.old.disk) (D.seen journal.new.disk) }
     ensures limits { journal.new.limits ≡ journal.old.limits }
     ensures later { (D.seen journal.old.disk).faults ≤ (D.seen journal.new.disk).faults }

@@ -6,7 +6,7 @@ use Rattle.std.proofs.lemmas.List.{take_at, drop_at, get_or-take}
 use Rattle.std.proofs.lemmas.Nat.{from_be_bytes-to_be_bytes_4}
 use Rattle.std.proofs.lemmas.Bool.{cases_order}
 use Rattle.arc_io.specs.Areas.{Areas}
-use Rattle.disk_journal.specs.Records.{name, IsVersion, digits_of, front, records_of, bytes_of, AtRest, Stands, MayHave, MayStandAt, most_at, HaveSizes, IsNoJournal, IsWhole, length_in, size}
+use Rattle.disk_journal.specs.Records.{name, digits_of, front, records_of, bytes_of, AtRest, Stands, MayHave, MayStandAt, most_at, HaveSizes, IsNoJournal, IsWhole, length_in, size}
 use Rattle.disk_journal.specs.Faults.{IsShown, IsOfContent, HasOneAnswer, HaveOneAnswer}
 use Rattle.disk_journal.specs.Standing.{chosen_part, all_of}
 use Rattle.disk_journal.specs.declared.fault.OpenFault.{OpenFault}

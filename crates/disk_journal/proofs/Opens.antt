@@ -1,5 +1,5 @@
 -- What opening finds of both areas.
-use Rattle.std.proofs.Common.{◌≡◌, ◌≤◌, ◌<◌, ◌+◌, ◌-◌, ℕ, List, [], ◌∷◌, length, take, drop, get_or, Option, Some, None, Bool, true, false, refl, sym, ap, ◌∙◌, subst, inl, inr, ⊎_elim, arith, length-append, length-take}
+use Rattle.std.proofs.Common.{◌≡◌, ◌≤◌, ◌<◌, ◌-◌, ℕ, List, [], ◌∷◌, length, take, drop, get_or, Option, Some, None, Bool, true, false, refl, sym, ap, ◌∙◌, subst, inl, inr, ⊎_elim, arith, length-append, length-take}
 use Rattle.std.specs.Prelude.{IfSome, IfOk, OnOk, Result, Ok, Err, is_some, if◌then◌else◌, nat_lt}
 use Rattle.std.specs.Int.{from_be_bytes, w64}
 use Rattle.std.proofs.lemmas.Bool.{cases_lt, lt-ltb, le-ltb}
@@ -99,7 +99,7 @@ found_stands version found bodies areas is stands =
     (live_is version found bodies (chosen_part areas) is stands, subst (Stands version (chosen_part areas)) (all_in (is_some found) bodies) stands)
 
 -- an area of at most 17 bytes stands for no body, whatever a first write leaves there
-no_body : (version : ℕ) (bytes : List ℕ) (bodies : List (List ℕ)) → length bytes ≤ 17 → Stands version bytes bodies → bodies ≡ []
+pub no_body : (version : ℕ) (bytes : List ℕ) (bodies : List (List ℕ)) → length bytes ≤ 17 → Stands version bytes bodies → bodies ≡ []
 no_body version bytes bodies short (inl stands) = stands.1
 no_body version bytes [] short (inr at) = refl
 no_body version bytes (b ∷ bodies) short (inr at) =

@@ -7,7 +7,7 @@ use Rattle.std.proofs.lemmas.Bool.Decides.{eqb_tells}
 use Rattle.std.proofs.lemmas.List.{take_at, drop_more, get_or-drop, drop-drop, drop-take, take-take, length-take, get_or-take}
 use Rattle.arc_io.specs.Areas.{Areas, part}
 use Rattle.arc_io.specs.declared.disk.Area.{Area}
-use Rattle.disk_journal.specs.Records.{name, IsVersion, digits_of, head_of, front, AtRest, size, most_at, MayStandAt, HaveSizes, IsWhole, IsNoJournal, IsOfVersion, length_in}
+use Rattle.disk_journal.specs.Records.{name, IsVersion, head_of, front, AtRest, size, most_at, MayStandAt, HaveSizes, IsWhole, IsNoJournal, IsOfVersion, length_in}
 use Rattle.disk_journal.specs.Reading.{IsFilled, IsGate, IsRecord, IsBrokenAt}
 use Rattle.disk_journal.specs.Faults.{IsShown}
 use Rattle.disk_journal.specs.declared.fault.OpenFault.{OpenFault}

@@ -16,7 +16,8 @@ const FIRST: &[u8] = b"\x01\0\0\0\0\x3b\x9a\xca\0\0\0\0\x0daccount 1234\n";
 
 const SECOND: &[u8] = b"\x02\0\0\0\0\x3b\x9a\xca\0";
 
-const THIRD: &[u8] = b"\x03\0\0\0\0\x3b\x9a\xca\0\x041234\0\x010\0\x01\x02\0\x0b1131 01 001\x04line";
+const THIRD: &[u8] =
+    b"\x03\0\0\0\0\x3b\x9a\xca\0\x041234\0\x010\0\x01\x02\0\x0b1131 01 001\x04line";
 
 const AREA: &[u8] = b"ARC JOURNAL 0002\
     \x01\0\0\0\x1a\x01\0\0\0\0\x3b\x9a\xca\0\0\0\0\x0daccount 1234\n\
@@ -106,7 +107,9 @@ fn opening_of(alloc: Global, disk: MemDisk) -> Result<String, Fail> {
     let count = first_of_three(&bodies);
     let (version, used, records) = (journal.version(), journal.used(), journal.records());
     let calls = journal.disk().calls();
-    Ok(format!(in alloc; "{count} bodies of version {version}, {used} bytes, {records} records, {calls} calls")?)
+    Ok(format!(in alloc;
+        "{count} bodies of version {version}, {used} bytes, {records} records, {calls} calls"
+    )?)
 }
 
 // How many of the three records a stop within this call leaves, of the calls of `append_three` over an empty disk. The third and
@@ -239,7 +242,11 @@ fn area_of(alloc: Global, text: &str, digits: &str) -> Result<Vec<u8>, Fail> {
 // What an opening shows: how many bodies, and of which version, or the fault.
 fn shown(alloc: Global, area: &[u8]) -> Result<String, Fail> {
     match Journal::open(alloc, disk_of(alloc, area)?, SHIPPED) {
-        Ok((journal, bodies)) => Ok(format!(in alloc; "{} of {}", bodies.count(), journal.version())?),
+        Ok((journal, bodies)) => Ok(format!(in alloc;
+            "{} of {}",
+            bodies.count(),
+            journal.version()
+        )?),
         Err(refused) => Ok(format!(in alloc; "{:?}", refused.fault)?),
     }
 }

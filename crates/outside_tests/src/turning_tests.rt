@@ -140,7 +140,11 @@ fn opened(alloc: Global, disk: MemDisk) -> Result<Standing, Fail> {
     let Ok((journal, bodies)) = Journal::open(alloc, disk, SHIPPED) else {
         return Err("not opened")?;
     };
-    let head = if journal.version() == 1 { FIRST_HEAD } else { HEAD };
+    let head = if journal.version() == 1 {
+        FIRST_HEAD
+    } else {
+        HEAD
+    };
     let area = area_with(alloc, head, &bodies)?;
     if journal.used() != area.len() as u64 {
         return Err("other bytes are used")?;
