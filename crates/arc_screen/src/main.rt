@@ -54,7 +54,11 @@ fn run(rt: &HostRuntime, words: &Words) -> io::Result<()> {
             return Ok(());
         }
         desk.take_answers(rt);
-        let passed = begun.elapsed(rt)?.as_secs().saturating_sub(seconds).min(MINUTE);
+        let passed = begun
+            .elapsed(rt)?
+            .as_secs()
+            .saturating_sub(seconds)
+            .min(MINUTE);
         if passed > 0 {
             seconds = seconds.saturating_add(passed);
             desk.pass(rt, passed);

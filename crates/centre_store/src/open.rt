@@ -227,12 +227,7 @@ fn replay(
 }
 
 // Takes the event of a body in. False where no entry goes on with it.
-fn take_in(
-    centre: &mut Centre,
-    alloc: Global,
-    version: u8,
-    body: &[u8],
-) -> Result<bool, Memory>
+fn take_in(centre: &mut Centre, alloc: Global, version: u8, body: &[u8]) -> Result<bool, Memory>
     requires version { IsVersion version }
     ensures taken { IfOk result (λ taken. taken ≡ true → (base : Summary) (front : List (List ℕ))
         → IsReplayed version base front centre.old → IsReplayed version base (front ++ body.now ∷ []) centre.new) }
