@@ -60,7 +60,7 @@ pub held_opened : {D : Type 0} (seen : D → DiskSeen) (disk : D) (s : Stored D)
 held_opened seen disk s o = o.held
 
 pub begins_with : {D : Type 0} (seen : D → DiskSeen) (disk : D) (s : Stored D) (o : IsOpened seen disk s) → BeginsWith (seen disk) o.base o.past
-begins_with seen disk s o = record { bodies = o.bodies; given = o.given; is_past = o.is_past; area = o.area }
+begins_with seen disk s o = record { version = o.version; bodies = o.bodies; given = o.given; is_past = o.is_past; area = o.area }
 
 -- no line was carried out
 pub so_far_none : {D : Type 0} (seen : D → DiskSeen) (b : Begun D) (script : Script) (s : Stored D) → script.setup ≡ b.setup → script.limits ≡ b.limits

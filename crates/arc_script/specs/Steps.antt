@@ -12,7 +12,7 @@ use Rattle.centre_rules.specs.Answers.{IsLegal, answer}
 use Rattle.centre_rules.specs.History.{Entry, moment_after, recorded}
 use Rattle.centre_rules.specs.Summary.{Summary}
 use Rattle.centre_store.specs.Begins.{begun_after}
-use Rattle.centre_store.specs.Bodies.{bodies_of}
+use Rattle.centre_store.specs.Bodies.{bodies_in}
 use Rattle.centre_store.specs.Given.{IsGiven}
 use Rattle.centre_store.specs.Pasts.{IsPast}
 use Rattle.dc09_frame.specs.Frames.{bodies, frame_of}
@@ -123,10 +123,11 @@ pub record Commands (place : Place) (desk : ℕ) (given : List ℕ) (h x : List 
 -- `X`: the journal is closed and opened again, and gives a summary, and recorded entries over it. From these a run begins, with the same
 -- setup. Meanwhile the journal may have put a summary in the place of older entries; no later answer shows that. So where the disk tells
 -- what it holds, the history goes on over the same summary, from its recorded entries. Of another disk no more is known than that it gives
--- a summary, and keeps a past over it.
+-- a summary, and keeps a past over it, in either version.
 pub record Keeps (Told : Type 0) (base base' : Summary) (h kept : List Entry) : Type 0 where
   pub given : IsGiven base'
-  pub past : IsPast base' (bodies_of kept) kept
+  pub version : ℕ
+  pub past : IsPast version base' (bodies_in version kept) kept
   pub same : Told → (base' ≡ base) × (kept ≡ recorded h)
 
 pub record Reopens (Told : Type 0) (place : Place) (h x : List Entry) (s : Step) : Type 0 where
