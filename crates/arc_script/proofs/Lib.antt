@@ -44,4 +44,3 @@ pub mod Stepping
 pub mod AskedAt
 pub mod LineEnds
 pub mod FedLines
-pub mod Named

@@ -30,36 +30,34 @@ pub(crate) fn put_fields(
         Event::Adopt { text } => {
             put_own(page, b"adopt", b"");
             page.put_number(text.count() as u64);
-            page.put(b"\t\t");
+            page.put(b"\t");
         }
         Event::Start => {
             put_own(page, b"start", b"");
-            page.put(b"\t\t");
+            page.put(b"\t");
         }
-        Event::Message { message, via } => {
+        Event::Message(message) => {
             put_own(page, b"message", message.account.bytes());
             put_signal_fields(page, carried);
             page.put(b"\t");
             put_data(page, message.token, message.content.bytes());
-            page.put(b"\t");
-            page.put(via.bytes());
         }
         Event::Beat { account } => {
             put_own(page, b"heartbeat", account.bytes());
-            page.put(b"\t\t");
+            page.put(b"\t");
         }
         Event::Tick => {
             put_own(page, b"tick", b"");
             put_raised_fields(page, carried);
-            page.put(b"\t\t");
+            page.put(b"\t");
         }
         Event::Claim { operator, number } => {
             put_order_fields(page, b"claim", operator, *number, table);
-            page.put(b"\t\t");
+            page.put(b"\t");
         }
         Event::Next { operator } => {
             put_got_fields(page, operator, reply, table);
-            page.put(b"\t\t");
+            page.put(b"\t");
         }
         Event::Act {
             operator,
@@ -71,11 +69,11 @@ pub(crate) fn put_fields(
             page.put_step(*step);
             page.put(b" ");
             page.put(outcome_name(*outcome));
-            page.put(b"\t\t");
+            page.put(b"\t");
         }
         Event::Release { operator, number } => {
             put_order_fields(page, b"release", operator, *number, table);
-            page.put(b"\t\t");
+            page.put(b"\t");
         }
         Event::Close {
             operator,
@@ -84,7 +82,7 @@ pub(crate) fn put_fields(
         } => {
             put_order_fields(page, b"close", operator, *number, table);
             page.put(code_name(*code));
-            page.put(b"\t\t");
+            page.put(b"\t");
         }
         Event::Show { .. } | Event::List => {}
     }

@@ -93,6 +93,5 @@ fn copied(i: &Incident) -> Incident
         touched: i.touched,
         steps: i.steps.copy(),
         acts: i.acts.copy(),
-        via: i.via,
     }
 }

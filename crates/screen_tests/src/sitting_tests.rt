@@ -79,7 +79,7 @@ fn an_incident_from_its_ring_to_its_closing(rt: HostRuntime) {
     answer(
         &rt,
         &mut screen,
-        "incident 1 burglary 1234 code 131 opened 1000000000 signals 1 restored no holder ann next premises via tcp",
+        "incident 1 burglary 1234 code 131 opened 1000000000 signals 1 restored no holder ann next premises",
         "(list)",
     );
     answer(&rt, &mut screen, "list 1 1/burglary/1234/ann", "-");
@@ -90,7 +90,7 @@ fn an_incident_from_its_ring_to_its_closing(rt: HostRuntime) {
     answer(
         &rt,
         &mut screen,
-        "incident 1 burglary 1234 code 131 opened 1000000000 signals 1 restored no holder ann next holder1 via tcp",
+        "incident 1 burglary 1234 code 131 opened 1000000000 signals 1 restored no holder ann next holder1",
         "(list)",
     );
     // the list is on the way: the act waits for its answer
@@ -100,7 +100,7 @@ fn an_incident_from_its_ring_to_its_closing(rt: HostRuntime) {
     answer(
         &rt,
         &mut screen,
-        "incident 1 burglary 1234 code 131 opened 1000000000 signals 1 restored no holder ann next police via tcp",
+        "incident 1 burglary 1234 code 131 opened 1000000000 signals 1 restored no holder ann next police",
         "(list)",
     );
     answer(&rt, &mut screen, "list 1 1/burglary/1234/ann", "-");
@@ -109,7 +109,7 @@ fn an_incident_from_its_ring_to_its_closing(rt: HostRuntime) {
     answer(
         &rt,
         &mut screen,
-        "incident 1 burglary 1234 code 131 opened 1000000000 signals 1 restored no holder ann next none via tcp",
+        "incident 1 burglary 1234 code 131 opened 1000000000 signals 1 restored no holder ann next none",
         "(list)",
     );
     answer(&rt, &mut screen, "list 1 1/burglary/1234/ann", "-");
@@ -120,7 +120,7 @@ fn an_incident_from_its_ring_to_its_closing(rt: HostRuntime) {
     answer(
         &rt,
         &mut screen,
-        "incident 1 burglary 1234 code 131 opened 1000000000 signals 1 restored no holder ann next none via tcp",
+        "incident 1 burglary 1234 code 131 opened 1000000000 signals 1 restored no holder ann next none",
         "(list)",
     );
     answer(&rt, &mut screen, "list 1 1/burglary/1234/ann", "-");
@@ -131,22 +131,22 @@ fn an_incident_from_its_ring_to_its_closing(rt: HostRuntime) {
 }
 
 const NOTE: &str =
-    "incident 1 burglary 1234 code 131 opened 1000000000 signals 1 restored no holder ann next note via tcp";
+    "incident 1 burglary 1234 code 131 opened 1000000000 signals 1 restored no holder ann next note";
 
 const POLICE: &str =
-    "incident 1 burglary 1234 code 131 opened 1000000000 signals 1 restored no holder ann next police via tcp";
+    "incident 1 burglary 1234 code 131 opened 1000000000 signals 1 restored no holder ann next police";
 
 const PREMISES: &str =
-    "incident 1 burglary 1234 code 131 opened 1000000000 signals 1 restored no holder ann next premises via tcp";
+    "incident 1 burglary 1234 code 131 opened 1000000000 signals 1 restored no holder ann next premises";
 
 const HOLDER1: &str =
-    "incident 1 burglary 1234 code 131 opened 1000000000 signals 1 restored no holder ann next holder1 via tcp";
+    "incident 1 burglary 1234 code 131 opened 1000000000 signals 1 restored no holder ann next holder1";
 
 const HOLDER2: &str =
-    "incident 1 burglary 1234 code 131 opened 1000000000 signals 1 restored no holder ann next holder2 via tcp";
+    "incident 1 burglary 1234 code 131 opened 1000000000 signals 1 restored no holder ann next holder2";
 
 const HOLDER3: &str =
-    "incident 1 burglary 1234 code 131 opened 1000000000 signals 1 restored no holder ann next holder3 via tcp";
+    "incident 1 burglary 1234 code 131 opened 1000000000 signals 1 restored no holder ann next holder3";
 
 const MINE: &str = "list 1 1/burglary/1234/ann";
 

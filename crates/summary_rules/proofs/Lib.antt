@@ -4,7 +4,6 @@ pub mod Ascending
 pub mod SetupMeaning
 pub mod PlanSteps
 pub mod SignalCodes
-pub mod LineNames
 pub mod Fine
 pub mod Keeping
 pub mod Moments

@@ -11,7 +11,6 @@ use centre_store::Store;
 use disk_journal::{Limits, OpenFault, SHIPPED};
 use std::alloc::Global;
 use std::process::Abort;
-use test_fixtures::messages::via;
 use test_fixtures::ports::port_of;
 use test_fixtures::stores::opened;
 
@@ -51,7 +50,7 @@ fn serve_line<P: Port>(
     let setup = Setup::read(alloc, SETUP).expect(rt, "a setup");
     let clock = port.now();
     match store.begin(alloc, setup, clock) {
-        Ok(()) => Ok(serve(Side::Lines, &via(), alloc, store, port)),
+        Ok(()) => Ok(serve(Side::Lines, alloc, store, port)),
         Err(stop) => Err(stop),
     }
 }
