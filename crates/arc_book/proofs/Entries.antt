@@ -24,7 +24,7 @@ use Rattle.centre_rules.proofs.Steps.{incidents_begin}
 
 -- what tells the same carries the same
 carried_same : {s t : Summary} {ms ns : List Mark} → Same s ms t ns → (e : Event) (at : ℕ) → carried_by s ms e at ≡ carried_by t ns e at
-carried_same w (Sent m) at = rw (force_same w) refl
+carried_same w (Sent m via) at = rw (force_same w) refl
 carried_same w Tick at = raised_same w at
 carried_same w e at = refl
 

@@ -15,12 +15,12 @@ use Rattle.summary_codec.specs.declared.summary.ReadSummary.{ReadSummary}
 use Rattle.summary_rules.specs.Conditions.{IsSpelling}
 use Rattle.arc_book.specs.Taken.{IsSummedUp}
 
-pub none_so : (bytes : List ℕ) → IsNoText bytes → IsNoSpelling bytes
-none_so bytes none = λ generation s w. none generation s w.fields w.is
+pub none_so : (version : ℕ) (bytes : List ℕ) → IsNoText version bytes → IsNoSpelling version bytes
+none_so version bytes none = λ generation s w. none generation s w.fields w.besides.names w.is
 
 -- what was read, where anything was
-pub text_some : (bytes : List ℕ) (found : Option ReadSummary) (r : ReadSummary) → found ≡ Some r → MatchOption found (IsNoText bytes) (IsTextOf bytes) → IsTextOf bytes r
-text_some bytes found r is so = subst (λ (o : Option ReadSummary). MatchOption o (IsNoText bytes) (IsTextOf bytes)) is so
+pub text_some : (version : ℕ) (bytes : List ℕ) (found : Option ReadSummary) (r : ReadSummary) → found ≡ Some r → MatchOption found (IsNoText version bytes) (IsTextOf version bytes) → IsTextOf version bytes r
+text_some version bytes found r is so = subst (λ (o : Option ReadSummary). MatchOption o (IsNoText version bytes) (IsTextOf version bytes)) is so
 
 -- what is counted of it
 pub held_counts : (r : ReadSummary) (accounts still_open : ℕ) → accounts ≡ length r.rows.items → still_open ≡ length r.incidents.items
@@ -30,15 +30,16 @@ held_counts r accounts still_open rows incidents =
     (rows ∙ sym (length-map r.rows.items row_of_read))
     ∙ ap (λ (n : ℕ). record { recorded = r.head.recorded; last = r.head.last; accounts = length (map row_of_read r.rows.items); opened = r.head.opened; still_open = n }) incidents
 
-pub held_so : (bytes : List ℕ) (r : ReadSummary) (generation : ℕ) (s : Summary) → IsTextOf bytes r → IsSpelling generation s bytes → holdings (summary_of_read r) ≡ holdings s
-held_so bytes r generation s t w = ap holdings (one_text bytes r.head.generation generation (summary_of_read r) s t.fields t.is w.fields w.is).summaries
+pub held_so : (version : ℕ) (bytes : List ℕ) (r : ReadSummary) (generation : ℕ) (s : Summary) → IsTextOf version bytes r → IsSpelling version generation s bytes → holdings (summary_of_read r) ≡ holdings s
+held_so version bytes r generation s t w =
+    ap holdings (one_text version bytes r.head.generation generation (summary_of_read r) s t.fields t.names t.is w.fields w.besides.names w.is).summaries
 
-module _ (bytes : List ℕ) (held : Held) (centre : State) (generation : ℕ) (so : (g : ℕ) (s : Summary) → IsSpelling g s bytes → held ≡ holdings s)
-    (d : IsDecoded bytes centre generation) where
+module _ (version : ℕ) (bytes : List ℕ) (held : Held) (centre : State) (generation : ℕ) (so : (g : ℕ) (s : Summary) → IsSpelling version g s bytes → held ≡ holdings s)
+    (d : IsDecoded version bytes centre generation) where
   pub moment_held : IsMoment held.last
   moment_held = subst IsMoment (sym (ap (λ (h : Held). h.last) (so generation d.base d.spelling))) d.spelling.besides.last
 
-  pub summed_so : (o : Options) (page page' : List ℕ) → page' ≡ page ++ held_line o held → IsSummedUp o bytes centre page page'
+  pub summed_so : (o : Options) (page page' : List ℕ) → page' ≡ page ++ held_line o held → IsSummedUp version o bytes centre page page'
   summed_so o page page' put = record {
     generation = generation;
     base = d.base;

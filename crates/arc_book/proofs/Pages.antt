@@ -9,8 +9,8 @@ use Rattle.arc_book.specs.Portions.{area_book}
 use Rattle.arc_book.proofs.Portions.{begun, book_begun}
 
 -- nothing is written, and nothing is to be
-pub unwritten : (o : Options) (known : Option (List ℕ)) → IsWrittenBut known known [] (area_book o begun)
-unwritten o known = ([], sym (known_none known), sym (book_begun o))
+pub unwritten : (version : ℕ) (o : Options) (known : Option (List ℕ)) → IsWrittenBut known known [] (area_book o (begun version))
+unwritten version o known = ([], sym (known_none known), sym (book_begun version o))
 
 -- a line more on the page, and then the page is turned
 pub turned_on : (before now after : Option (List ℕ)) (page line page' text : List ℕ) → IsWrittenBut before now page text → IsTurned now after (page ++ line) page'

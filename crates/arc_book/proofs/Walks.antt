@@ -18,17 +18,18 @@ use Rattle.arc_book.proofs.Pages.{turned_on, failed_on}
 use Rattle.arc_book.proofs.Tapes.{stands_at, begins_at, spent_end, broken_end, ends_bad, bad_end, both_far}
 
 -- A portion was told: the centre stands for it, and its book is written but for the page.
-pub record Walks (o : Options) (all : Option (List ℕ)) (gate at : ℕ) (rest : Option (List ℕ)) (k0 k : PortSeen) (centre : State) (page : List ℕ) : Type 0 where
-  pub told : Portion
-  pub read : IsReadTo all (bodies_told told) gate at rest
+pub record Walks (version : ℕ) (o : Options) (all : Option (List ℕ)) (gate at : ℕ) (rest : Option (List ℕ)) (k0 k : PortSeen) (centre : State) (page : List ℕ) : Type 0 where
+  pub told : Portion version
+  pub read : IsReadTo version all (bodies_told told) gate at rest
   pub stands : StandsFor told.base centre told.past
   pub text : IsWrittenBut k0.written k.written page (area_book o told)
 
-module _ (o : Options) (all : Option (List ℕ)) (gate at : ℕ) (rest : Option (List ℕ)) (s s' k0 k : PortSeen) (centre : State) (page : List ℕ)
-    (w : Walks o all gate at rest k0 k centre page) (later : k0.write_faults ≤ k.write_faults) (reads : OnlyReads s s') (writes : OnlyWrites k0 k) where
+module _ (version : ℕ) (o : Options) (all : Option (List ℕ)) (gate at : ℕ) (rest : Option (List ℕ)) (s s' k0 k : PortSeen) (centre : State) (page : List ℕ)
+    (w : Walks version o all gate at rest k0 k centre page) (later : k0.write_faults ≤ k.write_faults) (reads : OnlyReads s s') (writes : OnlyWrites k0 k) where
   ends : (status : Status) → IfSome all (IsEnd status w.told) → HasText status k0.written k.written page (area_book o w.told) → HasCauses status s s' k0 k
       → IsCompiled o status all s s' k0 k page
   ends status ended text causes = record {
+    version = version;
     told = w.told;
     ended = ended;
     text = text;
@@ -54,8 +55,8 @@ module _ (o : Options) (all : Option (List ℕ)) (gate at : ℕ) (rest : Option 
   memory_walk = ends Memory (begins_at all w.told gate at rest w.read) w.text tt
 
   -- a body was read with which no entry goes on, and then the rest
-  pub bad_walk : (status : Status) (body : List ℕ) (gate' at' : ℕ) (rest' : Option (List ℕ)) → IsReadTo all (bodies_told w.told ++ body ∷ []) gate' at' rest' → HasNoNextIn w.told body
-      → IsScanned status all (bodies_told w.told ++ body ∷ []) at → (status ≡ ReadFault → Rose s.read_faults s'.read_faults) → IsCompiled o status all s s' k0 k page
+  pub bad_walk : (status : Status) (body : List ℕ) (gate' at' : ℕ) (rest' : Option (List ℕ)) → IsReadTo version all (bodies_told w.told ++ body ∷ []) gate' at' rest' → HasNoNextIn w.told body
+      → IsScanned version status all (bodies_told w.told ++ body ∷ []) at → (status ≡ ReadFault → Rose s.read_faults s'.read_faults) → IsCompiled o status all s s' k0 k page
   bad_walk Done body gate' at' rest' r bad scanned rose = absurd scanned
   bad_walk Usage body gate' at' rest' r bad scanned rose = absurd scanned
   bad_walk ReadFault body gate' at' rest' r bad scanned rose = failed_walk (rose refl)
@@ -67,13 +68,13 @@ module _ (o : Options) (all : Option (List ℕ)) (gate at : ℕ) (rest : Option 
   bad_walk Spent body gate' at' rest' r bad scanned rose = ends Spent (both_far all w.told (begins_at all w.told gate at rest w.read) scanned) w.text tt
 
 -- a body more was told
-module _ (o : Options) (all : Option (List ℕ)) (gate at gate' at' : ℕ) (rest rest' : Option (List ℕ)) (k0 k k' : PortSeen) (centre centre' : State) (page page' : List ℕ) (body : List ℕ)
-    (w : Walks o all gate at rest k0 k centre page) (r : IsReadTo all (bodies_told w.told ++ body ∷ []) gate' at' rest') (t : IsTakenUp o w.told body centre' page page') where
-  read_next : IsReadTo all (bodies_told t.next) gate' at' rest'
-  read_next = subst (λ (l : List (List ℕ)). IsReadTo all l gate' at' rest') (sym t.is) r
+module _ (version : ℕ) (o : Options) (all : Option (List ℕ)) (gate at gate' at' : ℕ) (rest rest' : Option (List ℕ)) (k0 k k' : PortSeen) (centre centre' : State) (page page' : List ℕ) (body : List ℕ)
+    (w : Walks version o all gate at rest k0 k centre page) (r : IsReadTo version all (bodies_told w.told ++ body ∷ []) gate' at' rest') (t : IsTakenUp o w.told body centre' page page') where
+  read_next : IsReadTo version all (bodies_told t.next) gate' at' rest'
+  read_next = subst (λ (l : List (List ℕ)). IsReadTo version all l gate' at' rest') (sym t.is) r
 
   -- and its line is on the page, or written
-  pub more_walk : (page'' : List ℕ) → IsTurned k.written k'.written page' page'' → Walks o all gate' at' rest' k0 k' centre' page''
+  pub more_walk : (page'' : List ℕ) → IsTurned k.written k'.written page' page'' → Walks version o all gate' at' rest' k0 k' centre' page''
   more_walk page'' turned = record {
     told = t.next;
     read = read_next;
@@ -87,6 +88,7 @@ module _ (o : Options) (all : Option (List ℕ)) (gate at gate' at' : ℕ) (rest
   pub write_walk : {s s' : PortSeen} (page'' : List ℕ) → IsFrontWritten k.written k'.written page' → OnlyReads s s' → OnlyWrites k0 k' → k0.write_faults ≤ k'.write_faults → Rose k0.write_faults k'.write_faults
       → IsCompiled o WriteFault all s s' k0 k' page''
   write_walk page'' front reads writes later rose = record {
+    version = version;
     told = t.next;
     ended = begins_at all t.next gate' at' rest' read_next;
     text = subst (IsFrontWritten k0.written k'.written) (sym t.book)
@@ -102,6 +104,7 @@ module _ (o : Options) (all : Option (List ℕ)) (gate at gate' at' : ℕ) (rest
 pub walked_on : (o : Options) (status : Status) (all : Option (List ℕ)) (s t s' k k' : PortSeen) (page : List ℕ) → OnlyReads s t → s.read_faults ≤ t.read_faults
     → IsCompiled o status all t s' k k' page → IsCompiled o status all s s' k k' page
 walked_on o status all s t s' k k' page opened later c = record {
+  version = c.version;
   told = c.told;
   ended = c.ended;
   text = c.text;

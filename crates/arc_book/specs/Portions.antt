@@ -1,4 +1,4 @@
--- A portion of an area, from its front on, and its book.
+-- A portion of an area of a version, from its front on, and its book.
 use Rattle.std.specs.Prelude.{◌≡◌, ℕ, List, [], ◌++◌, Option, Some, None}
 use Rattle.book_lines.specs.Books.{book_of}
 use Rattle.book_lines.specs.Summaries.{summary_line}
@@ -12,27 +12,28 @@ use Rattle.summary_rules.specs.Conditions.{IsSpelling}
 
 -- what an area has before its records: nothing, where they are all that was ever recorded; or a spelling of the summary of what was
 -- recorded before
-abbrev pub IsFirst : Summary → Option (List ℕ) → Type 0
-IsFirst base None = base ≡ nothing
-IsFirst base (Some body) = (generation : ℕ) × IsSpelling generation base body
+abbrev pub IsFirst : ℕ → Summary → Option (List ℕ) → Type 0
+IsFirst version base None = base ≡ nothing
+IsFirst version base (Some body) = (generation : ℕ) × IsSpelling version generation base body
 
 -- the body of the summary, or none, and the bodies behind it, which have a past over it, the one history for which they stand
-pub record Portion : Type 0 where
+pub record Portion (version : ℕ) : Type 0 where
   pub first : Option (List ℕ)
   pub base : Summary
   pub bodies : List (List ℕ)
   pub past : List Entry
-  pub is_first : IsFirst base first
-  pub is_past : IsPast base bodies past
+  pub is_first : IsFirst version base first
+  pub is_past : IsPast version base bodies past
 
 -- its bodies, one behind the other as they stand in the area
-abbrev pub bodies_told : Portion → List (List ℕ)
-bodies_told p = all_of p.first p.bodies
+abbrev pub bodies_told : {version : ℕ} → Portion version → List (List ℕ)
+bodies_told {version} p = all_of p.first p.bodies
 
 -- Nothing goes on from it with this body: no entry has it; and at the front of the area it spells no summary either. A body that begins
 -- with 0B is that of no entry, and any other one spells no summary.
-abbrev pub HasNoNextIn : Portion → List ℕ → Type 0
-HasNoNextIn p body = HasNoNext p.base p.bodies p.past body × (bodies_told p ≡ [] → IsNoSpelling body)
+abbrev pub HasNoNextIn : {version : ℕ} → Portion version → List ℕ → Type 0
+HasNoNextIn {version} p body =
+    HasNoNext version p.base p.bodies p.past body × (bodies_told p ≡ [] → IsNoSpelling version body)
 
 -- the line of the summary, where there is one and the options ask for it
 abbrev pub first_line : Options → Option (List ℕ) → Summary → List ℕ
@@ -40,5 +41,5 @@ first_line o None base = []
 first_line o (Some body) base = summary_line o base
 
 -- that line, and behind it the lines of the records, the numbers of which go on from it
-abbrev pub area_book : Options → Portion → List ℕ
-area_book o p = first_line o p.first p.base ++ book_of o p.base p.past
+abbrev pub area_book : {version : ℕ} → Options → Portion version → List ℕ
+area_book {version} o p = first_line o p.first p.base ++ book_of o p.base p.past

@@ -16,18 +16,19 @@ put_by LeftOut page line = page
 put_by (Opens number) page line = page ++ line
 
 -- the portion goes on with the body; the centre stands for it, and what its book has more is put on the page
-pub record IsTakenUp (o : Options) (p : Portion) (body : List ℕ) (centre : State) (page page' : List ℕ) : Type 0 where
-  pub next : Portion
+pub record IsTakenUp {version : ℕ} (o : Options) (p : Portion version) (body : List ℕ) (centre : State) (page page' : List ℕ)
+    : Type 0 where
+  pub next : Portion version
   pub is : bodies_told next ≡ bodies_told p ++ body ∷ []
   pub stands : StandsFor next.base centre next.past
   pub line : List ℕ
   pub book : area_book o next ≡ area_book o p ++ line
   pub put : page' ≡ page ++ line
 
--- the body spells a summary; the centre stands for it, and its line is put on the page
-pub record IsSummedUp (o : Options) (body : List ℕ) (centre : State) (page page' : List ℕ) : Type 0 where
+-- the body spells a summary in a version; the centre stands for it, and its line is put on the page
+pub record IsSummedUp (version : ℕ) (o : Options) (body : List ℕ) (centre : State) (page page' : List ℕ) : Type 0 where
   pub generation : ℕ
   pub base : Summary
-  pub spelling : IsSpelling generation base body
+  pub spelling : IsSpelling version generation base body
   pub stands : StandsFor base centre []
   pub put : page' ≡ page ++ summary_line o base

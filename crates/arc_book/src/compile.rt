@@ -18,7 +18,7 @@ ghost use Rattle.centre_rules.specs.State.{StandsFor};
 ghost use Rattle.centre_core.specs.Decoding.{IsNoSpelling};
 ghost use Rattle.centre_rules.specs.Summary.{Summary, nothing};
 ghost use Rattle.centre_store.specs.Pasts.{HasNoNext};
-ghost use Rattle.disk_journal.specs.Records.{front as bytes_before};
+ghost use Rattle.disk_journal.specs.Records.{IsVersion, front as bytes_before};
 ghost use Rattle.summary_rules.specs.Conditions.{IsSpelling};
 ghost use Rattle.arc_book.specs.Compiled.{IsCompiled, IsScanned, IsTurned, IsFrontWritten};
 ghost use Rattle.arc_book.specs.Tapes.{ahead, IsReadTo};
@@ -57,9 +57,18 @@ pub(crate) fn compile<S: Source, K: Sink>(
     ensures short { length page.new ≤ 65536 }
 {
     match tape.open(source) {
-        Ok(Front::Journal) => {
+        Ok(Front::Journal(version)) => {
             let mut centre = Centre::empty(alloc);
-            walk(alloc, options, source, sink, tape, page, &mut centre)
+            walk(
+                alloc,
+                options,
+                version,
+                source,
+                sink,
+                tape,
+                page,
+                &mut centre,
+            )
         }
         Ok(Front::Fresh) => Status::Done,
         Ok(Front::Refused(fault)) => Status::Journal(fault),
@@ -68,10 +77,11 @@ pub(crate) fn compile<S: Source, K: Sink>(
     }
 }
 
-// Tells all from the first body on.
+// Tells all of an area of this version from the first body on.
 fn walk<S: Source, K: Sink>(
     alloc: Global,
     options: &Options,
+    version: u8,
     source: &mut S,
     sink: &mut K,
     tape: &mut Tape,
@@ -80,9 +90,10 @@ fn walk<S: Source, K: Sink>(
 ) -> Status
     requires ended { (S.seen source.old).ended ≡ false }
     requires range { AreInRange options.now }
+    requires version { IsVersion version }
     requires empty { page.old ≡ [] }
     requires begun { StandsFor nothing centre.old [] }
-    ensures compiled { (all : Option (List ℕ)) → IsReadTo all [] tape.old.gate tape.old.at (ahead tape.old.intake (S.seen source.old).left)
+    ensures compiled { (all : Option (List ℕ)) → IsReadTo version all [] tape.old.gate tape.old.at (ahead tape.old.intake (S.seen source.old).left)
         → IsCompiled options.now result all (S.seen source.old) (S.seen source.new) (K.seen sink.old) (K.seen sink.new) page.new }
     ensures short { length page.new ≤ 65536 }
     ensures later { (S.seen source.old).read_faults ≤ (S.seen source.new).read_faults }
@@ -97,9 +108,9 @@ fn walk<S: Source, K: Sink>(
             Err(ReadEnd::Failed) => return Status::ReadFault,
             Err(ReadEnd::Memory) => return Status::Memory,
         }
-        match take_in(alloc, options, centre, page, place, &tape.body) {
+        match take_in(alloc, options, version, centre, page, place, &tape.body) {
             Ok(true) => {}
-            Ok(false) => return scan(source, tape, place),
+            Ok(false) => return scan(source, version, tape, place),
             Err(Memory) => return Status::Memory,
         }
         let Ok(()) = turn(page, sink) else {
@@ -114,24 +125,26 @@ fn walk<S: Source, K: Sink>(
 fn take_in(
     alloc: Global,
     options: &Options,
+    version: u8,
     centre: &mut Centre,
     page: &mut Page,
     place: u64,
     body: &[u8],
 ) -> Result<bool, Memory>
+    requires version { IsVersion version }
     requires range { AreInRange options.now }
     requires room { length page.old ≤ 65536 }
-    ensures taken { IfOk result (λ taken. taken ≡ true → (p : Portion) → place ≡ length (bytes_before (bodies_told p)) → StandsFor p.base centre.old p.past
+    ensures taken { IfOk result (λ taken. taken ≡ true → (p : Portion version) → place ≡ length (bytes_before version (bodies_told p)) → StandsFor p.base centre.old p.past
         → IsTakenUp options.now p body.now centre.new page.old page.new) }
-    ensures bad { IfOk result (λ taken. taken ≡ false → (p : Portion) → place ≡ length (bytes_before (bodies_told p)) → StandsFor p.base centre.old p.past
+    ensures bad { IfOk result (λ taken. taken ≡ false → (p : Portion version) → place ≡ length (bytes_before version (bodies_told p)) → StandsFor p.base centre.old p.past
         → HasNoNextIn p body.now) }
     ensures kept { IfOk result (λ taken. taken ≡ false → page.new ≡ page.old) }
     ensures failed { OnErr result (page.new ≡ page.old) }
 {
     if is_summary(place, body) {
-        sum_up(alloc, options, centre, page, body)
+        sum_up(alloc, options, version, centre, page, body)
     } else {
-        take_up(alloc, options, centre, page, body)
+        take_up(alloc, options, version, centre, page, body)
     }
 }
 
@@ -149,21 +162,23 @@ fn is_summary(place: u64, body: &[u8]) -> bool
 fn sum_up(
     alloc: Global,
     options: &Options,
+    version: u8,
     centre: &mut Centre,
     page: &mut Page,
     body: &[u8],
 ) -> Result<bool, Memory>
+    requires version { IsVersion version }
     requires range { AreInRange options.now }
     requires room { length page.old ≤ 65536 }
-    ensures taken { IfOk result (λ taken. taken ≡ true → IsSummedUp options.now body.now centre.new page.old page.new) }
-    ensures bad { IfOk result (λ taken. taken ≡ false → IsNoSpelling body.now) }
+    ensures taken { IfOk result (λ taken. taken ≡ true → IsSummedUp version options.now body.now centre.new page.old page.new) }
+    ensures bad { IfOk result (λ taken. taken ≡ false → IsNoSpelling version body.now) }
     ensures kept { IfOk result (λ taken. taken ≡ false → page.new ≡ page.old) }
     ensures failed { OnErr result (page.new ≡ page.old) }
 {
-    let Some(held) = held_in(alloc, body)? else {
+    let Some(held) = held_in(alloc, version, body)? else {
         return Ok(false);
     };
-    let Some((summed, _)) = decode_summary(alloc, body)? else {
+    let Some((summed, _)) = decode_summary(alloc, version, body)? else {
         return Ok(false);
     };
     *centre = summed;
@@ -173,11 +188,12 @@ fn sum_up(
 
 // What the summary of a body holds, which a centre does not tell. None only where the body spells no summary.
 #[tactic(auto, using(crate::proofs::Helds::none_so, crate::proofs::Helds::held_so))]
-fn held_in(alloc: Global, body: &[u8]) -> Result<Option<Held>, Memory>
-    ensures { IfOk result (λ found. MatchOption found (IsNoSpelling body.now)
-        (λ held. (generation : ℕ) (s : Summary) → IsSpelling generation s body.now → held ≡ holdings s)) }
+fn held_in(alloc: Global, version: u8, body: &[u8]) -> Result<Option<Held>, Memory>
+    requires { IsVersion version }
+    ensures { IfOk result (λ found. MatchOption found (IsNoSpelling version body.now)
+        (λ held. (generation : ℕ) (s : Summary) → IsSpelling version generation s body.now → held ≡ holdings s)) }
 {
-    let Some(read) = summary_read(alloc, body)? else {
+    let Some(read) = summary_read(alloc, version, body)? else {
         return Ok(None);
     };
     Ok(Some(Held {
@@ -194,20 +210,22 @@ fn held_in(alloc: Global, body: &[u8]) -> Result<Option<Held>, Memory>
 fn take_up(
     alloc: Global,
     options: &Options,
+    version: u8,
     centre: &mut Centre,
     page: &mut Page,
     body: &[u8],
 ) -> Result<bool, Memory>
+    requires version { IsVersion version }
     requires range { AreInRange options.now }
     requires room { length page.old ≤ 65536 }
-    ensures taken { IfOk result (λ taken. taken ≡ true → (p : Portion) → StandsFor p.base centre.old p.past
+    ensures taken { IfOk result (λ taken. taken ≡ true → (p : Portion version) → StandsFor p.base centre.old p.past
         → IsTakenUp options.now p body.now centre.new page.old page.new) }
-    ensures bad { IfOk result (λ taken. taken ≡ false → (p : Portion) → StandsFor p.base centre.old p.past
-        → HasNoNext p.base p.bodies p.past body.now) }
+    ensures bad { IfOk result (λ taken. taken ≡ false → (p : Portion version) → StandsFor p.base centre.old p.past
+        → HasNoNext version p.base p.bodies p.past body.now) }
     ensures kept { IfOk result (λ taken. taken ≡ false → page.new ≡ page.old) }
     ensures failed { OnErr result (page.new ≡ page.old) }
 {
-    let Some(ready) = entry_in(centre, alloc, body)? else {
+    let Some(ready) = entry_in(centre, alloc, version, body)? else {
         return Ok(false);
     };
     let start = page.count();
@@ -266,10 +284,10 @@ fn cut_unless_open(page: &mut Page, centre: &Centre, number: u64, start: usize)
 }
 
 // Reads on behind a bad body, whose gate stands at this place, to the end of the journal or to where it is damaged.
-fn scan<S: Source>(source: &mut S, tape: &mut Tape, bad: u64) -> Status
+fn scan<S: Source>(source: &mut S, version: u8, tape: &mut Tape, bad: u64) -> Status
     requires ended { (S.seen source.old).ended ≡ false }
-    ensures shown { (all : Option (List ℕ)) (bodies : List (List ℕ)) → IsReadTo all bodies tape.old.gate tape.old.at (ahead tape.old.intake (S.seen source.old).left)
-        → IsScanned result all bodies bad }
+    ensures shown { (all : Option (List ℕ)) (bodies : List (List ℕ)) → IsReadTo version all bodies tape.old.gate tape.old.at (ahead tape.old.intake (S.seen source.old).left)
+        → IsScanned version result all bodies bad }
     ensures failed { result ≡ Status.ReadFault → Rose (S.seen source.old).read_faults (S.seen source.new).read_faults }
     ensures later { (S.seen source.old).read_faults ≤ (S.seen source.new).read_faults }
     ensures others { OnlyReads (S.seen source.old) (S.seen source.new) }

@@ -76,7 +76,7 @@ fn tell_fault<K: Sink>(out: &mut K, fault: OpenFault) -> Result<(), Failed>
         OpenFault::NotJournal { byte } => tell_place(out, b"journal: not a journal at byte ", byte),
         OpenFault::WrongVersion { .. } => put(out, b"journal: wrong version\n"),
         OpenFault::Damaged { at } => tell_place(out, b"journal: damaged at ", at),
-        OpenFault::DiskFault { .. } | OpenFault::Memory => Ok(()),
+        OpenFault::DiskFault { .. } | OpenFault::TooWide { .. } | OpenFault::Memory => Ok(()),
     }
 }
 
@@ -101,7 +101,7 @@ pub(crate) fn put_fault(page: &mut Page, fault: OpenFault)
         OpenFault::NotJournal { byte } => put_place(page, b"journal: not a journal at byte ", byte),
         OpenFault::WrongVersion { .. } => page.put(b"journal: wrong version\n"),
         OpenFault::Damaged { at } => put_place(page, b"journal: damaged at ", at),
-        OpenFault::DiskFault { .. } | OpenFault::Memory => {}
+        OpenFault::DiskFault { .. } | OpenFault::TooWide { .. } | OpenFault::Memory => {}
     }
 }
 

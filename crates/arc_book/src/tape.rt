@@ -33,8 +33,8 @@ pub(crate) enum Front {
     Fresh,
     /// It isn't the front of a journal.
     Refused(OpenFault),
-    /// A journal's.
-    Journal,
+    /// That of a journal of this version.
+    Journal(u8),
 }
 
 /// What stands behind the records that were read.
@@ -92,8 +92,8 @@ impl Tape {
         ensures fresh { IfOk result (λ f. f ≡ Front.Fresh → IfSome (ahead self.old.intake (S.seen source.old).left) (λ bytes. length bytes ≤ 17)) }
         ensures refused { (fault : AnOpenFault) → result ≡ Ok (Front.Refused fault) → IsOfFront fault
             × IfSome (ahead self.old.intake (S.seen source.old).left) (IsShown fault) }
-        ensures journal { IfOk result (λ f. f ≡ Front.Journal → ((S.seen source.new).ended ≡ false)
-            × IsReadTo (ahead self.old.intake (S.seen source.old).left) [] self.new.gate self.new.at (ahead self.new.intake (S.seen source.new).left)) }
+        ensures journal { (version : ℕ) → result ≡ Ok (Front.Journal version) → ((S.seen source.new).ended ≡ false)
+            × IsReadTo version (ahead self.old.intake (S.seen source.old).left) [] self.new.gate self.new.at (ahead self.new.intake (S.seen source.new).left) }
         ensures failed { result ≡ Err ReadEnd.Failed → Rose (S.seen source.old).read_faults (S.seen source.new).read_faults }
         ensures later { (S.seen source.old).read_faults ≤ (S.seen source.new).read_faults }
         ensures others { OnlyReads (S.seen source.old) (S.seen source.new) }
@@ -103,20 +103,22 @@ impl Tape {
         }
         let mut front = [0; 16];
         front.copy_from_slice(&self.body[..16]);
-        if let Err(fault) = check_front(&front) {
-            return Ok(Front::Refused(fault));
+        match check_front(&front) {
+            Ok(version) => {
+                self.gate = self.body[16];
+                self.at = 16;
+                Ok(Front::Journal(version))
+            }
+            Err(fault) => Ok(Front::Refused(fault)),
         }
-        self.gate = self.body[16];
-        self.at = 16;
-        Ok(Front::Journal)
     }
 
     /// Reads the record behind the gate, where it is open, and the next gate.
     pub(crate) fn next<S: Source>(&mut self, source: &mut S) -> Result<Next, ReadEnd>
         requires ended { (S.seen source.old).ended ≡ false }
-        ensures body { IfOk result (λ n. n ≡ Next.Body → (all : Option (List ℕ)) (bodies : List (List ℕ))
-            → IsReadTo all bodies self.old.gate self.old.at (ahead self.old.intake (S.seen source.old).left)
-            → IsReadTo all (bodies ++ self.new.body.items ∷ []) self.new.gate self.new.at (ahead self.new.intake (S.seen source.new).left)) }
+        ensures body { IfOk result (λ n. n ≡ Next.Body → (version : ℕ) (all : Option (List ℕ)) (bodies : List (List ℕ))
+            → IsReadTo version all bodies self.old.gate self.old.at (ahead self.old.intake (S.seen source.old).left)
+            → IsReadTo version all (bodies ++ self.new.body.items ∷ []) self.new.gate self.new.at (ahead self.new.intake (S.seen source.new).left)) }
         ensures on { IfOk result (λ n. n ≡ Next.Body → ((S.seen source.new).ended ≡ false) × (self.old.at < 2 ^ 40) × (self.old.at < self.new.at)) }
         ensures closed { IfOk result (λ n. n ≡ Next.Closed → self.old.gate ≢ 1) }
         ensures broken { IfOk result (λ n. n ≡ Next.Broken → (self.old.gate ≡ 1)

@@ -24,6 +24,11 @@ pub record IsMessage (m : Message) : Type 0 where
   pub size : length m.content ≤ 4095
   pub bytes : AreBytes m.content
 
+-- a message, and the name of the line by which it came
+pub record IsSent (m : Message) (via : List ℕ) : Type 0 where
+  pub message : IsMessage m
+  pub line_name : is_name via ≡ true
+
 -- a setup text: at most 4,194,304 bytes
 pub record IsText (text : List ℕ) : Type 0 where
   pub size : length text ≤ 4194304
@@ -48,7 +53,7 @@ pub record IsAct (operator : List ℕ) (number : ℕ) (step : Step) (outcome : O
 abbrev pub IsWellFormed : Event → Type 0
 IsWellFormed (Adopt text) = IsText text
 IsWellFormed Start = Unit {0}
-IsWellFormed (Sent m) = IsMessage m
+IsWellFormed (Sent m via) = IsSent m via
 IsWellFormed (Beat account) = is_run is_capital_hex 3 16 account ≡ true
 IsWellFormed Tick = Unit {0}
 IsWellFormed (Claim operator number) = IsOrder operator number

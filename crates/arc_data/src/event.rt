@@ -37,8 +37,11 @@ pub enum Event {
     },
     /// A run begins.
     Start,
-    /// A panel's message.
-    Message(Message),
+    /// A panel's message, and the name of the line by which it came: 1 to 16 bytes, as an operator's.
+    Message {
+        message: Message,
+        via: Txt,
+    },
     /// A panel's heartbeat.
     Beat {
         account: Txt,

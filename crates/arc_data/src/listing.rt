@@ -4,7 +4,8 @@ ghost use Rattle.std.specs.Prelude.{◌≡◌, ◌<◌, ◌≤◌, ◌↔◌, �
 use crate::{Class, Step, Txt};
 use std::marker::Model;
 
-/// An incident as it is shown. The moment is in seconds since 1970, GMT; the step is the first that is not met.
+/// An incident as it is shown. The moment is in seconds since 1970, GMT; the step is the first that is not met; `via` names the line by
+/// which the signal came that opened it, and is empty where no panel sent it.
 #[derive(Clone, Copy, Debug, PartialEq, Eq)]
 pub struct View {
     pub number: u64,
@@ -16,6 +17,7 @@ pub struct View {
     pub restored: bool,
     pub holder: Option<Txt>,
     pub expected: Option<Step>,
+    pub via: Txt,
 }
 
 /// An incident in a list.

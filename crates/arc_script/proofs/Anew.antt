@@ -11,21 +11,20 @@ use Rattle.centre_core.specs.declared.hall.Stop.{Stop}
 use Rattle.centre_rules.specs.History.{Entry, IsMoment, recorded}
 use Rattle.centre_rules.specs.Summary.{Summary}
 use Rattle.centre_store.specs.Begins.{begun_after, event_of_begin}
-use Rattle.centre_store.specs.Given.{HoldsRecorded}
+use Rattle.centre_store.specs.Given.{GoesOn, HoldsRecorded}
 use Rattle.centre_store.specs.Openings.{IsOpened, IsRefused}
 use Rattle.centre_store.specs.Stores.{Stored, StoreStands}
 use Rattle.desk_session.specs.Desks as Desk
 use Rattle.disk_journal.specs.Faults.{HasCounts, IsOfContent}
-use Rattle.disk_journal.specs.OtherArea.{SparesOther}
-use Rattle.disk_journal.specs.Standing.{GoesOn}
 use Rattle.disk_journal.specs.declared.journal.OpenRefused.{OpenRefused}
-use Rattle.line_session.specs.Lines as Line
+use Rattle.line_session.specs.Lines.{LineValue}
 use Rattle.script_lines.specs.Lines.{Asked, Reopen, spelling}
 use Rattle.arc_script.specs.Begun.{Begun}
 use Rattle.arc_script.specs.Between.{Between, CarriedOut, ShutAt, StoppedAt}
 use Rattle.arc_script.specs.Carrying.{CountsMore, HasRead, HaveTaken}
 use Rattle.arc_script.specs.Causes.{HasShown}
 use Rattle.arc_script.specs.Ends.{BegunAgain, Tells}
+use Rattle.arc_script.specs.Feeding.{AreNew}
 use Rattle.arc_script.specs.Fed.{clock_of}
 use Rattle.arc_script.specs.Halting.{closing}
 use Rattle.arc_script.specs.Pages.{counted_line}
@@ -40,7 +39,7 @@ use Rattle.arc_script.proofs.Counts.{grows_none}
 use Rattle.arc_script.proofs.Ended.{recorded_in}
 use Rattle.arc_script.proofs.Opening.{taken_none}
 use Rattle.arc_script.proofs.Reopening.{GoesOnFrom, goes_on_from}
-use Rattle.centre_store.proofs.Readable.{spared_tells}
+use Rattle.centre_store.proofs.Readable.{becomes_told}
 
 -- Lines and desks that were made anew, behind more of the script.
 
@@ -55,8 +54,8 @@ read_more setup (Some desk) few more less read = record {
   few = (let short = read.few in omega (arith, short, less));
 }
 
-taken_anew : (setup : List ℕ) (count : ℕ) (before : List Asked) (lines : List Line.LineValue) (desks : List Desk.DeskValue)
-    → All (Line.TookStream []) lines → All IsNewDesk desks → HaveTaken (meaning setup) count (Reopen ∷ before) lines desks
+taken_anew : (setup : List ℕ) (count : ℕ) (before : List Asked) (lines : List LineValue) (desks : List Desk.DeskValue)
+    → AreNew lines → All IsNewDesk desks → HaveTaken (meaning setup) count (Reopen ∷ before) lines desks
 taken_anew setup count before lines desks new_lines new_desks =
     let none = taken_none setup lines desks new_lines new_desks in
     record {
@@ -72,7 +71,7 @@ pub record IsAnew {D : Type 0} (seen : D → DiskSeen) (script script' : Script)
   pub setup : script'.setup ≡ script.setup
   pub limits : script'.limits ≡ script.limits
   pub clock : script'.clock ≡ script.clock
-  pub lines : All (Line.TookStream []) script'.lines.items
+  pub lines : AreNew script'.lines.items
   pub desks : All IsNewDesk script'.desks.items
   pub tally : script'.tally ≡ closing script.tally script.opened_before s.state.sum
   pub tells : is_told (seen s'.journal.disk).told ≡ is_told (seen s.journal.disk).told
@@ -81,9 +80,9 @@ pub record IsAnew {D : Type 0} (seen : D → DiskSeen) (script script' : Script)
 
 pub made_anew : {D : Type 0} (seen : D → DiskSeen) (script closed script' : Script) (s mid s' : Stored D) (disk : D) → s.at_open ≤ (seen s.journal.disk).faults
     → disk ≡ s.journal.disk → closed ≡ record script { tally = closing script.tally script.opened_before s.state.sum }
-    → IsOpened seen disk mid → SparesOther (seen disk) (seen mid.journal.disk)
+    → IsOpened seen disk mid → Becomes (seen disk).told (seen mid.journal.disk).told GoesOn
     → mid.journal.limits ≡ closed.limits → mid.at_open ≡ (seen mid.journal.disk).faults → (seen disk).faults ≤ (seen mid.journal.disk).faults
-    → All (Line.TookStream []) script'.lines.items → All IsNewDesk script'.desks.items
+    → AreNew script'.lines.items → All IsNewDesk script'.desks.items
     → script' ≡ record closed {
       lines = script'.lines;
       desks = script'.desks;
@@ -92,7 +91,7 @@ pub made_anew : {D : Type 0} (seen : D → DiskSeen) (script closed script' : Sc
     }
     → is_told (seen s'.journal.disk).told ≡ is_told (seen mid.journal.disk).told → s'.at_open ≡ mid.at_open → s'.journal.limits ≡ mid.journal.limits
     → IsAnew seen script script' s mid s'
-made_anew {D = D} seen script closed script' s mid s' disk before disk_is closed_is opened spared limits opened_at later lines desks rest tells at_open journal
+made_anew {D = D} seen script closed script' s mid s' disk before disk_is closed_is opened goes limits opened_at later lines desks rest tells at_open journal
     = record {
       opened = subst (λ d. IsOpened seen d mid) disk_is opened;
       setup = ap (λ (k : Script). k.setup) rest ∙ ap (λ (k : Script). k.setup) closed_is;
@@ -101,7 +100,7 @@ made_anew {D = D} seen script closed script' s mid s' disk before disk_is closed
       lines = lines;
       desks = desks;
       tally = ap (λ (k : Script). k.tally) rest ∙ ap (λ (k : Script). k.tally) closed_is;
-      tells = tells ∙ spared_tells spared ∙ ap (λ d. is_told (seen d).told) disk_is;
+      tells = tells ∙ becomes_told (seen disk).told (seen mid.journal.disk).told GoesOn goes ∙ ap (λ d. is_told (seen d).told) disk_is;
       journal = journal ∙ limits ∙ ap (λ (k : Script). k.limits) closed_is;
       later = (let same : (seen disk).faults ≡ (seen s.journal.disk).faults = ap (λ (d : D). (seen d).faults) disk_is in omega (arith, before, same, later, opened_at, at_open));
     }

@@ -144,16 +144,16 @@ acked true key h reading noise reply is by = inr (
   record { is = by.3; clean = sealed_clean by.0 h (stamp reading) noise is },
 )
 
-answered_by : (base : Summary) (v : Verdict) (setup : Setup) (h x : List Entry) (t : Turn) → HasHeader v → IsMoment t.reading → IsAnswered base setup 0 h x t v → IsReply t.reply
-answered_by base Silence setup h x t is moment w = inl w.reply
-answered_by base Nak setup h x t is moment w = inr (
+answered_by : (name : List ℕ) (base : Summary) (v : Verdict) (setup : Setup) (h x : List Entry) (t : Turn) → HasHeader v → IsMoment t.reading → IsAnswered name base setup 0 h x t v → IsReply t.reply
+answered_by name base Silence setup h x t is moment w = inl w.reply
+answered_by name base Nak setup h x t is moment w = inr (
   nak_body (stamp t.reading),
   record { is = w.reply; clean = (nak_is_body (stamp t.reading) (length-stamp t.reading) (stamp_clean t.reading moment)).clean },
 )
-answered_by base (Duh header why) setup h x t is moment w = inr (echo_body DuhWord header, record { is = w.reply; clean = (echo_is_body DuhWord header is).clean })
-answered_by base (Beat header account) setup h x t is moment w =
+answered_by name base (Duh header why) setup h x t is moment w = inr (echo_body DuhWord header, record { is = w.reply; clean = (echo_is_body DuhWord header is).clean })
+answered_by name base (Beat header account) setup h x t is moment w =
     acked header.sealed (key_of setup (capitals header.account)) header t.reading t.noise t.reply is w.reply
-answered_by base (Numbered header m) setup h x t is moment w =
+answered_by name base (Numbered header m) setup h x t is moment w =
     acked header.sealed (key_of setup (capitals header.account)) header t.reading t.noise t.reply is w.reply
 
 abbrev pub AreReplies : List Turn → Type 0
@@ -161,14 +161,14 @@ AreReplies [] = Unit {0}
 AreReplies (t ∷ ts) = IsReply t.reply × AreReplies ts
 
 -- the turns took their readings at one moment
-pub are_replies : (base : Summary) (setup : Setup) (clock : ℕ) (h x : List Entry) (turns : List Turn) → IsMoment clock → AreTurns base setup 0 h x turns
+pub are_replies : (name : List ℕ) (base : Summary) (setup : Setup) (clock : ℕ) (h x : List Entry) (turns : List Turn) → IsMoment clock → AreTurns name base setup 0 h x turns
     → readings_of line_turns turns ≡ replicate (length turns) clock → AreReplies turns
-are_replies base setup clock h x [] moment are same = tt
-are_replies base setup clock h x (t ∷ ts) moment are same =
+are_replies name base setup clock h x [] moment are same = tt
+are_replies name base setup clock h x (t ∷ ts) moment are same =
     let first : t.reading ≡ clock = ap (λ (l : List ℕ). slice_index l 0) same in
     let rest : readings_of line_turns ts ≡ replicate (length ts) clock = ap (λ (l : List ℕ). drop 1 l) same in (
-      answered_by base (verdict_of setup t.reading t.body) setup h are.0 t (verdict_header setup t.reading t.body) (subst IsMoment (sym first) moment) are.1,
-      are_replies base setup clock are.0 x ts moment are.2 rest,
+      answered_by name base (verdict_of setup t.reading t.body) setup h are.0 t (verdict_header setup t.reading t.body) (subst IsMoment (sym first) moment) are.1,
+      are_replies name base setup clock are.0 x ts moment are.2 rest,
     )
 
 -- Each entry is of a message or a heartbeat, and was known.
@@ -176,7 +176,7 @@ are_replies base setup clock h x (t ∷ ts) moment are same =
 abbrev pub is_lined : Event → Bool
 is_lined (E.Adopt text) = false
 is_lined E.Start = false
-is_lined (E.Message m) = true
+is_lined (E.Message m via) = true
 is_lined (E.Beat account) = true
 is_lined E.Tick = false
 is_lined (E.Claim operator number) = false
@@ -205,18 +205,18 @@ none_lined o is = subst (λ (k : Option Entry). AreLined (option_to_list k)) (sy
 some_lined : (o : Option Entry) (e : Entry) → o ≡ Some e → IsLined e → AreLined (option_to_list o)
 some_lined o e is lined = subst (λ (k : Option Entry). AreLined (option_to_list k)) (sym is) (lined, tt)
 
-entry_lined : (base : Summary) (v : Verdict) (setup : Setup) (h x : List Entry) (t : Turn) → IsAnswered base setup 0 h x t v → AreLined (option_to_list t.entry)
-entry_lined base Silence setup h x t w = none_lined t.entry w.entry
-entry_lined base Nak setup h x t w = none_lined t.entry w.entry
-entry_lined base (Duh header why) setup h x t w = none_lined t.entry w.entry
-entry_lined base (Beat header account) setup h x t w = some_lined t.entry w.entry w.taken (record { lined = ap is_lined w.of; known = w.known })
-entry_lined base (Numbered header m) setup h x t w = some_lined t.entry w.entry w.taken (record { lined = ap is_lined w.of; known = w.known })
+entry_lined : (name : List ℕ) (base : Summary) (v : Verdict) (setup : Setup) (h x : List Entry) (t : Turn) → IsAnswered name base setup 0 h x t v → AreLined (option_to_list t.entry)
+entry_lined name base Silence setup h x t w = none_lined t.entry w.entry
+entry_lined name base Nak setup h x t w = none_lined t.entry w.entry
+entry_lined name base (Duh header why) setup h x t w = none_lined t.entry w.entry
+entry_lined name base (Beat header account) setup h x t w = some_lined t.entry w.entry w.taken (record { lined = ap is_lined w.of; known = w.known })
+entry_lined name base (Numbered header m) setup h x t w = some_lined t.entry w.entry w.taken (record { lined = ap is_lined w.of; known = w.known })
 
-pub turns_lined : (base : Summary) (setup : Setup) (h x : List Entry) (turns : List Turn) → AreTurns base setup 0 h x turns → AreLined (entries_of line_turns turns)
-turns_lined base setup h x [] are = tt
-turns_lined base setup h x (t ∷ ts) are =
+pub turns_lined : (name : List ℕ) (base : Summary) (setup : Setup) (h x : List Entry) (turns : List Turn) → AreTurns name base setup 0 h x turns → AreLined (entries_of line_turns turns)
+turns_lined name base setup h x [] are = tt
+turns_lined name base setup h x (t ∷ ts) are =
     both_lined (option_to_list t.entry) (entries_of line_turns ts)
-    (entry_lined base (verdict_of setup t.reading t.body) setup h are.0 t are.1) (turns_lined base setup are.0 x ts are.2)
+    (entry_lined name base (verdict_of setup t.reading t.body) setup h are.0 t are.1) (turns_lined name base setup are.0 x ts are.2)
 
 pub lined_reverse : (es : List Entry) → AreLined es → AreLined (reverse es)
 lined_reverse [] lined = tt

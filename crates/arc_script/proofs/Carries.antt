@@ -27,6 +27,7 @@ use Rattle.arc_script.specs.Causes.{HasShown, IsOfFrame}
 use Rattle.arc_script.specs.Ends.{FedUntil}
 use Rattle.arc_script.specs.Fed.{clock_of, line_fed}
 use Rattle.arc_script.specs.Feeding.{CountsFed, FeedStops, HasFed, TookAt}
+use Rattle.arc_script.specs.Names.{line_name}
 use Rattle.arc_script.specs.Pages.{head_of, replied}
 use Rattle.arc_script.specs.Steps.{Place, placed, listed, replies_of, Feeds, FeedsLine, Step}
 use Rattle.arc_script.specs.Tallies.{count_of, is_closed, is_repeat}
@@ -53,7 +54,7 @@ counts_step : (place : Place) (line : ℕ) (bytes : List ℕ) (h x : List Entry)
     → s.entries ≡ entries_of line_turns turns → CountsStep s t t'
 counts_step place line bytes h x turns more sent t t' s fed counts sent_is entries_is =
     let same : t'.closed ≡ t.closed = ap (λ (k : Tally). k.closed) counts.rest in
-    let none = closes_none place.base h x (entries_of line_turns turns) fed.legal fed.own (turns_lined place.base (meaning place.setup) h x turns fed.are) in
+    let none = closes_none place.base h x (entries_of line_turns turns) fed.legal fed.own (turns_lined (line_name line) place.base (meaning place.setup) h x turns fed.are) in
     record {
       more = record {
         sent = subst (λ (n : ℕ). GrowsBy n t.sent t'.sent) (sym sent_is) counts.frames;
@@ -85,7 +86,7 @@ carried seen s' base setup moment number letter line asked before bytes h t t' p
     let same : w.fed.clock ≡ moment = ap (λ (o : Option ℕ). unwrap_or o 0) (sym w.fed.set ∙ set) in
     let fits : IsMoment w.fed.clock = subst IsMoment (sym same) at in
     let listed_is : replied written ≡ listed (replies_of turns) =
-    ap replied w.written_is ∙ replied_listed turns (are_replies base (meaning setup) w.fed.clock h w.history turns fits w.fed.are w.fed.readings) in
+    ap replied w.written_is ∙ replied_listed turns (are_replies (line_name line) base (meaning setup) w.fed.clock h w.history turns fits w.fed.are w.fed.readings) in
     record {
       step = s;
       history = w.history;
@@ -103,7 +104,7 @@ abbrev CameSoFar : {D : Type 0} → Summary → (D → DiskSeen) → Stored D �
     → Stop → List Entry → Step → Type 0
 CameSoFar base seen s' setup moment letter line before bytes h stop x s =
     ((waiting : List (List ℕ)) × FedUntil stop (placed base setup before) line bytes waiting h x s
-    × HasShown seen s' stop moment (IsOfFrame setup moment waiting))
+    × HasShown seen s' stop moment (IsOfFrame setup moment line waiting))
     ⊎ ((stop ≡ Memory) × Feeds (placed base setup before) letter line bytes h x s)
 
 -- all was fed, and memory was wanted for the output

@@ -38,7 +38,7 @@ use Rattle.arc_script.specs.Tallies.{count_of, is_closed, is_repeat}
 abbrev is_desked : Event → Bool
 is_desked (E.Adopt text) = false
 is_desked E.Start = false
-is_desked (E.Message m) = false
+is_desked (E.Message m via) = false
 is_desked (E.Beat account) = false
 is_desked E.Tick = false
 is_desked (E.Claim operator number) = true
@@ -77,7 +77,7 @@ desked_of (Some operator) (Some command) = desked_by operator command
 no_repeat : (event : Event) (first : ℕ) → is_desked event ≡ true → may_answer event (Repeat first) ≡ false
 no_repeat (E.Adopt text) first is = refl
 no_repeat E.Start first is = refl
-no_repeat (E.Message m) first is = absurd (false≢true is)
+no_repeat (E.Message m via) first is = absurd (false≢true is)
 no_repeat (E.Beat account) first is = refl
 no_repeat E.Tick first is = refl
 no_repeat (E.Claim operator number) first is = refl
@@ -219,7 +219,7 @@ event_falls : (base : Summary) → IsGiven base → (h : List Entry) (event : Ev
     → Falls base (marks base h) (onto (marks_of base (marks base h) event at reply) (marks base h)) (fall_of reply)
 event_falls base given h (E.Adopt text) at reply is may same = absurd (false≢true is)
 event_falls base given h E.Start at reply is may same = absurd (false≢true is)
-event_falls base given h (E.Message m) at reply is may same = absurd (false≢true is)
+event_falls base given h (E.Message m via) at reply is may same = absurd (false≢true is)
 event_falls base given h (E.Beat account) at reply is may same = absurd (false≢true is)
 event_falls base given h E.Tick at reply is may same = absurd (false≢true is)
 event_falls base given h (E.Claim operator number) at reply is may same =

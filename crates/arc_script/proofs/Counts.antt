@@ -35,7 +35,7 @@ line_reply : (base : Summary) (h : List Entry) (event : Event) (at : ℕ) (reply
     → IsLineReply reply
 line_reply base h (E.Adopt text) at reply is known same = absurd (false≢true is)
 line_reply base h E.Start at reply is known same = absurd (false≢true is)
-line_reply base h (E.Message m) at reply is known same =
+line_reply base h (E.Message m via) at reply is known same =
     let b = knows_account (force base (marks base h)) m.account && has_signals m.token m.content in
     let first = repeat_of base (marks base h) m at in
     known_reply b (taken_or first) reply (taken_reply first) known same

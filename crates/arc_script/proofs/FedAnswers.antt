@@ -19,13 +19,14 @@ use Rattle.script_lines.specs.Lines.{Asked}
 use Rattle.session_rules.specs.Inputs.{input_limit}
 use Rattle.arc_script.specs.Fed.{clock_of, line_fed}
 use Rattle.arc_script.specs.Feeding.{FeedStops, HasFed, TookAt}
+use Rattle.arc_script.specs.Names.{line_name}
 use Rattle.arc_script.specs.Standing.{IsReadable}
 use Rattle.arc_script.specs.Steps.{placed}
 use Rattle.arc_script.specs.declared.page.Page.{Page}
 use Rattle.arc_script.specs.declared.script_end.Tally.{Tally}
 use Rattle.arc_script.proofs.Carries.{set_there}
 use Rattle.arc_script.proofs.FedCounts.{sent_for, Tallied}
-use Rattle.arc_script.proofs.FedEnds.{all_fed, fed_failed, fed_stopped, took_was, IsTaking}
+use Rattle.arc_script.proofs.FedEnds.{all_fed, fed_failed, fed_stopped, took_there, took_was, IsTaking}
 
 -- how many entries are not recorded
 abbrev quiet : State → ℕ
@@ -53,9 +54,9 @@ still_set (Some text) setup ready same = ap Some same
 module _ {D : Type 0} (seen : D → DiskSeen) (s s' : Stored D) (setup : List ℕ)
     (moment line place : ℕ) (lines : List Line.LineValue) (was : Line.LineValue) (page page' : Page) (given : List ℕ) (t t' : Tally)
     (sums : Tallied (clock_calls page'.port.clock) s.state s'.state t t') (r : Result (Unit {0}) LineEnd)
-    (taking : IsTaking seen s s' setup moment place lines was page page' given r) where
-  taking_as : (q : Result (Unit {0}) LineEnd) → r ≡ q → IsTaking seen s s' setup moment place lines was page page' given q
-  taking_as q is = subst (λ (q : Result (Unit {0}) LineEnd). IsTaking seen s s' setup moment place lines was page page' given q) is taking
+    (taking : IsTaking seen s s' setup moment line place lines was page page' given r) where
+  taking_as : (q : Result (Unit {0}) LineEnd) → r ≡ q → IsTaking seen s s' setup moment line place lines was page page' given q
+  taking_as q is = subst (λ (q : Result (Unit {0}) LineEnd). IsTaking seen s s' setup moment line place lines was page page' given q) is taking
 
   pub ended_fed : r ≡ Ok tt → (base : Summary) (before : List Asked) (h : List Entry) → clock_of before ≡ Some moment → TookAt (line_fed line before) lines place
       → length (line_fed line before ++ given) < input_limit → StoreStands seen base s h → IsReadable base h
@@ -85,7 +86,7 @@ module _ {D : Type 0} (seen : D → DiskSeen) (s s' : Stored D) (setup : List �
 
   -- Of the other ends a failed write alone can come: memory was wanted for it.
   otherwise : (end : LineEnd) (now : Line.LineValue) → ReadsNothing (Err end)
-      → ((stream : List ℕ) → Line.TookStream stream was → Line.IsTaken (Err end) stream given now) → r ≡ Err end
+      → ((name stream : List ℕ) → Line.TookStream name stream was → Line.IsTaken name (Err end) stream given now) → r ≡ Err end
       → (base : Summary) (before : List Asked) (h : List Entry) → clock_of before ≡ Some moment → TookAt (line_fed line before) lines place
       → length (line_fed line before ++ given) < input_limit → StoreStands seen base s h → IsReadable base h
       → FeedStops seen (placed base setup before) moment line given h t t' Memory s'
@@ -95,24 +96,25 @@ module _ {D : Type 0} (seen : D → DiskSeen) (s s' : Stored D) (setup : List �
       fed_failed seen s s' setup moment line place lines was page page' given t t' sums (taking_as (Err WriteFault) is) base before h set took short
       stands readable
   otherwise Spent now reads taken is base before h set took short stands readable =
-      let over = taken (line_fed line before) (took_was (line_fed line before) lines place was taking.there took) in
+      let over = taken (line_name line) (line_fed line before) (took_was (line_fed line before) lines line place was taking.at taking.there took) in
       absurd (omega (arith, short, over))
   otherwise (Stopped stop) now reads taken is base before h set took short stands readable =
       wanting base before h stop (ended_stopped stop is base before h set took short stands readable)
 
   pub ended_otherwise : (end : LineEnd) (now : Line.LineValue) → r ≡ Err end → ReadsNothing r
-      → ((stream : List ℕ) → Line.TookStream stream was → Line.IsTaken r stream given now)
+      → ((name stream : List ℕ) → Line.TookStream name stream was → Line.IsTaken name r stream given now)
       → (base : Summary) (before : List Asked) (h : List Entry) → clock_of before ≡ Some moment → TookAt (line_fed line before) lines place
       → length (line_fed line before ++ given) < input_limit → StoreStands seen base s h → IsReadable base h
       → FeedStops seen (placed base setup before) moment line given h t t' Memory s'
   ended_otherwise end now is reads taken =
       otherwise end now (subst ReadsNothing is reads)
-      (λ stream took. subst (λ (q : Result (Unit {0}) LineEnd). Line.IsTaken q stream given now) is (taken stream took)) is
+      (λ name stream took. subst (λ (q : Result (Unit {0}) LineEnd). Line.IsTaken name q stream given now) is (taken name stream took)) is
 
 -- a line to which all was fed took it
 pub took_all : (place : ℕ) (lines : List Line.LineValue) (was now : Line.LineValue) (given : List ℕ) (r : Result (Unit {0}) LineEnd)
-    → slice_get lines place ≡ Some was → r ≡ Ok tt → ((stream : List ℕ) → Line.TookStream stream was → Line.IsTaken r stream given now)
+    → slice_get lines place ≡ Some was → r ≡ Ok tt → ((name stream : List ℕ) → Line.TookStream name stream was → Line.IsTaken name r stream given now)
     → (stream : List ℕ) → TookAt stream lines place → length (stream ++ given) < input_limit → TookAt (stream ++ given) (set lines place now) place
 took_all place lines was now given r there is taken stream took short =
-    set_there (Line.TookStream (stream ++ given)) lines place now
-    (subst (λ (q : Result (Unit {0}) LineEnd). Line.IsTaken q stream given now) is (taken stream (took_was stream lines place was there took)))
+    let name = line_name (place + 1) in
+    set_there (Line.TookStream name (stream ++ given)) lines place now
+    (subst (λ (q : Result (Unit {0}) LineEnd). Line.IsTaken name q stream given now) is (taken name stream (took_there stream lines place was there took)))

@@ -20,6 +20,7 @@ use Rattle.session_rules.specs.Turns.{entries_of, text_of}
 use Rattle.arc_script.specs.Causes.{IsSentFor}
 use Rattle.arc_script.specs.Fed.{clock_of, line_fed}
 use Rattle.arc_script.specs.Feeding.{CountsFed, FeedStops, HasFed}
+use Rattle.arc_script.specs.Names.{line_name}
 use Rattle.arc_script.specs.PageWords.{page_seen}
 use Rattle.arc_script.specs.Standing.{IsReadable}
 use Rattle.arc_script.specs.Steps.{placed}
@@ -51,14 +52,14 @@ pub record Tallied (calls : ℕ) (s s' : State) (t t' : Tally) : Type 0 where
   pub repeats : t'.repeats ≡ min (t.repeats + (s'.entries - s'.sum.recorded - (s.entries - s.sum.recorded))) (2 ^ 64 - 1)
   pub rest : t' ≡ record t { sent = t'.sent; repeats = t'.repeats }
 
-counts_fed : (base : Summary) (setup : List ℕ) (calls sent : ℕ) (s s' : State) (t t' : Tally) (h x : List Entry) (turns : List Turn) → StandsFor base s h
-    → StandsFor base s' x → AreTurns base (meaning setup) 0 h x turns → x ≡ reverse (entries_of line_turns turns) ++ h
+counts_fed : (name : List ℕ) (base : Summary) (setup : List ℕ) (calls sent : ℕ) (s s' : State) (t t' : Tally) (h x : List Entry) (turns : List Turn) → StandsFor base s h
+    → StandsFor base s' x → AreTurns name base (meaning setup) 0 h x turns → x ≡ reverse (entries_of line_turns turns) ++ h
     → calls ≡ sent + 1 → Tallied calls s s' t t' → CountsFed sent turns t t'
-counts_fed base setup calls sent s s' t t' h x turns before behind are own count w = record {
+counts_fed name base setup calls sent s s' t t' h x turns before behind are own count w = record {
   frames = grows_told sent t.sent t'.sent (w.frames ∙ sent_told t.sent calls sent count);
   repeats = grows_told (count_of is_repeat (entries_of line_turns turns)) t.repeats t'.repeats
       (w.repeats ∙ ap (λ (n : ℕ). told (t.repeats + n))
-      (repeats_told base s s' h x (entries_of line_turns turns) before behind own (turns_lined base (meaning setup) h x turns are)));
+      (repeats_told base s s' h x (entries_of line_turns turns) before behind own (turns_lined name base (meaning setup) h x turns are)));
   rest = w.rest;
 }
 
@@ -75,7 +76,7 @@ has_fed seen s s' base setup clock line before bytes h t t' page page' calls sto
   stands = w.stands;
   readable = w.readable;
   written_is = ap (λ (k : Option (List ℕ)). unwrap_or k []) (w.written ∙ ap (λ (k : Option (List ℕ)). append_known k (text_of line_turns w.turns)) empty);
-  counts = counts_fed base setup calls (length w.turns) s.state s'.state t t' h w.history w.turns stood.centre w.stands.centre w.fed.are w.fed.own w.count
+  counts = counts_fed (line_name line) base setup calls (length w.turns) s.state s'.state t t' h w.history w.turns stood.centre w.stands.centre w.fed.are w.fed.own w.count
       tallied;
 }
 
@@ -93,7 +94,7 @@ feed_stops seen s s' base setup clock line before bytes h t t' stop calls stood 
   readable = w.readable;
   cause = w.cause;
   sent_is = w.sent_is;
-  counts = counts_fed base setup calls w.sent s.state s'.state t t' h w.history w.turns stood.centre w.stands.centre w.fed.are w.fed.own w.count tallied;
+  counts = counts_fed (line_name line) base setup calls w.sent s.state s'.state t t' h w.history w.turns stood.centre w.stands.centre w.fed.are w.fed.own w.count tallied;
 }
 
 -- Memory was wanted before anything was fed.

@@ -103,7 +103,7 @@ pub fed_stops : {D : Type 0} (seen : D → DiskSeen) (s s' : Stored D) (setup : 
     → StoreStands seen base s h → IsReadable base h
     → Halted seen base (λ x k.
     ((waiting : List (List ℕ)) × FedUntil stop (placed base setup before) line bytes waiting h x k
-    × HasShown seen s' stop moment (IsOfFrame setup moment waiting))
+    × HasShown seen s' stop moment (IsOfFrame setup moment line waiting))
     ⊎ ((stop ≡ Memory) × Feeds (placed base setup before) letter line bytes h x k)) t t' s')
 fed_stops seen s s' setup moment letter line asked given bytes lines desks t t' (Ok done) frames same is stops fed stopped = tt
 fed_stops seen s s' setup moment letter line asked given bytes lines desks t t' (Err stop) (Ok page) same is stops fed stopped =

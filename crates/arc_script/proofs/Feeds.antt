@@ -16,10 +16,12 @@ use Rattle.line_session.specs.Lines.{ServesBytes}
 use Rattle.line_session.specs.Turns.{Turn, line_turns, AreTurns}
 use Rattle.script_lines.specs.Lines.{Asked}
 use Rattle.session_rules.specs.Inputs.{in_limit, input_limit}
+use Rattle.session_rules.specs.Sessions.{changed}
 use Rattle.session_rules.specs.Turns.{readings_of, noise_of, text_of}
 use Rattle.arc_script.proofs.Readings.{still, silent}
 use Rattle.centre_store.specs.StoreHalls.{store_seen}
 use Rattle.arc_script.specs.Fed.{clock_of, line_fed}
+use Rattle.arc_script.specs.Names.{line_name}
 use Rattle.arc_script.specs.Standing.{IsReadable}
 use Rattle.arc_script.specs.Steps.{placed, FeedsLine}
 
@@ -52,7 +54,7 @@ readings_count (t ∷ ts) = ap suc (readings_count ts)
 pub feeds : {D : Type 0} (seen : D → DiskSeen) (s s' : Stored D)
     (base : Summary) (setup : List ℕ) (clock line : ℕ) (before : List Asked) (bytes : List ℕ) (h : List Entry) (p p' : PortSeen) → text_in s.state ≡ setup
     → clock_of before ≡ Some clock → length (line_fed line before ++ bytes) < input_limit → IsReadable base h → (page : PageTells clock p p')
-    → ServesBytes (Ok tt) (line_fed line before) (in_limit (line_fed line before) bytes) base h (store_seen seen s) (store_seen seen s') p p'
+    → ServesBytes (line_name line) (Ok tt) (line_fed line before) (in_limit (line_fed line before) bytes) base h (changed (store_seen seen s) (store_seen seen s') p p')
     → FedBy seen s' base setup clock line before bytes h p p' page.calls
 feeds seen s s' base setup clock line before bytes h p p' same set short readable page serves =
     let stream = line_fed line before in
@@ -78,7 +80,7 @@ feeds seen s s' base setup clock line before bytes h p p' same set short readabl
         ended = ap (λ l. bodies (stream ++ l)) (sym all) ∙ serves.ended ∙ ap (λ l. bodies stream ++ l) session.taken
             ∙ ap (λ l. bodies stream ++ (map (λ (t : Turn). t.body) turns ++ l)) session.ended.none_left
             ∙ sym (append_assoc (bodies stream) (map (λ (t : Turn). t.body) turns) []);
-        are = subst (λ (text : List ℕ). AreTurns base (meaning text) 0 h session.history turns) same session.each;
+        are = subst (λ (text : List ℕ). AreTurns (line_name line) base (meaning text) 0 h session.history turns) same session.each;
         legal = session.legal;
         readings = stands.same ∙ ap (λ n. replicate n clock) (readings_count turns);
         noise = silent page.tens (noise_of line_turns turns) noise;

@@ -22,12 +22,14 @@ use Rattle.line_session.specs.Turns.{Turn, line_turns, event_of, AreTurns}
 use Rattle.line_session.specs.declared.line_end.LineEnd.TheVariants.{WriteFault, Stopped}
 use Rattle.script_lines.specs.Lines.{Asked}
 use Rattle.session_rules.specs.Inputs.{in_limit, input_limit}
+use Rattle.session_rules.specs.Sessions.{changed}
 use Rattle.session_rules.specs.Turns.{readings_of, noise_of}
 use Rattle.arc_script.proofs.Feeds.{PageTells, readings_count}
 use Rattle.arc_script.proofs.Readings.{still, silent}
 use Rattle.arc_script.specs.Causes.{HasShown, IsOfFrame, IsSentFor}
 use Rattle.centre_store.specs.StoreHalls.{store_seen}
 use Rattle.arc_script.specs.Fed.{clock_of, line_fed}
+use Rattle.arc_script.specs.Names.{line_name}
 use Rattle.arc_script.specs.Standing.{IsReadable}
 use Rattle.arc_script.specs.Steps.{placed, FeedsLine}
 
@@ -41,7 +43,7 @@ pub record FedUpTo {D : Type 0} (seen : D → DiskSeen) (s' : Stored D)
   pub fed : FeedsLine (placed base setup before) line bytes h history turns more
   pub stands : StoreStands seen base s' history
   pub readable : IsReadable base history
-  pub cause : HasShown seen s' stop clock (IsOfFrame setup clock more)
+  pub cause : HasShown seen s' stop clock (IsOfFrame setup clock line more)
   pub sent_is : IsSentFor stop (length turns) sent
   pub count : calls ≡ sent + 1
 
@@ -61,7 +63,8 @@ without_behind turns front behind split none = sym (split ∙ ap (λ l. front ++
 pub cut_short : {D : Type 0} (seen : D → DiskSeen) (s s' : Stored D)
     (base : Summary) (setup : List ℕ) (clock line : ℕ) (before : List Asked) (bytes : List ℕ) (h : List Entry) (p p' : PortSeen) → text_in s.state ≡ setup
     → clock_of before ≡ Some clock → length (line_fed line before ++ bytes) < input_limit → IsReadable base h → (page : PageTells clock p p')
-    → ServesBytes (Err WriteFault) (line_fed line before) (in_limit (line_fed line before) bytes) base h (store_seen seen s) (store_seen seen s') p p'
+    → ServesBytes (line_name line) (Err WriteFault) (line_fed line before) (in_limit (line_fed line before) bytes) base h
+    (changed (store_seen seen s) (store_seen seen s') p p')
     → FedUpTo seen s' base setup clock line before bytes h Memory page.calls
 cut_short seen s s' base setup clock line before bytes h p p' same set short readable page serves =
     let stream = line_fed line before in
@@ -86,7 +89,7 @@ cut_short seen s s' base setup clock line before bytes h p p' same set short rea
         clock = clock;
         set = set;
         ended = parted stream bytes serves.whole session.left turns short serves.ended session.taken;
-        are = subst (λ (text : List ℕ). AreTurns base (meaning text) 0 h session.history turns) same session.each;
+        are = subst (λ (text : List ℕ). AreTurns (line_name line) base (meaning text) 0 h session.history turns) same session.each;
         legal = session.legal;
         readings = stands.same ∙ ap (λ n. replicate n clock) (readings_count turns);
         noise = silent page.tens (noise_of line_turns turns) noise;
@@ -113,13 +116,14 @@ all_at (r ∷ rs) reading clock (suc n) is =
     record { last = more.last; rest = ap (λ x. x ∷ rs) (ap (λ (l : List ℕ). slice_index l 0) is) ∙ ap (λ l. clock ∷ l) more.rest }
 
 caused : {D : Type 0} (seen : D → DiskSeen) (s s' : Stored D)
-    (base : Summary) (setup : List ℕ) (clock reading : ℕ) (x : List Entry) (stop : Stop) (body : List ℕ) (more : List (List ℕ)) → text_in s.state ≡ setup → reading ≡ clock
-    → HasStopped base (store_seen seen s) (store_seen seen s') x stop body reading
-    → HasShown seen s' stop clock (IsOfFrame setup clock (body ∷ more))
-caused seen s s' base setup clock reading x stop body more same at (inl wanted) = inl wanted.0
-caused seen s s' base setup clock reading x stop body more same at (inr w) = inr (
+    (base : Summary) (setup : List ℕ) (clock line reading : ℕ) (x : List Entry) (stop : Stop) (body : List ℕ) (more : List (List ℕ)) → text_in s.state ≡ setup → reading ≡ clock
+    → HasStopped (line_name line) base (store_seen seen s) (store_seen seen s') x stop body reading
+    → HasShown seen s' stop clock (IsOfFrame setup clock line (body ∷ more))
+caused seen s s' base setup clock line reading x stop body more same at (inl wanted) = inl wanted.0
+caused seen s s' base setup clock line reading x stop body more same at (inr w) = inr (
   w.0,
-  sym (ap (λ (r : ℕ). event_of (verdict_of (meaning (text_in s.state)) r body)) at ∙ ap (λ (text : List ℕ). event_of (verdict_of (meaning text) clock body)) same)
+  sym (ap (λ (r : ℕ). event_of (line_name line) (verdict_of (meaning (text_in s.state)) r body)) at
+      ∙ ap (λ (text : List ℕ). event_of (line_name line) (verdict_of (meaning text) clock body)) same)
       ∙ w.1,
   subst (λ (r : ℕ). Shows seen s' stop w.0 r) at w.2.shown,
 )
@@ -128,8 +132,8 @@ caused seen s s' base setup clock reading x stop body more same at (inr w) = inr
 pub stopped_at : {D : Type 0} (seen : D → DiskSeen) (s s' : Stored D)
     (base : Summary) (setup : List ℕ) (clock line : ℕ) (before : List Asked) (bytes : List ℕ) (h : List Entry) (p p' : PortSeen) (stop : Stop) → text_in s.state ≡ setup
     → clock_of before ≡ Some clock → length (line_fed line before ++ bytes) < input_limit → IsReadable base h → (page : PageTells clock p p')
-    → ServesBytes (Err (Stopped stop)) (line_fed line before) (in_limit (line_fed line before) bytes) base h (store_seen seen s)
-    (store_seen seen s') p p'
+    → ServesBytes (line_name line) (Err (Stopped stop)) (line_fed line before) (in_limit (line_fed line before) bytes) base h
+    (changed (store_seen seen s) (store_seen seen s') p p')
     → FedUpTo seen s' base setup clock line before bytes h stop page.calls
 stopped_at seen s s' base setup clock line before bytes h p p' stop same set short readable page serves =
     let stream = line_fed line before in
@@ -159,7 +163,7 @@ stopped_at seen s s' base setup clock line before bytes h p p' stop same set sho
         set = set;
         ended = parted stream bytes serves.whole (ended.piece ∷ ended.more) turns short serves.ended
             (session.taken ∙ ap (λ l. map (λ (t : Turn). t.body) turns ++ l) ended.next);
-        are = subst (λ (text : List ℕ). AreTurns base (meaning text) 0 h session.history turns) same session.each;
+        are = subst (λ (text : List ℕ). AreTurns (line_name line) base (meaning text) 0 h session.history turns) same session.each;
         legal = session.legal;
         readings = at.rest ∙ ap (λ n. replicate n clock) count;
         noise = silent page.tens (noise_of line_turns turns) noise;
@@ -167,7 +171,7 @@ stopped_at seen s s' base setup clock line before bytes h p p' stop same set sho
       };
       stands = session.holds.stands;
       readable = (readable.0, session.reads readable.1);
-      cause = caused seen s s' base setup clock ended.reading session.history stop ended.piece ended.more same at.last ended.cause;
+      cause = caused seen s s' base setup clock line ended.reading session.history stop ended.piece ended.more same at.last ended.cause;
       sent_is = inl refl;
       count = omega (arith, stands.count, size, count);
     }

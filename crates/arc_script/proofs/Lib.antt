@@ -44,3 +44,4 @@ pub mod Stepping
 pub mod AskedAt
 pub mod LineEnds
 pub mod FedLines
+pub mod Named

@@ -11,10 +11,11 @@ use Rattle.centre_store.specs.Openings.{IsOpened}
 use Rattle.centre_store.specs.Pasts.{AreKept}
 use Rattle.centre_store.specs.Stores.{Stored, StoreStands}
 use Rattle.desk_session.specs.Desks as Desk
-use Rattle.line_session.specs.Lines as Line
+use Rattle.line_session.specs.Lines.{LineValue}
 use Rattle.arc_script.specs.Begun.{Begun}
 use Rattle.arc_script.specs.Between.{IsStoreSoFar, SoFar}
 use Rattle.arc_script.specs.Carrying.{HasRead, HaveTaken}
+use Rattle.arc_script.specs.Feeding.{AreNew}
 use Rattle.arc_script.specs.Playing.{IsNewDesk}
 use Rattle.centre_store.specs.StoreHalls.{is_told}
 use Rattle.arc_script.specs.declared.script.Script.{Script}
@@ -32,10 +33,10 @@ new_read setup None count new = tt
 new_read setup (Some desk) count new = record { stream = []; took = new.took (meaning setup); ended = refl; none = refl; few = omega arith }
 
 -- lines and desks that were made anew
-pub taken_none : (setup : List ℕ) (lines : List Line.LineValue) (desks : List Desk.DeskValue) → All (Line.TookStream []) lines → All IsNewDesk desks
+pub taken_none : (setup : List ℕ) (lines : List LineValue) (desks : List Desk.DeskValue) → AreNew lines → All IsNewDesk desks
     → HaveTaken (meaning setup) 0 [] lines desks
 taken_none setup lines desks new_lines new_desks = record {
-  fed = λ i. all_at (Line.TookStream []) lines i new_lines;
+  fed = new_lines;
   few = λ n. omega arith;
   read = λ i. new_read setup (slice_get desks i) 0 (all_at IsNewDesk desks i new_desks);
 }
@@ -59,11 +60,11 @@ pub held_opened : {D : Type 0} (seen : D → DiskSeen) (disk : D) (s : Stored D)
 held_opened seen disk s o = o.held
 
 pub begins_with : {D : Type 0} (seen : D → DiskSeen) (disk : D) (s : Stored D) (o : IsOpened seen disk s) → BeginsWith (seen disk) o.base o.past
-begins_with seen disk s o = record { bodies = o.bodies; given = o.given; is_past = o.is_past; area = o.area }
+begins_with seen disk s o = record { version = o.version; bodies = o.bodies; given = o.given; is_past = o.is_past; area = o.area }
 
 -- no line was carried out
 pub so_far_none : {D : Type 0} (seen : D → DiskSeen) (b : Begun D) (script : Script) (s : Stored D) → script.setup ≡ b.setup → script.limits ≡ b.limits
-    → All (Line.TookStream []) script.lines.items → All IsNewDesk script.desks.items → script.clock ≡ None
+    → AreNew script.lines.items → All IsNewDesk script.desks.items → script.clock ≡ None
     → script.opened_before ≡ s.state.sum.opened → script.tally.sent ≡ 0 → script.tally.repeats ≡ 0 → script.tally.closed ≡ 0
     → IsStoreSoFar seen b b.base b.past s → HoldsRecorded seen s.journal b.base b.past → SoFar seen b [] script s b.port
 so_far_none seen b script s setup limits new_lines new_desks none opened sent repeats closed store held = record {

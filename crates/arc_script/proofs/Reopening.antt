@@ -6,12 +6,12 @@ use Rattle.centre_rules.specs.Answers.{IsLegal}
 use Rattle.centre_rules.proofs.Quiet.{last_recorded, legal_recorded}
 use Rattle.centre_rules.specs.History.{Entry, IsMoment, last, recorded}
 use Rattle.centre_rules.specs.Summary.{Summary}
-use Rattle.centre_store.proofs.Holding.{recorded_there}
+use Rattle.centre_store.proofs.Holding.{all_named, recorded_there}
 use Rattle.centre_store.proofs.Readable.{last_moment}
-use Rattle.centre_store.proofs.Recorded.{bodies_recorded, past_recorded, recorded_both, recorded_once}
-use Rattle.centre_store.proofs.Reopened.{summary_recorded}
-use Rattle.centre_store.specs.Bodies.{bodies_of}
-use Rattle.centre_store.specs.Given.{HoldsRecorded, IsFirst, IsGiven, StandFor}
+use Rattle.centre_store.proofs.Recorded.{bodies_recorded, past_recorded, recorded_once}
+use Rattle.centre_store.proofs.Remains.{stand_recorded}
+use Rattle.centre_store.specs.Bodies.{bodies_in}
+use Rattle.centre_store.specs.Given.{HoldsRecorded, IsGiven, StandFor, StandForIn}
 use Rattle.centre_store.specs.Openings.{IsOpened}
 use Rattle.centre_store.specs.Pasts.{AreKept, IsPast}
 use Rattle.centre_store.specs.Stores.{Stored, StoreStands}
@@ -28,22 +28,6 @@ pub kept_recorded : (h : List Entry) → AreKept h → recorded h ≡ h
 kept_recorded [] kept = refl
 kept_recorded (e ∷ h) kept = ap (λ t. cond t (e ∷ recorded h) (recorded h)) kept.0.recorded ∙ ap (λ l. e ∷ l) (kept_recorded h kept.1)
 
--- what the areas stand for is what is recorded
-stand_recorded : (base : Summary) (h : List Entry) (areas : Areas) → StandFor base h areas → StandFor base (recorded h) areas
-stand_recorded base h areas stand =
-    let x = stand.2 in (
-      stand.0,
-      stand.1,
-      record {
-        later = recorded x.later;
-        summed = recorded x.summed;
-        split = ap recorded x.split ∙ recorded_both x.later x.summed;
-        first_is = subst (λ (s : Summary). IsFirst s stand.0) (summary_recorded base x.summed) x.first_is;
-        bodies_are = x.bodies_are ∙ bodies_recorded x.later;
-      },
-      stand.3,
-    )
-
 -- the histories for which a store stands that was opened over areas: each whose entries the areas have
 abbrev Every : {D : Type 0} → (D → DiskSeen) → Stored D → Areas → Type 0
 Every seen s areas =
@@ -52,13 +36,13 @@ Every seen s areas =
 -- A store that was opened over areas that stand for the recorded entries of a history over a summary: over that summary it stands for these
 -- entries, whatever summary the areas give now.
 told_again : {D : Type 0} (seen : D → DiskSeen) (base : Summary) (h : List Entry) (areas : Areas) (disk : D) (s : Stored D) (o : IsOpened seen disk s)
-    → IsLegal base h → IsReadable base h → StandFor base h areas → Every seen s areas
-    → IsPast base (bodies_of (recorded h)) (recorded h) × StoreStands seen base s (recorded h)
+    → IsLegal base h → IsReadable base h → StandForIn 2 base h areas → Every seen s areas
+    → IsPast 2 base (bodies_in 2 (recorded h)) (recorded h) × StoreStands seen base s (recorded h)
 told_again seen base h areas disk s o legal readable stand every =
     let moment : IsMoment (last base (recorded h)) = subst IsMoment (last_recorded base h) (last_moment base h readable.1) in
-    let stands = every base (recorded h) readable.0 (legal_recorded base h legal) moment (recorded_once h) (stand_recorded base h areas stand) in
+    let stands = every base (recorded h) readable.0 (legal_recorded base h legal) moment (recorded_once h) (2, stand_recorded 2 base h areas stand) in
     let few : base.recorded + length (recorded h) ≤ 2 ^ 48 = omega (arith, stands.centre.entries, o.stands.centre.entries, o.is_past.few) in (
-      subst (λ (l : List (List ℕ)). IsPast base l (recorded h)) (bodies_recorded h) (past_recorded base h legal readable.1.1 few),
+      subst (λ (l : List (List ℕ)). IsPast 2 base l (recorded h)) (bodies_recorded 2 h) (past_recorded 2 base h legal readable.1.1 (all_named (recorded h)) few),
       stands,
     )
 
@@ -72,14 +56,15 @@ pub record GoesOnFrom {D : Type 0} (seen : D → DiskSeen) (Told : Type 0) (base
 
 -- by whether the disk tells what it holds
 goes_on_as : {D : Type 0} (seen : D → DiskSeen) (Told : Type 0) (base : Summary) (h : List Entry) (disk : D) (s : Stored D) (o : IsOpened seen disk s)
-    (told : Option Areas) → (Told → is_told told ≡ true) → IsLegal base h → IsReadable base h → IfSome told (StandFor base h)
+    (told : Option Areas) → (Told → is_told told ≡ true) → IsLegal base h → IsReadable base h → IfSome told (StandForIn 2 base h)
     → IfSome told (Every seen s) → GoesOnFrom seen Told base h s
 goes_on_as seen Told base h disk s o None known legal readable stand every = record {
   anew = o.base;
   kept = o.past;
   keeps = record {
     given = o.given;
-    past = subst (λ (l : List (List ℕ)). IsPast o.base l o.past) o.is_past.is o.is_past;
+    version = o.version;
+    past = subst (λ (l : List (List ℕ)). IsPast o.version o.base l o.past) o.is_past.is o.is_past;
     same = λ told. absurd (false≢true (known told));
   };
   stands = o.stands;
@@ -91,7 +76,7 @@ goes_on_as seen Told base h disk s o (Some areas) known legal readable stand eve
     record {
       anew = base;
       kept = recorded h;
-      keeps = record { given = readable.0; past = again.0; same = λ told. (refl, refl) };
+      keeps = record { given = readable.0; version = 2; past = again.0; same = λ told. (refl, refl) };
       stands = again.1;
       readable = (readable.0, (readable.1.0, subst AreKept (sym (kept_recorded (recorded h) kept)) kept));
     }

@@ -1,6 +1,6 @@
 -- What a line of a script that asks for something answers, by the results of the calls that carry it out.
 use Rattle.std.proofs.Common.{◌≡◌, ◌⊎◌, ◌∷◌, ℕ, List, [], Option, Some, Result, Ok, Err, OnOk, IfErr, IfOk, inl, inr, refl, sym, ap, subst, ◌∙◌}
-use Rattle.std.specs.Prelude.{unwrap_or}
+use Rattle.std.specs.Prelude.{IfSome, None, unwrap_or}
 use Rattle.std.proofs.lemmas.Result.{on_ok_weaker, IfErr-weaker}
 use Rattle.alarm_rules.specs.Setups.{meaning}
 use Rattle.arc_io.specs.Disks.{DiskSeen}
@@ -11,9 +11,10 @@ use Rattle.centre_rules.specs.History.{Entry, IsMoment}
 use Rattle.centre_rules.specs.Summary.{Summary}
 use Rattle.centre_store.specs.Given.{HoldsRecorded}
 use Rattle.centre_store.specs.Stores.{Stored, StoreStands}
+use Rattle.disk_journal.specs.declared.journal.OpenRefused.{OpenRefused}
 use Rattle.script_lines.specs.Lines.{Asked, Time, Command, Reopen}
 use Rattle.arc_script.specs.Begun.{Begun}
-use Rattle.arc_script.specs.Between.{Between, CarriedOut, Carries, StoppedAt, Stops}
+use Rattle.arc_script.specs.Between.{Between, CarriedOut, Carries, IsReady, ShutAt, Shuts, StoppedAt, Stops}
 use Rattle.arc_script.specs.Carrying.{Carried, Halted, HaveTakenWith, IsNext}
 use Rattle.arc_script.specs.Causes.{HasShown, IsOfCommand, IsOfTime, Submits}
 use Rattle.arc_script.specs.Ends.{Tells, AddedBy, CameTo}
@@ -234,3 +235,23 @@ reopen_stops {D} seen moment a script script' s (Ok x) is out =
     subst (λ (k : Asked). StoppedAt seen b place h k stop script.tally script'.tally x.0) (sym is)
     (all b place count h between holds (set_before place.asked a moment is next.set))) out
 reopen_stops seen moment a script script' s (Err e) is out = tt
+
+pub reopen_shuts : {D T : Type 0} (seen : D → DiskSeen) (moment : ℕ) (a : Asked) (script : Script) (s : Stored D) (r : Result T (OpenRefused D)) → a ≡ Reopen
+    → IfErr r (λ e. (b : Begun D) (place : Place) (count : ℕ) (h : List Entry) → Between seen b place count h script s
+    → HoldsRecorded seen s.journal place.base h → ShutAt seen b place.base h e.fault e.disk)
+    → IfErr r (λ e. (a ≡ Reopen) × Shuts seen moment a script s e.fault e.disk)
+reopen_shuts seen moment a script s (Ok x) is out = tt
+reopen_shuts seen moment a script s (Err e) is out = (is, λ b place count h between next holds. out b place count h between holds)
+
+where_set : {A : Type 0} (o : Option A) (P : Type 0) → P → IfSome o (λ _. P)
+where_set None P holds = tt
+where_set (Some x) P holds = holds
+
+pub reopen_ready : {D E : Type 0} (script script' : Script) (text : Option (List ℕ)) (r : Result (Stored D × Result (Unit {0}) Stop) E)
+    → IsReady script.clock script.setup text → script'.clock ≡ script.clock → IfOk r (λ x. OnOk x.1 (x.0.state.sum.text ≡ Some script'.setup))
+    → IfOk r (λ x. OnOk x.1 (IsReady script'.clock script'.setup x.0.state.sum.text))
+reopen_ready script script' text (Ok x) ready same set = on_ok_weaker x.1 (λ is. record {
+  moment = subst (λ (o : Option ℕ). IfSome o IsMoment) (sym same) ready.moment;
+  set = where_set script'.clock (x.0.state.sum.text ≡ Some script'.setup) is;
+}) set
+reopen_ready script script' text (Err e) ready same set = tt

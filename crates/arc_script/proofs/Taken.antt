@@ -13,6 +13,7 @@ use Rattle.script_lines.specs.Lines.{Asked, Feed, Message, Command}
 use Rattle.arc_script.specs.Carrying.{HasRead, HaveTaken, ReadAt}
 use Rattle.arc_script.specs.Fed.{line_fed, desk_read}
 use Rattle.arc_script.specs.Feeding.{TookAt}
+use Rattle.arc_script.specs.Names.{line_name}
 
 -- whether a number is this one
 abbrev Tells : ℕ → ℕ → Type 0
@@ -41,7 +42,7 @@ fed_at line i was now next lines lines' low before hit miss behind others (inl i
 fed_at line i was now next lines lines' low before hit miss behind others (inr is) =
     let other = is.1 in
     let same = others i (λ e. other (omega (arith, e, low))) in
-    subst (λ (l : List ℕ). TookAt l lines' i) (sym (miss other)) (subst (λ (o : Option Line.LineValue). IfSome o (Line.TookStream was)) (sym same) before)
+    subst (λ (l : List ℕ). TookAt l lines' i) (sym (miss other)) (subst (λ (o : Option Line.LineValue). IfSome o (Line.TookStream (line_name (i + 1)) was)) (sym same) before)
 
 few_at : (line n : ℕ) (was now next : List ℕ) (count grown : ℕ) → length was + length was ≤ count → (line ≡ n → now ≡ next) → (line ≢ n → now ≡ was)
     → length next + length next ≤ count + grown → Tells line n → length now + length now ≤ count + grown

@@ -15,6 +15,7 @@ use Rattle.desk_session.specs.declared.desk_end.DeskEnd.TheVariants.{Stopped}
 use Rattle.line_session.specs.Turns as Line
 use Rattle.script_lines.specs.Lines.{Asked, Time, Feed, Message, Command, Reopen}
 use Rattle.arc_script.specs.Fed.{clock_of, desk_read}
+use Rattle.arc_script.specs.Names.{line_name}
 
 -- what a store shows of a stop at a moment, for an event that is one of these; unless memory was wanted
 abbrev pub HasShown : {D : Type 0} → (D → DiskSeen) → Stored D → Stop → ℕ → (Event → Type 0) → Type 0
@@ -31,10 +32,10 @@ abbrev pub IsOfTime : Option (List ℕ) → Option ℕ → List ℕ → Event �
 IsOfTime force None setup event = (event ≡ event_of_begin force setup) ⊎ ((force ≡ Some setup) × (event ≡ Tick))
 IsOfTime force (Some last) setup event = event ≡ Tick
 
--- the first of the frames that have no turn: the event of its verdict at this moment
-abbrev pub IsOfFrame : List ℕ → ℕ → List (List ℕ) → Event → Type 0
-IsOfFrame setup clock [] event = ⊥
-IsOfFrame setup clock (body ∷ more) event = Line.event_of (verdict_of (meaning setup) clock body) ≡ Some event
+-- the first of the frames that have no turn: the event of its verdict at this moment, by the line that was fed it
+abbrev pub IsOfFrame : List ℕ → ℕ → ℕ → List (List ℕ) → Event → Type 0
+IsOfFrame setup clock line [] event = ⊥
+IsOfFrame setup clock line (body ∷ more) event = Line.event_of (line_name line) (verdict_of (meaning setup) clock body) ≡ Some event
 
 -- a command, for the operator who logged in last since the desk was made anew
 abbrev pub IsOfCommand : List ℕ → List Asked → ℕ → List ℕ → Event → Type 0
@@ -45,8 +46,8 @@ IsOfCommand setup before desk text event =
 -- and of the first `T`, where this text is in force, or none.
 abbrev pub Submits : Option (List ℕ) → List ℕ → List Asked → ℕ → List (List ℕ) → Asked → Event → Type 0
 Submits force setup before clock waiting (Time moment) event = IsOfTime force (clock_of before) setup event
-Submits force setup before clock waiting (Feed line digits) event = IsOfFrame setup clock waiting event
-Submits force setup before clock waiting (Message line body) event = IsOfFrame setup clock waiting event
+Submits force setup before clock waiting (Feed line digits) event = IsOfFrame setup clock line waiting event
+Submits force setup before clock waiting (Message line body) event = IsOfFrame setup clock line waiting event
 Submits force setup before clock waiting (Command desk text) event = IsOfCommand setup before desk text event
 Submits force setup before clock waiting Reopen event = event ≡ event_of_begin force setup
 

@@ -14,12 +14,11 @@ use Rattle.centre_core.specs.declared.hall.Stop.TheVariants.{Memory}
 use Rattle.centre_rules.specs.History.{Entry}
 use Rattle.centre_rules.specs.Summary.{Summary}
 use Rattle.centre_store.specs.Begins.{adopted_after, begun_after}
-use Rattle.centre_store.specs.Given.{HasRecorded, BeginsWith}
+use Rattle.centre_store.specs.Given.{HasRecorded, BeginsWith, GoesOn}
 use Rattle.centre_store.specs.Openings.{IsRefused}
 use Rattle.centre_store.specs.Stores.{Stored, StoreStands}
 use Rattle.dc09_frame.specs.Frames.{frame_of}
 use Rattle.disk_journal.specs.Faults.{IsOfContent, HasCounts}
-use Rattle.disk_journal.specs.Standing.{GoesOn}
 use Rattle.disk_journal.specs.declared.fault.OpenFault.{OpenFault}
 use Rattle.disk_journal.specs.declared.journal.Limits.{Limits}
 use Rattle.line_session.specs.Turns.{Turn, line_turns}

@@ -1,5 +1,5 @@
 -- What feeding bytes to a line does.
-use Rattle.std.specs.Prelude.{◌≡◌, ℕ, List, [], IfSome, length}
+use Rattle.std.specs.Prelude.{◌≡◌, ◌+◌, ℕ, List, [], IfSome, length}
 use Rattle.std.specs.List.{slice_get}
 use Rattle.arc_io.specs.Disks.{DiskSeen}
 use Rattle.centre_core.specs.declared.hall.Stop.{Stop}
@@ -9,14 +9,19 @@ use Rattle.line_session.specs.Lines.{LineValue, TookStream}
 use Rattle.line_session.specs.Turns.{Turn, line_turns}
 use Rattle.session_rules.specs.Turns.{entries_of, text_of}
 use Rattle.arc_script.specs.Causes.{HasShown, IsOfFrame, IsSentFor}
+use Rattle.arc_script.specs.Names.{line_name}
 use Rattle.arc_script.specs.Standing.{IsReadable}
 use Rattle.arc_script.specs.Steps.{Place, FeedsLine}
 use Rattle.arc_script.specs.Tallies.{is_repeat, count_of, GrowsBy}
 use Rattle.arc_script.specs.declared.script_end.Tally.{Tally}
 
--- the line at this place took this stream
+-- the line at this place, which has the name of its number, took this stream
 abbrev pub TookAt : List ℕ → List LineValue → ℕ → Type 0
-TookAt stream lines place = IfSome (slice_get lines place) (TookStream stream)
+TookAt stream lines place = IfSome (slice_get lines place) (TookStream (line_name (place + 1)) stream)
+
+-- each line was made anew, under its name
+abbrev pub AreNew : List LineValue → Type 0
+AreNew lines = (place : ℕ) → TookAt [] lines place
 
 -- the frames that were fed and the repeats among their replies are counted
 pub record CountsFed (sent : ℕ) (turns : List Turn) (t t' : Tally) : Type 0 where
@@ -45,6 +50,6 @@ pub record FeedStops {D : Type 0} (seen : D → DiskSeen) (place : Place) (clock
   pub fed : FeedsLine place line bytes h history turns more
   pub stands : StoreStands seen place.base s history
   pub readable : IsReadable place.base history
-  pub cause : HasShown seen s stop clock (IsOfFrame place.setup clock more)
+  pub cause : HasShown seen s stop clock (IsOfFrame place.setup clock line more)
   pub sent_is : IsSentFor stop (length turns) sent
   pub counts : CountsFed sent turns t t'

@@ -5,6 +5,7 @@ pub use Rattle.centre_store.specs.Stores
 pub mod Pages
 pub mod PageWords
 pub mod Fed
+pub mod Names
 pub mod Standing
 pub mod Causes
 pub mod Steps

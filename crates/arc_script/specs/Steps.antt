@@ -12,7 +12,7 @@ use Rattle.centre_rules.specs.Answers.{IsLegal, answer}
 use Rattle.centre_rules.specs.History.{Entry, moment_after, recorded}
 use Rattle.centre_rules.specs.Summary.{Summary}
 use Rattle.centre_store.specs.Begins.{begun_after}
-use Rattle.centre_store.specs.Bodies.{bodies_of}
+use Rattle.centre_store.specs.Bodies.{bodies_in}
 use Rattle.centre_store.specs.Given.{IsGiven}
 use Rattle.centre_store.specs.Pasts.{IsPast}
 use Rattle.dc09_frame.specs.Frames.{bodies, frame_of}
@@ -23,6 +23,7 @@ use Rattle.line_session.specs.Turns.{Turn, line_turns, AreTurns}
 use Rattle.script_lines.specs.Lines.{Asked, Time, Feed, Message, Command, Reopen}
 use Rattle.session_rules.specs.Turns.{entries_of, readings_of, noise_of}
 use Rattle.arc_script.specs.Fed.{clock_of, line_fed, desk_read}
+use Rattle.arc_script.specs.Names.{line_name}
 use Rattle.arc_script.specs.Pages.{head_of}
 
 -- Where a line of a script stands: behind what was asked before (the newest first), under this setup, over this summary.
@@ -68,14 +69,14 @@ pub record Ticks (place : Place) (moment : ℕ) (h x : List Entry) (s : Step) : 
       ++ line_of (entry_after place.base (before_tick (clock_of place.asked) place.base place.setup moment h) Tick moment).reply
 
 -- The turns of a line that took what it was fed before and is fed these bytes: one for each whole frame that ends in them, at the moment
--- that was set last, with zeros for noise. They stand behind one another in the history, and nothing else does. More frames may have no
--- turn.
+-- that was set last, with zeros for noise. They stand behind one another in the history, under the line's name, and nothing else does. More
+-- frames may have no turn.
 pub record FeedsLine (place : Place) (line : ℕ) (bytes : List ℕ) (h x : List Entry) (turns : List Turn) (more : List (List ℕ))
     : Type 0 where
   pub clock : ℕ
   pub set : clock_of place.asked ≡ Some clock
   pub ended : bodies (line_fed line place.asked ++ bytes) ≡ bodies (line_fed line place.asked) ++ map (λ t. t.body) turns ++ more
-  pub are : AreTurns place.base (meaning place.setup) 0 h x turns
+  pub are : AreTurns (line_name line) place.base (meaning place.setup) 0 h x turns
   pub legal : IsLegal place.base x
   pub readings : readings_of line_turns turns ≡ replicate (length turns) clock
   pub noise : noise_of line_turns turns ≡ replicate (length (noise_of line_turns turns)) 0
@@ -122,10 +123,11 @@ pub record Commands (place : Place) (desk : ℕ) (given : List ℕ) (h x : List 
 -- `X`: the journal is closed and opened again, and gives a summary, and recorded entries over it. From these a run begins, with the same
 -- setup. Meanwhile the journal may have put a summary in the place of older entries; no later answer shows that. So where the disk tells
 -- what it holds, the history goes on over the same summary, from its recorded entries. Of another disk no more is known than that it gives
--- a summary, and keeps a past over it.
+-- a summary, and keeps a past over it, in either version.
 pub record Keeps (Told : Type 0) (base base' : Summary) (h kept : List Entry) : Type 0 where
   pub given : IsGiven base'
-  pub past : IsPast base' (bodies_of kept) kept
+  pub version : ℕ
+  pub past : IsPast version base' (bodies_in version kept) kept
   pub same : Told → (base' ≡ base) × (kept ≡ recorded h)
 
 pub record Reopens (Told : Type 0) (place : Place) (h x : List Entry) (s : Step) : Type 0 where

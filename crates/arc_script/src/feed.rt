@@ -23,7 +23,7 @@ ghost use Rattle.arc_script.specs.Steps.{placed, Feeds};
 
 use crate::page::Page;
 use crate::replies::{put_replies, said};
-use crate::script::Script;
+use crate::script::{Script, name_of};
 use arc_io::Disk;
 use centre_core::{Centre, Stop};
 use centre_store::Store;
@@ -60,7 +60,7 @@ pub(crate) fn feed<D: Disk>(
         → StoreStands D.seen base store h → IsReadable base h
         → Halted D.seen base (λ x s.
         ((waiting : List (List ℕ)) × FedUntil stop (placed base script.old.setup before) line (bytes_spelled digits.now) waiting h x s
-        × HasShown D.seen result.0 stop moment (IsOfFrame script.old.setup moment waiting))
+        × HasShown D.seen result.0 stop moment (IsOfFrame script.old.setup moment line waiting))
         ⊎ ((stop ≡ Stop.Memory) × Feeds (placed base script.old.setup before) 76 line (bytes_spelled digits.now) h x s))
         script.old.tally script.new.tally result.0) }
     ensures set { result.0.state.sum.text ≡ Some script.old.setup }
@@ -106,7 +106,7 @@ pub(crate) fn message<D: Disk>(
         → StoreStands D.seen base store h → IsReadable base h
         → Halted D.seen base (λ x s.
         ((waiting : List (List ℕ)) × FedUntil stop (placed base script.old.setup before) line (frame_of body.now) waiting h x s
-        × HasShown D.seen result.0 stop moment (IsOfFrame script.old.setup moment waiting))
+        × HasShown D.seen result.0 stop moment (IsOfFrame script.old.setup moment line waiting))
         ⊎ ((stop ≡ Stop.Memory) × Feeds (placed base script.old.setup before) 77 line (frame_of body.now) h x s))
         script.old.tally script.new.tally result.0) }
     ensures set { result.0.state.sum.text ≡ Some script.old.setup }
@@ -122,7 +122,7 @@ pub(crate) fn message<D: Disk>(
     let mut frame = FrameBuf::new();
     write_frame(body, &mut frame);
     let (store, frames) = fed(alloc, store, script, moment, line, frame.bytes());
-    script.lines[line - 1] = LineState::new();
+    script.lines[line - 1] = LineState::new(name_of(line));
     (store, put_fed(page, b'M', line as u64, frames))
 }
 

@@ -1,12 +1,15 @@
 // What a script keeps between two of its lines, beside the store.
-ghost use Rattle.std.specs.Prelude.{◌≡◌, ◌-◌, ◌<◌, ◌≤◌, ◌^◌, [], None, length, vec_len, All, IfOk, IsOk};
+ghost use Rattle.std.specs.Prelude.{◌≡◌, ◌-◌, ◌<◌, ◌≤◌, ◌^◌, true, None, length, vec_len, All, IfOk, IsOk};
 ghost use Rattle.alarm_rules.specs.Setups.{setup_of};
-ghost use Rattle.line_session.specs.Lines.{TookStream};
+ghost use Rattle.arc_data.specs.Digits.{is_name};
+ghost use Rattle.script_lines.specs.Lines.{IsNumber};
+ghost use Rattle.arc_script.specs.Feeding.{AreNew};
+ghost use Rattle.arc_script.specs.Names.{line_name};
 ghost use Rattle.arc_script.specs.Playing.{IsNewDesk};
 
 use crate::script_end::Tally;
 use accounts::Setup;
-use arc_data::Memory;
+use arc_data::{Memory, Txt};
 use arc_io::Disk;
 use centre_core::Centre;
 use centre_store::Store;
@@ -64,7 +67,7 @@ impl Script {
     ) -> Result<Script, Memory>
         requires few { limits.bytes < 2 ^ 32 }
         ensures given { IfOk result (λ s. (s.setup ≡ setup) × (s.limits ≡ limits)) }
-        ensures lines { IfOk result (λ s. All (TookStream []) s.lines.items) }
+        ensures lines { IfOk result (λ s. AreNew s.lines.items) }
         ensures desks { IfOk result (λ s. All IsNewDesk s.desks.items) }
         ensures begun { IfOk result (λ s. (s.clock ≡ None) × (s.number ≡ 0)) }
         ensures counts { IfOk result (λ s. s.opened_before ≡ centre.now.sum.opened) }
@@ -94,7 +97,7 @@ impl Script {
 
     /// All lines and desks are made anew.
     pub(crate) fn renew(&mut self)
-        ensures lines { All (TookStream []) self.new.lines.items }
+        ensures lines { AreNew self.new.lines.items }
         ensures desks { All IsNewDesk self.new.desks.items }
         ensures rest { self.new ≡ record self.old {
           lines = self.new.lines;
@@ -142,14 +145,33 @@ pub(crate) fn tally_of(centre: &Centre) -> Tally
     }
 }
 
-// Sixteen lines of which no byte was taken.
+/// The name of the receiver's line of this number: `l`, and the number.
+pub(crate) fn name_of(line: usize) -> Txt
+    requires { IsNumber 16 line }
+    ensures value { result ≡ line_name line }
+    ensures name { is_name result ≡ true }
+{
+    let last = b'0' + (line % 10) as u8;
+    let name = if line < 10 {
+        Txt::of(&[b'l', last])
+    } else {
+        Txt::of(&[b'l', b'1', last])
+    };
+    match name {
+        Some(name) => name,
+        None => unreachable!(),
+    }
+}
+
+// Sixteen lines of which no byte was taken, each under its name.
 fn new_lines(alloc: Global) -> Result<Vec<LineState>, Memory>
-    ensures new { IfOk result (λ lines. All (TookStream []) lines.items) }
+    ensures new { IfOk result (λ lines. AreNew lines.items) }
     ensures count { IfOk result (λ lines. vec_len lines ≡ 16) }
 {
     let mut lines = Vec::new(alloc);
     while lines.len() < 16 {
-        let Ok(()) = lines.push(LineState::new()) else {
+        let name = name_of(lines.len() + 1);
+        let Ok(()) = lines.push(LineState::new(name)) else {
             return Err(Memory);
         };
     }
@@ -171,10 +193,13 @@ fn new_desks(alloc: Global) -> Result<Vec<DeskState>, Memory>
 }
 
 fn renew_lines(lines: &mut [LineState])
-    ensures { All (TookStream []) lines.new }
+    requires { length lines.old ≤ 16 }
+    ensures { AreNew lines.new }
 {
-    for line in lines.iter_mut() {
-        *line = LineState::new();
+    let mut place = 0;
+    while place < lines.len() {
+        lines[place] = LineState::new(name_of(place + 1));
+        place += 1;
     }
 }
 

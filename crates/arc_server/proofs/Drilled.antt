@@ -35,7 +35,7 @@ use Rattle.arc_server.specs.DrillRuns.{IsDrilled}
 -- steps over a disk that tells what it holds
 
 told_keeps : {Told : Type 0} {base base' : Summary} {h kept : List Entry} → Told → Keeps Told base base' h kept → Keeps (Unit {0}) base base' h kept
-told_keeps known keeps = record { given = keeps.given; past = keeps.past; same = λ u. keeps.same known }
+told_keeps known keeps = record { given = keeps.given; version = keeps.version; past = keeps.past; same = λ u. keeps.same known }
 
 told_step : {Told : Type 0} (place : Place) (h x : List Entry) (s : Step) (asked : Asked)
     → Told → IsStepOf Told place h x s asked → IsStepOf (Unit {0}) place h x s asked
@@ -75,7 +75,7 @@ empty_part A = refl
 empty_part B = refl
 
 -- areas without bytes stand for no bodies
-empty_stands : AreasStand (record { a = []; b = [] }) None []
+empty_stands : AreasStand (record { a = []; b = [] }) 2 None []
 empty_stands =
     let empty : Areas = record { a = []; b = [] } in
     let short : length (chosen_part empty) ≡ 0 = ap length (empty_part (chosen empty)) in
@@ -86,11 +86,12 @@ new_past : {D : Type 0} (seen : D → DiskSeen) (disk : D) (base : Summary) (pas
     → BeginsWith (seen disk) base past → (base ≡ nothing) × (past ≡ [])
 new_past seen disk base past is begins =
     let empty : Areas = record { a = []; b = [] } in
-    let gives : AreasGive empty base begins.bodies = subst (λ (o : Option Areas). IfSome o (λ s. AreasGive s base begins.bodies)) is begins.area in
-    let none : AreasGive empty nothing [] = (None, refl, empty_stands) in
+    let gives : AreasGive empty begins.version base begins.bodies =
+    subst (λ (o : Option Areas). IfSome o (λ s. AreasGive s begins.version base begins.bodies)) is begins.area in
+    let none : AreasGive empty 2 nothing [] = (None, refl, empty_stands) in
     let one = one_opening empty in (
-      (one.bases base nothing begins.bodies [] gives none).0,
-      one.pasts base nothing begins.bodies [] past [] gives none begins.is_past (no_past nothing (omega arith)),
+      (one.bases begins.version 2 base nothing begins.bodies [] gives none).0,
+      one.pasts begins.version 2 base nothing begins.bodies [] past [] gives none begins.is_past (no_past 2 nothing (omega arith)),
     )
 
 drilled_by : {D : Type 0} (seen : D → DiskSeen) (n : ℕ) (b : Begun D) (p' : PortSeen) (disk' : D) (tally : Tally) → b.setup ≡ drill_setup

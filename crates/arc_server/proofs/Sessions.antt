@@ -11,7 +11,7 @@ use Rattle.arc_serving.specs.Sessions.{Serves}
 use Rattle.arc_serving.specs.declared.side.Side.{Side}
 use Rattle.arc_serving.specs.declared.session.SessionEnd.{SessionEnd}
 
-pub stands_by : {D : Type 0} (seen : D → DiskSeen) (side : Side) (end : SessionEnd) (read : List ℕ) (base : Summary) (w : Way) (first last : Stored D)
-    (p p' : PortSeen) → Serves side end read base w (changed (store_seen seen first) (store_seen seen last) p p') → StoreStands seen base last w.to
-stands_by seen side end read base w first last p p' serves =
-    (is_after side end read base w (store_seen seen first) (store_seen seen last) p p' serves).holds.stands
+pub stands_by : {D : Type 0} (seen : D → DiskSeen) (side : Side) (name : List ℕ) (end : SessionEnd) (read : List ℕ) (base : Summary) (w : Way) (first last : Stored D)
+    (p p' : PortSeen) → Serves side name end read base w (changed (store_seen seen first) (store_seen seen last) p p') → StoreStands seen base last w.to
+stands_by seen side name end read base w first last p p' serves =
+    (is_after side name end read base w (store_seen seen first) (store_seen seen last) p p' serves).holds.stands

@@ -9,8 +9,7 @@ use Rattle.arc_report.specs.Reports.{report_of}
 use Rattle.centre_rules.specs.Summary.{Summary}
 use Rattle.centre_rules.specs.History.{Entry}
 use Rattle.centre_rules.specs.Sums.{summary_of}
-use Rattle.centre_store.specs.Given.{BeginsWith}
-use Rattle.disk_journal.specs.Standing.{GoesOn}
+use Rattle.centre_store.specs.Given.{BeginsWith, GoesOn}
 use Rattle.arc_server.specs.Areas.{EndsWith}
 use Rattle.arc_server.specs.Beginnings.{StopsAtOpening}
 use Rattle.arc_server.specs.Handed.{Handed}
@@ -27,7 +26,7 @@ pub record StandsOn (disk disk' : DiskSeen) : Type 0 where
   pub area : Becomes disk.told disk'.told GoesOn
   pub images : LeavesOnly disk disk' (λ c. (d : Areas) × disk.may_leave d × GoesOn d c)
 
--- The areas stood for a past, and stay as they were. The report of the past was written, or a front of it, and nothing else was done to the
+-- The areas stood for a past, and stand for it still. The report of the past was written, or a front of it, and nothing else was done to the
 -- port.
 pub record ReportsPast {D : Type 0} (seen : D → DiskSeen) (status : Status) (r r' : Handed D) : Type 0 where
   pub base : Summary

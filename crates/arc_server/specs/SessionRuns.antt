@@ -1,5 +1,5 @@
 -- What a run did that serves one session.
-use Rattle.std.specs.Prelude.{◌≡◌, ◌≤◌, ◌⊎◌, ℕ, List}
+use Rattle.std.specs.Prelude.{◌≡◌, ◌≤◌, ◌⊎◌, ℕ, List, codes}
 use Rattle.arc_io.specs.Disks.{DiskSeen}
 use Rattle.arc_io.specs.Seen.{PortSeen}
 use Rattle.centre_rules.specs.History.{Entry}
@@ -15,6 +15,10 @@ use Rattle.arc_server.specs.Made.{status_over, status_of_session}
 use Rattle.arc_server.specs.declared.status.Status.{Status}
 use Rattle.session_rules.specs.Sessions.{changed}
 
+-- the name of the one line of a run
+abbrev pub line_name : List ℕ
+line_name = codes "line"
+
 -- A run began, with a port that told p then, and from there a session of this kind read some bytes, answered them, and came to its end. The
 -- store stands for the history that the session ended with; its disk is handed back, and has the recorded entries.
 pub record ServesRun {D : Type 0} (seen : D → DiskSeen) (side : Side) (status : Status) (r r' : Handed D) : Type 0 where
@@ -28,7 +32,7 @@ pub record ServesRun {D : Type 0} (seen : D → DiskSeen) (side : Side) (status 
   pub history : List Entry
   pub made : List Entry
   pub last : Stored D
-  pub serves : Serves side end read begun.asked.base (record { from = h; to = history; made = made })
+  pub serves : Serves side line_name end read begun.asked.base (record { from = h; to = history; made = made })
       (changed (store_seen seen first) (store_seen seen last) p r'.port)
   pub shown : ShowsEnd end (store_seen seen last)
   pub limits : last.journal.limits ≡ shipped

@@ -76,6 +76,7 @@ abbrev pub journal_text : OpenFault → List ℕ
 journal_text (Open.NotJournal byte) = at_place (codes "journal: not a journal at byte ") byte
 journal_text (Open.WrongVersion found) = codes "journal: wrong version\n"
 journal_text (Open.Damaged place) = at_place (codes "journal: damaged at ") place
+journal_text (Open.TooWide size) = codes "journal: too wide\n"
 journal_text (Open.DiskFault before now) = codes "disk fault\n"
 journal_text Open.Memory = codes "out of memory\n"
 

@@ -6,11 +6,12 @@ ghost use Rattle.centre_rules.specs.History.{Entry};
 ghost use Rattle.arc_server.specs.Areas.{shipped};
 ghost use Rattle.arc_server.specs.Beginnings.{HasBegun};
 ghost use Rattle.arc_server.specs.Handed.{Handed};
-ghost use Rattle.arc_server.specs.SessionRuns.{IsSessionRun, ServesRun};
+ghost use Rattle.arc_server.specs.SessionRuns.{line_name, IsSessionRun, ServesRun};
 
 use crate::begin::begin_run;
 use crate::made::{StoppedRun, status_of_session, status_over};
 use crate::status::Status;
+use arc_data::Txt;
 use arc_io::{Disk, Port, Source};
 use arc_serving::{Side, serve};
 use centre_store::Store;
@@ -57,8 +58,19 @@ fn serve_store<P: Port, D: Disk>(
     let reads = port.read_faults();
     let writes = port.write_faults();
     let mut store = store;
-    let end = serve(side, alloc, &mut store, port);
+    let name = line();
+    let end = serve(side, &name, alloc, &mut store, port);
     let disk = store.close();
     let status = status_of_session(end, reads, writes, port);
     (status_over(before, disk.faults(), status), disk)
+}
+
+// The name of the one line of a run.
+fn line() -> Txt
+    ensures { result ≡ line_name }
+{
+    match Txt::of(b"line") {
+        Some(name) => name,
+        None => unreachable!(),
+    }
 }

@@ -227,6 +227,7 @@ fn put_journal<K: Sink>(out: &mut K, fault: OpenFault) -> Result<(), Failed>
         OpenFault::NotJournal { byte } => put_place(out, b"journal: not a journal at byte ", byte),
         OpenFault::WrongVersion { .. } => put(out, b"journal: wrong version\n"),
         OpenFault::Damaged { at } => put_place(out, b"journal: damaged at ", at),
+        OpenFault::TooWide { .. } => put(out, b"journal: too wide\n"),
         OpenFault::DiskFault { .. } => put(out, b"disk fault\n"),
         OpenFault::Memory => put(out, b"out of memory\n"),
     }

@@ -23,16 +23,16 @@ after_way b w hall hall' to made goes makes holds legal own = record {
   own = ap hall'.own goes ∙ own ∙ ap (λ (es : List Entry). reverse es ++ hall.own w.from) (sym makes);
 }
 
-line_after : (end : Option LineEnd) (read : List ℕ) (b : Summary) (w : Way) (hall hall' : HallSeen) (p p' : PortSeen)
-    → MatchOption end ⊥ (λ e. ServesLine e read b w hall hall' p p') → IsHistoryAfter b w hall hall'
-line_after None read b w hall hall' p p' serves = absurd serves
-line_after (Some end) read b w hall hall' p p' serves =
+line_after : (name : List ℕ) (end : Option LineEnd) (read : List ℕ) (b : Summary) (w : Way) (hall hall' : HallSeen) (p p' : PortSeen)
+    → MatchOption end ⊥ (λ e. ServesLine name e read b w (changed hall hall' p p')) → IsHistoryAfter b w hall hall'
+line_after name None read b w hall hall' p p' serves = absurd serves
+line_after name (Some end) read b w hall hall' p p' serves =
     after_way b w hall hall' serves.session.history _ serves.to serves.made serves.session.holds serves.session.legal serves.session.own
 
 -- the hall stands for the history that it ended with, which is legal, and the caller's own part grew by its entries
-pub is_after : (side : Side) (end : SessionEnd) (read : List ℕ) (b : Summary) (w : Way) (hall hall' : HallSeen) (p p' : PortSeen)
-    → Serves side end read b w (changed hall hall' p p') → IsHistoryAfter b w hall hall'
-is_after Lines end read b w hall hall' p p' serves = line_after (line_end end) read b w hall hall' p p' serves
-is_after Desks end read b w hall hall' p p' serves =
+pub is_after : (side : Side) (name : List ℕ) (end : SessionEnd) (read : List ℕ) (b : Summary) (w : Way) (hall hall' : HallSeen) (p p' : PortSeen)
+    → Serves side name end read b w (changed hall hall' p p') → IsHistoryAfter b w hall hall'
+is_after Lines name end read b w hall hall' p p' serves = line_after name (line_end end) read b w hall hall' p p' serves
+is_after Desks name end read b w hall hall' p p' serves =
     after_way b w hall hall' serves.desk.session.history _ serves.to serves.made serves.desk.session.holds serves.desk.session.legal
     serves.desk.session.own

@@ -23,18 +23,18 @@ use Rattle.line_session.specs.declared.line_end.LineEnd.{LineEnd}
 use Rattle.session_rules.specs.Sessions.{changed, Goes, Way}
 use Rattle.arc_serving.proofs.DeskTurns as Desk
 use Rattle.arc_serving.proofs.LineTurns as Line
-use Rattle.arc_serving.specs.Served.{Served, ServesAtGate, way_at, AreServed, IsSubmittedBy, MakesEntries, entries_in, made_between}
+use Rattle.arc_serving.specs.Served.{tcp, Served, ServesAtGate, way_at, AreServed, IsSubmittedBy, MakesEntries, entries_in, made_between}
 
 -- A session's history begins with the one before it.
 
-line_extends : (end : Option LineEnd) (read : List ℕ) (b : Summary) (w : Way) (hall hall' : HallSeen) (p p' : PortSeen) → MatchOption end ⊥ (λ e. ServesLine e read b w hall hall' p p') → Extends w.from w.to
-line_extends None read b w hall hall' p p' s = absurd s
-line_extends (Some end) read b w hall hall' p p' s =
-    subst (Extends w.from) (sym s.to) (Line.turns_extend b (meaning hall.text) hall.caller w.from s.session.history s.session.turns s.session.each)
+line_extends : (name : List ℕ) (end : Option LineEnd) (read : List ℕ) (b : Summary) (w : Way) (hall hall' : HallSeen) (p p' : PortSeen) → MatchOption end ⊥ (λ e. ServesLine name e read b w (changed hall hall' p p')) → Extends w.from w.to
+line_extends name None read b w hall hall' p p' s = absurd s
+line_extends name (Some end) read b w hall hall' p p' s =
+    subst (Extends w.from) (sym s.to) (Line.turns_extend name b (meaning hall.text) hall.caller w.from s.session.history s.session.turns s.session.each)
 
-goes_extends : (side : Side) (end : SessionEnd) (read : List ℕ) (b : Summary) (w : Way) (hall hall' : HallSeen) (p p' : PortSeen) → Serves side end read b w (changed hall hall' p p') → Extends w.from w.to
-goes_extends Lines end read b w hall hall' p p' s = line_extends (line_end end) read b w hall hall' p p' s
-goes_extends Desks end read b w hall hall' p p' s =
+goes_extends : (side : Side) (name : List ℕ) (end : SessionEnd) (read : List ℕ) (b : Summary) (w : Way) (hall hall' : HallSeen) (p p' : PortSeen) → Serves side name end read b w (changed hall hall' p p') → Extends w.from w.to
+goes_extends Lines name end read b w hall hall' p p' s = line_extends name (line_end end) read b w hall hall' p p' s
+goes_extends Desks name end read b w hall hall' p p' s =
     subst (Extends w.from) (sym s.to) (Desk.turns_extend b (meaning hall.text) hall.caller None w.from s.desk.session.history s.desk.session.turns s.desk.session.each.0)
 
 -- Its entries are of events of its kind.
@@ -42,14 +42,14 @@ goes_extends Desks end read b w hall hall' p p' s =
 abbrev OnlyOf : Side → List Entry → Type 0
 OnlyOf side es = All (λ (e : Entry). IsSubmittedBy side e.event) es
 
-line_only : (end : Option LineEnd) (read : List ℕ) (b : Summary) (w : Way) (hall hall' : HallSeen) (p p' : PortSeen) → MatchOption end ⊥ (λ e. ServesLine e read b w hall hall' p p') → OnlyOf Lines w.made
-line_only None read b w hall hall' p p' s = absurd s
-line_only (Some end) read b w hall hall' p p' s =
-    subst (OnlyOf Lines) (sym s.made) (Line.turns_report b (meaning hall.text) hall.caller w.from s.session.history s.session.turns s.session.each)
+line_only : (name : List ℕ) (end : Option LineEnd) (read : List ℕ) (b : Summary) (w : Way) (hall hall' : HallSeen) (p p' : PortSeen) → MatchOption end ⊥ (λ e. ServesLine name e read b w (changed hall hall' p p')) → OnlyOf Lines w.made
+line_only name None read b w hall hall' p p' s = absurd s
+line_only name (Some end) read b w hall hall' p p' s =
+    subst (OnlyOf Lines) (sym s.made) (Line.turns_report name b (meaning hall.text) hall.caller w.from s.session.history s.session.turns s.session.each)
 
-entries_only : (side : Side) (end : SessionEnd) (read : List ℕ) (b : Summary) (w : Way) (hall hall' : HallSeen) (p p' : PortSeen) → Serves side end read b w (changed hall hall' p p') → OnlyOf side w.made
-entries_only Lines end read b w hall hall' p p' s = line_only (line_end end) read b w hall hall' p p' s
-entries_only Desks end read b w hall hall' p p' s =
+entries_only : (side : Side) (name : List ℕ) (end : SessionEnd) (read : List ℕ) (b : Summary) (w : Way) (hall hall' : HallSeen) (p p' : PortSeen) → Serves side name end read b w (changed hall hall' p p') → OnlyOf side w.made
+entries_only Lines name end read b w hall hall' p p' s = line_only name (line_end end) read b w hall hall' p p' s
+entries_only Desks name end read b w hall hall' p p' s =
     subst (OnlyOf Desks) (sym s.made) (Desk.turns_request b (meaning hall.text) hall.caller None w.from s.desk.session.history s.desk.session.turns s.desk.session.each.0)
 
 -- What the pass made.
@@ -76,46 +76,48 @@ base_at t p q b base h pass from extends w =
 
 -- what a session of the pass made, over a base
 made_at : (side : Side) (t : Terms) (p q : PassSeen) (read : List ℕ) (given back : PortSeen) (end : SessionEnd) (b : Summary) (base to made : List Entry) → IsPass t p → t.stood b base
-    → Serves side end read b (record { from = p.since ++ base; to = to; made = made }) (changed (gate_seen t p) (gate_seen t q) given back) → q.made ≡ reverse made ++ p.made
+    → Serves side tcp end read b (record { from = p.since ++ base; to = to; made = made }) (changed (gate_seen t p) (gate_seen t q) given back) → q.made ≡ reverse made ++ p.made
 made_at side t p q read given back end b base to made pass from w =
     let h = p.since ++ base in
-    let after = is_after side end read b (record { from = h; to = to; made = made }) (gate_seen t p) (gate_seen t q) given back w in
+    let after = is_after side tcp end read b (record { from = h; to = to; made = made }) (gate_seen t p) (gate_seen t q) given back w in
     let before : own_of p h ≡ p.made = own_at t p b h (record { base = base; from = from; seen = refl; pass = pass }) in
     sym (own_at t q b to after.holds) ∙ after.own ∙ ap (λ (m : List Entry). reverse made ++ m) before
 
 -- a session over the gate as a hall, in terms of what the pass had seen before and after
 serves_at_gate : (side : Side) (t : Terms) (p q : PassSeen) (read : List ℕ) (given back : PortSeen) (end : SessionEnd) → IsPass t p → (b : Summary) (base : List Entry) → t.stood b base
-    → Goes (p.since ++ base) (λ w. Serves side end read b w (changed (gate_seen t p) (gate_seen t q) given back))
+    → Goes (p.since ++ base) (λ w. Serves side tcp end read b w (changed (gate_seen t p) (gate_seen t q) given back))
     → ServesAtGate side t b base p q read (record { given = given; back = back; end = end; entries = made_between p q })
 serves_at_gate side t p q read given back end pass b base from goes =
     let h = p.since ++ base in
     let to = goes.0 in
     let made = goes.1 in
     let way : Way = record { from = h; to = to; made = made } in
-    let at : AtSeen t q b to = (is_after side end read b way (gate_seen t p) (gate_seen t q) given back goes.2).holds in
-    let same : base ≡ at.base = base_at t p q b base to pass from (goes_extends side end read b way (gate_seen t p) (gate_seen t q) given back goes.2) at in
+    let at : AtSeen t q b to = (is_after side tcp end read b way (gate_seen t p) (gate_seen t q) given back goes.2).holds in
+    let same : base ≡ at.base = base_at t p q b base to pass from (goes_extends side tcp end read b way (gate_seen t p) (gate_seen t q) given back goes.2) at in
     let ended : to ≡ q.since ++ base = at.seen ∙ ap (λ (l : List Entry). q.since ++ l) (sym same) in
     let entries : made ≡ made_between p q = sym (between made p.made q.made (made_at side t p q read given back end b base to made pass from goes.2)) in
-    subst (λ (x : List Entry). Serves side end read b (record { from = h; to = x; made = made_between p q }) (changed (gate_seen t p) (gate_seen t q) given back)) ended
-    (subst (λ (es : List Entry). Serves side end read b (record { from = h; to = to; made = es }) (changed (gate_seen t p) (gate_seen t q) given back)) entries goes.2)
+    subst (λ (x : List Entry). Serves side tcp end read b (record { from = h; to = x; made = made_between p q }) (changed (gate_seen t p) (gate_seen t q) given back)) ended
+    (subst (λ (es : List Entry). Serves side tcp end read b (record { from = h; to = to; made = es }) (changed (gate_seen t p) (gate_seen t q) given back)) entries goes.2)
 
--- the same, where the pass was taken out of the hall
-pub serves_left : (side : Side) (t : Terms) (p q m : PassSeen) (read : List ℕ) (given back : PortSeen) (end : SessionEnd) → IsPass t p → q ≡ m
-    → ((b : Summary) (h : List Entry) → AtSeen t p b h → Goes h (λ w. Serves side end read b w (changed (gate_seen t p) (gate_seen t m) given back)))
+-- the same, where the pass was taken out of the hall, and the line's name is that of a link
+pub serves_left : (side : Side) (t : Terms) (p q m : PassSeen) (read : List ℕ) (given back : PortSeen) (name : List ℕ) (end : SessionEnd) → IsPass t p → q ≡ m → name ≡ tcp
+    → ((b : Summary) (h : List Entry) → AtSeen t p b h → Goes h (λ w. Serves side name end read b w (changed (gate_seen t p) (gate_seen t m) given back)))
     → (b : Summary) (base : List Entry) → t.stood b base → ServesAtGate side t b base p q read (record { given = given; back = back; end = end; entries = made_between p q })
-serves_left side t p q m read given back end pass left w b base from = serves_at_gate side t p q read given back end pass b base from
-    (subst (λ (k : PassSeen). Goes (p.since ++ base) (λ v. Serves side end read b v (changed (gate_seen t p) (gate_seen t k) given back)))
-    (sym left) (w b (p.since ++ base) (record { base = base; from = from; seen = refl; pass = pass })))
+serves_left side t p q m read given back name end pass left named w b base from =
+    let went = subst (λ (n : List ℕ). Goes (p.since ++ base) (λ v. Serves side n end read b v (changed (gate_seen t p) (gate_seen t m) given back))) named
+    (w b (p.since ++ base) (record { base = base; from = from; seen = refl; pass = pass })) in
+    serves_at_gate side t p q read given back end pass b base from
+    (subst (λ (k : PassSeen). Goes (p.since ++ base) (λ v. Serves side tcp end read b v (changed (gate_seen t p) (gate_seen t k) given back))) (sym left) went)
 
 -- what a pass made in a session
 makes_in_session : (side : Side) (t : Terms) (p q : PassSeen) (read : List ℕ) (s : Served) (b : Summary) (base : List Entry) → IsPass t p → t.stood b base
     → ServesAtGate side t b base p q read s → MakesEntries side p q s.entries
 makes_in_session side t p q read s b base pass from w =
     let way = way_at base p q s.entries in
-    let extends = goes_extends side s.end read b way (gate_seen t p) (gate_seen t q) s.given s.back w in
+    let extends = goes_extends side tcp s.end read b way (gate_seen t p) (gate_seen t q) s.given s.back w in
     let whole : q.since ++ base ≡ (extends.0 ++ p.since) ++ base = extends.1 ∙ sym (append_assoc extends.0 p.since base) in record {
       made = made_at side t p q read s.given s.back s.end b base (q.since ++ base) s.entries pass from w;
-      only = entries_only side s.end read b way (gate_seen t p) (gate_seen t q) s.given s.back w;
+      only = entries_only side tcp s.end read b way (gate_seen t p) (gate_seen t q) s.given s.back w;
       seen = (extends.0, append_cancel_right q.since (extends.0 ++ p.since) base whole);
     }
 

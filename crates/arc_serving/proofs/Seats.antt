@@ -1,10 +1,10 @@
 -- Doors that are taken into jobs, and put back.
-use Rattle.std.proofs.Common.{◌≡◌, ◌≤◌, ◌<◌, ℕ, List, [], ◌∷◌, ◌++◌, Option, Some, None, refl, sym, ap, ◌∙◌, subst, arith, append_assoc, append-nil}
+use Rattle.std.proofs.Common.{◌≡◌, ◌≤◌, ℕ, List, [], ◌∷◌, ◌++◌, Option, Some, None, refl, sym, ap, ◌∙◌, subst, arith, append_assoc, append-nil}
 use Rattle.std.proofs.lemmas.Grind.{flat_map-append}
 use Rattle.std.proofs.lemmas.List.{map-append, reverse-append, reverse-reverse}
 use Rattle.std.proofs.lemmas.List.Elements.{All-nil, All-cons, All-push, All-weaker}
 use Rattle.std.specs.Option.{option_to_list}
-use Rattle.std.specs.Prelude.{All, MatchOption, map, reverse}
+use Rattle.std.specs.Prelude.{All, map, reverse}
 use Rattle.arc_doors.specs.Doors.{DoorSeen}
 use Rattle.arc_serving.specs.declared.working.Worked.{Worked}
 use Rattle.line_gate.proofs.Carried.{later_self, later_further}

@@ -26,7 +26,7 @@ use Rattle.arc_serving.specs.Jobs.{JobSeen, AreSeated, HasTaken, AreUnseated, do
 use Rattle.arc_serving.specs.Ran.{IsFresh, WorkerRan, IsSideServed, began_in, ended_in}
 use Rattle.arc_serving.specs.Rising.{AreRising}
 use Rattle.arc_serving.specs.Seen.{StationSeen, CameSeen}
-use Rattle.arc_serving.specs.Serving.{Serves, ServesStore, GoesOnFrom, StandsForAll, all_began, all_ended}
+use Rattle.arc_serving.specs.Serving.{Serves, ServesStore, GoesOnFrom, StandsForAll, all_ended}
 use Rattle.arc_serving.specs.declared.station.Crew.{Crew}
 use Rattle.arc_serving.proofs.Lists.{rising_both}
 use Rattle.arc_serving.proofs.Sides.{SideRan, side_ran}

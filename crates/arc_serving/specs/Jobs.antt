@@ -1,5 +1,5 @@
 -- Jobs, before they are done and after.
-use Rattle.std.specs.Prelude.{◌≡◌, ◌≤◌, ◌<◌, ℕ, List, [], ◌∷◌, ◌++◌, Option, Some, None, MatchOption, All, map, reverse, flat_map}
+use Rattle.std.specs.Prelude.{◌≡◌, ◌≤◌, ◌<◌, ℕ, List, [], ◌∷◌, ◌++◌, Option, Some, MatchOption, All, map, reverse, flat_map}
 use Rattle.std.specs.Option.{option_to_list}
 use Rattle.arc_doors.specs.Doors.{DoorSeen}
 use Rattle.arc_serving.specs.declared.side.Side.{Side}

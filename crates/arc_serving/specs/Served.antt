@@ -1,5 +1,5 @@
 -- What a worker did with its links, and what its pass made of them.
-use Rattle.std.specs.Prelude.{◌≡◌, ◌≤◌, ◌-◌, ◌++◌, ℕ, List, [], ◌∷◌, Option, Some, None, All, length, take, map, reverse, flat_map}
+use Rattle.std.specs.Prelude.{◌≡◌, ◌≤◌, ◌-◌, ◌++◌, ℕ, List, [], ◌∷◌, Option, Some, None, All, codes, length, take, map, reverse, flat_map}
 use Rattle.arc_data.specs.declared.event.Event.{Event}
 use Rattle.arc_data.specs.declared.event.Event.TheVariants.{Message, Beat}
 use Rattle.arc_data.specs.declared.event.Event.TheVariants.{Next, Claim, Act, Release, Close, Show, List as Rows}
@@ -15,6 +15,10 @@ use Rattle.line_gate.specs.Entries.{Entry, Extends}
 use Rattle.line_gate.specs.Passes.{PassSeen, IsPass}
 use Rattle.line_gate.specs.Terms.{Terms}
 use Rattle.session_rules.specs.Sessions.{changed, Way}
+
+-- the name of the line of each link that panels come by
+abbrev pub tcp : List ℕ
+tcp = codes "tcp"
 
 -- one link that was served: what it told when the door gave it and when the door got it back, how its session ended, and the
 -- entries that the pass made in the session, the earliest first
@@ -32,7 +36,7 @@ way_at base p q entries = record { from = p.since ++ base; to = q.since ++ base;
 -- after it. The entries are just those of the session.
 abbrev pub ServesAtGate : Side → Terms → Summary → List Entry → PassSeen → PassSeen → List ℕ → Served → Type 0
 ServesAtGate side t b base p q read s =
-    Serves side s.end read b (way_at base p q s.entries) (changed (gate_seen t p) (gate_seen t q) s.given s.back)
+    Serves side tcp s.end read b (way_at base p q s.entries) (changed (gate_seen t p) (gate_seen t q) s.given s.back)
 
 -- A link was served by a session of the pass, which was p before it and q after it: it read these bytes, ended for its cause, and
 -- the session's clause holds over each base of the gate. The pass keeps its number, and no count of it falls.
@@ -74,7 +78,7 @@ HasServed served old new = ⊥
 
 -- what panels report: a message or a heartbeat
 abbrev pub IsReport : Event → Type 0
-IsReport (Message m) = Unit {0}
+IsReport (Message m via) = Unit {0}
 IsReport (Beat account) = Unit {0}
 IsReport event = ⊥
 

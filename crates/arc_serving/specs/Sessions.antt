@@ -39,10 +39,10 @@ abbrev pub Reads : Side → SessionEnd → List ℕ → PortSeen → PortSeen �
 Reads Lines end read p p' = MatchOption (line_end end) ⊥ (λ e. ReadsLine e read p p')
 Reads Desks end read p p' = ReadsDesk (desk_end end) read p p'
 
--- On its way over b it answered what was read, over a hall and a port as they were and as they are.
-abbrev pub Serves : Side → SessionEnd → List ℕ → Summary → Way → Change → Type 0
-Serves Lines end read b w c = MatchOption (line_end end) ⊥ (λ e. ServesLine e read b w c.hall c.hall' c.port c.port')
-Serves Desks end read b w c = ServesDesk (desk_end end) read b w c.hall c.hall' c.port c.port'
+-- On its way over b it answered what was read, over a hall and a port as they were and as they are, a line under this name.
+abbrev pub Serves : Side → List ℕ → SessionEnd → List ℕ → Summary → Way → Change → Type 0
+Serves Lines name end read b w c = MatchOption (line_end end) ⊥ (λ e. ServesLine name e read b w c)
+Serves Desks name end read b w c = ServesDesk (desk_end end) read b w c.hall c.hall' c.port c.port'
 
 -- a session that a stop ended: the hall showed it for some event, or memory was wanted, whatever is known of the hall's history
 abbrev pub ShowsEnd : SessionEnd → HallSeen → Type 0

@@ -3,11 +3,12 @@ ghost use Rattle.std.specs.Prelude.{◌≡◌, false};
 ghost use Rattle.arc_serving.specs.Sessions.{ShowsEnd};
 ghost use Rattle.line_gate.specs.AtGates.{gate_seen};
 ghost use Rattle.line_gate.specs.Passes.{IsPass};
-ghost use Rattle.arc_serving.specs.Served.{IsServed, made_between};
+ghost use Rattle.arc_serving.specs.Served.{tcp as tcp_name, IsServed, made_between};
 ghost use Rattle.arc_serving.specs.Next.{ServesNext};
 
 use crate::session::{SessionEnd, serve};
 use crate::side::Side;
+use arc_data::Txt;
 use arc_doors::Door;
 use arc_io::{Disk, Failed, Port};
 use line_gate::{AtGate, Gate, GateName, Pass};
@@ -61,8 +62,19 @@ fn serve_link<P: Port, D: Disk, R: Wait, N: GateName>(
 {
     let _ = pass.number();
     let mut hall = AtGate { rt, gate, pass };
-    let end = serve(side, alloc, &mut hall, link);
+    let name = tcp();
+    let end = serve(side, &name, alloc, &mut hall, link);
     let pass = hall.leave();
     let _ = pass.number();
     (pass, end)
+}
+
+// The name of the line of each link.
+fn tcp() -> Txt
+    ensures { result ≡ tcp_name }
+{
+    match Txt::of(b"tcp") {
+        Some(name) => name,
+        None => unreachable!(),
+    }
 }

@@ -1,5 +1,6 @@
 // One session over a hall, of either kind.
-ghost use Rattle.std.specs.Prelude.{◌≡◌, ◌≤◌, false, List, ℕ};
+ghost use Rattle.std.specs.Prelude.{◌≡◌, ◌≤◌, [], true, false, List, ℕ};
+ghost use Rattle.arc_data.specs.Digits.{is_name};
 ghost use Rattle.arc_io.specs.Causes.{Rose};
 ghost use Rattle.centre_core.specs.Halls.{IsKept};
 ghost use Rattle.centre_rules.specs.Summary.{Summary};
@@ -8,6 +9,7 @@ ghost use Rattle.session_rules.specs.Sessions.{changed, Goes};
 ghost use Rattle.arc_serving.specs.Sessions.{Reads, Serves, ShowsEnd};
 
 use crate::side::Side;
+use arc_data::Txt;
 use arc_io::Port;
 use centre_core::{Hall, Stop};
 use desk_session::{DeskEnd, serve_desk};
@@ -31,37 +33,50 @@ pub enum SessionEnd {
     Stopped(Stop),
 }
 
-/// Serves one session of this kind over the port, to its end.
-pub fn serve<H: Hall, P: Port>(side: Side, alloc: Global, hall: &mut H, port: &mut P) -> SessionEnd
+/// Serves one session of this kind over the port, to its end. The name, of 1 to 16 bytes as an operator's, is that of a line; a desk has none.
+pub fn serve<H: Hall, P: Port>(
+    side: Side,
+    name: &Txt,
+    alloc: Global,
+    hall: &mut H,
+    port: &mut P,
+) -> SessionEnd
     requires ready { (H.seen hall.old).ready }
+    requires name { is_name name.now ≡ true }
     requires not_ended { (P.seen port.old).ended ≡ false }
     ensures serves { (read : List ℕ) × Reads side result read (P.seen port.old) (P.seen port.new)
         × ((b : Summary) (h : List Entry) → (H.seen hall.old).stands b h →
-        Goes h (λ w. Serves side result read b w (changed (H.seen hall.old) (H.seen hall.new) (P.seen port.old) (P.seen port.new)))) }
+        Goes h (λ w. Serves side name.now result read b w (changed (H.seen hall.old) (H.seen hall.new) (P.seen port.old) (P.seen port.new)))) }
     ensures stop { ShowsEnd result (H.seen hall.new) }
     ensures read { result ≡ SessionEnd.ReadFault → Rose (P.seen port.old).read_faults (P.seen port.new).read_faults }
     ensures write { result ≡ SessionEnd.WriteFault → Rose (P.seen port.old).write_faults (P.seen port.new).write_faults }
     ensures kept { IsKept (H.seen hall.old) (H.seen hall.new) }
 {
     match side {
-        Side::Lines => serve_one_line(alloc, hall, port),
+        Side::Lines => serve_one_line(name, alloc, hall, port),
         Side::Desks => serve_one_desk(alloc, hall, port),
     }
 }
 
 // Serves one line.
-fn serve_one_line<H: Hall, P: Port>(alloc: Global, hall: &mut H, port: &mut P) -> SessionEnd
+fn serve_one_line<H: Hall, P: Port>(
+    name: &Txt,
+    alloc: Global,
+    hall: &mut H,
+    port: &mut P,
+) -> SessionEnd
     requires ready { (H.seen hall.old).ready }
+    requires name { is_name name.now ≡ true }
     requires not_ended { (P.seen port.old).ended ≡ false }
     ensures serves { (read : List ℕ) × Reads Side.Lines result read (P.seen port.old) (P.seen port.new)
         × ((b : Summary) (h : List Entry) → (H.seen hall.old).stands b h →
-        Goes h (λ w. Serves Side.Lines result read b w (changed (H.seen hall.old) (H.seen hall.new) (P.seen port.old) (P.seen port.new)))) }
+        Goes h (λ w. Serves Side.Lines name.now result read b w (changed (H.seen hall.old) (H.seen hall.new) (P.seen port.old) (P.seen port.new)))) }
     ensures stop { ShowsEnd result (H.seen hall.new) }
     ensures read { result ≡ SessionEnd.ReadFault → Rose (P.seen port.old).read_faults (P.seen port.new).read_faults }
     ensures write { result ≡ SessionEnd.WriteFault → Rose (P.seen port.old).write_faults (P.seen port.new).write_faults }
     ensures kept { IsKept (H.seen hall.old) (H.seen hall.new) }
 {
-    match serve_line(alloc, hall, port) {
+    match serve_line(alloc, hall, port, name) {
         LineEnd::InputEnded => SessionEnd::InputEnded,
         LineEnd::ReadFault => SessionEnd::ReadFault,
         LineEnd::WriteFault => SessionEnd::WriteFault,
@@ -76,7 +91,7 @@ fn serve_one_desk<H: Hall, P: Port>(alloc: Global, hall: &mut H, port: &mut P) -
     requires not_ended { (P.seen port.old).ended ≡ false }
     ensures serves { (read : List ℕ) × Reads Side.Desks result read (P.seen port.old) (P.seen port.new)
         × ((b : Summary) (h : List Entry) → (H.seen hall.old).stands b h →
-        Goes h (λ w. Serves Side.Desks result read b w (changed (H.seen hall.old) (H.seen hall.new) (P.seen port.old) (P.seen port.new)))) }
+        Goes h (λ w. Serves Side.Desks [] result read b w (changed (H.seen hall.old) (H.seen hall.new) (P.seen port.old) (P.seen port.new)))) }
     ensures stop { ShowsEnd result (H.seen hall.new) }
     ensures read { result ≡ SessionEnd.ReadFault → Rose (P.seen port.old).read_faults (P.seen port.new).read_faults }
     ensures write { result ≡ SessionEnd.WriteFault → Rose (P.seen port.old).write_faults (P.seen port.new).write_faults }

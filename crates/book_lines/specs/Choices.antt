@@ -47,7 +47,7 @@ is_raised_of account x = bytes_eq x.account account
 abbrev pub concerns : List ℕ → List Incident → List Carried → Event → Reply → Bool
 concerns account before carried (Adopt text) reply = false
 concerns account before carried Start reply = false
-concerns account before carried (Sent m) reply = bytes_eq m.account account
+concerns account before carried (Sent m via) reply = bytes_eq m.account account
 concerns account before carried (Beat of) reply = bytes_eq of account
 concerns account before carried Tick reply = list_any (is_raised_of account) carried
 concerns account before carried (Claim operator number) reply = has_account account (find (has_number number) before)
@@ -67,7 +67,7 @@ is_of_account (Some account) before carried event reply = concerns account befor
 abbrev pub is_by : List ℕ → Event → Bool
 is_by name (Adopt text) = false
 is_by name Start = false
-is_by name (Sent m) = false
+is_by name (Sent m via) = false
 is_by name (Beat account) = false
 is_by name Tick = false
 is_by name (Claim operator number) = bytes_eq operator name
@@ -103,7 +103,7 @@ is_claimed wanted reply = false
 abbrev pub regards : ℕ → List Incident → List Incident → List Carried → Event → Reply → Bool
 regards wanted before behind carried (Adopt text) reply = false
 regards wanted before behind carried Start reply = false
-regards wanted before behind carried (Sent m) reply = is_signalled wanted before behind carried
+regards wanted before behind carried (Sent m via) reply = is_signalled wanted before behind carried
 regards wanted before behind carried (Beat account) reply = false
 regards wanted before behind carried Tick reply = is_signalled wanted before behind carried
 regards wanted before behind carried (Claim operator number) reply = number == wanted

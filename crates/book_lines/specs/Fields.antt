@@ -1,5 +1,5 @@
 -- What a record was, in fields for other programs. Each field but the last ends with a tab: what it was, the operator, the number of the
--- incident, its class, the account, the moment at which it was opened, details, and what else a message tells.
+-- incident, its class, the account, the moment at which it was opened, details, what else a message tells, and the line by which it came.
 use Rattle.std.specs.Prelude.{ℕ, ◌++◌, List, [], ◌∷◌, map, take, drop, length, codes, decimal, Option, Some, None}
 use Rattle.std.specs.List.{flat_map, find}
 use Rattle.arc_data.specs.Classes.{name_of}
@@ -51,17 +51,18 @@ data_field AdmCid content = take 2 (drop 5 content) ++ codes " " ++ take 3 (drop
 data_field SiaDcs content = map printed content
 
 unfoldable pub fields_of : List Incident → List Carried → Event → Reply → List ℕ
-fields_of before carried (Adopt text) reply = own_fields (codes "adopt") [] ++ decimal (length text) ++ tab
-fields_of before carried Start reply = own_fields (codes "start") [] ++ tab
-fields_of before carried (Sent m) reply =
-    own_fields (codes "message") m.account ++ flat_map signal_field carried ++ tab ++ data_field m.token m.content
-fields_of before carried (Beat account) reply = own_fields (codes "heartbeat") account ++ tab
-fields_of before carried Tick reply = own_fields (codes "tick") [] ++ flat_map raised_field carried ++ tab
-fields_of before carried (Claim operator number) reply = order_fields (codes "claim") operator number before ++ tab
-fields_of before carried (Next operator) reply = got_fields operator reply before ++ tab
+fields_of before carried (Adopt text) reply = own_fields (codes "adopt") [] ++ decimal (length text) ++ tab ++ tab
+fields_of before carried Start reply = own_fields (codes "start") [] ++ tab ++ tab
+fields_of before carried (Sent m via) reply =
+    own_fields (codes "message") m.account ++ flat_map signal_field carried ++ tab ++ data_field m.token m.content ++ tab ++ via
+fields_of before carried (Beat account) reply = own_fields (codes "heartbeat") account ++ tab ++ tab
+fields_of before carried Tick reply = own_fields (codes "tick") [] ++ flat_map raised_field carried ++ tab ++ tab
+fields_of before carried (Claim operator number) reply = order_fields (codes "claim") operator number before ++ tab ++ tab
+fields_of before carried (Next operator) reply = got_fields operator reply before ++ tab ++ tab
 fields_of before carried (Act operator number step outcome) reply =
-    order_fields (codes "act") operator number before ++ step_name step ++ codes " " ++ outcome_name outcome ++ tab
-fields_of before carried (Release operator number) reply = order_fields (codes "release") operator number before ++ tab
-fields_of before carried (Close operator number code) reply = order_fields (codes "close") operator number before ++ code_name code ++ tab
+    order_fields (codes "act") operator number before ++ step_name step ++ codes " " ++ outcome_name outcome ++ tab ++ tab
+fields_of before carried (Release operator number) reply = order_fields (codes "release") operator number before ++ tab ++ tab
+fields_of before carried (Close operator number code) reply =
+    order_fields (codes "close") operator number before ++ code_name code ++ tab ++ tab
 fields_of before carried (Show number) reply = []
 fields_of before carried Rows reply = []

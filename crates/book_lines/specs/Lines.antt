@@ -41,8 +41,10 @@ abbrev pub content_text : Token → List ℕ → List ℕ
 content_text AdmCid content = codes " group " ++ take 2 (drop 5 content) ++ codes " zone " ++ take 3 (drop 8 content)
 content_text SiaDcs content = codes " data " ++ map printed content
 
-abbrev pub message_text : Message → List Carried → List ℕ
-message_text m carried = codes "message " ++ m.account ++ flat_map signal_text carried ++ content_text m.token m.content
+-- a message, with its signals, the line by which it came, and what else its content tells
+abbrev pub message_text : Message → List ℕ → List Carried → List ℕ
+message_text m via carried =
+    codes "message " ++ m.account ++ flat_map signal_text carried ++ codes " via " ++ via ++ content_text m.token m.content
 
 -- a signal that a tick raised: its class, and the account
 abbrev pub raised_text : Carried → List ℕ
@@ -70,7 +72,7 @@ got_text operator reply = operator
 unfoldable pub words_of : List Incident → List Carried → Event → Reply → List ℕ
 words_of open_before carried (Adopt text) reply = codes "adopt " ++ decimal (length text) ++ codes " bytes"
 words_of open_before carried Start reply = codes "start"
-words_of open_before carried (Sent m) reply = message_text m carried
+words_of open_before carried (Sent m via) reply = message_text m via carried
 words_of open_before carried (Beat account) reply = codes "heartbeat " ++ account
 words_of open_before carried Tick reply = codes "tick" ++ flat_map raised_text carried
 words_of open_before carried (Claim operator number) reply =

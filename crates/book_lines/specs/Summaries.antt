@@ -28,7 +28,7 @@ unfoldable pub held_words : Held → List ℕ
 held_words h = codes "summary " ++ held_text h
 
 unfoldable pub held_fields : Held → List ℕ
-held_fields h = own_fields (codes "summary") [] ++ held_text h ++ tab
+held_fields h = own_fields (codes "summary") [] ++ held_text h ++ tab ++ tab
 
 abbrev pub held_told : Bool → Clock → Held → List ℕ
 held_told false clock h = line_of clock h.recorded h.last (held_words h)

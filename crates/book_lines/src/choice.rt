@@ -110,7 +110,7 @@ fn is_of_account(
         return true;
     };
     match event {
-        Event::Message(message) => message.account == *account,
+        Event::Message { message, .. } => message.account == *account,
         Event::Beat { account: of } => *of == *account,
         Event::Tick => is_raised_of(account, carried),
         Event::Next { .. } => is_claimed_of(account, reply),
@@ -171,7 +171,7 @@ fn is_of_operator(operator: &Option<Txt>, event: &Event) -> bool
         | Event::Close { operator, .. } => *operator == *name,
         Event::Adopt { .. }
         | Event::Start
-        | Event::Message(_)
+        | Event::Message { .. }
         | Event::Beat { .. }
         | Event::Tick
         | Event::Show { .. }
@@ -190,7 +190,7 @@ fn of_incident(
     ensures { (behind : List Incident) → is_of_incident (Some wanted) table.now.incidents behind carried.now event.now reply.now ≡ decided result behind }
 {
     match event {
-        Event::Message(_) | Event::Tick => is_signalled(wanted, table, carried),
+        Event::Message { .. } | Event::Tick => is_signalled(wanted, table, carried),
         Event::Next { .. } => told_if(is_claimed(wanted, reply)),
         Event::Claim { number, .. }
         | Event::Act { number, .. }

@@ -30,34 +30,36 @@ pub(crate) fn put_fields(
         Event::Adopt { text } => {
             put_own(page, b"adopt", b"");
             page.put_number(text.count() as u64);
-            page.put(b"\t");
+            page.put(b"\t\t");
         }
         Event::Start => {
             put_own(page, b"start", b"");
-            page.put(b"\t");
+            page.put(b"\t\t");
         }
-        Event::Message(message) => {
+        Event::Message { message, via } => {
             put_own(page, b"message", message.account.bytes());
             put_signal_fields(page, carried);
             page.put(b"\t");
             put_data(page, message.token, message.content.bytes());
+            page.put(b"\t");
+            page.put(via.bytes());
         }
         Event::Beat { account } => {
             put_own(page, b"heartbeat", account.bytes());
-            page.put(b"\t");
+            page.put(b"\t\t");
         }
         Event::Tick => {
             put_own(page, b"tick", b"");
             put_raised_fields(page, carried);
-            page.put(b"\t");
+            page.put(b"\t\t");
         }
         Event::Claim { operator, number } => {
             put_order_fields(page, b"claim", operator, *number, table);
-            page.put(b"\t");
+            page.put(b"\t\t");
         }
         Event::Next { operator } => {
             put_got_fields(page, operator, reply, table);
-            page.put(b"\t");
+            page.put(b"\t\t");
         }
         Event::Act {
             operator,
@@ -69,11 +71,11 @@ pub(crate) fn put_fields(
             page.put_step(*step);
             page.put(b" ");
             page.put(outcome_name(*outcome));
-            page.put(b"\t");
+            page.put(b"\t\t");
         }
         Event::Release { operator, number } => {
             put_order_fields(page, b"release", operator, *number, table);
-            page.put(b"\t");
+            page.put(b"\t\t");
         }
         Event::Close {
             operator,
@@ -82,7 +84,7 @@ pub(crate) fn put_fields(
         } => {
             put_order_fields(page, b"close", operator, *number, table);
             page.put(code_name(*code));
-            page.put(b"\t");
+            page.put(b"\t\t");
         }
         Event::Show { .. } | Event::List => {}
     }

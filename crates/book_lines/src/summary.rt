@@ -96,7 +96,7 @@ fn put_held_fields(page: &mut Page, held: &Held)
 {
     put_own(page, b"summary", b"");
     put_held_text(page, held);
-    page.put(b"\t");
+    page.put(b"\t\t");
 }
 
 // Puts what a summary holds.

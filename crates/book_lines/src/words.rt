@@ -9,17 +9,19 @@ use crate::page::Page;
 use arc_data::{Carried, Class, Message, Reply, Token, Txt};
 use incidents::Table;
 
-/// Puts a message with its signals, and what else its content tells.
-pub(crate) fn put_message(page: &mut Page, message: &Message, carried: &[Carried])
+/// Puts a message with its signals, the line by which it came, and what else its content tells.
+pub(crate) fn put_message(page: &mut Page, message: &Message, via: &Txt, carried: &[Carried])
     requires few { length carried.now ≤ 8000 }
     requires size { length message.now.content ≤ 4095 }
     requires room { length page.old ≤ 70000 }
-    ensures text { page.new ≡ page.old ++ message_text message.now carried.now }
+    ensures text { page.new ≡ page.old ++ message_text message.now via.now carried.now }
     ensures room { length page.new ≤ length page.old + 428200 }
 {
     page.put(b"message ");
     page.put(message.account.bytes());
     put_signals(page, carried);
+    page.put(b" via ");
+    page.put(via.bytes());
     put_content(page, message.token, message.content.bytes());
 }
 

@@ -141,7 +141,7 @@ fn put_words(page: &mut Page, event: &Event, reply: &Reply, carried: &[Carried],
     match event {
         Event::Adopt { text } => put_adopt(page, text.count() as u64),
         Event::Start => page.put(b"start"),
-        Event::Message(message) => put_message(page, message, carried),
+        Event::Message { message, via } => put_message(page, message, via, carried),
         Event::Beat { account } => {
             page.put(b"heartbeat ");
             page.put(account.bytes());

@@ -15,7 +15,7 @@ use Rattle.incidents.specs.Tables.{TableValue}
 use Rattle.open_incidents.specs.Marked.{HasActRoom}
 use Rattle.summary_rules.specs.Fields.{Given, IsIncident}
 use Rattle.summary_rules.specs.Lists.{Every, EveryTwo}
-use Rattle.summary_rules.specs.Conditions.{HasRowBy, HasIncidentBy, IsRowBefore, IsHeldApart, AreMessages, IsCount, AreSteps, AreActsOf, IsSummary}
+use Rattle.summary_rules.specs.Conditions.{HasRowBy, HasIncidentBy, IsRowBefore, IsHeldApart, AreMessages, IsCount, AreSteps, AreActsOf, AreNamedIn, IsSummary}
 use Rattle.summary_rules.proofs.Everies.{every_weaker, every_map}
 use Rattle.summary_rules.proofs.Pairs.{every_both}
 use Rattle.summary_codec.specs.declared.head.Head.{Head}
@@ -43,9 +43,10 @@ two_back S f (x ∷ xs) w = (every_back (S (f x)) f xs w.0, two_back S f xs w.1)
 
 -- The parts and the whole.
 
-pub of_parts : (r : ReadSummary) → IsHeadFine r.head → AreRowsFine r.head.last r.rows.items → AreIncidentsFine r.head r.incidents.items → IsTextFine r.head
-    → AreAllApart (lapse (summary_of_read r) []) r.head.last r.incidents.items → IsSummary r.head.generation (summary_of_read r)
-of_parts r h rows is text apart = record {
+pub of_parts : (version : ℕ) (r : ReadSummary) → IsHeadFine version r.head → AreRowsFine r.head.last r.rows.items → AreIncidentsFine r.head r.incidents.items
+    → IsTextFine r.head → AreAllApart (lapse (summary_of_read r) []) r.head.last r.incidents.items → AreNamedIn version r.incidents.items
+    → IsSummary version r.head.generation (summary_of_read r)
+of_parts version r h rows is text apart names = record {
   last = h.last;
   moments = record {
     start = h.start;
@@ -65,13 +66,14 @@ of_parts r h rows is text apart = record {
   holders = two_made IsHeldApart (stands_at (lapse (summary_of_read r) []) r.head.last) r.incidents.items apart.holders;
   steps = every_weaker (IsIncidentFine r.head) (λ (i : Incident). AreSteps i.steps) (λ i w. w.steps) r.incidents.items is.each;
   acts = every_weaker (IsIncidentFine r.head) (λ (i : Incident). AreActsOf i.steps i.acts) (λ i w. w.acts) r.incidents.items is.each;
+  names = names;
 }
 
-pub head_of : (r : ReadSummary) → IsSummary r.head.generation (summary_of_read r) → IsHeadFine r.head
-head_of r w = record { last = w.last; start = w.moments.start; recorded = w.recorded; first = w.first; followed = w.followed; opened = w.opened }
+pub head_of : (version : ℕ) (r : ReadSummary) → IsSummary version r.head.generation (summary_of_read r) → IsHeadFine version r.head
+head_of version r w = record { last = w.last; start = w.moments.start; recorded = w.recorded; first = w.first; followed = w.followed; opened = w.opened }
 
-pub rows_of : (r : ReadSummary) → IsSummary r.head.generation (summary_of_read r) → AreRowsFine r.head.last r.rows.items
-rows_of r w = record {
+pub rows_of : (version : ℕ) (r : ReadSummary) → IsSummary version r.head.generation (summary_of_read r) → AreRowsFine r.head.last r.rows.items
+rows_of version r w = record {
   each = every_both (λ (x : ReadRow). HasRowBy r.head.last (row_of_read x)) (λ (x : ReadRow). AreMessages x.window) (IsRowFine r.head.last)
       (λ x by messages. record { by = by; messages = messages }) r.rows.items
       (every_back (HasRowBy r.head.last) row_of_read r.rows.items w.moments.rows)
@@ -79,8 +81,8 @@ rows_of r w = record {
   order = two_back IsRowBefore row_of_read r.rows.items w.rows;
 }
 
-pub incidents_of : (r : ReadSummary) → IsSummary r.head.generation (summary_of_read r) → AreIncidentsFine r.head r.incidents.items
-incidents_of r w =
+pub incidents_of : (version : ℕ) (r : ReadSummary) → IsSummary version r.head.generation (summary_of_read r) → AreIncidentsFine r.head r.incidents.items
+incidents_of version r w =
     let by_count = every_both (HasIncidentBy r.head.last) (λ (i : Incident). IsCount (4000 * r.head.recorded) i.signals)
     (λ (i : Incident). HasIncidentBy r.head.last i × IsCount (4000 * r.head.recorded) i.signals) (λ i a b. (a, b)) r.incidents.items w.moments.incidents w.signals in
     let by_steps = every_both (λ (i : Incident). AreSteps i.steps) (λ (i : Incident). AreActsOf i.steps i.acts)
@@ -91,8 +93,9 @@ incidents_of r w =
       numbers = w.numbers;
     }
 
-pub apart_of : (r : ReadSummary) → IsSummary r.head.generation (summary_of_read r) → AreAllApart (lapse (summary_of_read r) []) r.head.last r.incidents.items
-apart_of r w = record {
+pub apart_of : (version : ℕ) (r : ReadSummary) → IsSummary version r.head.generation (summary_of_read r)
+    → AreAllApart (lapse (summary_of_read r) []) r.head.last r.incidents.items
+apart_of version r w = record {
   single = w.single;
   holders = two_back IsHeldApart (stands_at (lapse (summary_of_read r) []) r.head.last) r.incidents.items w.holders;
 }
@@ -110,9 +113,9 @@ given_some P (Some x) w = w
 room_of : (h : Head) (i : Incident) → IsIncidentFine h i → IsIncident i → HasActRoom i
 room_of h i w v = omega (arith, acts_and_left i.steps i.acts w.acts, v.few_steps)
 
-pub centre_fine : (h : Head) (text : Option (List ℕ)) (t : TableValue) → IsHeadFine h → Given (λ x. IsOk (setup_of x)) text → AreIncidentsFine h t.incidents
-    → Every IsIncident t.incidents → t.opened ≡ h.opened → IsCentre h.recorded h.recorded h.last text t
-centre_fine h text t fine valid is fields opened = record {
+pub centre_fine : (version : ℕ) (h : Head) (text : Option (List ℕ)) (t : TableValue) → IsHeadFine version h → Given (λ x. IsOk (setup_of x)) text
+    → AreIncidentsFine h t.incidents → Every IsIncident t.incidents → t.opened ≡ h.opened → IsCentre h.recorded h.recorded h.last text t
+centre_fine version h text t fine valid is fields opened = record {
   few = omega arith;
   bound = fine.recorded;
   moment = fine.last;
@@ -146,20 +149,21 @@ stands_over b s sum entries = record {
   });
 }
 
-pub decoded_is : (bytes : List ℕ) (r : ReadSummary) (s : State) → IsTextOf bytes r → IsKeptOf r s → IsDecoded bytes s r.head.generation
-decoded_is bytes r s text kept = record {
+pub decoded_is : (version : ℕ) (bytes : List ℕ) (r : ReadSummary) (s : State) → IsTextOf version bytes r → IsKeptOf version r s
+    → IsDecoded version bytes s r.head.generation
+decoded_is version bytes r s text kept = record {
   base = summary_of_read r;
   spelling = record { fields = text.fields; besides = kept.besides; is = text.is };
   stands = stands_over (summary_of_read r) s kept.sum kept.entries;
 }
 
-pub no_text : (bytes : List ℕ) → IsNoText bytes → IsNoSpelling bytes
-no_text bytes none generation s w = none generation s w.fields w.is
+pub no_text : (version : ℕ) (bytes : List ℕ) → IsNoText version bytes → IsNoSpelling version bytes
+no_text version bytes none generation s w = none generation s w.fields w.besides.names w.is
 
-pub no_summary : (bytes : List ℕ) (r : ReadSummary) → IsTextOf bytes r → IsNoSummary r → IsNoSpelling bytes
-no_summary bytes r text none generation s w =
-    let one = one_text bytes generation r.head.generation s (summary_of_read r) w.fields w.is text.fields text.is in
-    none (subst (λ (g : ℕ). IsSummary g (summary_of_read r)) one.generations (subst (IsSummary generation) one.summaries w.besides))
+pub no_summary : (version : ℕ) (bytes : List ℕ) (r : ReadSummary) → IsTextOf version bytes r → IsNoSummary version r → IsNoSpelling version bytes
+no_summary version bytes r text none generation s w =
+    let one = one_text version bytes generation r.head.generation s (summary_of_read r) w.fields w.besides.names w.is text.fields text.names text.is in
+    none (subst (λ (g : ℕ). IsSummary version g (summary_of_read r)) one.generations (subst (IsSummary version generation) one.summaries w.besides))
 
 -- Openings.
 

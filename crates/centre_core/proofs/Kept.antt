@@ -30,7 +30,7 @@ use Rattle.centre_core.proofs.Timely.{carried_timely}
 marks_are : (s : Summary) (e : Event) (at : ℕ) (r : Reply) → marks_of s [] e at r ≡ marks_with (carried_by s [] e at) e at r
 marks_are s (Adopt text) at r = refl
 marks_are s Start at r = refl
-marks_are s (Sent m) at r = refl
+marks_are s (Sent m via) at r = refl
 marks_are s (Beat account) at r = refl
 marks_are s Tick at r = refl
 marks_are s (Claim o n) at r = refl

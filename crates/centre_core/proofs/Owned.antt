@@ -24,17 +24,18 @@ one_of : (account : List ℕ) (b : Bool) (x : Carried) → x.account ≡ account
 one_of account true x is = (is, tt)
 one_of account false x is = tt
 
-sent_of : (setup : Setup) (account : List ℕ) (at : ℕ) (xs : List Signal) → AllOf (IsOf account) (flat_map (carried_sent setup account at) xs)
-sent_of setup account at [] = tt
-sent_of setup account at (x ∷ xs) =
-    append_of account (carried_sent setup account at x) (flat_map (carried_sent setup account at) xs)
-    (refl, one_of account (is_irregular (account_of setup account) x.kind at) (carried setup account at false (own_signal _)) refl) (sent_of setup account at xs)
+sent_of : (setup : Setup) (account via : List ℕ) (at : ℕ) (xs : List Signal) → AllOf (IsOf account) (flat_map (carried_sent setup account via at) xs)
+sent_of setup account via at [] = tt
+sent_of setup account via at (x ∷ xs) =
+    append_of account (carried_sent setup account via at x) (flat_map (carried_sent setup account via at) xs)
+    (refl, one_of account (is_irregular (account_of setup account) x.kind at) (carried setup account at false [] (own_signal _)) refl) (sent_of setup account via at xs)
 
-force_of : (o : Option Setup) (account : List ℕ) (at : ℕ) (xs : List Signal) → AllOf (IsOf account) (if_in_force o (λ setup. flat_map (carried_sent setup account at) xs))
-force_of None account at xs = tt
-force_of (Some setup) account at xs = sent_of setup account at xs
+force_of : (o : Option Setup) (account via : List ℕ) (at : ℕ) (xs : List Signal)
+    → AllOf (IsOf account) (if_in_force o (λ setup. flat_map (carried_sent setup account via at) xs))
+force_of None account via at xs = tt
+force_of (Some setup) account via at xs = sent_of setup account via at xs
 
 pub carried_own : (s : Summary) (e : Event) (at : ℕ) (xs : List Carried) → xs ≡ carried_by s [] e at → AreOwn e xs
-carried_own s (Sent m) at xs are =
-    all_by (IsOf m.account) xs (subst (AllOf (IsOf m.account)) (sym are) (force_of (force s []) m.account at (unwrap_or (signals m.token m.content) [])))
+carried_own s (Sent m via) at xs are =
+    all_by (IsOf m.account) xs (subst (AllOf (IsOf m.account)) (sym are) (force_of (force s []) m.account via at (unwrap_or (signals m.token m.content) [])))
 carried_own s event at xs are = tt

@@ -54,10 +54,10 @@ few_of test accounts places are = omega (arith, long_of accounts places (filter 
 
 module _ (class : Class) (at : ℕ) (setup : Setup) where
   pub raised_next : (found : List Account) (i : ℕ) (x : Account) (before old new : List Carried) → slice_get found i ≡ Some x
-      → old ≡ before ++ raised_of (take i found) class at setup → new ≡ old ++ carried setup x.number at true (own_signal class) ∷ []
+      → old ≡ before ++ raised_of (take i found) class at setup → new ≡ old ++ carried setup x.number at true [] (own_signal class) ∷ []
       → new ≡ before ++ raised_of (take (i + 1) found) class at setup
   raised_next found i x before old new here so_far pushed =
-      let signal : Account → Carried = λ a. carried setup a.number at true (own_signal class) in
+      let signal : Account → Carried = λ a. carried setup a.number at true [] (own_signal class) in
       pushed ∙ ap (λ ys. ys ++ signal x ∷ []) so_far ∙ append_assoc before (map signal (take i found)) (signal x ∷ [])
       ∙ ap (λ ys. before ++ ys) (sym (ap (map signal) (next_of found i x here) ∙ map-append signal (take i found) (x ∷ [])))
 

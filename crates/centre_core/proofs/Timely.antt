@@ -32,13 +32,13 @@ one_at : (b : Bool) (x : Carried) → IsMoment x.at → AllOf (λ (x : Carried).
 one_at true x m = (m, tt)
 one_at false x m = tt
 
-sent_at : (setup : Setup) (account : List ℕ) (at : ℕ) → IsMoment at → (xs : List Signal) → AllOf (λ (x : Carried). IsMoment x.at) (flat_map (carried_sent setup account at) xs)
-sent_at setup account at m [] = tt
-sent_at setup account at m (x ∷ xs) =
-    append_at (carried_sent setup account at x) (flat_map (carried_sent setup account at) xs)
-    (m, one_at (is_irregular (account_of setup account) x.kind at) (carried setup account at false (own_signal _)) m) (sent_at setup account at m xs)
+sent_at : (setup : Setup) (account via : List ℕ) (at : ℕ) → IsMoment at → (xs : List Signal) → AllOf (λ (x : Carried). IsMoment x.at) (flat_map (carried_sent setup account via at) xs)
+sent_at setup account via at m [] = tt
+sent_at setup account via at m (x ∷ xs) =
+    append_at (carried_sent setup account via at x) (flat_map (carried_sent setup account via at) xs)
+    (m, one_at (is_irregular (account_of setup account) x.kind at) (carried setup account at false [] (own_signal _)) m) (sent_at setup account via at m xs)
 
-raised_at : (setup : Setup) (class : Class) (at : ℕ) → IsMoment at → (xs : List Account) → AllOf (λ (x : Carried). IsMoment x.at) (map (λ a. carried setup a.number at true (own_signal class)) xs)
+raised_at : (setup : Setup) (class : Class) (at : ℕ) → IsMoment at → (xs : List Account) → AllOf (λ (x : Carried). IsMoment x.at) (map (λ a. carried setup a.number at true [] (own_signal class)) xs)
 raised_at setup class at m [] = tt
 raised_at setup class at m (x ∷ xs) = (m, raised_at setup class at m xs)
 
@@ -47,9 +47,9 @@ force_at None under all = tt
 force_at (Some setup) under all = all setup
 
 carried_at : (s : Summary) (e : Event) (at : ℕ) → IsMoment at → AllOf (λ (x : Carried). IsMoment x.at) (carried_by s [] e at)
-carried_at s (Sent message) at m =
-    force_at (force s []) (λ setup. flat_map (carried_sent setup message.account at) (unwrap_or (signals message.token message.content) []))
-    (λ setup. sent_at setup message.account at m (unwrap_or (signals message.token message.content) []))
+carried_at s (Sent message via) at m =
+    force_at (force s []) (λ setup. flat_map (carried_sent setup message.account via at) (unwrap_or (signals message.token message.content) []))
+    (λ setup. sent_at setup message.account via at m (unwrap_or (signals message.token message.content) []))
 carried_at s Tick at m =
     force_at (force s []) (λ setup. raised_where (is_silent s [] at) CommFail at setup ++ raised_where (is_late s [] at) LateClose at setup)
     (λ setup. append_at (raised_where (is_silent s [] at) CommFail at setup) (raised_where (is_late s [] at) LateClose at setup)

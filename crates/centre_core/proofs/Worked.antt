@@ -21,7 +21,7 @@ use Rattle.centre_rules.specs.Answers.{answer_over, if_known, knows_account, rep
 use Rattle.centre_core.specs.Kept.{IsWorked, IsPlain}
 
 no_signals : (s : Summary) (e : Event) (at : ℕ) → IsPlain e → carried_by s [] e at ≡ []
-no_signals s (Sent m) at p = absurd p
+no_signals s (Sent m via) at p = absurd p
 no_signals s Tick at p = absurd p
 no_signals s event at p = refl
 
@@ -32,8 +32,8 @@ plain_worked s e at r xs plain answer none = record {
   few = rw none (omega arith);
 }
 
-pub plain_event : (e : Event) → ((m : Message) → e ≡ Sent m → ⊥) → (e ≡ Tick → ⊥) → IsPlain e
-plain_event (Sent m) f g = f m refl
+pub plain_event : (e : Event) → ((m : Message) (via : List ℕ) → e ≡ Sent m via → ⊥) → (e ≡ Tick → ⊥) → IsPlain e
+plain_event (Sent m via) f g = f m via refl
 plain_event Tick f g = g refl
 plain_event event f g = tt
 
@@ -48,30 +48,30 @@ force_is s text is ok = ap (option_and_then (λ t. result_ok (setup_of t))) is �
 
 -- Messages.
 
-pub message_unknown : (s : Summary) (m : Message) (at : ℕ) → (knows_account (force s []) m.account && has_signals m.token m.content) ≡ false → (r : Reply) (xs : List Carried) → r ≡ Unknown → xs ≡ [] → IsWorked s (Sent m) at r xs
-message_unknown s m at lacks r xs is none = record {
+pub message_unknown : (s : Summary) (m : Message) (via : List ℕ) (at : ℕ) → (knows_account (force s []) m.account && has_signals m.token m.content) ≡ false → (r : Reply) (xs : List Carried) → r ≡ Unknown → xs ≡ [] → IsWorked s (Sent m via) at r xs
+message_unknown s m via at lacks r xs is none = record {
   answer = is ∙ sym (ap (λ b. if_known b (taken_or (repeat_of s [] m at))) lacks);
   carried = λ q. absurd (false≢true (rw is at q));
   few = rw none (omega arith);
 }
 
-pub message_repeat : (s : Summary) (m : Message) (at first : ℕ) → (knows_account (force s []) m.account && has_signals m.token m.content) ≡ true → repeat_of s [] m at ≡ Some first
-    → (r : Reply) (xs : List Carried) → r ≡ Repeat first → xs ≡ [] → IsWorked s (Sent m) at r xs
-message_repeat s m at first known found r xs is none = record {
+pub message_repeat : (s : Summary) (m : Message) (via : List ℕ) (at first : ℕ) → (knows_account (force s []) m.account && has_signals m.token m.content) ≡ true → repeat_of s [] m at ≡ Some first
+    → (r : Reply) (xs : List Carried) → r ≡ Repeat first → xs ≡ [] → IsWorked s (Sent m via) at r xs
+message_repeat s m via at first known found r xs is none = record {
   answer = is ∙ ap taken_or (sym found) ∙ sym (ap (λ b. if_known b (taken_or (repeat_of s [] m at))) known);
   carried = λ q. absurd (false≢true (rw is at q));
   few = rw none (omega arith);
 }
 
-pub message_taken : (s : Summary) (m : Message) (at : ℕ) (setup : Setup) (signals_are : List Signal) (xs : List Carried) → force s [] ≡ Some setup → knows_account (Some setup) m.account ≡ true
-    → signals m.token m.content ≡ Some signals_are → repeat_of s [] m at ≡ None → xs ≡ flat_map (carried_sent setup m.account at) signals_are → length xs ≤ 16 → IsWorked s (Sent m) at Taken xs
-message_taken s m at setup signals_are xs in_force known read none are few = record {
+pub message_taken : (s : Summary) (m : Message) (via : List ℕ) (at : ℕ) (setup : Setup) (signals_are : List Signal) (xs : List Carried) → force s [] ≡ Some setup → knows_account (Some setup) m.account ≡ true
+    → signals m.token m.content ≡ Some signals_are → repeat_of s [] m at ≡ None → xs ≡ flat_map (carried_sent setup m.account via at) signals_are → length xs ≤ 16 → IsWorked s (Sent m via) at Taken xs
+message_taken s m via at setup signals_are xs in_force known read none are few = record {
   answer =
       let both : (knows_account (force s []) m.account && has_signals m.token m.content) ≡ true = rw (in_force, known, read) refl in
       ap taken_or (sym none) ∙ sym (ap (λ b. if_known b (taken_or (repeat_of s [] m at))) both);
   carried = λ q. are ∙ sym (
-      ap (λ (o : Option Setup). if_in_force o (λ x. flat_map (carried_sent x m.account at) (unwrap_or (signals m.token m.content) []))) in_force
-      ∙ ap (λ (o : Option (List Signal)). flat_map (carried_sent setup m.account at) (unwrap_or o [])) read);
+      ap (λ (o : Option Setup). if_in_force o (λ x. flat_map (carried_sent x m.account via at) (unwrap_or (signals m.token m.content) []))) in_force
+      ∙ ap (λ (o : Option (List Signal)). flat_map (carried_sent setup m.account via at) (unwrap_or o [])) read);
   few = omega (arith, few);
 }
 

@@ -17,35 +17,35 @@ use Rattle.summary_codec.specs.declared.reading.ReadRow.{ReadRow}
 use Rattle.summary_codec.specs.declared.summary.ReadSummary.{ReadSummary}
 use Rattle.summary_codec.specs.Parts.{row_of_read, summary_of_read}
 
--- they spell no summary, of no generation
-abbrev pub IsNoSpelling : List ℕ → Type 0
-IsNoSpelling bytes = (generation : ℕ) (s : Summary) → IsSpelling generation s bytes → ⊥
+-- they spell no summary in a version, of no generation
+abbrev pub IsNoSpelling : ℕ → List ℕ → Type 0
+IsNoSpelling version bytes = (generation : ℕ) (s : Summary) → IsSpelling version generation s bytes → ⊥
 
--- they spell a summary of this generation, and the centre stands for the history of no entries over it
-pub record IsDecoded (bytes : List ℕ) (s : State) (generation : ℕ) : Type 0 where
+-- they spell a summary of this generation in a version, and the centre stands for the history of no entries over it
+pub record IsDecoded (version : ℕ) (bytes : List ℕ) (s : State) (generation : ℕ) : Type 0 where
   pub base : Summary
-  pub spelling : IsSpelling generation base bytes
+  pub spelling : IsSpelling version generation base bytes
   pub stands : StandsFor base s []
 
--- What was read is a summary, or not.
+-- What was read is a summary in a version, or not.
 
-abbrev pub IsNoSummary : ReadSummary → Type 0
-IsNoSummary r = IsSummary r.head.generation (summary_of_read r) → ⊥
+abbrev pub IsNoSummary : ℕ → ReadSummary → Type 0
+IsNoSummary version r = IsSummary version r.head.generation (summary_of_read r) → ⊥
 
 -- it is, and a centre keeps that
-pub record IsKeptOf (r : ReadSummary) (s : State) : Type 0 where
-  pub besides : IsSummary r.head.generation (summary_of_read r)
+pub record IsKeptOf (version : ℕ) (r : ReadSummary) (s : State) : Type 0 where
+  pub besides : IsSummary version r.head.generation (summary_of_read r)
   pub entries : s.entries ≡ r.head.recorded
   pub sum : s.sum ≡ summary_of_read r
 
 -- The conditions, part by part.
 
-pub record IsHeadFine (h : Head) : Type 0 where
+pub record IsHeadFine (version : ℕ) (h : Head) : Type 0 where
   pub last : IsMoment h.last
   pub start : Given (λ at. at ≤ h.last) h.start
   pub recorded : h.recorded ≤ 2 ^ 48
   pub first : 1 ≤ h.generation
-  pub followed : h.generation ≤ h.recorded + 1
+  pub followed : h.generation ≤ h.recorded + version
   pub opened : h.opened ≤ 4000 * h.recorded
 
 -- a row by itself
@@ -73,8 +73,8 @@ pub record AreIncidentsFine (h : Head) (is : List Incident) : Type 0 where
   pub numbers : Ascends 0 is h.opened
 
 -- the head, the rows and the incidents
-pub record ArePartsFine (h : Head) (rows : List ReadRow) (is : List Incident) : Type 0 where
-  pub head : IsHeadFine h
+pub record ArePartsFine (version : ℕ) (h : Head) (rows : List ReadRow) (is : List Incident) : Type 0 where
+  pub head : IsHeadFine version h
   pub rows_are : AreRowsFine h.last rows
   pub incidents : AreIncidentsFine h is
 

@@ -42,7 +42,7 @@ CarriesSetup event setup = Unit {0}
 
 -- neither a Message nor a Tick, which carry signals
 abbrev pub IsPlain : Event → Type 0
-IsPlain (Sent m) = ⊥
+IsPlain (Sent m via) = ⊥
 IsPlain Tick = ⊥
 IsPlain event = Unit {0}
 

@@ -35,7 +35,7 @@ IsNoAdopt event = Unit {0}
 
 -- the accounts of which a recorded event with these signals tells: a message and a heartbeat of their own, a Tick of those of its signals
 abbrev pub accounts_of : Event → List Carried → List (List ℕ)
-accounts_of (Sent m) xs = m.account ∷ []
+accounts_of (Sent m via) xs = m.account ∷ []
 accounts_of (Beat account) xs = account ∷ []
 accounts_of event xs = map (λ (x : Carried). x.account) xs
 
@@ -45,14 +45,14 @@ AreOf account xs = All (λ (x : Carried). x.account ≡ account) xs
 
 -- those that a message carries are of its account
 abbrev pub AreOwn : Event → List Carried → Type 0
-AreOwn (Sent m) xs = AreOf m.account xs
+AreOwn (Sent m via) xs = AreOf m.account xs
 AreOwn event xs = Unit {0}
 
 -- the marks of a recorded event that carries these signals
 abbrev pub marks_with : List Carried → Event → ℕ → Reply → List Mark
 marks_with xs (Adopt text) at reply = Adopts text ∷ []
 marks_with xs Start at reply = Starts at ∷ []
-marks_with xs (Sent m) at reply = Sends m at ∷ map Carries xs
+marks_with xs (Sent m via) at reply = Sends m at ∷ map Carries xs
 marks_with xs (Beat account) at reply = Hears account at ∷ []
 marks_with xs Tick at reply = map Carries xs
 marks_with xs (Claim operator number) at reply = claim_marks operator at reply

@@ -8,7 +8,7 @@ ghost use Rattle.centre_core.specs.Kept.{IsAdopted, IsWorked, IsPlain};
 use crate::carrying::{found, raise, signals_sent};
 use crate::centre::Centre;
 use crate::orders::on_adopt;
-use arc_data::{Acted, Carried, Event, Memory, Message, Reply};
+use arc_data::{Acted, Carried, Event, Memory, Message, Reply, Txt};
 use known_accounts::WatchedSetup;
 use open_incidents::listing::list;
 use open_incidents::orders::show;
@@ -36,7 +36,7 @@ impl Centre {
         ensures { IfOk result (λ w. IsWorked self.now.sum event.now at w.reply w.carried.items) }
     {
         match event {
-            Event::Message(message) => self.on_message(alloc, message, at),
+            Event::Message { message, via } => self.on_message(alloc, message, via, at),
             Event::Tick => self.on_tick(alloc, at),
             _ => {
                 let reply = self.reply(alloc, event, setup, at)?;
@@ -45,10 +45,16 @@ impl Centre {
         }
     }
 
-    // The answer to a message, and its signals where it is taken.
-    fn on_message(&self, alloc: Global, message: &Message, at: u64) -> Result<Worked, Memory>
+    // The answer to a message that came by a line, and its signals where it is taken.
+    fn on_message(
+        &self,
+        alloc: Global,
+        message: &Message,
+        via: &Txt,
+        at: u64,
+    ) -> Result<Worked, Memory>
         requires { IsMoment at }
-        ensures { IfOk result (λ w. IsWorked self.now.sum (Sent message.now) at w.reply w.carried.items) }
+        ensures { IfOk result (λ w. IsWorked self.now.sum (Sent message.now via.now) at w.reply w.carried.items) }
     {
         let Some(setup) = self.accounts.setup() else {
             return Ok(alone(alloc, Reply::Unknown));
@@ -64,7 +70,7 @@ impl Centre {
         if let Some(first) = self.accounts.rows().repeat(message, at) {
             return Ok(alone(alloc, Reply::Repeat { first }));
         }
-        let carried = signals_sent(alloc, setup, &message.account, place, at, &signals)?;
+        let carried = signals_sent(alloc, setup, &message.account, via, place, at, &signals)?;
         Ok(Worked {
             reply: Reply::Taken,
             carried,
@@ -126,7 +132,7 @@ impl Centre {
             } => Ok(self.on_close(operator, *number, at)),
             Event::Show { number } => Ok(show(self.queued.table(), *number, at, self.lapse())),
             Event::List => list(alloc, self.queued.table().items(), at, self.lapse()),
-            Event::Message(_) | Event::Tick => Ok(Reply::Unknown),
+            Event::Message { .. } | Event::Tick => Ok(Reply::Unknown),
         }
     }
 }

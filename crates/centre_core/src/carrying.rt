@@ -14,12 +14,13 @@ use arc_data::{Carried, Class, Kind, Memory, Signal, Signals, StepList, Txt};
 use known_accounts::{Places, SupervisedAccounts};
 use std::alloc::Global;
 
-/// The signals of a message of an account, in their order. An opening signal outside the account's windows is followed by an
-/// Irregular signal. The error is want of memory.
+/// The signals of a message of an account, in their order, each with the line by which the message came. An opening signal outside the
+/// account's windows is followed by an Irregular signal, which came by none. The error is want of memory.
 pub(crate) fn signals_sent(
     alloc: Global,
     setup: &Setup,
     account: &Txt,
+    via: &Txt,
     place: Option<usize>,
     at: u64,
     signals: &Signals,
@@ -27,12 +28,12 @@ pub(crate) fn signals_sent(
     requires moment { IsMoment at }
     requires place { IsFound (meaning setup.now) account.now place }
     requires few { length signals.now ≤ 8 }
-    ensures sent { IfOk result (λ v. v.items ≡ flat_map (carried_sent (meaning setup.now) account.now at) signals.now) }
+    ensures sent { IfOk result (λ v. v.items ≡ flat_map (carried_sent (meaning setup.now) account.now via.now at) signals.now) }
     ensures few { IfOk result (λ v. length v.items ≤ 16) }
 {
     let mut sent = Vec::new(alloc);
     for i in 0..signals.count() {
-        push_sent(&mut sent, setup, account, place, at, signals.at(i))?;
+        push_sent(&mut sent, setup, account, via, place, at, signals.at(i))?;
     }
     Ok(sent)
 }
@@ -66,20 +67,28 @@ fn push_sent(
     sent: &mut Vec<Carried>,
     setup: &Setup,
     account: &Txt,
+    via: &Txt,
     place: Option<usize>,
     at: u64,
     signal: Signal,
 ) -> Result<(), Memory>
     requires moment { IsMoment at }
     requires place { IsFound (meaning setup.now) account.now place }
-    ensures sent { OnOk result (sent.new.items ≡ sent.old.items ++ carried_sent (meaning setup.now) account.now at signal) }
+    ensures sent { OnOk result (sent.new.items ≡ sent.old.items ++ carried_sent (meaning setup.now) account.now via.now at signal) }
     ensures few { length sent.new.items ≤ length sent.old.items + 2 }
 {
     let irregular = is_irregular(setup, place, signal.kind, at);
-    push(sent, carried(setup, account, place, at, false, signal))?;
+    push(
+        sent,
+        carried(setup, account, place, at, false, *via, signal),
+    )?;
     if irregular {
-        let irregular = own_signal(Class::Irregular);
-        push(sent, carried(setup, account, place, at, false, irregular))?;
+        let signal = own_signal(Class::Irregular);
+        let none = Txt::empty();
+        push(
+            sent,
+            carried(setup, account, place, at, false, none, signal),
+        )?;
     }
     Ok(())
 }
@@ -102,26 +111,29 @@ fn raise_at(
         let account = setup.account(places.at(i));
         let place = found(setup, &account.number);
         let signal = own_signal(class);
+        let none = Txt::empty();
         push(
             raised,
-            carried(setup, &account.number, place, at, true, signal),
+            carried(setup, &account.number, place, at, true, none, signal),
         )?;
     }
     Ok(())
 }
 
-// A signal of an account that stands at a place of the setup, or nowhere, with the steps of the incident that it would open.
+// A signal of an account that stands at a place of the setup, or nowhere, by a line or none, with the steps of the incident that it
+// would open.
 fn carried(
     setup: &Setup,
     account: &Txt,
     place: Option<usize>,
     at: u64,
     by_tick: bool,
+    via: Txt,
     signal: Signal,
 ) -> Carried
     requires moment { IsMoment at }
     requires place { IsFound (meaning setup.now) account.now place }
-    ensures { result ≡ carried_of (meaning setup.now) account.now at by_tick signal }
+    ensures { result ≡ carried_of (meaning setup.now) account.now at by_tick via signal }
 {
     Carried {
         account: *account,
@@ -129,6 +141,7 @@ fn carried(
         at,
         by_tick,
         steps: steps_for(setup, place, signal.class, at),
+        via,
     }
 }
 
@@ -170,7 +183,7 @@ pub(crate) fn found(setup: &Setup, account: &Txt) -> Option<usize>
     setup.place(account)
 }
 
-// A signal that no panel sent.
+// A signal that no panel sent, and which came by no line.
 fn own_signal(class: Class) -> Signal
     ensures { result ≡ plain_signal class }
 {

@@ -15,16 +15,16 @@ use known_accounts::{Seen, Window};
 use std::cmp::Ordering;
 use summary_codec::{Head, ReadRow};
 
-/// Whether the moments and counts of a head are those of a summary.
-pub(crate) fn is_head(head: &Head<'_>) -> bool
-    ensures fine { IsTrue result → IsHeadFine head.now }
-    ensures only { IsHeadFine head.now → IsTrue result }
+/// Whether the moments and counts of a head are those of a summary in a version.
+pub(crate) fn is_head(version: u8, head: &Head<'_>) -> bool
+    ensures fine { IsTrue result → IsHeadFine version head.now }
+    ensures only { IsHeadFine version head.now → IsTrue result }
 {
     head.last < 253_402_300_800
         && is_by(head.start, head.last)
         && head.recorded <= 1 << 48
         && head.generation >= 1
-        && head.generation <= head.recorded + 1
+        && head.generation <= head.recorded + u64::from(version)
         && head.opened <= 4000 * head.recorded
 }
 

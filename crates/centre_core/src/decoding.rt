@@ -3,9 +3,10 @@ ghost use Rattle.std.specs.Prelude.{◌≡◌, ◌≤◌, ◌↔◌, ◌^◌, Li
 ghost use Rattle.std.specs.Option.{option_map};
 ghost use Rattle.arc_data.specs.Incidents.{Ascends};
 ghost use Rattle.arc_data.specs.Moments.{IsMoment};
+ghost use Rattle.event_codec.specs.Spelling.{IsVersion};
 ghost use Rattle.summary_rules.specs.Lists.{Every, EveryTwo};
 ghost use Rattle.summary_rules.specs.Fields.{HasFields};
-ghost use Rattle.summary_rules.specs.Conditions.{IsApart};
+ghost use Rattle.summary_rules.specs.Conditions.{AreNamedIn, IsApart};
 ghost use Rattle.summary_codec.specs.Parts.{row_of_read, summary_of_read};
 ghost use Rattle.centre_core.specs.Decoding.{IsNoSpelling, IsDecoded, IsNoSummary, IsKeptOf, IsReadBefore, AreRowsFine, ArePartsFine, AreAllApart, IsHeldApartAt, IsSetupGiven, IsTextFine};
 
@@ -20,18 +21,23 @@ use open_incidents::standing::holder_at;
 use std::alloc::Global;
 use summary_codec::{Head, ReadRow, ReadSummary, summary_read};
 
-/// The centre of a summary, and its generation. None exactly where the bytes are no spelling of one. The centre stands for the history
-/// of no entries over that summary. The error is want of memory.
-pub fn decode_summary(alloc: Global, bytes: &[u8]) -> Result<Option<(Centre, u64)>, Memory>
-    ensures { IfOk result (λ found. MatchOption found (IsNoSpelling bytes.now) (λ x. IsDecoded bytes.now x.0 x.1)) }
+/// The centre of a summary in a version, and its generation. None exactly where the bytes are no spelling of one in that version. The
+/// centre stands for the history of no entries over that summary. The error is want of memory.
+pub fn decode_summary(
+    alloc: Global,
+    version: u8,
+    bytes: &[u8],
+) -> Result<Option<(Centre, u64)>, Memory>
+    requires version { IsVersion version }
+    ensures { IfOk result (λ found. MatchOption found (IsNoSpelling version bytes.now) (λ x. IsDecoded version bytes.now x.0 x.1)) }
 {
-    let read = match summary_read(alloc, bytes) {
+    let read = match summary_read(alloc, version, bytes) {
         Ok(Some(read)) => read,
         Ok(None) => return Ok(None),
         Err(Memory) => return Err(Memory),
     };
     let generation = read.head.generation;
-    match centre_of(alloc, read) {
+    match centre_of(alloc, version, read) {
         Ok(Some(centre)) => Ok(Some((centre, generation))),
         Ok(None) => Ok(None),
         Err(Memory) => Err(Memory),
@@ -39,12 +45,13 @@ pub fn decode_summary(alloc: Global, bytes: &[u8]) -> Result<Option<(Centre, u64
 }
 
 // The centre that keeps what was read. None where that is not what a summary has to be.
-fn centre_of(alloc: Global, read: ReadSummary<'_>) -> Result<Option<Centre>, Memory>
-    requires { HasFields read.head.generation (summary_of_read read) }
-    ensures { IfOk result (λ found. MatchOption found (IsNoSummary read.entry) (IsKeptOf read.entry)) }
+fn centre_of(alloc: Global, version: u8, read: ReadSummary<'_>) -> Result<Option<Centre>, Memory>
+    requires fields { HasFields read.head.generation (summary_of_read read) }
+    requires names { AreNamedIn version read.incidents.items }
+    ensures { IfOk result (λ found. MatchOption found (IsNoSummary version read.entry) (IsKeptOf version read.entry)) }
 {
     let (head, rows, incidents) = read.parts();
-    if !are_parts(&head, &rows, &incidents) {
+    if !are_parts(version, &head, &rows, &incidents) {
         return Ok(None);
     }
     let Some(accounts) = accounts_of(alloc, &head, rows)? else {
@@ -64,11 +71,11 @@ fn centre_of(alloc: Global, read: ReadSummary<'_>) -> Result<Option<Centre>, Mem
 }
 
 // Whether each part by itself is such as a summary has.
-fn are_parts(head: &Head<'_>, rows: &[ReadRow], incidents: &[Incident]) -> bool
-    ensures fine { IsTrue result → ArePartsFine head.now rows.now incidents.now }
-    ensures only { ArePartsFine head.now rows.now incidents.now → IsTrue result }
+fn are_parts(version: u8, head: &Head<'_>, rows: &[ReadRow], incidents: &[Incident]) -> bool
+    ensures fine { IsTrue result → ArePartsFine version head.now rows.now incidents.now }
+    ensures only { ArePartsFine version head.now rows.now incidents.now → IsTrue result }
 {
-    is_head(head) && are_rows(rows, head.last) && are_incidents(incidents, head)
+    is_head(version, head) && are_rows(rows, head.last) && are_incidents(incidents, head)
 }
 
 // What is known of accounts, with the setup of the text in force. None where the text is no setup.

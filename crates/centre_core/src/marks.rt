@@ -31,7 +31,7 @@ pub(crate) fn mark(
 {
     match event {
         Event::Start => start(accounts, table, at),
-        Event::Message(message) => send(accounts, table, message, at, carried),
+        Event::Message { message, .. } => send(accounts, table, message, at, carried),
         Event::Beat { account } => {
             let place = accounts.place(&account);
             accounts.hear(place, at);

@@ -39,7 +39,7 @@ fn rows_for(rows: &AccountRows, event: &Event, carried: &[Carried]) -> usize
     ensures { result ≡ length (lacking rows.now.rows (accounts_of event.now carried.now)) }
 {
     match event {
-        Event::Message(message) => row_for(rows, &message.account),
+        Event::Message { message, .. } => row_for(rows, &message.account),
         Event::Beat { account } => row_for(rows, account),
         _ => rows_of(rows, carried),
     }

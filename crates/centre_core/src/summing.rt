@@ -21,11 +21,11 @@ use std::alloc::Global;
 use summary_codec::{put_count, put_given, put_head, put_incident, put_row, put_setup};
 
 impl Centre {
-    /// Makes the vector the bytes of the summary of what is kept, with this generation: that of each history for which the centre
-    /// stands, also of one that begins over a summary with a spelling. Rows ascend by the bytes of their accounts. Beside the bytes it
-    /// takes memory for a list of the accounts. The error is want of memory; the vector is then empty.
+    /// Makes the vector the bytes in version 2 of the summary of what is kept, with this generation: that of each history for which
+    /// the centre stands, also of one that begins over a summary with a spelling. Rows ascend by the bytes of their accounts. Beside
+    /// the bytes it takes memory for a list of the accounts. The error is want of memory; the vector is then empty.
     pub fn summary(&self, alloc: Global, generation: u64, out: &mut Vec<u8>) -> Result<(), Memory>
-        ensures spelled { OnOk result ((b : Summary) (h : List Entry) → IsSpelled b → StandsFor b self.now h → out.new.items ≡ summary_text generation (summary_of b h)) }
+        ensures spelled { OnOk result ((b : Summary) (h : List Entry) → IsSpelled b → StandsFor b self.now h → out.new.items ≡ summary_text 2 generation (summary_of b h)) }
         ensures moment { IsMoment self.now.sum.last }
         ensures refused { OnErr result (out.new.items ≡ []) }
     {
@@ -40,7 +40,7 @@ impl Centre {
     }
 
     fn put_summary(&self, alloc: Global, generation: u64, out: &mut Vec<u8>) -> Result<(), Memory>
-        ensures spelled { OnOk result ((b : Summary) (h : List Entry) → IsSpelled b → StandsFor b self.now h → out.new.items ≡ out.old.items ++ summary_text generation (summary_of b h)) }
+        ensures spelled { OnOk result ((b : Summary) (h : List Entry) → IsSpelled b → StandsFor b self.now h → out.new.items ≡ out.old.items ++ summary_text 2 generation (summary_of b h)) }
         ensures moment { IsMoment self.now.sum.last }
     {
         let rows = self.accounts.rows();
@@ -82,7 +82,7 @@ fn put_kept(
     out: &mut Vec<u8>,
 ) -> Result<(), Memory>
     requires { (a : List ℕ) → list_any (λ x. bytes_eq x a) accounts.now ≡ has_row rows.now.rows a }
-    ensures { OnOk result (HaveGoodSteps table.now.incidents → out.new.items ≡ out.old.items ++ summary_text generation (record {
+    ensures { OnOk result (HaveGoodSteps table.now.incidents → out.new.items ≡ out.old.items ++ summary_text 2 generation (record {
       last = last;
       recorded = recorded;
       opened = table.now.opened;
@@ -142,7 +142,7 @@ fn put_row_of(rows: &AccountRows, account: &Txt, out: &mut Vec<u8>) -> Result<()
 // The open incidents, with their count.
 #[tactic(auto, unfolding(summary_rules::specs::Spelling::many_texts))]
 fn put_incidents(table: &Table, out: &mut Vec<u8>) -> Result<(), Memory>
-    ensures { OnOk result (HaveGoodSteps table.now.incidents → out.new.items ≡ out.old.items ++ many_texts incident_text table.now.incidents) }
+    ensures { OnOk result (HaveGoodSteps table.now.incidents → out.new.items ≡ out.old.items ++ many_texts (incident_text 2) table.now.incidents) }
 {
     put_count(table.count(), out)?;
     for i in 0..table.count() {

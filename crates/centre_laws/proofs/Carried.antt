@@ -26,27 +26,27 @@ all_append force at [] ys v w = w
 all_append force at (x ∷ xs) ys v w = (v.0, all_append force at xs ys v.1 w)
 
 module _ (force : Option Setup) (at : ℕ) (setup : Setup) (e : force ≡ Some setup) where
-  one : (account : List ℕ) (by_tick : Bool) (signal : Signal) → IsBy force at (carried setup account at by_tick signal)
-  one account by_tick signal = record { at = refl; setup = setup; in_force = e; steps = refl }
+  one : (account : List ℕ) (by_tick : Bool) (via : List ℕ) (signal : Signal) → IsBy force at (carried setup account at by_tick via signal)
+  one account by_tick via signal = record { at = refl; setup = setup; in_force = e; steps = refl }
 
-  one_if : (b : Bool) (account : List ℕ) (signal : Signal) → AllBy force at (cond b (carried setup account at false signal ∷ []) [])
-  one_if true account signal = (one account false signal, tt)
+  one_if : (b : Bool) (account : List ℕ) (signal : Signal) → AllBy force at (cond b (carried setup account at false [] signal ∷ []) [])
+  one_if true account signal = (one account false [] signal, tt)
   one_if false account signal = tt
 
-  all_sent : (account : List ℕ) (xs : List Signal) → AllBy force at (flat_map (carried_sent setup account at) xs)
-  all_sent account [] = tt
-  all_sent account (x ∷ xs) = all_append force at (carried_sent setup account at x) _ (one account false x, one_if (is_irregular (account_of setup account) x.kind at) account _) (all_sent account xs)
+  all_sent : (account via : List ℕ) (xs : List Signal) → AllBy force at (flat_map (carried_sent setup account via at) xs)
+  all_sent account via [] = tt
+  all_sent account via (x ∷ xs) = all_append force at (carried_sent setup account via at x) _ (one account false via x, one_if (is_irregular (account_of setup account) x.kind at) account _) (all_sent account via xs)
 
-  all_accounts : (class : Class) (accounts : List Account) → AllBy force at (map (λ a. carried setup a.number at true (own_signal class)) accounts)
+  all_accounts : (class : Class) (accounts : List Account) → AllBy force at (map (λ a. carried setup a.number at true [] (own_signal class)) accounts)
   all_accounts class [] = tt
-  all_accounts class (a ∷ accounts) = (one a.number true (own_signal class), all_accounts class accounts)
+  all_accounts class (a ∷ accounts) = (one a.number true [] (own_signal class), all_accounts class accounts)
 
 all_under : (at : ℕ) (force o : Option Setup) (under : Setup → List Carried) → force ≡ o → ((setup : Setup) → force ≡ Some setup → AllBy force at (under setup)) → AllBy force at (if_in_force o under)
 all_under at force None under e f = tt
 all_under at force (Some setup) under e f = f setup e
 
-pub sent_by : (s : Summary) (ms : List Mark) (m : Message) (at : ℕ) → AllBy (force s ms) at (sent s ms m at)
-sent_by s ms m at = all_under at (force s ms) (force s ms) _ refl (λ setup e. all_sent (force s ms) at setup e m.account _)
+pub sent_by : (s : Summary) (ms : List Mark) (m : Message) (via : List ℕ) (at : ℕ) → AllBy (force s ms) at (sent s ms m via at)
+sent_by s ms m via at = all_under at (force s ms) (force s ms) _ refl (λ setup e. all_sent (force s ms) at setup e m.account via _)
 
 pub raised_by : (s : Summary) (ms : List Mark) (at : ℕ) → AllBy (force s ms) at (raised s ms at)
 raised_by s ms at =

@@ -180,8 +180,9 @@ leaves : (s : Summary) (ms : List Mark) (e : Event) (at n before : ℕ) (r : Rep
     → Leaves n (marks_of s ms e at r) at before r
 leaves s ms (Adopt text) at n before r may told f = absurd (no_adopt text n r may told f)
 leaves s ms Start at n before r may told f = absurd (no_start n r may f)
-leaves s ms (Sent m) at n before r may told f =
-    untouched (Sent m) n at before r (marks_of s ms (Sent m) at r) may refl (refl, spare_carried n (sent s ms m at)) (touched_carried n before (sent s ms m at))
+leaves s ms (Sent m via) at n before r may told f =
+    untouched (Sent m via) n at before r (marks_of s ms (Sent m via) at r) may refl (refl, spare_carried n (sent s ms m via at))
+    (touched_carried n before (sent s ms m via at))
 leaves s ms (Beat account) at n before r may told f = untouched (Beat account) n at before r _ may refl (refl, tt) refl
 leaves s ms Tick at n before r may told f =
     untouched Tick n at before r (marks_of s ms Tick at r) may refl (spare_carried n (raised s ms at)) (touched_carried n before (raised s ms at))

@@ -12,21 +12,21 @@ use Rattle.centre_laws.proofs.Shape.{IsTraced, traced, delivered_has, added_has}
 -- All deliveries of a number are of its message.
 
 -- a later step agrees with a delivery
-agree_step : (x : Schedule) (s : Step) (n : ℕ) (m : Message) (clock : ℕ) (b : Bool) (later earlier : List Step)
-    → IsSpacedStep x s (later ++ Deliver n m clock b ∷ earlier) → HasMessage n m s
-agree_step x (Deliver k a c d) n m clock b later earlier spaced =
-    λ own. sym (all_at (HasMessage k a) earlier (Deliver n m clock b) later spaced.same (sym own))
-agree_step x (Other e c d) n m clock b later earlier spaced = tt
-agree_step x Lose n m clock b later earlier spaced = tt
-agree_step x (Crash kept c) n m clock b later earlier spaced = tt
+agree_step : (x : Schedule) (s : Step) (n : ℕ) (m : Message) (via : List ℕ) (clock : ℕ) (b : Bool) (later earlier : List Step)
+    → IsSpacedStep x s (later ++ Deliver n m via clock b ∷ earlier) → HasMessage n m s
+agree_step x (Deliver k a line c d) n m via clock b later earlier spaced =
+    λ own. sym (all_at (HasMessage k a) earlier (Deliver n m via clock b) later spaced.same (sym own))
+agree_step x (Other e c d) n m via clock b later earlier spaced = tt
+agree_step x Lose n m via clock b later earlier spaced = tt
+agree_step x (Crash kept c) n m via clock b later earlier spaced = tt
 
 -- so all steps agree with it
-all_agree : (x : Schedule) (n : ℕ) (m : Message) (clock : ℕ) (b : Bool) (earlier later : List Step)
-    → Each (IsSpacedStep x) (later ++ Deliver n m clock b ∷ earlier)
-    → AllByRecursion (HasMessage n m) (later ++ Deliver n m clock b ∷ earlier)
-all_agree x n m clock b earlier [] spaced = (λ own. refl, spaced.0.same)
-all_agree x n m clock b earlier (s ∷ later) spaced =
-    (agree_step x s n m clock b later earlier spaced.0, all_agree x n m clock b earlier later spaced.1)
+all_agree : (x : Schedule) (n : ℕ) (m : Message) (via : List ℕ) (clock : ℕ) (b : Bool) (earlier later : List Step)
+    → Each (IsSpacedStep x) (later ++ Deliver n m via clock b ∷ earlier)
+    → AllByRecursion (HasMessage n m) (later ++ Deliver n m via clock b ∷ earlier)
+all_agree x n m via clock b earlier [] spaced = (λ own. refl, spaced.0.same)
+all_agree x n m via clock b earlier (s ∷ later) spaced =
+    (agree_step x s n m via clock b later earlier spaced.0, all_agree x n m via clock b earlier later spaced.1)
 
 -- A number stands at most once.
 
@@ -79,8 +79,8 @@ new_if false n k i w same none one = one
 
 -- a step keeps that none stands twice
 twice_step : (s : Step) (w : List Item) → NoneTwice w → NoneTwice (after_step s w)
-twice_step (Deliver k m clock b) w one n = let new = sent_item k b (message_entry w m clock) in
-    delivered_has (λ v. count_of n v ≤ 1) k m clock b w (one n) (rw (count_acknowledged n k w) (one n))
+twice_step (Deliver k m via clock b) w one n = let new = sent_item k b (message_entry w m via clock) in
+    delivered_has (λ v. count_of n v ≤ 1) k m via clock b w (one n) (rw (count_acknowledged n k w) (one n))
     (λ none. new_if (is_of_sending n new) n k new w (λ same. eqb-true n k same) none (one n))
 twice_step (Other e clock b) w one n = added_has (λ v. count_of n v ≤ 1) (next (entries w) e clock) b w (one n) (λ _. one n)
 twice_step Lose w one n = one n
@@ -163,29 +163,29 @@ sure_crash false x kept clock ss n ok is = let w = ideal_after x ss in sure_drop
 -- what is sure stays at each step
 sure_step : (always : Bool) (x : Schedule) (s : Step) (ss : List Step) (n : ℕ) → IsSafe always x s ss
     → sure always n (ideal_after x ss) ≡ true → sure always n (ideal_after x (s ∷ ss)) ≡ true
-sure_step always x (Deliver k m clock b) ss n ok is = let w = ideal_after x ss in
-    delivered_has (λ v. sure always n v ≡ true) k m clock b w is (sure_acknowledged always n k w is) (λ _. or_right _ _ is)
+sure_step always x (Deliver k m via clock b) ss n ok is = let w = ideal_after x ss in
+    delivered_has (λ v. sure always n v ≡ true) k m via clock b w is (sure_acknowledged always n k w is) (λ _. or_right _ _ is)
 sure_step always x (Other e clock b) ss n ok is = let w = ideal_after x ss in
     added_has (λ v. sure always n v ≡ true) (next (entries w) e clock) b w is (λ _. is)
 sure_step always x Lose ss n ok is = is
 sure_step always x (Crash kept clock) ss n ok is = sure_crash always x kept clock ss n ok is
 
 -- a delivery that counts makes its sending sure
-sure_delivered : (always b stood : Bool) (n : ℕ) (m : Message) (clock : ℕ) (w : List Item) → (always || b) ≡ true → stands n w ≡ stood
-    → sure always n (cond stood (cond b (acknowledge n w) w) (sent_item n b (message_entry w m clock) ∷ w)) ≡ true
-sure_delivered always b false n m clock w counts is = or_left _ _ (and_from _ _ (eq-eqb n n refl) counts)
-sure_delivered always true true n m clock w counts is = sure_now always n w is
-sure_delivered true false true n m clock w counts is = sure_always n w is
-sure_delivered false false true n m clock w counts is = absurd (true≢false (sym counts))
+sure_delivered : (always b stood : Bool) (n : ℕ) (m : Message) (via : List ℕ) (clock : ℕ) (w : List Item) → (always || b) ≡ true → stands n w ≡ stood
+    → sure always n (cond stood (cond b (acknowledge n w) w) (sent_item n b (message_entry w m via clock) ∷ w)) ≡ true
+sure_delivered always b false n m via clock w counts is = or_left _ _ (and_from _ _ (eq-eqb n n refl) counts)
+sure_delivered always true true n m via clock w counts is = sure_now always n w is
+sure_delivered true false true n m via clock w counts is = sure_always n w is
+sure_delivered false false true n m via clock w counts is = absurd (true≢false (sym counts))
 
 -- and it stays so
-sure_after : (always : Bool) (x : Schedule) (n : ℕ) (m : Message) (clock : ℕ) (b : Bool) (earlier later : List Step) → (always || b) ≡ true
-    → Each (IsSafe always x) (later ++ Deliver n m clock b ∷ earlier)
-    → sure always n (ideal_after x (later ++ Deliver n m clock b ∷ earlier)) ≡ true
-sure_after always x n m clock b earlier [] counts ok =
-    let w = ideal_after x earlier in sure_delivered always b (stands n w) n m clock w counts refl
-sure_after always x n m clock b earlier (s ∷ later) counts ok =
-    sure_step always x s (later ++ Deliver n m clock b ∷ earlier) n ok.0 (sure_after always x n m clock b earlier later counts ok.1)
+sure_after : (always : Bool) (x : Schedule) (n : ℕ) (m : Message) (via : List ℕ) (clock : ℕ) (b : Bool) (earlier later : List Step) → (always || b) ≡ true
+    → Each (IsSafe always x) (later ++ Deliver n m via clock b ∷ earlier)
+    → sure always n (ideal_after x (later ++ Deliver n m via clock b ∷ earlier)) ≡ true
+sure_after always x n m via clock b earlier [] counts ok =
+    let w = ideal_after x earlier in sure_delivered always b (stands n w) n m via clock w counts refl
+sure_after always x n m via clock b earlier (s ∷ later) counts ok =
+    sure_step always x s (later ++ Deliver n m via clock b ∷ earlier) n ok.0 (sure_after always x n m via clock b earlier later counts ok.1)
 
 -- What stands, stands once, with its message.
 
@@ -201,24 +201,25 @@ own_all n P (i ∷ w) all =
 -- from the count to the one item, which is traced
 one_item : (n : ℕ) (m : Message) (ss : List Step) (w own : List Item) → AllByRecursion (HasMessage n m) ss
     → filter (is_of_sending n) w ≡ own
-    → 1 ≤ length own → length own ≤ 1 → AllByRecursion (λ i. (is_of_sending n i ≡ true) × IsTraced ss i) own → StandsOnce n m w
+    → 1 ≤ length own → length own ≤ 1 → AllByRecursion (λ i. (is_of_sending n i ≡ true) × IsTraced ss i) own → StandsOnce n m ss w
 one_item n m ss w [] agree is some few all = absurd (omega (arith, some))
 one_item n m ss w (i ∷ []) agree is some few all =
-    record { item = i; only = is; event = all.0.1 n m (same_number n i.number all.0.0) agree }
+    let own = all.0.1 n m (same_number n i.number all.0.0) agree in
+    record { item = i; only = is; via = own.via; event = own.event; line = own.line }
 one_item n m ss w (i ∷ j ∷ own) agree is some few all = absurd (omega (arith, few))
 
 -- for both laws: each sending with a delivery that counts
-pub stands_once : (always : Bool) (x : Schedule) (ss later earlier : List Step) (n : ℕ) (m : Message) (clock : ℕ) (b : Bool)
+pub stands_once : (always : Bool) (x : Schedule) (ss later earlier : List Step) (n : ℕ) (m : Message) (via : List ℕ) (clock : ℕ) (b : Bool)
     → (always || b) ≡ true
-    → ss ≡ later ++ Deliver n m clock b ∷ earlier → Each (IsSpacedStep x) ss → Each (IsSafe always x) ss
-    → StandsOnce n m (ideal_after x ss)
-stands_once always x ss later earlier n m clock b counts is spaced ok =
+    → ss ≡ later ++ Deliver n m via clock b ∷ earlier → Each (IsSpacedStep x) ss → Each (IsSafe always x) ss
+    → StandsOnce n m ss (ideal_after x ss)
+stands_once always x ss later earlier n m via clock b counts is spaced ok =
     let w = ideal_after x ss in
-    let all = later ++ Deliver n m clock b ∷ earlier in
+    let all = later ++ Deliver n m via clock b ∷ earlier in
     let agree : AllByRecursion (HasMessage n m) ss =
-    subst (AllByRecursion (HasMessage n m)) (sym is) (all_agree x n m clock b earlier later (subst (Each (IsSpacedStep x)) is spaced)) in
+    subst (AllByRecursion (HasMessage n m)) (sym is) (all_agree x n m via clock b earlier later (subst (Each (IsSpacedStep x)) is spaced)) in
     let stood : sure always n w ≡ true =
     subst (λ (ts : List Step). sure always n (ideal_after x ts) ≡ true) (sym is)
-    (sure_after always x n m clock b earlier later counts (subst (Each (IsSafe always x)) is ok)) in
+    (sure_after always x n m via clock b earlier later counts (subst (Each (IsSafe always x)) is ok)) in
     one_item n m ss w (filter (is_of_sending n) w) agree refl (some_of n w (sure_stands always n w stood)) (none_twice x ss n)
     (own_all n (IsTraced ss) w (traced x ss))

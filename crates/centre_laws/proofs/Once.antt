@@ -48,14 +48,14 @@ acknowledged_if true n w = sym (acknowledged_entries n w)
 acknowledged_if false n w = refl
 
 -- at a delivery, by whether its number stands
-put_delivered : (stood : Bool) (n : ℕ) (m : Message) (clock : ℕ) (b : Bool) (w : List Item)
-    → IsTold stood (next (entries w) (Sent m) clock).reply
-    → put (next (entries w) (Sent m) clock) (entries w)
-    ≡ entries (cond stood (cond b (acknowledge n w) w) (sent_item n b (message_entry w m clock) ∷ w))
-put_delivered true n m clock b w told = put_repeat (next (entries w) (Sent m) clock) (entries w) (told.again refl) ∙ acknowledged_if b n w
-put_delivered false n m clock b w told =
+put_delivered : (stood : Bool) (n : ℕ) (m : Message) (via : List ℕ) (clock : ℕ) (b : Bool) (w : List Item)
+    → IsTold stood (next (entries w) (Sent m via) clock).reply
+    → put (next (entries w) (Sent m via) clock) (entries w)
+    ≡ entries (cond stood (cond b (acknowledge n w) w) (sent_item n b (message_entry w m via clock) ∷ w))
+put_delivered true n m via clock b w told = put_repeat (next (entries w) (Sent m via) clock) (entries w) (told.again refl) ∙ acknowledged_if b n w
+put_delivered false n m via clock b w told =
     let at = moment_after nothing (entries w) clock in
-    ap (λ (reply : Reply). put (record { caller = 0; event = Sent m; at = at; reply = reply }) (entries w)) (told.first refl)
+    ap (λ (reply : Reply). put (record { caller = 0; event = Sent m via; at = at; reply = reply }) (entries w)) (told.first refl)
 
 -- at another event, by whether it is recorded
 put_added : (recorded : Bool) (e : Entry) (b : Bool) (w : List Item)
@@ -71,14 +71,14 @@ pub record IsIdealTo (x : Schedule) (ss : List Step) : Type 0 where
 -- the induction's step
 ideal_step : QuietChangesNothing → (x : Schedule) (s : Step) (ss : List Step) → Each (IsStep x) (s ∷ ss) → IsSpacedStep x s ss
     → IsIdealTo x ss → IsIdealTo x (s ∷ ss)
-ideal_step quiet x (Deliver n m clock b) ss ok spaced so =
+ideal_step quiet x (Deliver n m via clock b) ss ok spaced so =
     let h = history_after x ss in
     let w = ideal_after x ss in
     let at = moment_after nothing (entries w) clock in
-    let is = told x ss w n m at (over x ss ok.1) (traced x ss) ok.0 spaced in
-    let same : next h (Sent m) clock ≡ next (entries w) (Sent m) clock = next_is quiet h (entries w) (Sent m) clock so.same in
+    let is = told x ss w n m via at (over x ss ok.1) (traced x ss) ok.0 spaced in
+    let same : next h (Sent m via) clock ≡ next (entries w) (Sent m via) clock = next_is quiet h (entries w) (Sent m via) clock so.same in
     record {
-      same = recorded_next quiet h (entries w) (Sent m) clock so.same ∙ put_delivered (stands n w) n m clock b w is;
+      same = recorded_next quiet h (entries w) (Sent m via) clock so.same ∙ put_delivered (stands n w) n m via clock b w is;
       replies = (subst (λ (e : Entry). IsTold (stands n w) e.reply) (sym same) is, so.replies);
     }
 ideal_step quiet x (Other e clock b) ss ok spaced so =

@@ -68,7 +68,7 @@ close_ahead n r = refl
 acts_of_entry : (s : Summary) (ms : List Mark) (n : ℕ) (e : Event) (at : ℕ) (r : Reply) → acts_ahead n (marks_of s ms e at r) ≡ acted_of n e at r
 acts_of_entry s ms n (Adopt text) at r = refl
 acts_of_entry s ms n Start at r = refl
-acts_of_entry s ms n (Sent m) at r = none_carried n (sent s ms m at)
+acts_of_entry s ms n (Sent m via) at r = none_carried n (sent s ms m via at)
 acts_of_entry s ms n (Beat account) at r = refl
 acts_of_entry s ms n Tick at r = none_carried n (raised s ms at)
 acts_of_entry s ms n (Claim o k) at r = claim_ahead n o at r
@@ -208,7 +208,7 @@ module _ (s : Summary) (e : Entry) (h : List Entry) where
   open_entry : (event : Event) (r : Reply) → AllMayOpen (marks_of s (marks s h) event e.at r)
   open_entry (Adopt text) r = (tt, tt)
   open_entry Start r = (tt, tt)
-  open_entry (Sent m) r = (tt, open_carried (sent s (marks s h) m e.at) (sent_by s (marks s h) m e.at))
+  open_entry (Sent m via) r = (tt, open_carried (sent s (marks s h) m via e.at) (sent_by s (marks s h) m via e.at))
   open_entry (Beat account) r = (tt, tt)
   open_entry Tick r = open_carried (raised s (marks s h) e.at) (raised_by s (marks s h) e.at)
   open_entry (Claim o n) r = open_claim o e.at r

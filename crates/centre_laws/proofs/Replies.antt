@@ -21,9 +21,9 @@ abbrev pub may_answer : Event → Reply → Bool
 may_answer (Adopt text) Adopted = true
 may_answer (Adopt text) Unknown = true
 may_answer Start Started = true
-may_answer (Sent m) Taken = true
-may_answer (Sent m) (Repeat first) = true
-may_answer (Sent m) Unknown = true
+may_answer (Sent m via) Taken = true
+may_answer (Sent m via) (Repeat first) = true
+may_answer (Sent m via) Unknown = true
 may_answer (Beat account) Heard = true
 may_answer (Beat account) Unknown = true
 may_answer Tick (Raised count) = true
@@ -115,7 +115,7 @@ module _ (e : Event) (closed : (n : ℕ) → may_answer e (Closed n) ≡ true) (
 pub answer_may : (s : Summary) (ms : List Mark) (e : Event) (at : ℕ) → may_answer e (answer_over s ms e at) ≡ true
 answer_may s ms (Adopt text) at = known (Adopt text) _ Adopted refl refl
 answer_may s ms Start at = refl
-answer_may s ms (Sent m) at = known (Sent m) _ _ refl (taken_may (Sent m) (repeat_of s ms m at) refl (λ first. refl))
+answer_may s ms (Sent m via) at = known (Sent m via) _ _ refl (taken_may (Sent m via) (repeat_of s ms m at) refl (λ first. refl))
 answer_may s ms (Beat account) at = known (Beat account) _ Heard refl refl
 answer_may s ms Tick at = refl
 answer_may s ms (Claim o n) at = known (Claim o n) _ _ refl (claim_may o n (standing s ms at) (numbered n (standing s ms at)))

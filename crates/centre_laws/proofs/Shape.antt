@@ -1,6 +1,6 @@
--- What stays so of an ideal list: it is over its beginning, and each numbered item has the message of its deliveries. Both hold
--- of each schedule, well spaced or not.
-use Rattle.std.proofs.Common.{◌≡◌, ◌≤◌, ◌-◌, ℕ, List, [], ◌∷◌, ◌++◌, length, drop, Bool, true, false, cond, refl, sym, ap, ◌∙◌, true≢false}
+-- What stays so of an ideal list: it is over its beginning, and each numbered item has the message of its deliveries, and the
+-- line of one of them. Both hold of each schedule, well spaced or not.
+use Rattle.std.proofs.Common.{◌≡◌, ◌≤◌, ◌-◌, ℕ, List, [], ◌∷◌, ◌++◌, length, drop, Bool, true, false, cond, refl, sym, ap, ◌∙◌, true≢false, inl, inr}
 use Rattle.std.specs.Prelude.{Some}
 use Rattle.std.specs.List.{AllByRecursion}
 use Rattle.std.proofs.lemmas.Bool.{cond_both}
@@ -12,15 +12,16 @@ use Rattle.arc_data.specs.declared.event.Message.{Message}
 use Rattle.centre_rules.specs.History.{Entry, is_recorded}
 use Rattle.centre_laws.specs.Schedules.{Step, Deliver, Other, Lose, Crash, Schedule, Item, entries, next, stands, acknowledge, acknowledge_item, sent_item, item_of, delivered, added, message_entry, start_entry, first_start, first_adopt, after_step, oldest, beginning, ideal_after, Each, IsStep, is_other}
 use Rattle.centre_laws.specs.Spacing.{HasMessage}
+use Rattle.centre_laws.specs.Sendings.{CameBy}
 use Rattle.centre_rules.proofs.Standing.{is_adopt}
 use Rattle.centre_laws.proofs.Upon.{IsLater, IsOver}
 use Rattle.centre_laws.proofs.Lists.{all_weaker, all_drop, all_map, oldest_over}
 
 -- What a delivery makes of a list has P, where the list has P, and so has what comes of it either way. For what steps keep.
-pub delivered_has : (P : List Item → Type 0) (n : ℕ) (m : Message) (clock : ℕ) (b : Bool) (w : List Item) → P w → P (acknowledge n w)
-    → (stands n w ≡ false → P (sent_item n b (message_entry w m clock) ∷ w)) → P (delivered n m clock b w)
-delivered_has P n m clock b w so again first =
-    cond_both (stands n w) (cond b (acknowledge n w) w) (sent_item n b (message_entry w m clock) ∷ w) P
+pub delivered_has : (P : List Item → Type 0) (n : ℕ) (m : Message) (via : List ℕ) (clock : ℕ) (b : Bool) (w : List Item)
+    → P w → P (acknowledge n w) → (stands n w ≡ false → P (sent_item n b (message_entry w m via clock) ∷ w)) → P (delivered n m via clock b w)
+delivered_has P n m via clock b w so again first =
+    cond_both (stands n w) (cond b (acknowledge n w) w) (sent_item n b (message_entry w m via clock) ∷ w) P
     (λ _. cond_both b (acknowledge n w) w P (λ _. again) (λ _. so)) first
 
 -- likewise of another event
@@ -62,9 +63,9 @@ over_oldest x kept w two over = let dropped = length (over.later ++ beginning x)
 
 -- each step leaves the beginning
 over_step : (x : Schedule) (s : Step) (ss : List Step) → IsStep x s ss → IsOver x (ideal_after x ss) → IsOver x (ideal_after x (s ∷ ss))
-over_step x (Deliver n m clock b) ss ok so = let w = ideal_after x ss in
-    delivered_has (IsOver x) n m clock b w so (over_acknowledged x n w so)
-    (λ _. over_more x (sent_item n b (message_entry w m clock)) w refl refl so)
+over_step x (Deliver n m via clock b) ss ok so = let w = ideal_after x ss in
+    delivered_has (IsOver x) n m via clock b w so (over_acknowledged x n w so)
+    (λ _. over_more x (sent_item n b (message_entry w m via clock)) w refl refl so)
 over_step x (Other e clock b) ss ok so = let w = ideal_after x ss in let new = next (entries w) e clock in
     added_has (IsOver x) new b w so (λ is. over_more x (item_of b new) w is (other_adopts e ok) so)
 over_step x Lose ss ok so = so
@@ -78,13 +79,24 @@ over x (s ∷ ss) ok = over_step x s ss ok.0 (over x ss ok.1)
 
 -- Numbers and messages.
 
--- an item of a sending has the message that all deliveries of its number have
+-- the event is this message, by the line of one of these deliveries of the number
+pub record IsOfDelivery (n : ℕ) (m : Message) (ss : List Step) (e : Event) : Type 0 where
+  pub via : List ℕ
+  pub event : e ≡ Sent m via
+  pub line : CameBy n via ss
+
+-- an item of a sending has the message that all deliveries of its number have, and the line of one of them
 abbrev pub IsTraced : List Step → Item → Type 0
-IsTraced ss i = (n : ℕ) (m : Message) → i.number ≡ Some n → AllByRecursion (HasMessage n m) ss → i.entry.event ≡ Sent m
+IsTraced ss i =
+    (n : ℕ) (m : Message) → i.number ≡ Some n → AllByRecursion (HasMessage n m) ss → IsOfDelivery n m ss i.entry.event
 
 -- each item is traced
 abbrev pub AreTraced : List Step → List Item → Type 0
 AreTraced ss w = AllByRecursion (IsTraced ss) w
+
+-- it stays so at a step more
+of_more : (s : Step) (ss : List Step) (n : ℕ) (m : Message) (e : Event) → IsOfDelivery n m ss e → IsOfDelivery n m (s ∷ ss) e
+of_more s ss n m e own = record { via = own.via; event = own.event; line = inr own.line }
 
 -- an item of no sending is traced
 unnumbered : (ss : List Step) (b : Bool) (e : Entry) → IsTraced ss (item_of b e)
@@ -92,9 +104,16 @@ unnumbered ss b e n m is all = absurd (none-some n is)
 
 -- each step leaves items traced
 traced_step : (s : Step) (ss : List Step) (w : List Item) → AreTraced (s ∷ ss) w → AreTraced (s ∷ ss) (after_step s w)
-traced_step (Deliver n m clock b) ss w all = let P = IsTraced (Deliver n m clock b ∷ ss) in
-    delivered_has (AllByRecursion P) n m clock b w all (all_map P (acknowledge_item n) (λ i t. t) w all)
-    (λ _. ((λ k a is agree. ap Sent (agree.0 (sym (same_Some n k is)))), all))
+traced_step (Deliver n m via clock b) ss w all = let P = IsTraced (Deliver n m via clock b ∷ ss) in
+    delivered_has (AllByRecursion P) n m via clock b w all (all_map P (acknowledge_item n) (λ i t. t) w all)
+    (λ _. (
+      (λ k a is agree. let own : k ≡ n = sym (same_Some n k is) in record {
+        via = via;
+        event = ap (λ (l : Message). Sent l via) (agree.0 own);
+        line = inl (own, refl);
+      }),
+      all,
+    ))
 traced_step (Other e clock b) ss w all = let new = next (entries w) e clock in
     added_has (AreTraced (Other e clock b ∷ ss)) new b w all (λ _. (unnumbered (Other e clock b ∷ ss) b new, all))
 traced_step Lose ss w all = all
@@ -106,4 +125,4 @@ pub traced : (x : Schedule) (ss : List Step) → AreTraced ss (ideal_after x ss)
 traced x [] = (unnumbered [] false (first_start x.first), (unnumbered [] false (first_adopt x.text x.first), tt))
 traced x (s ∷ ss) =
     let w = ideal_after x ss in
-    traced_step s ss w (all_weaker (IsTraced ss) (IsTraced (s ∷ ss)) (λ i t n m is all. t n m is all.1) w (traced x ss))
+    traced_step s ss w (all_weaker (IsTraced ss) (IsTraced (s ∷ ss)) (λ i t n m is all. of_more s ss n m i.entry.event (t n m is all.1)) w (traced x ss))

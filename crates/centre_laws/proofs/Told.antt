@@ -12,7 +12,7 @@ use Rattle.alarm_rules.specs.Setups.{Setup, setup_of, has_account}
 use Rattle.centre_rules.specs.Summary.{Past, nothing}
 use Rattle.centre_rules.specs.Answers.{answer, knows_account, taken_or, repeats}
 use Rattle.centre_laws.specs.Schedules.{Step, Schedule, Item, entries, stands, IsPanels}
-use Rattle.centre_laws.specs.Spacing.{IsSpaced}
+use Rattle.centre_laws.specs.Spacing.{message_in, IsSpaced}
 use Rattle.centre_laws.specs.Sendings.{IsRepeat, IsTold}
 use Rattle.centre_laws.proofs.Lists.{all_at, place_of}
 use Rattle.centre_laws.proofs.Upon.{IsOver, pasts, text_stays, messages_are}
@@ -35,9 +35,9 @@ found_is_told None some = absurd (true≢false (sym some))
 found_is_told (Some p) some = (p.at, refl)
 
 -- the answer to a panel's message, by the messages of the list
-answer_is : (x : Schedule) (w : List Item) (m : Message) (at : ℕ) → IsOver x w → IsPanels x.text m
-    → answer nothing (entries w) (Sent m) at ≡ reply_by (find (repeats m at) (take 32 (pasts m.account w)))
-answer_is x w m at over of =
+answer_is : (x : Schedule) (w : List Item) (m : Message) (via : List ℕ) (at : ℕ) → IsOver x w → IsPanels x.text m
+    → answer nothing (entries w) (Sent m via) at ≡ reply_by (find (repeats m at) (take 32 (pasts m.account w)))
+answer_is x w m via at over of =
     rw (text_stays x w over, known (setup_of x.text) m.account of.account, of.signals, messages_are x m.account w over) refl
 
 -- where the number stands, the message itself is found
@@ -46,14 +46,13 @@ told_again : (ss : List Step) (w : List Item) (n : ℕ) (m : Message) (at : ℕ)
 told_again ss w n m at traced spaced stood =
     let a = place_of n w stood in
     let near = spaced.again a.later a.before a.item a.split a.number in
-    let own : a.item.entry.event ≡ Sent m =
-    all_at (IsTraced ss) a.before a.item a.later (subst (AreTraced ss) a.split traced) n m a.number spaced.same in
-    rw a.split (has_repeat 32 m at a.item a.before a.later own near.young near.few)
+    let own = all_at (IsTraced ss) a.before a.item a.later (subst (AreTraced ss) a.split traced) n m a.number spaced.same in
+    rw a.split (has_repeat 32 m at a.item a.before a.later (ap message_in own.event) near.young near.few)
 
 -- what a spaced delivery is told
-pub told : (x : Schedule) (ss : List Step) (w : List Item) (n : ℕ) (m : Message) (at : ℕ) → IsOver x w → AreTraced ss w → IsPanels x.text m
-    → IsSpaced n m at ss w → IsTold (stands n w) (answer nothing (entries w) (Sent m) at)
-told x ss w n m at over traced of spaced = let is = answer_is x w m at over of in record {
+pub told : (x : Schedule) (ss : List Step) (w : List Item) (n : ℕ) (m : Message) (via : List ℕ) (at : ℕ) → IsOver x w → AreTraced ss w → IsPanels x.text m
+    → IsSpaced n m at ss w → IsTold (stands n w) (answer nothing (entries w) (Sent m via) at)
+told x ss w n m via at over traced of spaced = let is = answer_is x w m via at over of in record {
   again = λ stood. subst IsRepeat (sym is) (found_is_told _ (told_again ss w n m at traced spaced stood));
   first = λ none. is ∙ ap reply_by (no_repeat 32 m at w (spaced.fresh none));
 }

@@ -79,7 +79,7 @@ messages_close account r ms = refl
 -- an event adds to the messages where it is one
 messages_upon : (account : List ℕ) (e : Event) (at : ℕ) (r : Reply) (ms : List Mark)
     → messages nothing (onto (marks_of nothing ms e at r) ms) account ≡ past_upon account at (message_in e) (messages nothing ms account)
-messages_upon account (Sent m) at r ms = messages_carried account (sent nothing ms m at) (Sends m at ∷ ms)
+messages_upon account (Sent m via) at r ms = messages_carried account (sent nothing ms m via at) (Sends m at ∷ ms)
 messages_upon account Tick at r ms = messages_carried account (raised nothing ms at) ms
 messages_upon account (Claim o n) at r ms = messages_claim account o at r ms
 messages_upon account (Next o) at r ms = messages_claim account o at r ms

@@ -13,10 +13,10 @@ use Rattle.centre_rules.specs.History.{Entry, is_recorded, recorded, moment_afte
 use Rattle.alarm_rules.specs.Signals.{has_signals}
 use Rattle.centre_rules.specs.Answers.{answer}
 
--- A sending is delivered: its number, its message, the reading of the clock, and whether it is acknowledged. Another event
--- comes, likewise. A reply is lost. A crash keeps so many entries, and a Start follows at this reading.
+-- A sending is delivered: its number, its message, the line by which it comes this time, the reading of the clock, and whether it is
+-- acknowledged. Another event comes, likewise. A reply is lost. A crash keeps so many entries, and a Start follows at this reading.
 pub data Step : Type 0 where
-  Deliver : (number : ℕ) (message : Message) (clock : ℕ) (acknowledged : Bool) → Step
+  Deliver : (number : ℕ) (message : Message) (via : List ℕ) (clock : ℕ) (acknowledged : Bool) → Step
   Other : (event : Event) (clock : ℕ) (acknowledged : Bool) → Step
   Lose : Step
   Crash : (kept : ℕ) (clock : ℕ) → Step
@@ -68,9 +68,9 @@ acknowledge_item n i = record i { acknowledged = i.acknowledged || is_of_sending
 abbrev pub acknowledge : ℕ → List Item → List Item
 acknowledge n w = map (acknowledge_item n) w
 
--- the entry of a message that is taken
-abbrev pub message_entry : List Item → Message → ℕ → Entry
-message_entry w m clock = record { caller = 0; event = Sent m; at = moment_after nothing (entries w) clock; reply = Taken }
+-- the entry of a message that is taken, by a line
+abbrev pub message_entry : List Item → Message → List ℕ → ℕ → Entry
+message_entry w m via clock = record { caller = 0; event = Sent m via; at = moment_after nothing (entries w) clock; reply = Taken }
 
 -- the entry of a Start
 abbrev pub start_entry : List Item → ℕ → Entry
@@ -84,12 +84,12 @@ sent_item n acknowledged e = record { number = Some n; acknowledged = acknowledg
 abbrev pub item_of : Bool → Entry → Item
 item_of acknowledged e = record { number = None; acknowledged = acknowledged; entry = e }
 
--- a delivery adds its message where its number does not stand yet
-abbrev pub delivered : ℕ → Message → ℕ → Bool → List Item → List Item
-delivered n m clock acknowledged w =
+-- a delivery adds its message where its number does not stand yet, by whichever line that came
+abbrev pub delivered : ℕ → Message → List ℕ → ℕ → Bool → List Item → List Item
+delivered n m via clock acknowledged w =
     if stands n w
     then (if acknowledged then acknowledge n w else w)
-    else sent_item n acknowledged (message_entry w m clock) ∷ w
+    else sent_item n acknowledged (message_entry w m via clock) ∷ w
 
 -- an entry is added where its reply is not quiet
 abbrev pub added : Entry → Bool → List Item → List Item
@@ -97,7 +97,7 @@ added e acknowledged w = if is_recorded e.reply then item_of acknowledged e ∷ 
 
 -- the list after a step
 abbrev pub after_step : Step → List Item → List Item
-after_step (Deliver n m clock acknowledged) w = delivered n m clock acknowledged w
+after_step (Deliver n m via clock acknowledged) w = delivered n m via clock acknowledged w
 after_step (Other e clock acknowledged) w = added (next (entries w) e clock) acknowledged w
 after_step Lose w = w
 after_step (Crash kept clock) w = let left = oldest kept w in item_of false (start_entry left clock) ∷ left
@@ -132,7 +132,7 @@ submitted e clock h = next h e clock ∷ h
 
 -- the history after a step
 abbrev pub history_step : Step → List Entry → List Entry
-history_step (Deliver n m clock acknowledged) h = submitted (Sent m) clock h
+history_step (Deliver n m via clock acknowledged) h = submitted (Sent m via) clock h
 history_step (Other e clock acknowledged) h = submitted e clock h
 history_step Lose h = h
 history_step (Crash kept clock) h = submitted Start clock (oldest kept (recorded h))
@@ -160,7 +160,7 @@ pub record IsPanels (text : List ℕ) (m : Message) : Type 0 where
 
 -- no message, no Adopt and no Start
 abbrev pub is_other : Event → Bool
-is_other (Sent m) = false
+is_other (Sent m via) = false
 is_other (Adopt text) = false
 is_other Start = false
 is_other other = true
@@ -172,7 +172,7 @@ pub record IsKept (kept : ℕ) (w : List Item) : Type 0 where
 
 -- what a step of a schedule is, after the steps before it
 abbrev pub IsStep : Schedule → Step → List Step → Type 0
-IsStep x (Deliver n m clock acknowledged) earlier = IsPanels x.text m
+IsStep x (Deliver n m via clock acknowledged) earlier = IsPanels x.text m
 IsStep x (Other e clock acknowledged) earlier = is_other e ≡ true
 IsStep x Lose earlier = Unit {0}
 IsStep x (Crash kept clock) earlier = IsKept kept (ideal_after x earlier)

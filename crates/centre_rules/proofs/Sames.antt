@@ -88,7 +88,7 @@ raised_same w at = rw (force_same w, is_silent_same w at, is_late_same w at) ref
 
 -- equal telling gives equal marks
 pub marks_of_same : {s t : Summary} {ms ns : List Mark} → Same s ms t ns → (e : Event) (at : ℕ) (r : Reply) → marks_of s ms e at r ≡ marks_of t ns e at r
-marks_of_same w (Sent m) at r = rw (force_same w) refl
+marks_of_same w (Sent m via) at r = rw (force_same w) refl
 marks_of_same w Tick at r = ap (map Carries) (raised_same w at)
 marks_of_same w e at r = refl
 
@@ -96,7 +96,7 @@ marks_of_same w e at r = refl
 pub answer_same : {s t : Summary} {ms ns : List Mark} → Same s ms t ns → (e : Event) (at : ℕ) → answer_over s ms e at ≡ answer_over t ns e at
 answer_same w (Adopt text) at = refl
 answer_same w Start at = refl
-answer_same w (Sent m) at = rw (force_same w, w.recent m.account) refl
+answer_same w (Sent m via) at = rw (force_same w, w.recent m.account) refl
 answer_same w (Beat account) at = rw (force_same w) refl
 answer_same w Tick at = rw (raised_same w at) refl
 answer_same w (Claim o n) at = λ i. if_known (knows_operator (force_same w i) o) (on_claim o n (standing_same w at i))

@@ -40,7 +40,7 @@ text_close s ms r = refl
 
 text_onto : (s : Summary) (ms : List Mark) (e : Event) (at : ℕ) (r : Reply) → is_adopt e ≡ false → text s (onto (marks_of s ms e at r) ms) ≡ text s ms
 text_onto s ms (Adopt text) at r other = absurd (false≢true (sym other))
-text_onto s ms (Sent m) at r other = text_carried s (sent s ms m at) (Sends m at ∷ ms)
+text_onto s ms (Sent m via) at r other = text_carried s (sent s ms m via at) (Sends m at ∷ ms)
 text_onto s ms Tick at r other = text_carried s (raised s ms at) ms
 text_onto s ms (Claim o n) at r other = text_claim s ms o at r
 text_onto s ms (Next o) at r other = text_claim s ms o at r

@@ -78,7 +78,7 @@ if_known false reply = Unknown
 abbrev pub answer_over : Summary → List Mark → Event → ℕ → Reply
 answer_over s ms (Adopt text) at = if_known (is_ok (setup_of text)) Adopted
 answer_over s ms Start at = Started
-answer_over s ms (Sent m) at =
+answer_over s ms (Sent m via) at =
     if_known (knows_account (force s ms) m.account && has_signals m.token m.content) (taken_or (repeat_of s ms m at))
 answer_over s ms (Beat account) at = if_known (knows_account (force s ms) account) Heard
 answer_over s ms Tick at = Raised (length (raised s ms at))

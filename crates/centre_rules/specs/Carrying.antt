@@ -16,17 +16,18 @@ use Rattle.alarm_rules.specs.Signals.{signals}
 use Rattle.centre_rules.specs.Summary.{Summary, Opened}
 use Rattle.centre_rules.specs.Marks.{Mark, Carried, force, heard, failed, opening}
 
--- a signal of an account, and the steps of an incident that it would open
-abbrev pub carried : Setup → List ℕ → ℕ → Bool → Signal → Carried
-carried setup account at by_tick signal = record {
+-- a signal of an account, by a line or none, and the steps of an incident that it would open
+abbrev pub carried : Setup → List ℕ → ℕ → Bool → List ℕ → Signal → Carried
+carried setup account at by_tick via signal = record {
   account = account;
   signal = signal;
   at = at;
   by_tick = by_tick;
   steps = steps_of setup account signal.class at;
+  via = via;
 }
 
--- a signal that no panel sent: it is New, and its code is `-`
+-- a signal that no panel sent: it is New, and its code is `-`; it came by no line
 abbrev pub own_signal : Class → Signal
 own_signal class = record { class = class; kind = New; code = codes "-" }
 
@@ -46,15 +47,15 @@ is_irregular (Some account) Opening at = has_windows account.week && not (in_hou
 is_irregular account kind at = false
 
 -- a signal that is sent, and the Irregular signal that follows it
-abbrev pub carried_sent : Setup → List ℕ → ℕ → Signal → List Carried
-carried_sent setup account at signal =
-    carried setup account at false signal
+abbrev pub carried_sent : Setup → List ℕ → List ℕ → ℕ → Signal → List Carried
+carried_sent setup account via at signal =
+    carried setup account at false via signal
     ∷ (if is_irregular (account_of setup account) signal.kind at
-    then carried setup account at false (own_signal Irregular) ∷ [] else [])
+    then carried setup account at false [] (own_signal Irregular) ∷ [] else [])
 
-abbrev pub sent : Summary → List Mark → Message → ℕ → List Carried
-sent s ms m at =
-    if_in_force (force s ms) (λ setup. flat_map (carried_sent setup m.account at) (unwrap_or (signals m.token m.content) []))
+abbrev pub sent : Summary → List Mark → Message → List ℕ → ℕ → List Carried
+sent s ms m via at =
+    if_in_force (force s ms) (λ setup. flat_map (carried_sent setup m.account via at) (unwrap_or (signals m.token m.content) []))
 
 -- Ticks.
 
@@ -82,7 +83,7 @@ is_late s ms at account = closes_late (opening s ms account.number) account at
 
 -- a signal of each account that passes the test, in the setup's order
 abbrev pub raised_where : (Account → Bool) → Class → ℕ → Setup → List Carried
-raised_where test class at setup = map (λ a. carried setup a.number at true (own_signal class)) (filter test setup.accounts)
+raised_where test class at setup = map (λ a. carried setup a.number at true [] (own_signal class)) (filter test setup.accounts)
 
 -- the signals that a Tick raises: first the CommFail signals, and then the LateClose signals
 abbrev pub raised : Summary → List Mark → ℕ → List Carried
@@ -92,6 +93,6 @@ raised s ms at =
 
 -- the signals that a recorded event carries
 abbrev pub carried_by : Summary → List Mark → Event → ℕ → List Carried
-carried_by s ms (Sent m) at = sent s ms m at
+carried_by s ms (Sent m via) at = sent s ms m via at
 carried_by s ms Tick at = raised s ms at
 carried_by s ms event at = []

@@ -125,6 +125,7 @@ fresh number x = record {
   touched = 0;
   steps = x.steps;
   acts = [];
+  via = x.via;
 }
 
 -- where the mark is a signal that opens one, a case more, with the next number

@@ -134,6 +134,7 @@ view_of i = record {
   restored = i.restored;
   holder = i.holder;
   expected = expected_step i.steps i.acts;
+  via = i.via;
 }
 
 abbrev pub show_of : ℕ → Option Incident → Reply

@@ -83,7 +83,7 @@ close_marks reply = []
 abbrev pub marks_of : Summary → List Mark → Event → ℕ → Reply → List Mark
 marks_of s ms (Adopt text) at reply = Adopts text ∷ []
 marks_of s ms Start at reply = Starts at ∷ []
-marks_of s ms (Sent m) at reply = Sends m at ∷ map Carries (sent s ms m at)
+marks_of s ms (Sent m via) at reply = Sends m at ∷ map Carries (sent s ms m via at)
 marks_of s ms (Beat account) at reply = Hears account at ∷ []
 marks_of s ms Tick at reply = map Carries (raised s ms at)
 marks_of s ms (Claim operator number) at reply = claim_marks operator at reply

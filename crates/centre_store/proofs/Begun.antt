@@ -19,7 +19,7 @@ use Rattle.centre_rules.specs.State.{State, StandsFor}
 use Rattle.centre_core.specs.declared.hall.Stop.{Stop}
 use Rattle.disk_journal.proofs.Steps.{if_map}
 use Rattle.event_codec.specs.Spelling.{spelling}
-use Rattle.centre_store.specs.Given.{StandFor, StandForEither, HasEither}
+use Rattle.centre_store.specs.Given.{StandForIn, StandForEither, HasEither}
 use Rattle.centre_store.specs.Stores.{Stored, HasFailed, StoreStands, Takes, Shows}
 use Rattle.centre_store.specs.Begins.{is_in_force, adopted_after, begun_after, event_of_begin, StandsWithin, ShowsOfBegin}
 use Rattle.centre_store.proofs.Entered.{held}
@@ -51,10 +51,10 @@ begun_extends b h setup clock =
 
 -- What a crash leaves.
 
-pub within_before : (b : Summary) (h : List Entry) (setup : List ℕ) (clock : ℕ) (areas : Areas) → StandFor b h areas → StandsWithin b h setup clock areas
+pub within_before : (b : Summary) (h : List Entry) (setup : List ℕ) (clock : ℕ) (areas : Areas) → StandForIn 2 b h areas → StandsWithin b h setup clock areas
 within_before b h setup clock areas stands = record { so_far = h; from_h = ([], refl); to_begun = begun_extends b h setup clock; stands = stands }
 
-within_adopted : (b : Summary) (h : List Entry) (setup : List ℕ) (clock : ℕ) (areas : Areas) → StandFor b (adopted_after b h setup clock) areas
+within_adopted : (b : Summary) (h : List Entry) (setup : List ℕ) (clock : ℕ) (areas : Areas) → StandForIn 2 b (adopted_after b h setup clock) areas
     → StandsWithin b h setup clock areas
 within_adopted b h setup clock areas stands = record {
   so_far = adopted_after b h setup clock;
@@ -69,7 +69,7 @@ within_adopt b h setup clock areas is either =
     elim (either_one b h (adopted_entry b h setup clock) areas refl either) as (λ _. StandsWithin b h setup clock areas) [
       | inl old ↦ within_before b h setup clock areas old
       | inr new ↦ within_adopted b h setup clock areas
-          (subst (λ (x : List Entry). StandFor b x areas) (sym (one_adopt b h setup clock is)) new)
+          (subst (λ (x : List Entry). StandForIn 2 b x areas) (sym (one_adopt b h setup clock is)) new)
     ]
 
 pub within_start : (b : Summary) (h : List Entry) (setup : List ℕ) (clock : ℕ) (areas : Areas)
@@ -135,7 +135,7 @@ module _ {D : Type 0} (seen : D → DiskSeen) where
   pub still_tells : (b : Summary) (s : Stored D) (h : List Entry) (setup : List ℕ) (clock : ℕ) → (HasFailed seen s → ⊥) → StoreStands seen b s h
       → IfSome (seen s.journal.disk).told (StandsWithin b h setup clock)
   still_tells b s h setup clock up w =
-      if_map (StandFor b h) (StandsWithin b h setup clock) (seen s.journal.disk).told
+      if_map (StandForIn 2 b h) (StandsWithin b h setup clock) (seen s.journal.disk).told
       (recorded_there seen s.journal b h (held seen b s h up w)).area (λ c stands. within_before b h setup clock c stands)
 
   pub adopt_tells : (b : Summary) (s : Stored D) (new : D) (h : List Entry) (setup taken : List ℕ) (clock : ℕ) → taken ≡ setup

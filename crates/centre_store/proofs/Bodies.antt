@@ -5,7 +5,7 @@ use Rattle.std.specs.Int.{to_be_bytes, w16, w64}
 use Rattle.std.proofs.lemmas.Bool.{leb-true, false≢true}
 use Rattle.std.proofs.lemmas.List.{reverse-append}
 use Rattle.arc_data.specs.Digits.{is_between, is_run, is_name}
-use Rattle.arc_data.specs.WellFormed.{IsWellFormed, IsMessage, is_receiver}
+use Rattle.arc_data.specs.WellFormed.{IsWellFormed, IsMessage, IsSent, is_receiver}
 use Rattle.arc_data.specs.declared.event.Event.{Event}
 use Rattle.arc_data.specs.declared.event.Event.TheVariants.{Adopt, Start, Message as Sent, Beat, Tick}
 use Rattle.arc_data.specs.declared.event.Event.TheVariants.{Claim, Next, Act, Release, Close, Show, List as Rows}
@@ -17,20 +17,21 @@ use Rattle.centre_rules.specs.Desks.{show_of, numbered}
 use Rattle.centre_rules.specs.History.{Entry, recorded, is_recorded, marks}
 use Rattle.centre_rules.specs.Answers.{answer}
 use Rattle.disk_journal.specs.Records.{MayHave}
-use Rattle.event_codec.specs.Spelling.{spelling, fields, short_text, receiver_text, message_fields, order_fields, token_byte, step_byte, outcome_byte, code_byte, IsKept}
-use Rattle.centre_store.specs.Bodies.{body_of, bodies_of}
+use Rattle.event_codec.specs.Spelling.{spelling, fields_in, via_text, short_text, receiver_text, message_fields, order_fields, token_byte, step_byte, outcome_byte, code_byte, IsKept}
+use Rattle.centre_store.specs.Bodies.{body_in, bodies_in}
 
 -- a recorded entry brings one body more
-pub bodies_more : (e : Entry) (h : List Entry) → is_recorded e.reply ≡ true → bodies_of (e ∷ h) ≡ bodies_of h ++ body_of e ∷ []
-unfolding bodies_of
-bodies_more e h is =
-    ap (λ (b : Bool). reverse (map body_of (if b then e ∷ recorded h else recorded h))) is
-    ∙ reverse-append (body_of e ∷ []) (map body_of (recorded h))
+pub bodies_more : (version : ℕ) (e : Entry) (h : List Entry) → is_recorded e.reply ≡ true
+    → bodies_in version (e ∷ h) ≡ bodies_in version h ++ body_in version e ∷ []
+unfolding bodies_in
+bodies_more version e h is =
+    ap (λ (b : Bool). reverse (map (body_in version) (if b then e ∷ recorded h else recorded h))) is
+    ∙ reverse-append (body_in version e ∷ []) (map (body_in version) (recorded h))
 
 -- a quiet one none
-pub bodies_same : (e : Entry) (h : List Entry) → is_recorded e.reply ≡ false → bodies_of (e ∷ h) ≡ bodies_of h
-unfolding bodies_of
-bodies_same e h is = ap (λ (b : Bool). reverse (map body_of (if b then e ∷ recorded h else recorded h))) is
+pub bodies_same : (version : ℕ) (e : Entry) (h : List Entry) → is_recorded e.reply ≡ false → bodies_in version (e ∷ h) ≡ bodies_in version h
+unfolding bodies_in
+bodies_same version e h is = ap (λ (b : Bool). reverse (map (body_in version) (if b then e ∷ recorded h else recorded h))) is
 
 -- Lengths.
 
@@ -64,13 +65,16 @@ message_short m is =
       length-append (short_text m.line) tail,
     )
 
+sent_short : (m : Message) (via : List ℕ) → IsSent m via → length (message_fields m ++ via_text 2 via) ≤ 4217
+sent_short m via is = omega (arith, message_short m is.message, run_short _ 1 16 via is.line_name, length-append (message_fields m) (via_text 2 via))
+
 order_short : (operator : List ℕ) (number : ℕ) → is_name operator ≡ true → length (order_fields operator number) ≤ 25
 order_short operator number is = omega (arith, run_short _ 1 16 operator is, length-append (short_text operator) (to_be_bytes w64 number))
 
-fields_short : (event : Event) → IsWellFormed event → length (fields event) ≤ 4_194_308
+fields_short : (event : Event) → IsWellFormed event → length (fields_in 2 event) ≤ 4_194_308
 fields_short (Adopt text) is = omega (arith, is.size)
 fields_short Start is = omega arith
-fields_short (Sent m) is = omega (arith, message_short m is)
+fields_short (Sent m via) is = omega (arith, sent_short m via is)
 fields_short (Beat account) is = omega (arith, run_short _ 3 16 account is)
 fields_short Tick is = omega arith
 fields_short (Claim operator number) is = omega (arith, order_short operator number is.operator_name)
@@ -85,7 +89,7 @@ fields_short Rows is = omega arith
 
 -- the spelling of a well-formed event is a body that a journal takes
 pub body_size : (event : Event) (at : ℕ) → IsWellFormed event → MayHave (length (spelling event at))
-body_size event at is = let short : length (fields event) ≤ 4_194_308 = fields_short event is in (omega arith, omega arith)
+body_size event at is = let short : length (fields_in 2 event) ≤ 4_194_308 = fields_short event is in (omega arith, omega arith)
 
 -- Questions are not recorded.
 

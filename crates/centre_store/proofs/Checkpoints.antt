@@ -14,7 +14,7 @@ use Rattle.centre_rules.specs.Summary.{Summary}
 use Rattle.centre_rules.specs.Sums.{summary_of}
 use Rattle.disk_journal.specs.declared.journal.Journal.{Journal}
 use Rattle.summary_rules.specs.Spelling.{summary_text}
-use Rattle.centre_store.specs.Given.{StandFor, HasRecorded, HoldsRecorded}
+use Rattle.centre_store.specs.Given.{StandForIn, HasRecorded, HoldsRecorded}
 use Rattle.centre_store.specs.Stores.{Stored, HasFailed, StoreStands}
 use Rattle.centre_store.specs.Writes.{HaveAll, IsSummedSize, IsUnmade}
 use Rattle.centre_store.proofs.Entered.{stored, all}
@@ -35,9 +35,9 @@ module _ {D : Type 0} (seen : D → DiskSeen) (old : Stored D) (s : State) (j : 
 
   -- where nothing was written
   pub still_moments : (b : Summary) (h : List Entry) → ((d : D) (c : Areas) → (seen d).left_since (seen d).moment c → (seen d).may_leave c)
-      → StoreStands seen b old h → LeavesOnly (seen old.journal.disk) (seen j.disk) (StandFor b h)
+      → StoreStands seen b old h → LeavesOnly (seen old.journal.disk) (seen j.disk) (StandForIn 2 b h)
   still_moments b h only_now w =
-      subst (λ (x : Stored D). LeavesOnly (seen x.journal.disk) (seen j.disk) (StandFor b h)) is
+      subst (λ (x : Stored D). LeavesOnly (seen x.journal.disk) (seen j.disk) (StandForIn 2 b h)) is
       (still_stands seen j b h only_now (whole b h w).holds)
 
   pub still_there : (b : Summary) (h : List Entry) → StoreStands seen b old h → HasRecorded (seen j.disk) b h
@@ -45,13 +45,13 @@ module _ {D : Type 0} (seen : D → DiskSeen) (old : Stored D) (s : State) (j : 
 
   -- while a summary is put there
   pub summed_moments : (b : Summary) (h : List Entry) (k : D) → StoreStands seen b old h
-      → (HaveAll seen j s b h → LeavesOnly (seen j.disk) (seen k) (StandFor b h)) → LeavesOnly (seen old.journal.disk) (seen k) (StandFor b h)
+      → (HaveAll seen j s b h → LeavesOnly (seen j.disk) (seen k) (StandForIn 2 b h)) → LeavesOnly (seen old.journal.disk) (seen k) (StandForIn 2 b h)
   summed_moments b h k w run =
-      subst (λ (x : Stored D). LeavesOnly (seen x.journal.disk) (seen k) (StandFor b h)) is (run (whole b h w))
+      subst (λ (x : Stored D). LeavesOnly (seen x.journal.disk) (seen k) (StandForIn 2 b h)) is (run (whole b h w))
 
 -- so many bytes are used with a summary that is in this body
 pub size_is : {D : Type 0} (seen : D → DiskSeen) (j : Journal D) (s : State) (body : List ℕ) (used : ℕ)
-    → ((b : Summary) (h : List Entry) → IsSpelled b → StandsFor b s h → body ≡ summary_text (j.generation + 1) (summary_of b h))
+    → ((b : Summary) (h : List Entry) → IsSpelled b → StandsFor b s h → body ≡ summary_text 2 (j.generation + 1) (summary_of b h))
     → used ≡ 22 + length body → IsSummedSize seen j s used
 size_is seen j s body used spelled is b h all = is ∙ summed_long (j.generation + 1) b h body (spelled b h all.given all.stands)
 

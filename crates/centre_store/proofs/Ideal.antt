@@ -8,12 +8,12 @@ use Rattle.centre_laws.specs.Repeats.{QuietChangesNothing, TellsTheSame}
 use Rattle.centre_laws.specs.Schedules.{Schedule, IsSchedule, Each, history}
 use Rattle.centre_laws.specs.Sendings.{RestartsLoseNothing}
 use Rattle.centre_laws.specs.Spacing.{IsWellSpaced}
-use Rattle.centre_rules.specs.History.{Entry, recorded}
+use Rattle.centre_rules.specs.History.{Entry}
 use Rattle.centre_rules.specs.Summary.{nothing}
 use Rattle.centre_store.specs.Lives.{World, Open, Left, Lives, IsStepButKept, IsIdealWorld, LivesIdeally}
 use Rattle.centre_store.specs.Stores.{StoreStands}
 use Rattle.centre_store.proofs.Lived.{IsGood, ideal, lived, rest_fit, rest_ideal, rest_opens, rest_stands, rest}
-use Rattle.centre_store.proofs.Recorded.{opens_recorded}
+use Rattle.centre_store.proofs.Recorded.{opens_recorded, can_two}
 
 module _ {D : Type 0} (seen : D → DiskSeen) (only_now : (d : D) (c : Areas) → (seen d).left_since (seen d).moment c → (seen d).may_leave c)
     (quiet : QuietChangesNothing) (restarts : RestartsLoseNothing) (x : Schedule) (setup : is_ok (setup_of x.text) ≡ true) where
@@ -25,7 +25,7 @@ module _ {D : Type 0} (seen : D → DiskSeen) (only_now : (d : D) (c : Areas) �
       record {
         kept = good.so.kept;
         keeps = good.so.keeps;
-        can_open = opens_recorded nothing left areas fit.legal fit.readable.1 (omega (arith, fit.few))
+        can_open = opens_recorded 2 nothing left areas fit.legal fit.readable.1 (omega (arith, fit.few)) (can_two nothing left)
             (rest_stands seen only_now quiet x setup x.steps areas spaced good);
         opens = λ s r. subst (λ (l : List Entry). StoreStands seen nothing s l) (rest_ideal seen only_now quiet x setup x.steps areas spaced good)
             (rest_opens seen only_now quiet x setup x.steps areas spaced good s r);

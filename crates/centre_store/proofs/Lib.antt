@@ -18,6 +18,7 @@ pub mod OpeningLoop
 pub mod Recorded
 pub mod Reopened
 pub mod Opened
+pub mod Moved
 pub mod Remains
 pub mod RunOfCalls
 pub mod Lived

@@ -1,6 +1,6 @@
 -- A store that lives through a schedule stands for its history, and the areas that a crash leaves for the oldest of its ideal list. By
 -- induction on the steps.
-use Rattle.std.proofs.Common.{◌≡◌, ◌≤◌, ◌⊎◌, ◌-◌, ℕ, List, [], ◌∷◌, ◌++◌, length, drop, Bool, true, false, Option, Some, None, inl, inr, refl, sym, ap, subst, ◌∙◌, arith, length-append}
+use Rattle.std.proofs.Common.{◌≡◌, ◌≤◌, ◌⊎◌, ◌-◌, ℕ, List, [], ◌∷◌, ◌++◌, length, Bool, true, false, Option, Some, None, inl, inr, refl, sym, ap, subst, ◌∙◌, arith, length-append}
 use Rattle.std.specs.Prelude.{is_ok, if◌then◌else◌}
 use Rattle.std.proofs.lemmas.List.{length-map, length-drop}
 use Rattle.std.proofs.lemmas.Slice.Eq.{bytes_eq-Decides}
@@ -11,7 +11,7 @@ use Rattle.alarm_rules.specs.Setups.{setup_of}
 use Rattle.arc_io.specs.Areas.{Areas}
 use Rattle.arc_io.specs.Disks.{DiskSeen}
 use Rattle.centre_laws.specs.Repeats.{QuietChangesNothing}
-use Rattle.centre_laws.specs.Schedules.{Step, Deliver, Other, Lose, Crash, Schedule, Item, IsStep, IsKept, Each, entries, next, oldest, item_of, start_entry, beginning, ideal_after, history_after}
+use Rattle.centre_laws.specs.Schedules.{Step, Deliver, Other, Lose, Crash, Schedule, Item, IsStep, Each, entries, next, oldest, item_of, start_entry, beginning, ideal_after, history_after}
 use Rattle.centre_laws.specs.Spacing.{IsSpacedStep}
 use Rattle.centre_laws.proofs.Lists.{oldest_entries, oldest_recorded}
 use Rattle.centre_laws.proofs.Once.{ideal_to}
@@ -22,7 +22,7 @@ use Rattle.centre_rules.specs.History.{Entry, marks, moment_after, recorded}
 use Rattle.centre_rules.specs.Marks.{text}
 use Rattle.centre_rules.specs.Summary.{nothing}
 use Rattle.centre_store.specs.Begins.{is_in_force, begun_after, StandsWithin}
-use Rattle.centre_store.specs.Given.{StandFor}
+use Rattle.centre_store.specs.Given.{StandForIn}
 use Rattle.centre_store.specs.Calls.{Submits}
 use Rattle.centre_store.specs.Lives.{World, Open, Left, IsBehind, IsBehindNone, Reopens, Begins, IsBehindBegin, IsFirstRun, IsBehindFirst, Lives, IsStepButKept}
 use Rattle.centre_store.specs.Stores.{Stored, HasFailed, StoreStands}
@@ -80,14 +80,14 @@ module _ {D : Type 0} (seen : D → DiskSeen) (only_now : (d : D) (c : Areas) �
   fresh = record { legal = tt; readable = (omega arith, tt); few = omega arith }
 
   first_stands : (s : Stored D) → IsFirstRun seen x s → StoreStands seen nothing s first_begun
-  first_stands s (areas, opened, stands, r, has) =
+  first_stands s (version, areas, opened, stands, r, has) =
       has.begun nothing [] (reopens seen only_now nothing [] areas opened nothing_is tt (omega arith) refl
-      (None, [], kept_over nothing [] None [] (summary_begins nothing nothing_is) refl (sym no_bodies), stands) r)
+      (version, (None, [], kept_over version nothing [] None [] (summary_begins nothing nothing_is) refl tt (sym (no_bodies version)), stands)) r)
 
   first_fit : (s : Stored D) → IsFirstRun seen x s → IsFit first_begun
   first_fit s run =
       let w : StoreStands seen nothing s first_begun = first_stands s run in
-      let moment = run.4.begins.moment in
+      let moment = run.5.begins.moment in
       let adopt : Entry = adopted_entry nothing [] x.text x.first in
       let two : length (recorded first_begun) ≡ 2 = refl in
       record {
@@ -101,14 +101,14 @@ module _ {D : Type 0} (seen : D → DiskSeen) (only_now : (d : D) (c : Areas) �
   first_so : (w : World D) → IsBehindFirst seen x w → IsFit (history_after x []) × IsSo seen (history_after x []) (beginning x) w
   first_so (Open s) run = (
     subst IsFit first_is (first_fit s run),
-    (subst (λ (h : List Entry). StoreStands seen nothing s h) first_is (first_stands s run), run.4.up),
+    (subst (λ (h : List Entry). StoreStands seen nothing s h) first_is (first_stands s run), run.5.up),
   )
   first_so (Left c) (s, run, left) =
       let h : List Entry = history_after x [] in
       let stands : StoreStands seen nothing s h = subst (λ (l : List Entry). StoreStands seen nothing s l) first_is (first_stands s run) in
-      let kept : StandFor nothing (recorded h) c = stand_recorded nothing h c (left_still seen only_now nothing s h run.4.up stands c left) in (
+      let kept : StandForIn 2 nothing (recorded h) c = stand_recorded 2 nothing h c (left_still seen only_now nothing s h run.5.up stands c left) in (
         subst IsFit first_is (first_fit s run),
-        kept_all (beginning x) c (two_of x [] tt) (subst (λ (l : List Entry). StandFor nothing l c) (ideal [] tt tt) kept),
+        kept_all (beginning x) c (two_of x [] tt) (subst (λ (l : List Entry). StandForIn 2 nothing l c) (ideal [] tt tt) kept),
       )
 
   -- An event.
@@ -155,7 +155,7 @@ module _ {D : Type 0} (seen : D → DiskSeen) (only_now : (d : D) (c : Areas) �
   none_so h w old (Open s) same two stands (all, up) = (all.stands nothing h stands, up)
   none_so h w old (Left c) same two stands (s, all, left) =
       kept_either h h w w c same same two two (inl refl)
-      (inl (left_is seen only_now nothing old s c (StandFor nothing h) (all.any_moment nothing h stands) (all.met nothing h stands).area left))
+      (inl (left_is seen only_now nothing old s c (StandForIn 2 nothing h) (all.any_moment nothing h stands) (all.met nothing h stands).area left))
 
   -- A crash, an opening and a beginning.
 
@@ -182,12 +182,12 @@ module _ {D : Type 0} (seen : D → DiskSeen) (only_now : (d : D) (c : Areas) �
     rest_whole : recorded rest ≡ rest
     rest_whole = oldest_recorded so.kept (history_after x ss)
 
-    pub rest_stands : StandFor nothing rest areas
-    rest_stands = subst (λ (l : List Entry). StandFor nothing l areas) (sym rest_ideal) so.stands
+    pub rest_stands : StandForIn 2 nothing rest areas
+    rest_stands = subst (λ (l : List Entry). StandForIn 2 nothing l areas) (sym rest_ideal) so.stands
 
     pub rest_opens : (s : Stored D) → Reopens seen areas s → StoreStands seen nothing s rest
     rest_opens s r =
-        reopens seen only_now nothing rest areas s nothing_is rest_fit.legal (last_moment nothing rest rest_fit.readable) rest_whole rest_stands r
+        reopens seen only_now nothing rest areas s nothing_is rest_fit.legal (last_moment nothing rest rest_fit.readable) rest_whole (2, rest_stands) r
 
     -- the setup in force is the schedule's
     in_force : is_in_force (text nothing (marks nothing rest)) x.text ≡ true
@@ -214,12 +214,12 @@ module _ {D : Type 0} (seen : D → DiskSeen) (only_now : (d : D) (c : Areas) �
       so.short,
     )
 
-    either_of : (clock : ℕ) (c : Areas) → StandsWithin nothing rest x.text clock c → StandFor nothing rest c ⊎ StandFor nothing (next rest Start clock ∷ rest) c
+    either_of : (clock : ℕ) (c : Areas) → StandsWithin nothing rest x.text clock c → StandForIn 2 nothing rest c ⊎ StandForIn 2 nothing (next rest Start clock ∷ rest) c
     either_of clock c within =
         elim (one_more rest within.so_far within.from_h.0 within.to_begun.0 (begun_after nothing rest x.text clock) (next rest Start clock) within.from_h.1
-        within.to_begun.1 (begun_is clock)) as (λ _. StandFor nothing rest c ⊎ StandFor nothing (next rest Start clock ∷ rest) c) [
-          | inl old ↦ inl (subst (λ (l : List Entry). StandFor nothing l c) old within.stands)
-          | inr new ↦ inr (subst (λ (l : List Entry). StandFor nothing l c) new within.stands)
+        within.to_begun.1 (begun_is clock)) as (λ _. StandForIn 2 nothing rest c ⊎ StandForIn 2 nothing (next rest Start clock ∷ rest) c) [
+          | inl old ↦ inl (subst (λ (l : List Entry). StandForIn 2 nothing l c) old within.stands)
+          | inr new ↦ inr (subst (λ (l : List Entry). StandForIn 2 nothing l c) new within.stands)
         ]
 
     begins_of : (old : Stored D) (clock : ℕ) (w : World D) → IsBehindBegin seen old x.text clock w → (s : Stored D) × Begins seen old s x.text clock
@@ -262,9 +262,9 @@ module _ {D : Type 0} (seen : D → DiskSeen) (only_now : (d : D) (c : Areas) �
   -- The induction.
   pub lived : (ss : List Step) (w : World D) → Each (IsStepButKept x) ss → Each (IsSpacedStep x) ss → Lives seen x ss w → IsGood seen x ss w
   lived [] w asked spaced life = let first = first_so w life in record { steps = tt; fit = first.0; so = first.1 }
-  lived (Deliver n m clock a ∷ ss) w asked spaced (old, before, behind) =
-      event_good (Deliver n m clock a) ss old (Sent m) clock a w refl
-      (λ free. subst (λ (b : Bool). IsMore (ideal_after x ss) (ideal_after x (Deliver n m clock b ∷ ss))) (sym free) (more_delivered n m clock (ideal_after x ss)))
+  lived (Deliver n m via clock a ∷ ss) w asked spaced (old, before, behind) =
+      event_good (Deliver n m via clock a) ss old (Sent m via) clock a w refl
+      (λ free. subst (λ (b : Bool). IsMore (ideal_after x ss) (ideal_after x (Deliver n m via clock b ∷ ss))) (sym free) (more_delivered n m via clock (ideal_after x ss)))
       asked.0 spaced (lived ss (Open old) asked.1 spaced.1 before) behind
   lived (Other e clock a ∷ ss) w asked spaced (old, before, behind) =
       event_good (Other e clock a) ss old e clock a w refl

@@ -11,10 +11,10 @@ use Rattle.centre_store.specs.Pasts.{IsPast, HasNoNext, IsBadAt, IsReplayed}
 use Rattle.centre_store.proofs.PastSteps.{no_past}
 
 -- The bodies from the first one of records up to a place, over whatever the centre stood for at first, and where the next gate stands.
-pub record IsAt (bodies : List (List ℕ)) (from i place : ℕ) (begin s : State) : Type 0 where
+pub record IsAt (version : ℕ) (bodies : List (List ℕ)) (from i place : ℕ) (begin s : State) : Type 0 where
   pub least : from ≤ i
   pub most : i ≤ length bodies
-  pub replayed : (base : Summary) → StandsFor base begin [] → base.recorded ≤ 2 ^ 48 → IsReplayed base (drop from (take i bodies)) s
+  pub replayed : (base : Summary) → StandsFor base begin [] → base.recorded ≤ 2 ^ 48 → IsReplayed version base (drop from (take i bodies)) s
   pub gate : place + 1 ≡ size (take i bodies)
 
 size-take : (n : ℕ) (bodies : List (List ℕ)) → size (take n bodies) ≤ size bodies
@@ -36,20 +36,20 @@ none_left : (bodies : List (List ℕ)) (from : ℕ) → from ≤ length bodies �
 none_left bodies from within =
     ap (drop from) (sym (append-nil (take from bodies))) ∙ drop_at (take from bodies) [] from (length-take-le from bodies within)
 
-pub at_first : (bodies : List (List ℕ)) (from place : ℕ) (s : State) → from ≤ length bodies → place ≡ length (bytes_before (take from bodies))
-    → IsAt bodies from from place s s
-at_first bodies from place s within is = record {
+pub at_first : (version : ℕ) (bodies : List (List ℕ)) (from place : ℕ) (s : State) → from ≤ length bodies → place ≡ length (bytes_before version (take from bodies))
+    → IsAt version bodies from from place s s
+at_first version bodies from place s within is = record {
   least = omega arith;
   most = within;
-  replayed = λ base stands few. subst (λ (l : List (List ℕ)). IsReplayed base l s) (sym (none_left bodies from within))
-      (record { past = []; is_past = no_past base few; stands = stands });
-  gate = omega (arith, is, length-front (take from bodies));
+  replayed = λ base stands few. subst (λ (l : List (List ℕ)). IsReplayed version base l s) (sym (none_left bodies from within))
+      (record { past = []; is_past = no_past version base few; stands = stands });
+  gate = omega (arith, is, length-front version (take from bodies));
 }
 
-pub at_next : (bodies : List (List ℕ)) (from i place : ℕ) (body : List ℕ) (begin s t : State) → i < length bodies → body ≡ get_or bodies i []
-    → IsAt bodies from i place begin s → ((base : Summary) (front : List (List ℕ)) → IsReplayed base front s → IsReplayed base (front ++ body ∷ []) t)
-    → IsAt bodies from (i + 1) (place + (5 + length body)) begin t
-at_next bodies from i place body begin s t below is at taken =
+pub at_next : (version : ℕ) (bodies : List (List ℕ)) (from i place : ℕ) (body : List ℕ) (begin s t : State) → i < length bodies → body ≡ get_or bodies i []
+    → IsAt version bodies from i place begin s → ((base : Summary) (front : List (List ℕ)) → IsReplayed version base front s → IsReplayed version base (front ++ body ∷ []) t)
+    → IsAt version bodies from (i + 1) (place + (5 + length body)) begin t
+at_next version bodies from i place body begin s t below is at taken =
     let long : length (take i bodies) ≡ i = length-take-le i bodies at.most in
     let within : from ≤ length (take i bodies) = omega (arith, at.least, long) in
     let more : drop from (take (i + 1) bodies) ≡ drop from (take i bodies) ++ body ∷ [] =
@@ -58,29 +58,29 @@ at_next bodies from i place body begin s t below is at taken =
     record {
       least = omega (arith, at.least);
       most = omega (arith, below);
-      replayed = λ base stands few. subst (λ (l : List (List ℕ)). IsReplayed base l t) (sym more)
+      replayed = λ base stands few. subst (λ (l : List (List ℕ)). IsReplayed version base l t) (sym more)
           (taken base (drop from (take i bodies)) (at.replayed base stands few));
       gate = next_gate bodies i place body below is at.gate;
     }
 
 -- all of them
-pub all_done : (bodies : List (List ℕ)) (from i place : ℕ) (begin s : State) → length bodies ≤ i → IsAt bodies from i place begin s
-    → (base : Summary) → StandsFor base begin [] → base.recorded ≤ 2 ^ 48 → IsReplayed base (drop from bodies) s
-all_done bodies from i place begin s all at base stands few =
-    subst (λ (l : List (List ℕ)). IsReplayed base l s) (ap (drop from) (take_all i bodies all)) (at.replayed base stands few)
+pub all_done : (version : ℕ) (bodies : List (List ℕ)) (from i place : ℕ) (begin s : State) → length bodies ≤ i → IsAt version bodies from i place begin s
+    → (base : Summary) → StandsFor base begin [] → base.recorded ≤ 2 ^ 48 → IsReplayed version base (drop from bodies) s
+all_done version bodies from i place begin s all at base stands few =
+    subst (λ (l : List (List ℕ)). IsReplayed version base l s) (ap (drop from) (take_all i bodies all)) (at.replayed base stands few)
 
 all_behind : (first : Option (List ℕ)) (xs : List (List ℕ)) → all_of first xs ≡ all_of first [] ++ xs
 all_behind None xs = refl
 all_behind (Some body) xs = refl
 
 -- with this body no entry goes on
-pub bad_at : (bodies : List (List ℕ)) (from i place : ℕ) (body : List ℕ) (begin s : State) (base : Summary) (first : Option (List ℕ)) → i < length bodies
-    → body ≡ get_or bodies i [] → IsAt bodies from i place begin s → StandsFor base begin [] → base.recorded ≤ 2 ^ 48
+pub bad_at : (version : ℕ) (bodies : List (List ℕ)) (from i place : ℕ) (body : List ℕ) (begin s : State) (base : Summary) (first : Option (List ℕ)) → i < length bodies
+    → body ≡ get_or bodies i [] → IsAt version bodies from i place begin s → StandsFor base begin [] → base.recorded ≤ 2 ^ 48
     → take from bodies ≡ all_of first []
-    → ((front : List (List ℕ)) (past : List Entry) → IsPast base front past → StandsFor base s past → HasNoNext base front past body)
-    → IsBadAt base first (drop from bodies) place
-bad_at bodies from i place body begin s base first below is at stands few firsts broken =
-    let r : IsReplayed base (drop from (take i bodies)) s = at.replayed base stands few in
+    → ((front : List (List ℕ)) (past : List Entry) → IsPast version base front past → StandsFor base s past → HasNoNext version base front past body)
+    → IsBadAt version base first (drop from bodies) place
+bad_at version bodies from i place body begin s base first below is at stands few firsts broken =
+    let r : IsReplayed version base (drop from (take i bodies)) s = at.replayed base stands few in
     let long : length (take i bodies) ≡ i = length-take-le i bodies at.most in
     let within : from ≤ length (take i bodies) = omega (arith, at.least, long) in
     let whole : bodies ≡ take i bodies ++ body ∷ drop (i + 1) bodies =
@@ -98,6 +98,6 @@ bad_at bodies from i place body begin s base first below is at stands few firsts
       past = r.past;
       split = ap (drop from) whole ∙ drop-append-le from (take i bodies) (body ∷ drop (i + 1) bodies) within;
       before = r.is_past;
-      at = omega (arith, at.gate, length-front (take i bodies), ap (λ (l : List (List ℕ)). length (bytes_before l)) same);
+      at = omega (arith, at.gate, length-front version (take i bodies), ap (λ (l : List (List ℕ)). length (bytes_before version l)) same);
       broken = broken front r.past r.is_past r.stands;
     }

@@ -13,7 +13,7 @@ use Rattle.disk_journal.specs.OtherArea.{SparesOther}
 use Rattle.disk_journal.specs.Standing.{IsOtherSame}
 use Rattle.centre_store.specs.StoreHalls.{IsReadable, is_told}
 
-becomes_told : (x y : Option Areas) (R : Areas → Areas → Type 0) → Becomes x y R → is_told y ≡ is_told x
+pub becomes_told : (x y : Option Areas) (R : Areas → Areas → Type 0) → Becomes x y R → is_told y ≡ is_told x
 becomes_told None None R is = refl
 becomes_told None (Some t) R is = absurd is
 becomes_told (Some s) None R is = absurd is

@@ -9,8 +9,10 @@ use Rattle.centre_rules.specs.History.{Entry, is_recorded, recorded}
 use Rattle.centre_rules.specs.Answers.{IsNext, IsLegal}
 use Rattle.disk_journal.specs.Standing.{AreasStand}
 use Rattle.event_codec.specs.Spelling.{spelling}
-use Rattle.centre_store.specs.Bodies.{bodies_of, body_of}
-use Rattle.centre_store.specs.Given.{IsKeptAs, StandFor, StandForEither}
+use Rattle.summary_rules.proofs.Composing.{summaries_compose}
+use Rattle.summary_rules.specs.Spelling.{summary_text}
+use Rattle.centre_store.specs.Bodies.{bodies_in, body_in, AreNamedIn}
+use Rattle.centre_store.specs.Given.{IsKeptAs, StandForIn, StandForEither, CanBeWritten}
 use Rattle.centre_store.specs.Openings.{CanOpen}
 use Rattle.centre_store.specs.Pasts.{AreKept, IsPast}
 use Rattle.centre_store.specs.Stores.{IsNextKept}
@@ -26,22 +28,23 @@ pub recorded_once : (h : List Entry) → recorded (recorded h) ≡ recorded h
 recorded_once [] = refl
 recorded_once (e ∷ h) = recorded_step e h (is_recorded e.reply) refl (recorded_once h)
 
-pub bodies_recorded : (h : List Entry) → bodies_of h ≡ bodies_of (recorded h)
-unfolding bodies_of
-bodies_recorded h = ap (λ (l : List Entry). reverse (map body_of l)) (sym (recorded_once h))
+pub bodies_recorded : (version : ℕ) (h : List Entry) → bodies_in version h ≡ bodies_in version (recorded h)
+unfolding bodies_in
+bodies_recorded version h = ap (λ (l : List Entry). reverse (map (body_in version) l)) (sym (recorded_once h))
 
 -- a summary has what is recorded, and nothing of other entries
 pub summary_recorded : (b : Summary) (h : List Entry) → summary_of b h ≡ summary_of b (recorded h)
 summary_recorded b h = summary_alike b h (recorded h) (last_recorded b h) (sym (recorded_once h)) (marks_recorded b h)
 
 -- a legal history whose recorded entries are such as a journal has: they are the past of its bodies
-pub past_recorded : (base : Summary) (h : List Entry) → IsLegal base h → AreKept (recorded h) → base.recorded + length (recorded h) ≤ 2 ^ 48
-    → IsPast base (bodies_of h) (recorded h)
-past_recorded base h legal kept few = record {
+pub past_recorded : (version : ℕ) (base : Summary) (h : List Entry) → IsLegal base h → AreKept (recorded h) → AreNamedIn version (recorded h)
+    → base.recorded + length (recorded h) ≤ 2 ^ 48 → IsPast version base (bodies_in version h) (recorded h)
+past_recorded version base h legal kept named few = record {
   legal = legal_recorded base h legal;
   kept = kept;
+  named = named;
   few = few;
-  is = bodies_recorded h;
+  is = bodies_recorded version h;
 }
 
 -- A history in two parts.
@@ -68,28 +71,40 @@ kept_first : (k l : List Entry) → AreKept (k ++ l) → AreKept k
 kept_first [] l kept = tt
 kept_first (e ∷ k) l kept = (kept.0, kept_first k l kept.1)
 
--- Areas that stand for the recorded entries of a history, where they are such as a journal has.
-module _ (b : Summary) (h : List Entry) (areas : Areas) (legal : IsLegal b h) (kept : AreKept (recorded h))
-    (few : b.recorded + length (recorded h) ≤ 2 ^ 48) where
-  opens_as : (first : Option (List ℕ)) (bodies : List (List ℕ)) → IsKeptAs b h first bodies → AreasStand areas first bodies → CanOpen areas
+-- what was summed up of one, and then the rest, is the summary of it all
+pub summary_parts : (b : Summary) (h later summed : List Entry) → h ≡ later ++ summed → IsLegal b h → summary_of (summary_of b summed) (recorded later) ≡ summary_of b h
+summary_parts b h later summed split legal =
+    sym (summary_recorded (summary_of b summed) later) ∙ summaries_compose b summed later (legal_rest b later summed (subst (IsLegal b) split legal))
+    ∙ ap (summary_of b) (sym split)
+
+-- Areas that stand in a version for the recorded entries of a history, where they are such as a journal has.
+module _ (version : ℕ) (b : Summary) (h : List Entry) (areas : Areas) (legal : IsLegal b h) (kept : AreKept (recorded h))
+    (few : b.recorded + length (recorded h) ≤ 2 ^ 48) (can : CanBeWritten version b h) where
+  opens_as : (first : Option (List ℕ)) (bodies : List (List ℕ)) → IsKeptAs version b h first bodies → AreasStand areas version first bodies → CanOpen areas
   opens_as first bodies k stands =
       let parts : recorded h ≡ recorded k.later ++ recorded k.summed = ap recorded k.split ∙ recorded_both k.later k.summed in
       let count : length (recorded h) ≡ length (recorded k.later) + length (recorded k.summed) =
       ap length parts ∙ length-append (recorded k.later) (recorded k.summed) in
       let over : IsLegal (summary_of b k.summed) k.later = legal_over b k.later k.summed (subst (IsLegal b) k.split legal) in
-      let past : IsPast (summary_of b k.summed) (bodies_of k.later) (recorded k.later) =
-      past_recorded (summary_of b k.summed) k.later over (kept_first (recorded k.later) (recorded k.summed) (subst AreKept parts kept))
+      let past : IsPast version (summary_of b k.summed) (bodies_in version k.later) (recorded k.later) =
+      past_recorded version (summary_of b k.summed) k.later over (kept_first (recorded k.later) (recorded k.summed) (subst AreKept parts kept)) k.named
       (omega (arith, few, count)) in
       record {
+        version = version;
         base = summary_of b k.summed;
         bodies = bodies;
         past = recorded k.later;
         gives = (first, k.first_is, stands);
-        is_past = subst (λ (l : List (List ℕ)). IsPast (summary_of b k.summed) l (recorded k.later)) (sym k.bodies_are) past;
+        is_past = subst (λ (l : List (List ℕ)). IsPast version (summary_of b k.summed) l (recorded k.later)) (sym k.bodies_are) past;
+        can_be = λ first_one. subst (λ (s : Summary). length (summary_text 2 1 s) ≤ 4_294_967_295) (sym (summary_parts b h k.later k.summed k.split legal)) (can first_one);
       }
 
-  pub opens_recorded : StandFor b h areas → CanOpen areas
+  pub opens_recorded : StandForIn version b h areas → CanOpen areas
   opens_recorded (first, bodies, k, stands) = opens_as first bodies k stands
+
+-- what is written in the second version can be
+pub can_two : (b : Summary) (h : List Entry) → CanBeWritten 2 b h
+can_two b h one = absurd (omega (arith, one))
 
 -- The areas that a disk leaves that failed as a record was written.
 module _ (base : Summary) (h : List Entry) (e : Entry) (areas : Areas) (legal : IsLegal base h) (kept : AreKept (recorded h))
@@ -103,14 +118,14 @@ module _ (base : Summary) (h : List Entry) (e : Entry) (areas : Areas) (legal : 
   with_last : recorded (last ∷ h) ≡ last ∷ recorded h
   with_last = ap (λ (t : Bool). cond t (last ∷ recorded h) (recorded h)) goes.recorded
 
-  opens_more : StandFor base (last ∷ h) areas → CanOpen areas
+  opens_more : StandForIn 2 base (last ∷ h) areas → CanOpen areas
   opens_more =
       let all : AreKept (recorded (last ∷ h)) =
       subst AreKept (sym with_last) (record { caller = refl; recorded = goes.recorded; spelled = goes.spelled }, kept) in
       let count : length (recorded (last ∷ h)) ≡ length (last ∷ recorded h) = ap length with_last in
-      opens_recorded base (last ∷ h) areas (next, legal) all (omega (arith, few, count))
+      opens_recorded 2 base (last ∷ h) areas (next, legal) all (omega (arith, few, count)) (can_two base (last ∷ h))
 
   pub opens : StandForEither base h (spelling e.event e.at) areas → CanOpen areas
-  opens (first, bodies, k, inl stands) = opens_recorded base h areas legal kept (omega (arith, few)) (first, bodies, k, stands)
+  opens (first, bodies, k, inl stands) = opens_recorded 2 base h areas legal kept (omega (arith, few)) (can_two base h) (first, bodies, k, stands)
   opens (first, bodies, k, inr stands) =
-      opens_more (first, bodies ++ body_of last ∷ [], kept_more base h last first bodies goes.recorded k, stands)
+      opens_more (first, bodies ++ body_in 2 last ∷ [], kept_more base h last first bodies goes.recorded k, stands)

@@ -1,5 +1,5 @@
 -- What remains of a store behind a crash: areas that stand for what was recorded, or for it with one entry more; and what is opened over them.
-use Rattle.std.proofs.Common.{◌≡◌, ◌≤◌, ◌<◌, ◌^◌, ◌⊎◌, ◌-◌, ℕ, zero, suc, List, [], ◌∷◌, length, take, drop, Bool, true, false, cond, map, Some, inl, inr, refl, sym, ap, subst, ◌∙◌, arith}
+use Rattle.std.proofs.Common.{◌≡◌, ◌≤◌, ◌<◌, ◌^◌, ◌⊎◌, ◌-◌, ℕ, zero, suc, List, [], ◌∷◌, length, take, drop, Bool, true, false, cond, inl, inr, refl, sym, ap, subst, ◌∙◌, arith}
 use Rattle.std.specs.Prelude.{IfSome}
 use Rattle.std.specs.List.{AllByRecursion}
 use Rattle.std.proofs.lemmas.Bool.{false≢true}
@@ -18,10 +18,10 @@ use Rattle.centre_rules.specs.Answers.{IsLegal, answer}
 use Rattle.centre_rules.specs.History.{Entry, IsMoment, is_recorded, last, moment_after, recorded}
 use Rattle.centre_rules.specs.Summary.{Summary, nothing}
 use Rattle.disk_journal.proofs.Steps.{file_at, if_map}
-use Rattle.disk_journal.specs.Standing.{GoesOn}
 use Rattle.disk_journal.specs.declared.journal.Journal.{Journal}
 use Rattle.event_codec.specs.Spelling.{spelling}
-use Rattle.centre_store.specs.Given.{IsFirst, IsGiven, StandFor, StandForEither, HasRecorded}
+use Rattle.centre_store.specs.Bodies.{AreNamedIn}
+use Rattle.centre_store.specs.Given.{IsFirst, IsGiven, StandForIn, StandFor, StandForEither, HasRecorded}
 use Rattle.centre_store.specs.Calls.{Submits, Enters, entry_after}
 use Rattle.centre_store.specs.Lives.{IsLeft, Reopens}
 use Rattle.centre_store.specs.Openings.{StandsForAll}
@@ -31,7 +31,7 @@ use Rattle.centre_store.specs.Stores.{Stored, HasFailed, StoreStands, Takes, IsT
 use Rattle.centre_store.proofs.Entered.{held}
 use Rattle.centre_store.proofs.Holding.{either_one, recorded_there}
 use Rattle.centre_store.proofs.Readable.{readable_more}
-use Rattle.centre_store.proofs.Recorded.{bodies_recorded, recorded_both, summary_recorded}
+use Rattle.centre_store.proofs.Recorded.{bodies_recorded, recorded_both, recorded_once, summary_recorded}
 use Rattle.centre_store.proofs.Reopened.{fewer}
 
 -- Histories.
@@ -76,22 +76,20 @@ fit_oldest n h fit =
 -- Areas.
 
 -- what stands for a history stands for its recorded entries
-pub stand_recorded : (b : Summary) (h : List Entry) (areas : Areas) → StandFor b h areas → StandFor b (recorded h) areas
-stand_recorded b h areas (first, bodies, k, stands) = (
+pub stand_recorded : (version : ℕ) (b : Summary) (h : List Entry) (areas : Areas) → StandForIn version b h areas → StandForIn version b (recorded h) areas
+stand_recorded version b h areas (first, bodies, k, stands) = (
   first,
   bodies,
   record {
     later = recorded k.later;
     summed = recorded k.summed;
     split = ap recorded k.split ∙ recorded_both k.later k.summed;
-    first_is = subst (λ (s : Summary). IsFirst s first) (summary_recorded b k.summed) k.first_is;
-    bodies_are = k.bodies_are ∙ bodies_recorded k.later;
+    first_is = subst (λ (s : Summary). IsFirst version s first) (summary_recorded b k.summed) k.first_is;
+    named = subst (AreNamedIn version) (sym (recorded_once k.later)) k.named;
+    bodies_are = k.bodies_are ∙ bodies_recorded version k.later;
   },
   stands,
 )
-
-stand_on : (b : Summary) (h : List Entry) (one other : Areas) → GoesOn one other → StandFor b h one → StandFor b h other
-stand_on b h one other on (first, bodies, k, stands) = (first, bodies, k, on first bodies stands)
 
 -- What was left of an ideal list.
 
@@ -100,7 +98,7 @@ pub record IsKeptIn (w : List Item) (areas : Areas) : Type 0 where
   pub kept : ℕ
   pub keeps : IsKept kept w
   pub short : kept ≤ length w
-  pub stands : StandFor nothing (oldest kept (entries w)) areas
+  pub stands : StandForIn 2 nothing (oldest kept (entries w)) areas
 
 -- another list has one item more, which is not acknowledged, or none
 abbrev pub IsMore : List Item → List Item → Type 0
@@ -114,14 +112,14 @@ or_more : (t : Bool) (i : Item) (w : List Item) → i.acknowledged ≡ false →
 or_more true i w free = inr (i, free, refl)
 or_more false i w free = inl refl
 
-pub more_delivered : (n : ℕ) (m : Message) (clock : ℕ) (w : List Item) → IsMore w (delivered n m clock false w)
-more_delivered n m clock w = more_or (stands n w) (sent_item n false (message_entry w m clock)) w refl
+pub more_delivered : (n : ℕ) (m : Message) (via : List ℕ) (clock : ℕ) (w : List Item) → IsMore w (delivered n m via clock false w)
+more_delivered n m via clock w = more_or (stands n w) (sent_item n false (message_entry w m via clock)) w refl
 
 pub more_added : (e : Entry) (w : List Item) → IsMore w (added e false w)
 more_added e w = or_more (is_recorded e.reply) (item_of false e) w refl
 
 -- all of it
-pub kept_all : (w : List Item) (areas : Areas) → 2 ≤ length w → StandFor nothing (entries w) areas → IsKeptIn w areas
+pub kept_all : (w : List Item) (areas : Areas) → 2 ≤ length w → StandForIn 2 nothing (entries w) areas → IsKeptIn w areas
 kept_all w areas two stands =
     let none : length w - length w ≡ 0 = omega arith in
     let nought : length (entries w) - length w ≡ 0 = omega (arith, length-map w (λ (i : Item). i.entry)) in
@@ -132,11 +130,11 @@ kept_all w areas two stands =
         acknowledged = subst (λ (k : ℕ). AllByRecursion (λ (i : Item). i.acknowledged ≡ false) (take k w)) (sym none) tt;
       };
       short = omega arith;
-      stands = subst (λ (k : ℕ). StandFor nothing (drop k (entries w)) areas) (sym nought) stands;
+      stands = subst (λ (k : ℕ). StandForIn 2 nothing (drop k (entries w)) areas) (sym nought) stands;
     }
 
 -- all but the newest, which is not acknowledged
-kept_less : (i : Item) (w : List Item) (areas : Areas) → 2 ≤ length w → i.acknowledged ≡ false → StandFor nothing (entries w) areas → IsKeptIn (i ∷ w) areas
+kept_less : (i : Item) (w : List Item) (areas : Areas) → 2 ≤ length w → i.acknowledged ≡ false → StandForIn 2 nothing (entries w) areas → IsKeptIn (i ∷ w) areas
 kept_less i w areas two free stands =
     let one : length (i ∷ w) - length w ≡ 1 = omega arith in
     let single : length (entries (i ∷ w)) - length w ≡ 1 = omega (arith, length-map w (λ (j : Item). j.entry)) in
@@ -147,21 +145,21 @@ kept_less i w areas two free stands =
         acknowledged = subst (λ (k : ℕ). AllByRecursion (λ (j : Item). j.acknowledged ≡ false) (take k (i ∷ w))) (sym one) (free, tt);
       };
       short = omega arith;
-      stands = subst (λ (k : ℕ). StandFor nothing (drop k (entries (i ∷ w))) areas) (sym single) stands;
+      stands = subst (λ (k : ℕ). StandForIn 2 nothing (drop k (entries (i ∷ w))) areas) (sym single) stands;
     }
 
-kept_but : (w v : List Item) (areas : Areas) → 2 ≤ length w → IsMore w v → StandFor nothing (entries w) areas → IsKeptIn v areas
+kept_but : (w v : List Item) (areas : Areas) → 2 ≤ length w → IsMore w v → StandForIn 2 nothing (entries w) areas → IsKeptIn v areas
 kept_but w v areas two (inl same) stands = subst (λ (l : List Item). IsKeptIn l areas) (sym same) (kept_all w areas two stands)
 kept_but w v areas two (inr (i, free, same)) stands =
     subst (λ (l : List Item). IsKeptIn l areas) (sym same) (kept_less i w areas two free stands)
 
 -- the areas have the recorded entries of a history, or of it with one entry more; these are the lists
 pub kept_either : (h k : List Entry) (w v : List Item) (areas : Areas) → recorded h ≡ entries w → recorded k ≡ entries v → 2 ≤ length w → 2 ≤ length v → IsMore w v
-    → StandFor nothing h areas ⊎ StandFor nothing k areas → IsKeptIn v areas
+    → StandForIn 2 nothing h areas ⊎ StandForIn 2 nothing k areas → IsKeptIn v areas
 kept_either h k w v areas same after two more_two more (inl old) =
-    kept_but w v areas two more (subst (λ (l : List Entry). StandFor nothing l areas) same (stand_recorded nothing h areas old))
+    kept_but w v areas two more (subst (λ (l : List Entry). StandForIn 2 nothing l areas) same (stand_recorded 2 nothing h areas old))
 kept_either h k w v areas same after two more_two more (inr new) =
-    kept_all v areas more_two (subst (λ (l : List Entry). StandFor nothing l areas) after (stand_recorded nothing k areas new))
+    kept_all v areas more_two (subst (λ (l : List Entry). StandForIn 2 nothing l areas) after (stand_recorded 2 nothing k areas new))
 
 -- A store and a crash.
 
@@ -178,14 +176,14 @@ module _ {D : Type 0} (seen : D → DiskSeen) (only_now : (d : D) (c : Areas) �
     there = recorded_there seen s.journal b h (held seen b s h up w)
 
     -- behind a call
-    pub still_moments : (P : Areas → Type 0) → ((c : Areas) → StandFor b h c → P c) → LeavesOnly (seen s.journal.disk) (seen s.journal.disk) P
+    pub still_moments : (P : Areas → Type 0) → ((c : Areas) → StandForIn 2 b h c → P c) → LeavesOnly (seen s.journal.disk) (seen s.journal.disk) P
     still_moments P so = started (seen s.journal.disk) P (λ c left. so c (there.images c (only_now s.journal.disk c left)))
 
-    still_told : (P : Areas → Type 0) → ((c : Areas) → StandFor b h c → P c) → IfSome (seen s.journal.disk).told P
-    still_told P so = if_map (StandFor b h) P (seen s.journal.disk).told there.area so
+    still_told : (P : Areas → Type 0) → ((c : Areas) → StandForIn 2 b h c → P c) → IfSome (seen s.journal.disk).told P
+    still_told P so = if_map (StandForIn 2 b h) P (seen s.journal.disk).told there.area so
 
-    pub left_still : (c : Areas) → IsLeft seen s s c → StandFor b h c
-    left_still c left = left_is s s c (StandFor b h) (still_moments (StandFor b h) (λ c is. is)) there.area left
+    pub left_still : (c : Areas) → IsLeft seen s s c → StandForIn 2 b h c
+    left_still c left = left_is s s c (StandForIn 2 b h) (still_moments (StandForIn 2 b h) (λ c is. is)) there.area left
 
   -- An event that is submitted.
 
@@ -202,7 +200,7 @@ module _ {D : Type 0} (seen : D → DiskSeen) (only_now : (d : D) (c : Areas) �
       (call : Submits seen old s e clock) where
     -- a crash in the call leaves the entry or not
     abbrev pub HasOrNot : Areas → Type 0
-    HasOrNot c = StandFor b h c ⊎ StandFor b (entry_after b h e clock ∷ h) c
+    HasOrNot c = StandForIn 2 b h c ⊎ StandForIn 2 b (entry_after b h e clock ∷ h) c
 
     -- an event that is not to be recorded writes nothing
     still : is_recorded (entry_after b h e clock).reply ≡ false → s.journal.disk ≡ old.journal.disk
@@ -233,4 +231,4 @@ module _ {D : Type 0} (seen : D → DiskSeen) (only_now : (d : D) (c : Areas) �
       → Reopens seen areas s → StoreStands seen b s h
   reopens h areas s given legal moment whole stands r =
       file_at (StandsForAll seen s) (seen r.disk).told r.again r.tells r.opened.every b h given legal moment whole
-      (stand_on b h areas r.again r.goes_on stands)
+      (r.goes_on b h given legal moment whole stands)

@@ -7,7 +7,7 @@ use Rattle.arc_io.proofs.Moments.{joined, weaker}
 use Rattle.centre_rules.specs.History.{Entry, Extends}
 use Rattle.centre_rules.specs.Summary.{Summary}
 use Rattle.centre_store.specs.Calls.{Submission, Submits, entry_after, entered, AreEntered, AreSubmitted, StandsBetween}
-use Rattle.centre_store.specs.Given.{StandFor}
+use Rattle.centre_store.specs.Given.{StandForIn}
 use Rattle.centre_store.specs.Stores.{Stored, HasFailed, StoreStands}
 use Rattle.centre_store.proofs.Remains.{cut_moments, enters, still_moments}
 
@@ -34,7 +34,7 @@ module _ {D : Type 0} (seen : D → DiskSeen) (only_now : (d : D) (c : Areas) �
       let k : List Entry = entered b h earlier in
       let e : Entry = entry_after b k call.event call.clock in
       let P : Areas → Type 0 = StandsBetween b h (e ∷ k) in
-      let Q : Areas → Type 0 = λ c. StandFor b k c ⊎ StandFor b (e ∷ k) c in
+      let Q : Areas → Type 0 = λ c. StandForIn 2 b k c ⊎ StandForIn 2 b (e ∷ k) c in
       let from : Extends h k = all_extends b h earlier in
       joined (seen first.journal.disk) (seen old.journal.disk) (seen s.journal.disk) P Q
       (weaker (seen first.journal.disk) (seen old.journal.disk) P (StandsBetween b h k) before.run

@@ -1,5 +1,5 @@
 -- Laws of what stands first in a journal, the spelling of a summary, and of the summaries of histories.
-use Rattle.std.proofs.Common.{◌≡◌, ◌+◌, ℕ, List, [], ◌∷◌, ◌++◌, Bool, true, false, cond, map, length, take, Option, Some, None, refl, sym, ap, ◌∙◌, subst, arith}
+use Rattle.std.proofs.Common.{◌≡◌, ◌+◌, ℕ, List, [], ◌∷◌, ◌++◌, Bool, true, false, cond, map, length, take, Option, Some, None, inr, refl, sym, ap, ◌∙◌, subst, arith}
 use Rattle.std.specs.Cmp.{unsigned_ties}
 use Rattle.std.specs.Cmp.Lexicographic.{slice_cmp, lists_ties}
 use Rattle.std.specs.List.{find}
@@ -24,6 +24,7 @@ use Rattle.summary_rules.specs.Spelling.{long_number, summary_text}
 use Rattle.summary_rules.proofs.Spelled.{nothing_spelled}
 use Rattle.summary_codec.proofs.Whole.{spells_one}
 use Rattle.centre_core.specs.Summing.{IsSpelled}
+use Rattle.event_codec.specs.Spelling.{IsVersion}
 use Rattle.centre_store.specs.Given.{IsFirst}
 
 -- Quiet entries.
@@ -112,27 +113,30 @@ summary_begins b spelled =
 -- Spellings.
 
 -- they are equally long at all generations
-pub text_long : (generation : ℕ) (s : Summary) → length (summary_text generation s) ≡ length (summary_text 1 s)
+pub text_long : (version generation : ℕ) (s : Summary) → length (summary_text version generation s) ≡ length (summary_text version 1 s)
 unfolding summary_text long_number
-text_long generation s = refl
+text_long version generation s = refl
 
 -- what stands first is of one summary
-pub first_once : (s t : Summary) (first : Option (List ℕ)) → IsFirst s first → IsFirst t first → s ≡ t
-first_once s t None one other = one ∙ sym other
-first_once s t (Some body) one other = (spells_one body one.0 other.0 s t one.1 other.1).summaries
+pub first_once : (version : ℕ) (s t : Summary) (first : Option (List ℕ)) → IsFirst version s first → IsFirst version t first → s ≡ t
+first_once version s t None one other = one ∙ sym other
+first_once version s t (Some body) one other = (spells_one version body one.0 other.0 s t one.1 other.1).summaries
 
 -- and that has a spelling
 pub nothing_is : IsSpelled nothing
-nothing_is = record { generation = 1; fields = nothing_spelled.fields; besides = nothing_spelled.besides }
+nothing_is =
+    let spelled = nothing_spelled 2 (inr refl) in
+    record { version = 2; known = inr refl; generation = 1; fields = spelled.fields; besides = spelled.besides }
 
-pub first_spelled : (s : Summary) (first : Option (List ℕ)) → IsFirst s first → IsSpelled s
-first_spelled s None is = subst IsSpelled (sym is) nothing_is
-first_spelled s (Some body) is = record { generation = is.0; fields = is.1.fields; besides = is.1.besides }
+pub first_spelled : (version : ℕ) (s : Summary) (first : Option (List ℕ)) → IsVersion version → IsFirst version s first → IsSpelled s
+first_spelled version s None known is = subst IsSpelled (sym is) nothing_is
+first_spelled version s (Some body) known is =
+    record { version = version; known = known; generation = is.0; fields = is.1.fields; besides = is.1.besides }
 
 -- the body of a summary begins with 0B and has its generation in it
-text_distinct : (generation : ℕ) (s : Summary) → IsDistinct (Some (summary_text generation s)) []
+text_distinct : (version generation : ℕ) (s : Summary) → IsDistinct (Some (summary_text version generation s)) []
 unfolding summary_text long_number
-text_distinct generation s = (refl, omega arith)
+text_distinct version generation s = (refl, omega arith)
 
-pub spelling_distinct : (generation : ℕ) (s : Summary) (body : List ℕ) → IsSpelling generation s body → IsDistinct (Some body) []
-spelling_distinct generation s body is = subst (λ (l : List ℕ). IsDistinct (Some l) []) (sym is.is) (text_distinct generation s)
+pub spelling_distinct : (version generation : ℕ) (s : Summary) (body : List ℕ) → IsSpelling version generation s body → IsDistinct (Some body) []
+spelling_distinct version generation s body is = subst (λ (l : List ℕ). IsDistinct (Some l) []) (sym is.is) (text_distinct version generation s)

@@ -1,6 +1,6 @@
 -- What the writing of a record does, behind a checkpoint or not, and what a checkpoint does.
-use Rattle.std.proofs.Common.{◌≡◌, ◌⊎◌, ◌≤◌, ◌+◌, ◌^◌, inl, inr, ℕ, List, [], ◌∷◌, ◌++◌, length, true, Option, Some, None, refl, sym, ap, subst, ◌∙◌, arith, length-append}
-use Rattle.std.specs.Prelude.{Result, Ok, Err, OnOk}
+use Rattle.std.proofs.Common.{◌≡◌, ◌⊎◌, ◌≤◌, ◌<◌, ◌+◌, ◌^◌, inl, inr, ℕ, List, [], ◌∷◌, ◌++◌, length, true, Option, Some, None, refl, sym, ap, subst, ◌∙◌, arith, length-append}
+use Rattle.std.specs.Prelude.{IfSome, Result, Ok, Err, OnOk}
 use Rattle.arc_data.specs.declared.event.Event.{Event}
 use Rattle.arc_io.specs.Areas.{Areas}
 use Rattle.arc_io.specs.Causes.{Rose}
@@ -10,7 +10,7 @@ use Rattle.arc_io.proofs.Moments.{joined, weaker}
 use Rattle.centre_core.specs.declared.hall.Stop.{Stop}
 use Rattle.centre_core.specs.declared.hall.Stop.TheVariants.{Memory, Down, Full, Worn}
 use Rattle.centre_core.specs.Summing.{IsSpelled}
-use Rattle.centre_rules.specs.History.{Entry, IsMoment, is_recorded}
+use Rattle.centre_rules.specs.History.{Entry, IsMoment, is_recorded, recorded}
 use Rattle.centre_rules.specs.State.{State, StandsFor, Plan, entry_of}
 use Rattle.centre_rules.specs.Summary.{Summary}
 use Rattle.centre_rules.specs.Sums.{summary_of}
@@ -25,14 +25,14 @@ use Rattle.event_codec.specs.Spelling.{spelling}
 use Rattle.summary_rules.specs.Conditions.{IsSpelling}
 use Rattle.summary_rules.specs.Spelling.{summary_text}
 use Rattle.centre_store.specs.Bodies.{need_of}
-use Rattle.centre_store.specs.Given.{StandFor, StandForEither, HasRecorded, HoldsRecorded, HasEither, summed_size}
+use Rattle.centre_store.specs.Given.{StandForIn, StandForEither, HasRecorded, HoldsRecorded, HasEither, summed_size}
 use Rattle.centre_store.specs.Stores.{IsSameJournal}
-use Rattle.centre_store.specs.Writes.{HaveAll, HaveSome, IsOverAt, IsOverThen, IsFullAt, IsUnwritten, IsWrittenOn, IsSummedUp, IsTurned}
+use Rattle.centre_store.specs.Writes.{HaveAllIn, HaveSomeIn, HaveAll, HaveSome, IsOverAt, IsOverThen, IsFullAt, IsUnwritten, IsWrittenOn, IsSummedUp, IsTurned}
 use Rattle.centre_store.proofs.Summed.{text_long}
 use Rattle.centre_store.proofs.Distinct.{distinct_more}
 use Rattle.centre_store.proofs.Holding.{Adds, Runs, Tells, TurnRuns, TurnTells, Turns, stand_either, recorded_same, recorded_more, recorded_moments, recorded_either}
-use Rattle.centre_store.proofs.Holding.{recorded_turned, turned_moments, turned_there}
-use Rattle.centre_store.proofs.NextSummary.{next_to, next_spelled}
+use Rattle.centre_store.proofs.Holding.{IsAnew, recorded_turned, turned_moments, turned_told, turned_there}
+use Rattle.centre_store.proofs.NextSummary.{next_to, next_spelled, followed}
 
 -- The same but for the room.
 
@@ -65,12 +65,12 @@ module _ {D : Type 0} (seen : D → DiskSeen) where
   run_from old k new P same run = subst (λ (d : D). LeavesOnly (seen d) (seen new) P) (ap (λ (x : Journal D). x.disk) same) run
 
   -- of those that stand for it, or for it with one more
-  pub run_either : (old new : D) (b : Summary) (h : List Entry) (body : List ℕ) → LeavesOnly (seen old) (seen new) (StandFor b h)
+  pub run_either : (old new : D) (b : Summary) (h : List Entry) (body : List ℕ) → LeavesOnly (seen old) (seen new) (StandForIn 2 b h)
       → LeavesOnly (seen old) (seen new) (StandForEither b h body)
-  run_either old new b h body run = weaker (seen old) (seen new) (StandForEither b h body) (StandFor b h) run (λ c stands. stand_either b h body c stands)
+  run_either old new b h body run = weaker (seen old) (seen new) (StandForEither b h body) (StandForIn 2 b h) run (λ c stands. stand_either b h body c stands)
 
   -- and then of those that stand for it with one more or without
-  pub run_then : (old mid new : D) (b : Summary) (h : List Entry) (body : List ℕ) → LeavesOnly (seen old) (seen mid) (StandFor b h)
+  pub run_then : (old mid new : D) (b : Summary) (h : List Entry) (body : List ℕ) → LeavesOnly (seen old) (seen mid) (StandForIn 2 b h)
       → LeavesOnly (seen mid) (seen new) (StandForEither b h body) → LeavesOnly (seen old) (seen new) (StandForEither b h body)
   run_then old mid new b h body one two =
       joined (seen old) (seen mid) (seen new) (StandForEither b h body) (StandForEither b h body) (run_either old mid b h body one) two (λ c q. q)
@@ -109,10 +109,10 @@ module _ {D : Type 0} (seen : D → DiskSeen) (old k : Journal D) (s : State) (s
 -- Checkpoints.
 
 -- the text of the next summary, which is in this body, is as long as that of any generation
-pub summed_long : (generation : ℕ) (b : Summary) (h : List Entry) (body : List ℕ) → body ≡ summary_text generation (summary_of b h)
+pub summed_long : (generation : ℕ) (b : Summary) (h : List Entry) (body : List ℕ) → body ≡ summary_text 2 generation (summary_of b h)
     → 22 + length body ≡ summed_size b h
 summed_long generation b h body is =
-    let long : length body ≡ length (summary_text 1 (summary_of b h)) = ap length is ∙ text_long generation (summary_of b h) in
+    let long : length body ≡ length (summary_text 2 1 (summary_of b h)) = ap length is ∙ text_long 2 generation (summary_of b h) in
     omega (arith, long)
 
 pub summed_of : {D : Type 0} (j k : Journal D) (used : ℕ) → IsTurned j k used → IsSummedUp k
@@ -126,42 +126,61 @@ rose_of before now (Append.DiskFault was is) counts = counts.rose
 pub rose_from : (at_open before now : ℕ) → at_open ≤ before → Rose before now → Rose at_open now
 rose_from at_open before now le rose = omega (arith, le, rose)
 
--- A body is the text of the next summary, whatever the centre stands for: of a journal that has what was recorded, and has no such summary
--- yet.
-module _ {D : Type 0} (seen : D → DiskSeen) (j : Journal D) (s : State) (body : List ℕ)
-    (is : (b : Summary) (h : List Entry) → IsSpelled b → StandsFor b s h → body ≡ summary_text (j.generation + 1) (summary_of b h))
-    (few : s.entries ≤ 2 ^ 48) (moment : IsMoment s.sum.last) (further : IsSummedUp j → ⊥) (fits : 22 + length body ≤ j.limits.bytes) where
-  pub turn_next : HaveSome seen j s → IsNextTo j.generation body
+-- A body is the text of the next summary, whatever the centre stands for: of a journal that has in a version what was recorded, and whose next
+-- generation may come.
+module _ {D : Type 0} (seen : D → DiskSeen) (version : ℕ) (j : Journal D) (s : State) (body : List ℕ)
+    (is : (b : Summary) (h : List Entry) → IsSpelled b → StandsFor b s h → body ≡ summary_text 2 (j.generation + 1) (summary_of b h))
+    (few : s.entries ≤ 2 ^ 48) (moment : IsMoment s.sum.last)
+    (followed : (b : Summary) (h : List Entry) → HaveAllIn seen version j s b h → j.generation ≤ b.recorded + length (recorded h) + 1)
+    (short : length body ≤ 4_294_967_295) where
+  pub turn_next : HaveSomeIn seen version j s → IsNextTo j.generation body
   turn_next had =
       let b = had.base in
       let h = had.history in
-      subst (IsNextTo j.generation) (sym (is b h had.all.given had.all.stands)) (next_to seen j b h had.all.holds s had.all.stands few further)
+      subst (IsNextTo j.generation) (sym (is b h had.all.given had.all.stands)) (next_to seen version j b h had.all.holds s had.all.stands few (followed b h had.all))
 
   -- it uses so many bytes
-  pub turn_numbers : (k : Journal D) → HaveSome seen j s → Turns seen j k body → k.generation ≡ j.generation + 1 → IsTurned j k (22 + length body)
+  pub turn_numbers : (k : Journal D) → HaveSomeIn seen version j s → Turns seen j k body → k.generation ≡ j.generation + 1 → IsTurned j k (22 + length body)
   turn_numbers k had turned generation =
       let holds = had.all.holds in
-      let now = turned holds.0 holds.1 holds.3 in
+      let now = turned version holds.0 holds.1 holds.3 in
       record { generation = generation; used_is = omega (arith, now.used); records = now.count }
 
-  module _ (b : Summary) (h : List Entry) (all : HaveAll seen j s b h) where
-    text : body ≡ summary_text (j.generation + 1) (summary_of b h)
+  module _ (b : Summary) (h : List Entry) (all : HaveAllIn seen version j s b h) where
+    text : body ≡ summary_text 2 (j.generation + 1) (summary_of b h)
     text = is b h all.given all.stands
 
-    spelled : IsSpelling (j.generation + 1) (summary_of b h) body
-    spelled = subst (IsSpelling (j.generation + 1) (summary_of b h)) (sym text)
-        (next_spelled seen j b h all.holds s all.stands few further all.given moment
-        (subst (λ (l : List ℕ). 22 + length l ≤ j.limits.bytes) text fits))
+    pub turn_spelled : IsSpelling 2 (j.generation + 1) (summary_of b h) body
+    turn_spelled =
+        let long : length (summary_text 2 (j.generation + 1) (summary_of b h)) < 2 ^ 32 = omega (arith, ap length text, short) in
+        subst (IsSpelling 2 (j.generation + 1) (summary_of b h)) (sym text)
+        (next_spelled seen version j b h all.holds s all.stands few (followed b h all) all.given moment long)
 
     pub turn_has : (k : Journal D) → Turns seen j k body → HoldsRecorded seen k b h
-    turn_has k turned = recorded_turned seen j k b h (j.generation + 1) body spelled turned all.holds
+    turn_has k turned = recorded_turned seen version j b h (j.generation + 1) body turn_spelled all.holds k turned
 
-    pub turn_moments : (new : D) → TurnRuns seen j new body → LeavesOnly (seen j.disk) (seen new) (StandFor b h)
-    turn_moments new run = turned_moments seen j new b h (j.generation + 1) body spelled run all.holds
+    module _ (new : D) (P : Areas → Type 0) (so : (c : Areas) → IsAnew version b h c → P c) where
+      pub turn_moments : TurnRuns seen j new body → LeavesOnly (seen j.disk) (seen new) P
+      turn_moments run = turned_moments seen version j b h (j.generation + 1) body turn_spelled all.holds new P so run
 
-    pub turn_met : (new : D) → ((d : D) (t : ℕ) (c : Areas) → t ≤ (seen d).moment → (seen d).may_leave c → (seen d).left_since t c)
-        → TurnRuns seen j new body → TurnTells seen j new body → HasRecorded (seen new) b h
-    turn_met new counts_now run told = turned_there seen j new b h (j.generation + 1) body spelled counts_now run told all.holds
+      pub turn_told : TurnTells seen j new body → IfSome (seen new).told P
+      turn_told told = turned_told seen version j b h (j.generation + 1) body turn_spelled all.holds new P so told
+
+-- where it is of the second version
+module _ {D : Type 0} (seen : D → DiskSeen) (j : Journal D) (s : State) (body : List ℕ)
+    (is : (b : Summary) (h : List Entry) → IsSpelled b → StandsFor b s h → body ≡ summary_text 2 (j.generation + 1) (summary_of b h))
+    (few : s.entries ≤ 2 ^ 48) (moment : IsMoment s.sum.last) (further : IsSummedUp j → ⊥) (fits : 22 + length body ≤ j.limits.bytes) (had : HaveSome seen j s) where
+  pub may_follow : (b : Summary) (h : List Entry) → HaveAll seen j s b h → j.generation ≤ b.recorded + length (recorded h) + 1
+  may_follow b h all = followed seen j b h all.holds further
+
+  pub short_body : length body ≤ 4_294_967_295
+  short_body = omega (arith, fits, had.all.holds.3.few)
+
+  pub turn_met : (b : Summary) (h : List Entry) → HaveAll seen j s b h → (new : D)
+      → ((d : D) (t : ℕ) (c : Areas) → t ≤ (seen d).moment → (seen d).may_leave c → (seen d).left_since t c)
+      → TurnRuns seen j new body → TurnTells seen j new body → HasRecorded (seen new) b h
+  turn_met b h all new counts_now run told =
+      turned_there seen j new b h (j.generation + 1) body (turn_spelled seen 2 j s body is few moment may_follow short_body b h all) counts_now run told all.holds
 
 -- Records.
 
@@ -184,11 +203,11 @@ module _ {D : Type 0} (seen : D → DiskSeen) (old k mid : Journal D) (s : State
     write_added new caller recorded added =
         recorded_more seen mid new b h (entry_of caller p) recorded (subst (λ (l : List ℕ). Adds seen mid new l) is added) held
 
-    pub write_moments : (new : D) → (HaveAll seen k s b h → LeavesOnly (seen k.disk) (seen mid.disk) (StandFor b h)) → Runs seen mid new body
+    pub write_moments : (new : D) → (HaveAll seen k s b h → LeavesOnly (seen k.disk) (seen mid.disk) (StandForIn 2 b h)) → Runs seen mid new body
         → LeavesOnly (seen old.disk) (seen new) (StandForEither b h (spelling p.event p.at))
     write_moments new first run =
         run_then seen old.disk mid.disk new b h (spelling p.event p.at)
-        (run_from seen old k mid.disk (StandFor b h) same (first (all_same seen old k s same b h all)))
+        (run_from seen old k mid.disk (StandForIn 2 b h) same (first (all_same seen old k s same b h all)))
         (recorded_moments seen mid new b h p.event p.at (subst (λ (l : List ℕ). Runs seen mid new l) is run) held)
 
     pub write_met : (new : D) → ((d : D) (t : ℕ) (c : Areas) → t ≤ (seen d).moment → (seen d).may_leave c → (seen d).left_since t c)
@@ -200,8 +219,8 @@ module _ {D : Type 0} (seen : D → DiskSeen) (old k mid : Journal D) (s : State
     numbers_of : (new : Journal D) → Adds seen mid new body → HoldsRecorded seen mid b h
         → (new.generation ≡ mid.generation) × (new.used ≡ mid.used + need_of p.event) × (new.records ≡ mid.records + 1)
     numbers_of new added (first, bodies, kept, holds) =
-        let apart = subst (λ (l : List ℕ). IsDistinct first (bodies ++ l ∷ [])) (sym is) (distinct_more first bodies p.event p.at holds.kept.distinct) in
-        let now = added first bodies holds apart in
+        let apart = subst (λ (l : List ℕ). IsDistinct first (bodies ++ l ∷ [])) (sym is) (distinct_more 2 first bodies p.event p.at holds.kept.distinct) in
+        let now = added 2 first bodies holds apart in
         let long : length body ≡ length (spelling p.event 0) = ap length is ∙ size_stays p.event p.at in
         let used : new.used ≡ mid.used + need_of p.event = omega (arith, now.used, holds.used, all_more first bodies body, long) in
         let records : new.records ≡ mid.records + 1 = omega (arith, now.count, holds.count, length-append bodies (body ∷ [])) in

@@ -12,7 +12,7 @@ use Rattle.centre_rules.specs.Summary.{Summary}
 use Rattle.centre_rules.specs.Marks.{text}
 use Rattle.centre_rules.specs.History.{Entry, Extends, marks, moment_after}
 use Rattle.centre_store.specs.Bodies.{need_of}
-use Rattle.centre_store.specs.Given.{StandFor, summed_size}
+use Rattle.centre_store.specs.Given.{StandForIn, summed_size}
 use Rattle.centre_store.specs.Stores.{Stored, HasFailed, StoreStands, StandsOn, Shows, IsAsBefore}
 use Rattle.centre_store.specs.Orders.{StopsInOrder}
 use Rattle.centre_store.specs.Writes.{IsWrittenOn}
@@ -42,7 +42,7 @@ pub record StandsWithin (b : Summary) (h : List Entry) (setup : List ℕ) (clock
   pub so_far : List Entry
   pub from_h : Extends h so_far
   pub to_begun : Extends so_far (begun_after b h setup clock)
-  pub stands : StandFor b so_far areas
+  pub stands : StandForIn 2 b so_far areas
 
 -- a crash at any moment from old to new leaves areas that stand so
 abbrev pub LeavesWithin : {D : Type 0} → (D → DiskSeen) → Stored D → Stored D → List ℕ → ℕ → Type 0

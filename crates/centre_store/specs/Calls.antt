@@ -10,7 +10,7 @@ use Rattle.centre_rules.specs.Summary.{Summary}
 use Rattle.centre_rules.specs.Answers.{answer}
 use Rattle.centre_rules.specs.History.{Entry, Extends, IsMoment, moment_after}
 use Rattle.event_codec.specs.Spelling.{spelling}
-use Rattle.centre_store.specs.Given.{StandFor, StandForEither, HasEither}
+use Rattle.centre_store.specs.Given.{StandForIn, StandForEither, HasEither}
 use Rattle.centre_store.specs.Stores.{Stored, HasFailed, StoreStands, Takes, IsToRecord, IsSameJournal}
 
 -- What is so of a call of `submit` with the event, whatever it answers, where it may be made and the disk has not failed before.
@@ -68,7 +68,7 @@ pub record StandsBetween (b : Summary) (h x : List Entry) (areas : Areas) : Type
   pub so_far : List Entry
   pub from_h : Extends h so_far
   pub to_x : Extends so_far x
-  pub stands : StandFor b so_far areas
+  pub stands : StandForIn 2 b so_far areas
 
 -- Of a store that stands for h, and of any events that are submitted then one after another: a crash at any moment from there on, within
 -- any of the calls, leaves the recorded entries of h and of some first ones of the events, each of which has the answer of one thread.

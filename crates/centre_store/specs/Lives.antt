@@ -12,10 +12,10 @@ use Rattle.centre_laws.specs.Repeats.{TellsTheSame}
 use Rattle.centre_laws.specs.Schedules.{Step, Deliver, Other, Lose, Crash, Schedule, IsSchedule, IsStep, IsKept}
 use Rattle.centre_laws.specs.Schedules.{entries, ideal_list, history, oldest}
 use Rattle.centre_laws.specs.Sendings.{LosesNothing}
-use Rattle.disk_journal.specs.Standing.{AreasStand, GoesOn}
+use Rattle.disk_journal.specs.Standing.{AreasStand}
 use Rattle.centre_store.specs.Begins.{begun_after, LeavesWithin, TellsWithin}
 use Rattle.centre_store.specs.Calls.{Submits, Enters}
-use Rattle.centre_store.specs.Given.{StandFor, HasRecorded}
+use Rattle.centre_store.specs.Given.{StandForIn, HasRecorded, GoesOn}
 use Rattle.centre_store.specs.Openings.{IsOpened, CanOpen}
 use Rattle.centre_store.specs.Stores.{Stored, HasFailed, StoreStands, StandsOn}
 
@@ -38,15 +38,15 @@ IsBehind {D} seen old event clock false (Left c) = (s : Stored D) × Submits see
 pub record KeepsAll {D : Type 0} (seen : D → DiskSeen) (old new : Stored D) : Type 0 where
   pub stands : StandsOn seen old new
   pub any_moment : (b : Summary) (h : List Entry) → StoreStands seen b old h
-      → LeavesOnly (seen old.journal.disk) (seen new.journal.disk) (StandFor b h)
+      → LeavesOnly (seen old.journal.disk) (seen new.journal.disk) (StandForIn 2 b h)
   pub met : (b : Summary) (h : List Entry) → StoreStands seen b old h → HasRecorded (seen new.journal.disk) b h
 
 abbrev pub IsBehindNone : {D : Type 0} → (D → DiskSeen) → Stored D → World D → Type 0
 IsBehindNone {D} seen old (Open s) = KeepsAll seen old s × (HasFailed seen s → ⊥)
 IsBehindNone {D} seen old (Left c) = (s : Stored D) × KeepsAll seen old s × IsLeft seen old s c
 
--- The areas are opened with Ok. Openings before it were refused or broken off by crashes: what these left stands for whatever stood
--- before.
+-- The areas are opened with Ok. Openings before it were refused or broken off by crashes: what these left stands for all for which the
+-- areas stood before.
 pub record Reopens {D : Type 0} (seen : D → DiskSeen) (areas : Areas) (s : Stored D) : Type 0 where
   pub again : Areas
   pub goes_on : GoesOn areas again
@@ -72,10 +72,11 @@ abbrev pub IsBehindBegin : {D : Type 0} → (D → DiskSeen) → Stored D → Li
 IsBehindBegin {D} seen old text clock (Open s) = HasBegun seen old s text clock
 IsBehindBegin {D} seen old text clock (Left c) = (s : Stored D) × Begins seen old s text clock × IsLeft seen old s c
 
--- The first run has begun over areas that stand for nothing.
+-- The first run has begun over areas that stand for nothing, in either version.
 abbrev pub IsFirstRun : {D : Type 0} → (D → DiskSeen) → Schedule → Stored D → Type 0
 IsFirstRun {D} seen x s =
-    (areas : Areas) × (opened : Stored D) × AreasStand areas None [] × Reopens seen areas opened × HasBegun seen opened s x.text x.first
+    (version : ℕ) × (areas : Areas) × (opened : Stored D) × AreasStand areas version None [] × Reopens seen areas opened
+    × HasBegun seen opened s x.text x.first
 
 abbrev pub IsBehindFirst : {D : Type 0} → (D → DiskSeen) → Schedule → World D → Type 0
 IsBehindFirst {D} seen x (Open s) = IsFirstRun seen x s
@@ -85,8 +86,8 @@ IsBehindFirst {D} seen x (Left c) = (s : Stored D) × IsFirstRun seen x s × IsL
 -- then a run begins. Where a crash comes before the call of a step is done, what it left is the world behind that step.
 abbrev pub Lives : {D : Type 0} → (D → DiskSeen) → Schedule → List Step → World D → Type 0
 Lives {D} seen x [] w = IsBehindFirst seen x w
-Lives {D} seen x (Deliver n m clock acknowledged ∷ earlier) w =
-    (old : Stored D) × Lives seen x earlier (Open old) × IsBehind seen old (Sent m) clock acknowledged w
+Lives {D} seen x (Deliver n m via clock acknowledged ∷ earlier) w =
+    (old : Stored D) × Lives seen x earlier (Open old) × IsBehind seen old (Sent m via) clock acknowledged w
 Lives {D} seen x (Other event clock acknowledged ∷ earlier) w =
     (old : Stored D) × Lives seen x earlier (Open old) × IsBehind seen old event clock acknowledged w
 Lives {D} seen x (Lose ∷ earlier) w = (old : Stored D) × Lives seen x earlier (Open old) × IsBehindNone seen old w

@@ -9,20 +9,27 @@ use Rattle.centre_rules.specs.State.{State, StandsFor}
 use Rattle.centre_rules.specs.Summary.{Summary}
 use Rattle.disk_journal.specs.Faults.{IsOver}
 use Rattle.disk_journal.specs.declared.journal.Journal.{Journal}
-use Rattle.centre_store.specs.Given.{IsGiven, HoldsRecorded, summed_size}
+use Rattle.centre_store.specs.Given.{IsGiven, HoldsRecordedIn, summed_size}
 use Rattle.centre_store.specs.Stores.{IsSameJournal}
 
--- the centre stands for the history over a summary that areas give, and the journal has what was recorded
-pub record HaveAll {D : Type 0} (seen : D → DiskSeen) (j : Journal D) (s : State) (b : Summary) (h : List Entry) : Type 0 where
+-- the centre stands for the history over a summary that areas give, and the journal has in a version what was recorded
+pub record HaveAllIn {D : Type 0} (seen : D → DiskSeen) (v : ℕ) (j : Journal D) (s : State) (b : Summary) (h : List Entry) : Type 0 where
   pub given : IsGiven b
   pub stands : StandsFor b s h
-  pub holds : HoldsRecorded seen j b h
+  pub holds : HoldsRecordedIn seen v j b h
+
+-- as it is written
+abbrev pub HaveAll : {D : Type 0} → (D → DiskSeen) → Journal D → State → Summary → List Entry → Type 0
+HaveAll seen j s b h = HaveAllIn seen 2 j s b h
 
 -- there are such a summary and history
-pub record HaveSome {D : Type 0} (seen : D → DiskSeen) (j : Journal D) (s : State) : Type 0 where
+pub record HaveSomeIn {D : Type 0} (seen : D → DiskSeen) (version : ℕ) (j : Journal D) (s : State) : Type 0 where
   pub base : Summary
   pub history : List Entry
-  pub all : HaveAll seen j s base history
+  pub all : HaveAllIn seen version j s base history
+
+abbrev pub HaveSome : {D : Type 0} → (D → DiskSeen) → Journal D → State → Type 0
+HaveSome seen j s = HaveSomeIn seen 2 j s
 
 -- a record of so many bytes would pass a limit of the journal
 abbrev pub IsOverAt : {D : Type 0} → Journal D → ℕ → Type 0

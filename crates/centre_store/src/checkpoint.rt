@@ -10,7 +10,7 @@ ghost use Rattle.centre_rules.specs.Summary.{Summary};
 ghost use Rattle.disk_journal.specs.Faults.{IsOver};
 ghost use Rattle.disk_journal.specs.Journal.{room_of};
 ghost use Rattle.summary_rules.specs.Spelling.{summary_text};
-ghost use Rattle.centre_store.specs.Given.{StandFor, HasRecorded, HoldsRecorded, summed_size};
+ghost use Rattle.centre_store.specs.Given.{StandForIn, HasRecorded, HoldsRecorded, summed_size};
 ghost use Rattle.centre_store.specs.StoreHalls.{is_told};
 ghost use Rattle.centre_store.specs.Stores.{HasFailed, StoreStands, StandsOn, LeavesJournal};
 ghost use Rattle.centre_store.specs.Orders.{IsDownWhereFailed};
@@ -57,7 +57,7 @@ impl<D: Disk> Store<D> {
 
         // A crash at any moment of the call leaves what was recorded.
         ensures any_moment { (b : Summary) (h : List Entry) → StoreStands D.seen b self.old h → (HasFailed D.seen self.old → ⊥)
-            → LeavesOnly (D.seen self.old.journal.disk) (D.seen self.new.journal.disk) (StandFor b h) }
+            → LeavesOnly (D.seen self.old.journal.disk) (D.seen self.new.journal.disk) (StandForIn 2 b h) }
         ensures met { (b : Summary) (h : List Entry) → StoreStands D.seen b self.old h → (HasFailed D.seen self.old → ⊥)
             → HasRecorded (D.seen self.new.journal.disk) b h }
         ensures tells { is_told (D.seen self.new.journal.disk).told ≡ is_told (D.seen self.old.journal.disk).told }
@@ -110,7 +110,7 @@ pub(crate) fn make_room<D: Disk>(
         → (result ≡ Err Stop.Memory) ⊎ (result ≡ Err (Stop.Full (summed_size b h) need 0)) }
 
     ensures any_moment { (b : Summary) (h : List Entry) → HaveAll D.seen journal.old centre.now b h
-        → LeavesOnly (D.seen journal.old.disk) (D.seen journal.new.disk) (StandFor b h) }
+        → LeavesOnly (D.seen journal.old.disk) (D.seen journal.new.disk) (StandForIn 2 b h) }
     ensures met { (b : Summary) (h : List Entry) → HaveAll D.seen journal.old centre.now b h → HasRecorded (D.seen journal.new.disk) b h }
     ensures tells { is_told (D.seen journal.new.disk).told ≡ is_told (D.seen journal.old.disk).told }
     ensures same_room { room_of journal.new ≡ room_of journal.old }
@@ -143,7 +143,7 @@ fn next_summary<D: Disk>(
     requires had { HaveSome D.seen journal.now centre.now }
     requires few { centre.now.entries ≤ 2 ^ 48 }
     ensures spelled { IfOk result (λ body. (b : Summary) (h : List Entry) → IsSpelled b → StandsFor b centre.now h
-        → body.items ≡ summary_text (journal.now.generation + 1) (summary_of b h)) }
+        → body.items ≡ summary_text 2 (journal.now.generation + 1) (summary_of b h)) }
     ensures moment { OnOk result (IsMoment centre.now.sum.last) }
     ensures refused { IfErr result (λ stop. stop ≡ Stop.Memory) }
 {
@@ -180,7 +180,7 @@ fn sum_up<D: Disk>(
     requires few { centre.now.entries ≤ 2 ^ 48 }
     requires moment { IsMoment centre.now.sum.last }
     requires is { (b : Summary) (h : List Entry) → IsSpelled b → StandsFor b centre.now h
-        → summary.now ≡ summary_text (journal.old.generation + 1) (summary_of b h) }
+        → summary.now ≡ summary_text 2 (journal.old.generation + 1) (summary_of b h) }
     requires further { IsSummedUp journal.old → ⊥ }
     requires fits { 22 + length summary.now ≤ journal.old.limits.bytes }
     requires later { at_open ≤ (D.seen journal.old.disk).faults }
@@ -195,7 +195,7 @@ fn sum_up<D: Disk>(
         × Rose at_open (D.seen journal.new.disk).faults) }
 
     ensures any_moment { (b : Summary) (h : List Entry) → HaveAll D.seen journal.old centre.now b h
-        → LeavesOnly (D.seen journal.old.disk) (D.seen journal.new.disk) (StandFor b h) }
+        → LeavesOnly (D.seen journal.old.disk) (D.seen journal.new.disk) (StandForIn 2 b h) }
     ensures met { (b : Summary) (h : List Entry) → HaveAll D.seen journal.old centre.now b h → HasRecorded (D.seen journal.new.disk) b h }
     ensures tells { is_told (D.seen journal.new.disk).told ≡ is_told (D.seen journal.old.disk).told }
     ensures same_room { room_of journal.new ≡ room_of journal.old }

@@ -1,5 +1,5 @@
 // Laws of what areas stand for, and of a store that lives through crashes.
-ghost use Rattle.std.specs.Prelude.{◌≡◌, ◌<◌, ◌≤◌, ◌+◌, ◌^◌, List, true, is_ok, length};
+ghost use Rattle.std.specs.Prelude.{◌≡◌, ◌<◌, ◌≤◌, ◌+◌, ◌^◌, ℕ, List, true, is_ok, length};
 ghost use Rattle.alarm_rules.specs.Setups.{setup_of};
 ghost use Rattle.arc_io.specs.Areas.{Areas};
 ghost use Rattle.centre_rules.specs.Summary.{Summary};
@@ -8,7 +8,7 @@ ghost use Rattle.centre_rules.specs.Answers.{IsLegal};
 ghost use Rattle.centre_laws.specs.Schedules.{Schedule, Each};
 ghost use Rattle.centre_laws.specs.Spacing.{IsWellSpaced};
 ghost use Rattle.event_codec.specs.Spelling.{spelling};
-ghost use Rattle.centre_store.specs.Given.{IsGiven, StandFor, StandForEither};
+ghost use Rattle.centre_store.specs.Given.{IsGiven, StandForIn, StandForEither, CanBeWritten};
 ghost use Rattle.centre_store.specs.Calls.{RunsLeaveAll};
 ghost use Rattle.centre_store.specs.Lives.{World, IsStepButKept, Lives, LivesIdeally};
 ghost use Rattle.centre_store.specs.Openings.{CanOpen, HasOneOpening};
@@ -24,10 +24,10 @@ pub fn law_one_opening()
 {}
 
 /// Areas that stand for the recorded entries of a history can be opened again, where these are such as a journal has, and at most 2^48 with
-/// those of the summary.
+/// those of the summary; and where areas of the first version stand for them, these can be written in the second.
 pub fn law_recorded_opens()
-    ensures { (base : Summary) (h : List Entry) (areas : Areas) → IsGiven base → IsLegal base h → AreKept (recorded h)
-        → base.recorded + length (recorded h) ≤ 2 ^ 48 → StandFor base h areas → CanOpen areas }
+    ensures { (version : ℕ) (base : Summary) (h : List Entry) (areas : Areas) → IsGiven base → IsLegal base h → AreKept (recorded h)
+        → base.recorded + length (recorded h) ≤ 2 ^ 48 → CanBeWritten version base h → StandForIn version base h areas → CanOpen areas }
 {}
 
 /// What a disk leaves that failed as the record of a next entry was written can be opened again: of a history whose recorded entries are such

@@ -178,7 +178,7 @@ fn applied_later(alloc: Global, centre: &mut Centre, ready: Ready) -> (bool, Don
 
 fn see_ready(rt: &impl Abort, ready: &Ready) {
     same(rt, (ready.at(), ready.quiet()), (BEGIN, false), "ready");
-    let is_message = matches!(ready.event(), Event::Message(_));
+    let is_message = matches!(ready.event(), Event::Message { .. });
     holds(rt, is_message, "a message");
 }
 

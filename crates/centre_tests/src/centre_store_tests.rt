@@ -1,6 +1,7 @@
 // What no clause says of the store: that calls succeed, with worked bytes, at its limits, and after each stop and each fault.
 
 mod checkpoints;
+mod moving;
 mod opening;
 mod schedules;
 mod stops;
@@ -14,13 +15,13 @@ use std::alloc::Global;
 use std::process::Abort;
 
 // What a new area is given.
-const FRESH: &[u8] = b"ARC JOURNAL 0001\0";
+const FRESH: &[u8] = b"ARC JOURNAL 0002\0";
 
-// An Adopt, a Start and a Message at the moment 1000000000.
-const AREA: &[u8] = b"ARC JOURNAL 0001\
+// An Adopt, a Start and a Message by the line `line`, at the moment 1000000000.
+const AREA: &[u8] = b"ARC JOURNAL 0002\
     \x01\0\0\0\x1a\x01\0\0\0\0\x3b\x9a\xca\0\0\0\0\x0daccount 1234\n\
     \x01\0\0\0\x09\x02\0\0\0\0\x3b\x9a\xca\0\
-    \x01\0\0\0\x21\x03\0\0\0\0\x3b\x9a\xca\0\x041234\0\x010\0\x01\x02\0\x0b1131 01 001\0";
+    \x01\0\0\0\x26\x03\0\0\0\0\x3b\x9a\xca\0\x041234\0\x010\0\x01\x02\0\x0b1131 01 001\x04line\0";
 
 // A new disk, whose call of this number fails.
 fn failing_disk(rt: &impl Abort, alloc: Global, call: u64) -> MemDisk {

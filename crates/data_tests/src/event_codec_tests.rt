@@ -6,13 +6,13 @@ use std::alloc::Global;
 use std::fmt::Debug;
 use std::process::Abort;
 
-// The bytes of an event in hexadecimal digits, and before a `;` its moment and what it tells. `-` stands for bytes that are no
+// The bytes of an event in version 2 in hexadecimal digits, and before a `;` its moment and what it tells. `-` stands for bytes that are no
 // spelling; behind a `*` stands how often a byte comes.
 const ROWS: &str = "\
 1000000000 adopt 1 bytes;01 000000003b9aca00 00000001 61
 1000000000 start;02 000000003b9aca00
-1000000000 message 1234 - 0 1 AdmCid 16 bytes;03 000000003b9aca00 04 31323334 00 01 30 0001 02 0010 31313331203031203030315d5b785d0a
-1000000000 message ABC 12 3 9999 SiaDcs 0 bytes;03 000000003b9aca00 03 414243 02 3132 01 33 270f 01 0000
+1000000000 message 1234 - 0 1 AdmCid 16 bytes via line;03 000000003b9aca00 04 31323334 00 01 30 0001 02 0010 31313331203031203030315d5b785d0a 04 6c696e65
+1000000000 message ABC 12 3 9999 SiaDcs 0 bytes via line;03 000000003b9aca00 03 414243 02 3132 01 33 270f 01 0000 04 6c696e65
 1000000000 beat 1234;04 000000003b9aca00 04 31323334
 1000000000 tick;05 000000003b9aca00
 1000000000 claim ann 7;06 000000003b9aca00 03 616e6e 0000000000000007
@@ -29,10 +29,10 @@ const ROWS: &str = "\
 -;02 0000003afff44180
 -;01 000000003b9aca00 00000002 61
 -;01 000000003b9aca00 00400001 61
--;03 000000003b9aca00 04 31323334 00 01 30 2710 02 0000
--;03 000000003b9aca00 04 31323334 00 01 30 0001 03 0000
--;03 000000003b9aca00 04 31323334 07 31323334353637 01 30 0001 02 0000
--;03 000000003b9aca00 04 31323334 00 00 0001 02 0000
+-;03 000000003b9aca00 04 31323334 00 01 30 2710 02 0000 04 6c696e65
+-;03 000000003b9aca00 04 31323334 00 01 30 0001 03 0000 04 6c696e65
+-;03 000000003b9aca00 04 31323334 07 31323334353637 01 30 0001 02 0000 04 6c696e65
+-;03 000000003b9aca00 04 31323334 00 00 0001 02 0000 04 6c696e65
 -;04 000000003b9aca00 02 3132
 -;04 000000003b9aca00 03 616263
 -;06 000000003b9aca00 00 0000000000000007
@@ -55,19 +55,19 @@ const LIMITS: &str = "\
 -;04 000000003b9aca00 11 3031323334353637383941424344454630
 1000000000 beat FFF;04 000000003b9aca00 03 46*3
 -;04 000000003b9aca00 02 46*2
-1000000000 message 0123456789ABCDEF aBcDeF F 0 SiaDcs 0 bytes;03 000000003b9aca00 10 30313233343536373839414243444546 06 614263446546 01 46 0000 01 0000
--;03 000000003b9aca00 11 3031323334353637383941424344454630 06 614263446546 01 46 0000 01 0000
--;03 000000003b9aca00 03 414243 07 61426344654630 01 46 0000 01 0000
-1000000000 message ABC 1 aBcDeF 9999 AdmCid 0 bytes;03 000000003b9aca00 03 414243 01 31 06 614263446546 270f 02 0000
--;03 000000003b9aca00 03 414243 01 31 07 61426344654630 270f 02 0000
--;03 000000003b9aca00 03 414243 01 31 00 270f 02 0000
--;03 000000003b9aca00 03 414243 01 31 01 46 2710 02 0000
--;03 000000003b9aca00 03 414243 01 31 01 46 270f 00 0000
--;03 000000003b9aca00 03 414243 01 31 01 46 270f 03 0000
-1000000000 message ABC - 0 1 SiaDcs 4095 bytes;03 000000003b9aca00 03 414243 00 01 30 0001 01 0fff ff*4095
--;03 000000003b9aca00 03 414243 00 01 30 0001 01 1000 ff*4096
--;03 000000003b9aca00 03 414243 00 01 30 0001 01 0fff ff*4094
--;03 000000003b9aca00 03 414243 00 01 30 0001 01 0fff ff*4096
+1000000000 message 0123456789ABCDEF aBcDeF F 0 SiaDcs 0 bytes via line;03 000000003b9aca00 10 30313233343536373839414243444546 06 614263446546 01 46 0000 01 0000 04 6c696e65
+-;03 000000003b9aca00 11 3031323334353637383941424344454630 06 614263446546 01 46 0000 01 0000 04 6c696e65
+-;03 000000003b9aca00 03 414243 07 61426344654630 01 46 0000 01 0000 04 6c696e65
+1000000000 message ABC 1 aBcDeF 9999 AdmCid 0 bytes via line;03 000000003b9aca00 03 414243 01 31 06 614263446546 270f 02 0000 04 6c696e65
+-;03 000000003b9aca00 03 414243 01 31 07 61426344654630 270f 02 0000 04 6c696e65
+-;03 000000003b9aca00 03 414243 01 31 00 270f 02 0000 04 6c696e65
+-;03 000000003b9aca00 03 414243 01 31 01 46 2710 02 0000 04 6c696e65
+-;03 000000003b9aca00 03 414243 01 31 01 46 270f 00 0000 04 6c696e65
+-;03 000000003b9aca00 03 414243 01 31 01 46 270f 03 0000 04 6c696e65
+1000000000 message ABC - 0 1 SiaDcs 4095 bytes via line;03 000000003b9aca00 03 414243 00 01 30 0001 01 0fff ff*4095 04 6c696e65
+-;03 000000003b9aca00 03 414243 00 01 30 0001 01 1000 ff*4096 04 6c696e65
+-;03 000000003b9aca00 03 414243 00 01 30 0001 01 0fff ff*4094 04 6c696e65
+-;03 000000003b9aca00 03 414243 00 01 30 0001 01 0fff ff*4096 04 6c696e65
 1000000000 next 0123456789.-_aZz;07 000000003b9aca00 10 303132333435363738392e2d5f615a7a
 -;07 000000003b9aca00 11 303132333435363738392e2d5f615a7a30
 1000000000 next x;07 000000003b9aca00 01 78
@@ -94,7 +94,34 @@ const LIMITS: &str = "\
 1000000000 close z 1 Real;0a 000000003b9aca00 01 7a 0000000000000001 01
 1000000000 close z 1 Test;0a 000000003b9aca00 01 7a 0000000000000001 03
 -;0a 000000003b9aca00 01 7a 0000000000000001 00
--;0a 000000003b9aca00 01 7a 0000000000000001 04";
+-;0a 000000003b9aca00 01 7a 0000000000000001 04
+1000000000 message ABC - 0 1 SiaDcs 0 bytes via l;03 000000003b9aca00 03 414243 00 01 30 0001 01 0000 01 6c
+1000000000 message ABC - 0 1 SiaDcs 0 bytes via 0123456789.-_aZz;03 000000003b9aca00 03 414243 00 01 30 0001 01 0000 10 303132333435363738392e2d5f615a7a
+-;03 000000003b9aca00 03 414243 00 01 30 0001 01 0000 11 303132333435363738392e2d5f615a7a30
+-;03 000000003b9aca00 03 414243 00 01 30 0001 01 0000 00
+-;03 000000003b9aca00 03 414243 00 01 30 0001 01 0000
+-;03 000000003b9aca00 03 414243 00 01 30 0001 01 0000 01 20
+-;03 000000003b9aca00 03 414243 00 01 30 0001 01 0000 01
+-;03 000000003b9aca00 03 414243 00 01 30 0001 01 0000 01 6c 00";
+
+// In version 1 a message leaves out its line; all else is as in version 2.
+const OLD_ROWS: &str = "\
+1000000000 adopt 1 bytes;01 000000003b9aca00 00000001 61
+1000000000 start;02 000000003b9aca00
+1000000000 message 1234 - 0 1 AdmCid 16 bytes via v1;03 000000003b9aca00 04 31323334 00 01 30 0001 02 0010 31313331203031203030315d5b785d0a
+1000000000 message ABC 12 3 9999 SiaDcs 0 bytes via v1;03 000000003b9aca00 03 414243 02 3132 01 33 270f 01 0000
+-;03 000000003b9aca00 03 414243 02 3132 01 33 270f 01 0000 02 7631
+-;03 000000003b9aca00 03 414243 02 3132 01 33 270f 01 0000 00
+-;03 000000003b9aca00 03 414243 02 3132 01 33 270f 01
+1000000000 beat 1234;04 000000003b9aca00 04 31323334
+1000000000 tick;05 000000003b9aca00
+1000000000 claim ann 7;06 000000003b9aca00 03 616e6e 0000000000000007
+1000000000 next b.;07 000000003b9aca00 02 622e
+1000000000 act ann 7 Note Done;08 000000003b9aca00 03 616e6e 0000000000000007 0a 03
+1000000000 release ann 1;09 000000003b9aca00 03 616e6e 0000000000000001
+1000000000 close ann 7 False;0a 000000003b9aca00 03 616e6e 0000000000000007 02
+-;02 000000003b9aca00 00
+-;0b 000000003b9aca00";
 
 #[test]
 fn events_and_their_bytes(rt: HostRuntime) {
@@ -106,11 +133,29 @@ fn events_and_their_bytes(rt: HostRuntime) {
     }
 }
 
+#[test]
+fn events_and_their_bytes_of_version_1(rt: HostRuntime) {
+    for row in OLD_ROWS.lines() {
+        compare_old(&rt, rt.alloc(), row);
+    }
+}
+
 fn compare(rt: &impl Abort, alloc: Global, row: &str) {
     let (want, digits) = cut(rt, row, ';');
     let bytes = bytes_of(rt, alloc, digits);
     let mut told = String::new(alloc);
     tell(rt, alloc, &mut told, &bytes);
+    same_text(rt, &told, want, row);
+}
+
+fn compare_old(rt: &impl Abort, alloc: Global, row: &str) {
+    let (want, digits) = cut(rt, row, ';');
+    let bytes = bytes_of(rt, alloc, digits);
+    let mut told = String::new(alloc);
+    match decode(alloc, 1, &bytes).expect(rt, "memory") {
+        Some((event, at)) => tell_entry(rt, &mut told, &event, at),
+        None => put(rt, &mut told, "-"),
+    }
     same_text(rt, &told, want, row);
 }
 
@@ -149,16 +194,20 @@ fn add_many(rt: &impl Abort, pair: &str, count: u64, bytes: &mut Vec<u8>) {
 
 // Tells the moment and the event of the bytes, which has these very bytes, or `-`.
 fn tell(rt: &impl Abort, alloc: Global, told: &mut String, bytes: &[u8]) {
-    match decode(alloc, bytes).expect(rt, "memory") {
+    match decode(alloc, 2, bytes).expect(rt, "memory") {
         Some((event, at)) => {
             let mut again = Vec::new(alloc);
             encode(&event, at, &mut again).expect(rt, "memory");
             same_bytes(rt, &again, bytes, "the bytes again");
-            put_number(rt, told, at);
-            tell_event(rt, told, &event);
+            tell_entry(rt, told, &event, at);
         }
         None => put(rt, told, "-"),
     }
+}
+
+fn tell_entry(rt: &impl Abort, told: &mut String, event: &Event, at: u64) {
+    put_number(rt, told, at);
+    tell_event(rt, told, event);
 }
 
 fn put(rt: &impl Abort, told: &mut String, words: &str) {
@@ -200,7 +249,11 @@ fn tell_event(rt: &impl Abort, told: &mut String, event: &Event) {
             put(rt, told, " bytes");
         }
         Event::Start => put(rt, told, " start"),
-        Event::Message(message) => tell_message(rt, told, message),
+        Event::Message { message, via } => {
+            tell_message(rt, told, message);
+            put(rt, told, " via");
+            put_text(rt, told, via);
+        }
         Event::Beat { account } => {
             put(rt, told, " beat");
             put_text(rt, told, account);

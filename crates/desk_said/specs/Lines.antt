@@ -10,7 +10,7 @@ use Rattle.arc_data.specs.declared.listing.Row.{Row}
 use Rattle.arc_data.specs.declared.listing.View.{View}
 use Rattle.desk_wire.specs.Commands.{one_number}
 use Rattle.desk_wire.specs.Names.{number_spelled, step_named}
-use Rattle.desk_said.specs.Words.{count_spelled, step_or_none, holder_or, yes_or_no}
+use Rattle.desk_said.specs.Words.{count_spelled, step_or_none, holder_or, line_or_dash, yes_or_no}
 use Rattle.desk_said.specs.declared.said.Said.{Said}
 use Rattle.desk_said.specs.declared.said.Said.TheVariants.{Welcome, Denied, What, Bye, Claimed, NoneWaiting, BusyWith, HeldBy, NotOpen}
 use Rattle.desk_said.specs.declared.said.Said.TheVariants.{NotYours, Expected, Missing, Recorded, Released, Closed}
@@ -112,12 +112,13 @@ opened_first words =
     after (short code.0) (λ text.
     option_map (λ moment. (record { subject = subject.0; code = text; at = moment }, at.1)) (count_spelled at.0)))))
 
-abbrev pub view_of : Opened → List ℕ → List ℕ → List ℕ → List ℕ → Option Said
-view_of o signals restored holder next =
+abbrev pub view_of : Opened → List ℕ → List ℕ → List ℕ → List ℕ → List ℕ → Option Said
+view_of o signals restored holder next via =
     after (count_spelled signals) (λ count.
     after (yes_or_no restored) (λ ended.
     after (holder_or (codes "none") holder) (λ name.
-    option_map (λ step. Shown (record {
+    after (step_or_none next) (λ step.
+    option_map (λ line. Shown (record {
       number = o.subject.number;
       class = o.subject.class;
       account = o.subject.account;
@@ -127,16 +128,18 @@ view_of o signals restored holder next =
       restored = ended;
       holder = name;
       expected = step;
-    })) (step_or_none next))))
+      via = line;
+    })) (line_or_dash via)))))
 
--- `signals COUNT restored yes holder NAME next STEP`
+-- `signals COUNT restored yes holder NAME next STEP via LINE`
 abbrev pub since_line : Opened → List (List ℕ) → Option Said
 since_line o words =
     after (labelled (codes "signals") words) (λ signals.
     after (labelled (codes "restored") signals.1) (λ restored.
     after (labelled (codes "holder") restored.1) (λ holder.
     after (labelled (codes "next") holder.1) (λ next.
-    if is_nil next.1 then view_of o signals.0 restored.0 holder.0 next.0 else None))))
+    after (labelled (codes "via") next.1) (λ via.
+    if is_nil via.1 then view_of o signals.0 restored.0 holder.0 next.0 via.0 else None)))))
 
 abbrev pub shown_line : List (List ℕ) → Option Said
 shown_line words = after (opened_first words) (λ opened. since_line opened.0 opened.1)

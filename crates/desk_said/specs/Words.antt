@@ -1,5 +1,5 @@
 -- Words of a desk's answers.
-use Rattle.std.specs.Prelude.{ℕ, List, Bool, true, false, if◌then◌else◌, Option, Some, None, codes}
+use Rattle.std.specs.Prelude.{ℕ, List, [], Bool, true, false, if◌then◌else◌, Option, Some, None, codes}
 use Rattle.std.specs.Option.{option_map}
 use Rattle.std.specs.Str.{bytes_eq}
 use Rattle.alarm_rules.specs.SetupWords.{number_between, word_that}
@@ -22,6 +22,10 @@ step_or_none word = or_none (codes "none") step_named word
 -- an operator, or what stands for nobody
 abbrev pub holder_or : List ℕ → List ℕ → Option (Option (List ℕ))
 holder_or nobody word = or_none nobody (word_that is_name) word
+
+-- the name of a line, or what stands for none
+abbrev pub line_or_dash : List ℕ → Option (List ℕ)
+line_or_dash word = if bytes_eq word (codes "-") then Some [] else word_that is_name word
 
 -- `yes` or `no`
 abbrev pub yes_or_no : List ℕ → Option Bool

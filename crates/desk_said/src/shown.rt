@@ -1,10 +1,10 @@
-// `incident NUMBER CLASS ACCOUNT code CODE opened MOMENT signals COUNT restored yes holder NAME next STEP`
+// `incident NUMBER CLASS ACCOUNT code CODE opened MOMENT signals COUNT restored yes holder NAME next STEP via LINE`
 ghost use Rattle.std.specs.Prelude.{◌≡◌};
 ghost use Rattle.std.specs.Option.{option_map};
 ghost use Rattle.alarm_rules.specs.SetupWords.{word_that};
 ghost use Rattle.arc_data.specs.Digits.{is_account};
 ghost use Rattle.desk_said.specs.Lines.{labelled, opened_first, shown_line, since_line, subject_first, subject_of, view_of};
-ghost use Rattle.desk_said.specs.Words.{holder_or, yes_or_no};
+ghost use Rattle.desk_said.specs.Words.{holder_or, line_or_dash, yes_or_no};
 
 use crate::forms::{name, step_or_none};
 use crate::names::{class, count, number};
@@ -115,6 +115,17 @@ pub(crate) fn holder_or(nobody: &[u8], word: &[u8]) -> Option<Option<Txt>>
     }
 }
 
+// The name of a line, or that none is named.
+fn line_or_dash(word: &[u8]) -> Option<Txt>
+    ensures { result ≡ line_or_dash word.now }
+{
+    if word == b"-".as_slice() {
+        Some(Txt::empty())
+    } else {
+        name(word)
+    }
+}
+
 fn since(opened: &Opened, words: &mut Words) -> Option<Said>
     ensures { result ≡ since_line opened.now words.old }
 {
@@ -130,10 +141,13 @@ fn since(opened: &Opened, words: &mut Words) -> Option<Said>
     let Some(next) = labelled(b"next", words) else {
         return None;
     };
+    let Some(via) = labelled(b"via", words) else {
+        return None;
+    };
     if !words.is_empty() {
         return None;
     }
-    viewed(opened, signals, restored, holder, next)
+    viewed(opened, signals, restored, holder, next, via)
 }
 
 fn viewed(
@@ -142,26 +156,31 @@ fn viewed(
     restored: &[u8],
     holder: &[u8],
     next: &[u8],
+    via: &[u8],
 ) -> Option<Said>
-    ensures { result ≡ view_of opened.now signals.now restored.now holder.now next.now }
+    ensures { result ≡ view_of opened.now signals.now restored.now holder.now next.now via.now }
 {
     match (
         count(signals),
         yes_or_no(restored),
         holder_or(b"none", holder),
         step_or_none(next),
+        line_or_dash(via),
     ) {
-        (Some(signals), Some(restored), Some(holder), Some(expected)) => Some(Said::Shown(View {
-            number: opened.subject.number,
-            class: opened.subject.class,
-            account: opened.subject.account,
-            code: opened.code,
-            at: opened.at,
-            signals,
-            restored,
-            holder,
-            expected,
-        })),
+        (Some(signals), Some(restored), Some(holder), Some(expected), Some(via)) => {
+            Some(Said::Shown(View {
+                number: opened.subject.number,
+                class: opened.subject.class,
+                account: opened.subject.account,
+                code: opened.code,
+                at: opened.at,
+                signals,
+                restored,
+                holder,
+                expected,
+                via,
+            }))
+        }
         _ => None,
     }
 }

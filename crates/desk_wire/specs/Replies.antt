@@ -1,5 +1,5 @@
 -- The line that a desk prints for each reply of the centre.
-use Rattle.std.specs.Prelude.{ℕ, ◌++◌, List, Bool, if◌then◌else◌, Option, Some, None, codes, decimal}
+use Rattle.std.specs.Prelude.{ℕ, ◌++◌, List, [], ◌∷◌, Bool, if◌then◌else◌, Option, Some, None, codes, decimal}
 use Rattle.std.specs.List.{flat_map}
 use Rattle.arc_data.specs.Classes.{name_of}
 use Rattle.arc_data.specs.declared.listing.Listing.{Listing}
@@ -25,6 +25,11 @@ step_or_none (Some step) = step_name step
 abbrev pub yes_or_no : Bool → List ℕ
 yes_or_no answer = if answer then codes "yes" else codes "no"
 
+-- the name of a line, or `-` where no line is named
+abbrev pub line_or_dash : List ℕ → List ℕ
+line_or_dash [] = codes "-"
+line_or_dash (byte ∷ bytes) = byte ∷ bytes
+
 -- a text, and the end of the line
 abbrev pub ended : List ℕ → List ℕ
 ended text = text ++ codes "\n"
@@ -48,7 +53,7 @@ row_text r =
 abbrev pub listed : Listing → List ℕ
 listed l = ended (codes "list " ++ decimal l.total ++ flat_map row_text l.rows)
 
--- one incident: what it is and when it opened, and then what has become of it
+-- one incident: what it is and when it opened, and then what has become of it, and by which line it came
 abbrev pub opened : View → List ℕ
 opened v =
     codes "incident " ++ decimal v.number ++ codes " " ++ name_of v.class ++ codes " " ++ v.account ++ codes " code " ++ v.code
@@ -57,7 +62,8 @@ opened v =
 abbrev pub since : List ℕ → View → List ℕ
 since text v =
     ended (text ++ codes " signals " ++ decimal v.signals ++ codes " restored " ++ yes_or_no v.restored
-    ++ codes " holder " ++ text_or (codes "none") v.holder ++ codes " next " ++ step_or_none v.expected)
+    ++ codes " holder " ++ text_or (codes "none") v.holder ++ codes " next " ++ step_or_none v.expected
+    ++ codes " via " ++ line_or_dash v.via)
 
 abbrev pub shown : View → List ℕ
 shown v = since (opened v) v

@@ -2,7 +2,7 @@
 ghost use Rattle.std.specs.Prelude.{◌≡◌, ◌≤◌, ◌+◌, ◌*◌, [], ◌++◌, length};
 ghost use Rattle.std.specs.List.{flat_map};
 ghost use Rattle.desk_wire.specs.Replies.{line_of, welcome_of, claimed, expected, held, listed, missing, numbered, opened, recorded};
-ghost use Rattle.desk_wire.specs.Replies.{row_text, shown, since, yes_or_no};
+ghost use Rattle.desk_wire.specs.Replies.{line_or_dash, row_text, shown, since, yes_or_no};
 
 use crate::line::Line;
 use arc_data::{Class, Listing, Reply, Row, Step, Txt, View};
@@ -140,7 +140,7 @@ fn put_opened(line: &mut Line, view: &View)
     line.put_number(view.at);
 }
 
-// Puts what has become of an incident.
+// Puts what has become of an incident, and by which line it came.
 fn put_since(line: &mut Line, view: &View)
     requires { length line.old ≤ 200 }
     ensures { line.new ≡ since line.old view.now }
@@ -153,7 +153,19 @@ fn put_since(line: &mut Line, view: &View)
     line.put_text_or(&view.holder, b"none");
     line.put(b" next ");
     line.put_step_or_none(view.expected);
+    line.put(b" via ");
+    line.put(line_or_dash(&view.via));
     line.put(b"\n");
+}
+
+fn line_or_dash(via: &Txt) -> &[u8]
+    ensures text { result.now ≡ line_or_dash via.now }
+    ensures short { length result.now ≤ 32 }
+{
+    match via.bytes() {
+        [] => b"-",
+        name => name,
+    }
 }
 
 fn yes_or_no(answer: bool) -> &'static [u8]

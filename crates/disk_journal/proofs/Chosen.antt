@@ -1,23 +1,42 @@
 -- Which area counts, and what follows from what it has at rest.
-use Rattle.std.proofs.Common.{◌≡◌, ◌≢◌, ◌⊎◌, ◌≤◌, ◌<◌, ℕ, List, [], ◌∷◌, ◌++◌, length, take, drop, get_or, Option, Some, None, Bool, true, false, refl, sym, ap, ◌∙◌, subst, inl, inr, arith, length-append}
+use Rattle.std.proofs.Common.{◌≡◌, ◌≢◌, ◌⊎◌, ◌≤◌, ◌<◌, ℕ, List, [], ◌∷◌, ◌++◌, length, take, drop, get_or, Option, Some, None, Bool, true, false, refl, sym, ap, ◌∙◌, subst, inl, inr, ⊎_elim, arith, length-append}
 use Rattle.std.specs.Prelude.{◌&&◌, nat_lt, nat_eq, is_some, if◌then◌else◌}
 use Rattle.std.specs.Int.{from_be_bytes, w64}
 use Rattle.std.specs.Str.{bytes_eq}
-use Rattle.std.proofs.lemmas.Bool.{and_parts, and_from, false_from_ne_true, ltb-true, lt-ltb, le-ltb, eqb-true, eq-eqb}
+use Rattle.std.proofs.lemmas.Bool.{and_parts, and_from, or_cases, or_left, or_right, false_from_ne_true, ltb-true, lt-ltb, le-ltb, eqb-true, eq-eqb}
 use Rattle.std.proofs.lemmas.List.{take-append-le}
 use Rattle.std.proofs.lemmas.Slice.Eq.{bytes_eq-Decides}
 use Rattle.arc_io.specs.Areas.{Areas, part, rest}
 use Rattle.arc_io.specs.declared.disk.Area.{Area}
 use Rattle.arc_io.specs.declared.disk.Area.TheVariants.{A, B}
-use Rattle.disk_journal.specs.Records.{head, tag, front, records_of, AtRest, Stands}
-use Rattle.disk_journal.specs.Standing.{is_live, generation_of, choice, chosen, other_of, all_of, generation_in, IsDistinct, AreasStand}
+use Rattle.disk_journal.specs.Records.{head_of, tag, front, records_of, AtRest, IsVersion, Stands}
+use Rattle.disk_journal.specs.Standing.{is_head, is_live, generation_of, choice, chosen, other_of, all_of, generation_in, IsDistinct, AreasStand}
 use Rattle.disk_journal.specs.Journal.{IsAtRestIn}
 use Rattle.disk_journal.proofs.Gates.{length-front, size-least}
+
+-- what the head of a version is
+pub record Headed (bytes : List ℕ) : Type 0 where
+  pub version : ℕ
+  pub known : IsVersion version
+  pub is : bytes ≡ head_of version
+
+headed_has : (bytes : List ℕ) → is_head bytes ≡ true → Headed bytes
+headed_has bytes head =
+    ⊎_elim
+    (λ (e : bytes_eq bytes (head_of 1) ≡ true). record { version = 1; known = inl refl; is = (bytes_eq-Decides bytes (head_of 1)).0 e })
+    (λ (e : bytes_eq bytes (head_of 2) ≡ true). record { version = 2; known = inr refl; is = (bytes_eq-Decides bytes (head_of 2)).0 e })
+    (or_cases (bytes_eq bytes (head_of 1)) (bytes_eq bytes (head_of 2)) head)
+
+of_version : (bytes : List ℕ) (version : ℕ) → IsVersion version → bytes ≡ head_of version → is_head bytes ≡ true
+of_version bytes version (inl one) is =
+    or_left (bytes_eq bytes (head_of 1)) (bytes_eq bytes (head_of 2)) ((bytes_eq-Decides bytes (head_of 1)).1 (is ∙ ap head_of one))
+of_version bytes version (inr two) is =
+    or_right (bytes_eq bytes (head_of 1)) (bytes_eq bytes (head_of 2)) ((bytes_eq-Decides bytes (head_of 2)).1 (is ∙ ap head_of two))
 
 -- what a live area has
 pub record Live (bytes : List ℕ) : Type 0 where
   pub long : 29 < length bytes
-  pub headed : take 16 bytes ≡ head
+  pub headed : Headed (take 16 bytes)
   pub gate : get_or bytes 16 0 ≡ 1
   pub tagged : get_or bytes 21 0 ≡ 11
 
@@ -25,7 +44,7 @@ pub live_has : (bytes : List ℕ) → is_live bytes ≡ true → Live bytes
 unfolding is_live
 live_has bytes live =
     let p = nat_lt 29 (length bytes) in
-    let q = bytes_eq (take 16 bytes) head in
+    let q = is_head (take 16 bytes) in
     let r = nat_eq (get_or bytes 16 0) 1 in
     let s = nat_eq (get_or bytes 21 0) tag in
     let one = and_parts p (q && (r && s)) live in
@@ -33,7 +52,7 @@ live_has bytes live =
     let three = and_parts r s two.1 in
     record {
       long = ltb-true 29 (length bytes) one.0;
-      headed = (bytes_eq-Decides (take 16 bytes) head).0 two.0;
+      headed = headed_has (take 16 bytes) two.0;
       gate = eqb-true (get_or bytes 16 0) 1 three.0;
       tagged = eqb-true (get_or bytes 21 0) tag three.1;
     }
@@ -42,11 +61,11 @@ pub has_live : (bytes : List ℕ) → Live bytes → is_live bytes ≡ true
 unfolding is_live
 has_live bytes h =
     let p = nat_lt 29 (length bytes) in
-    let q = bytes_eq (take 16 bytes) head in
+    let q = is_head (take 16 bytes) in
     let r = nat_eq (get_or bytes 16 0) 1 in
     let s = nat_eq (get_or bytes 21 0) tag in
     and_from p (q && (r && s)) (lt-ltb 29 (length bytes) h.long)
-    (and_from q (r && s) ((bytes_eq-Decides (take 16 bytes) head).1 h.headed)
+    (and_from q (r && s) (of_version (take 16 bytes) h.headed.version h.headed.known h.headed.is)
     (and_from r s (eq-eqb (get_or bytes 16 0) 1 h.gate) (eq-eqb (get_or bytes 21 0) tag h.tagged)))
 
 pub not_live : (bytes : List ℕ) → (Live bytes → ⊥) → is_live bytes ≡ false
@@ -59,25 +78,25 @@ pub shut_not_live : (bytes : List ℕ) → get_or bytes 16 0 ≢ 1 → is_live b
 shut_not_live bytes shut = not_live bytes (λ live. shut live.gate)
 
 -- an area at rest is live where a summary is first
-pub rest_live : (summary : Option (List ℕ)) (bodies : List (List ℕ)) (bytes : List ℕ) → IsDistinct summary bodies → AtRest bytes (all_of summary bodies)
+pub rest_live : (version : ℕ) (summary : Option (List ℕ)) (bodies : List (List ℕ)) (bytes : List ℕ) → IsDistinct summary bodies → AtRest version bytes (all_of summary bodies)
     → is_live bytes ≡ is_some summary
-rest_live None [] bytes distinct at = shut_not_live bytes (λ is_one. at.closed (sym (ap (λ (l : List ℕ). get_or l 16 0) at.is) ∙ is_one))
-rest_live None ([] ∷ bodies) bytes distinct at = absurd (omega (arith, at.sizes.0.0))
-rest_live None ((x ∷ body) ∷ bodies) bytes distinct at = not_live bytes (λ live. distinct (sym (ap (λ (l : List ℕ). get_or l 21 0) at.is) ∙ live.tagged))
-rest_live (Some []) bodies bytes distinct at = absurd (omega (arith, distinct.1))
-rest_live (Some (x ∷ summary)) bodies bytes distinct at = has_live bytes (record {
-  long = omega (arith, ap length at.is, length-append (front ((x ∷ summary) ∷ bodies)) (at.gate ∷ at.behind), length-front ((x ∷ summary) ∷ bodies), size-least bodies, distinct.1);
-  headed = ap (take 16) at.is;
+rest_live version None [] bytes distinct at = shut_not_live bytes (λ is_one. at.closed (sym (ap (λ (l : List ℕ). get_or l 16 0) at.is) ∙ is_one))
+rest_live version None ([] ∷ bodies) bytes distinct at = absurd (omega (arith, at.sizes.0.0))
+rest_live version None ((x ∷ body) ∷ bodies) bytes distinct at = not_live bytes (λ live. distinct (sym (ap (λ (l : List ℕ). get_or l 21 0) at.is) ∙ live.tagged))
+rest_live version (Some []) bodies bytes distinct at = absurd (omega (arith, distinct.1))
+rest_live version (Some (x ∷ summary)) bodies bytes distinct at = has_live bytes (record {
+  long = omega (arith, ap length at.is, length-append (front version ((x ∷ summary) ∷ bodies)) (at.gate ∷ at.behind), length-front version ((x ∷ summary) ∷ bodies), size-least bodies, distinct.1);
+  headed = record { version = version; known = at.known; is = ap (take 16) at.is };
   gate = ap (λ (l : List ℕ). get_or l 16 0) at.is;
   tagged = ap (λ (l : List ℕ). get_or l 21 0) at.is ∙ distinct.0;
 })
 
 -- and its generation is that in the summary
-pub rest_generation : (summary : List ℕ) (bodies : List (List ℕ)) (bytes : List ℕ) → 9 ≤ length summary → AtRest bytes (summary ∷ bodies)
+pub rest_generation : (version : ℕ) (summary : List ℕ) (bodies : List (List ℕ)) (bytes : List ℕ) → 9 ≤ length summary → AtRest version bytes (summary ∷ bodies)
     → generation_of bytes ≡ generation_in (Some summary)
 unfolding generation_of
-rest_generation [] bodies bytes long at = absurd (omega arith)
-rest_generation (x ∷ summary) bodies bytes long at =
+rest_generation version [] bodies bytes long at = absurd (omega arith)
+rest_generation version (x ∷ summary) bodies bytes long at =
     let tail = at.gate ∷ at.behind in
     let within : 8 ≤ length summary = omega arith in
     ap (λ (l : List ℕ). from_be_bytes w64 (take 8 l))
@@ -154,28 +173,28 @@ opened_chosen B c live less =
     ap (λ (l : Bool). choice (is_live c.a) l (generation_of c.a) (generation_of c.b)) live ∙ open_b (is_live c.a) (generation_of c.a) (generation_of c.b) less
 
 -- an area at rest that is chosen
-pub rest_stands : (area : Area) (summary : Option (List ℕ)) (bodies : List (List ℕ)) (c : Areas) → IsDistinct summary bodies → IsAtRestIn area summary bodies c
-    → AreasStand c summary bodies
-rest_stands area summary bodies c distinct at =
-    subst (λ (x : Area). (is_live (part x c) ≡ is_some summary) × Stands (part x c) (all_of summary bodies)) (sym at.chosen_is)
-    (rest_live summary bodies (part area c) distinct at.at_rest, inr at.at_rest)
+pub rest_stands : (area : Area) (version : ℕ) (summary : Option (List ℕ)) (bodies : List (List ℕ)) (c : Areas) → IsDistinct summary bodies → IsAtRestIn area version summary bodies c
+    → AreasStand c version summary bodies
+rest_stands area version summary bodies c distinct at =
+    subst (λ (x : Area). (is_live (part x c) ≡ is_some summary) × Stands version (part x c) (all_of summary bodies)) (sym at.chosen_is)
+    (rest_live version summary bodies (part area c) distinct at.at_rest, inr at.at_rest)
 
 -- the generation is that in the summary, where there is one
-same_generation : (summary : Option (List ℕ)) (bodies others : List (List ℕ)) (one two : List ℕ) → IsDistinct summary bodies → is_some summary ≡ true
-    → AtRest one (all_of summary bodies) → AtRest two (all_of summary others) → generation_of two ≡ generation_of one
-same_generation None bodies others one two distinct some at_one at_two = cc
-same_generation (Some summary) bodies others one two distinct some at_one at_two =
-    rest_generation summary others two distinct.1 at_two ∙ sym (rest_generation summary bodies one distinct.1 at_one)
+same_generation : (version : ℕ) (summary : Option (List ℕ)) (bodies others : List (List ℕ)) (one two : List ℕ) → IsDistinct summary bodies → is_some summary ≡ true
+    → AtRest version one (all_of summary bodies) → AtRest version two (all_of summary others) → generation_of two ≡ generation_of one
+same_generation version None bodies others one two distinct some at_one at_two = cc
+same_generation version (Some summary) bodies others one two distinct some at_one at_two =
+    rest_generation version summary others two distinct.1 at_two ∙ sym (rest_generation version summary bodies one distinct.1 at_one)
 
 -- the chosen area stays chosen whatever bodies it has at rest behind the same summary
-pub rest_again : (area : Area) (summary : Option (List ℕ)) (bodies others : List (List ℕ)) (t c : Areas) → IsDistinct summary bodies → IsDistinct summary others
-    → IsAtRestIn area summary bodies t → rest area c ≡ rest area t → AtRest (part area c) (all_of summary others) → IsAtRestIn area summary others c
-rest_again area summary bodies others t c distinct distinct_others at same at_others =
-    let before = rest_live summary bodies (part area t) distinct at.at_rest in
-    let after = rest_live summary others (part area c) distinct_others at_others in
+pub rest_again : (area : Area) (version : ℕ) (summary : Option (List ℕ)) (bodies others : List (List ℕ)) (t c : Areas) → IsDistinct summary bodies → IsDistinct summary others
+    → IsAtRestIn area version summary bodies t → rest area c ≡ rest area t → AtRest version (part area c) (all_of summary others) → IsAtRestIn area version summary others c
+rest_again area version summary bodies others t c distinct distinct_others at same at_others =
+    let before = rest_live version summary bodies (part area t) distinct at.at_rest in
+    let after = rest_live version summary others (part area c) distinct_others at_others in
     record {
       chosen_is = stays_chosen area t c at.chosen_is same (after ∙ sym before)
-          (λ live. same_generation summary bodies others (part area t) (part area c) distinct (sym before ∙ live) at.at_rest at_others);
+          (λ live. same_generation version summary bodies others (part area t) (part area c) distinct (sym before ∙ live) at.at_rest at_others);
       at_rest = at_others;
     }
 

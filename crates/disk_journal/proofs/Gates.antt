@@ -6,15 +6,15 @@ use Rattle.std.proofs.lemmas.List.{take_at, drop_at, drop_more}
 use Rattle.std.proofs.lemmas.List.Elements.{All-append}
 use Rattle.std.proofs.lemmas.Bool.Decides.{eqb_tells}
 use Rattle.arc_io.specs.Crashes.{Torn}
-use Rattle.disk_journal.specs.Records.{head, tag, front, bytes_of, records_of, AtRest, size, MayHave, MayStandAt, HaveSizes, most_at}
+use Rattle.disk_journal.specs.Records.{head_of, tag, IsVersion, front, bytes_of, records_of, AtRest, size, MayHave, MayStandAt, HaveSizes, most_at}
 
 length-records : (bodies : List (List ℕ)) → length (records_of bodies) + 17 ≡ size bodies
 length-records [] = refl
 length-records (body ∷ bodies) = omega (arith, length-records bodies, length-append body (records_of bodies))
 
 -- the closed gate stands behind the front
-pub length-front : (bodies : List (List ℕ)) → length (front bodies) + 1 ≡ size bodies
-length-front bodies = omega (arith, length-append head (records_of bodies), length-records bodies)
+pub length-front : (version : ℕ) (bodies : List (List ℕ)) → length (front version bodies) + 1 ≡ size bodies
+length-front version bodies = omega (arith, length-append (head_of version) (records_of bodies), length-records bodies)
 
 pub size-more : (bodies : List (List ℕ)) (body : List ℕ) → size (bodies ++ body ∷ []) ≡ size bodies + 5 + length body
 size-more [] body = omega arith
@@ -25,12 +25,12 @@ size-least [] = omega arith
 size-least (b ∷ bodies) = omega (arith, size-least bodies)
 
 -- one record more at the end of the front: where appending and reading meet
-pub front-more : (bodies : List (List ℕ)) (body rest : List ℕ) → front (bodies ++ body ∷ []) ++ rest ≡ front bodies ++ 1 ∷ (bytes_of body ++ rest)
-front-more bodies body rest =
-    ap (λ l. (head ++ l) ++ rest) (flat_map-append (λ (b : List ℕ). 1 ∷ bytes_of b) bodies (body ∷ []))
-    ∙ ap (λ l. l ++ rest) (sym (append_assoc head (records_of bodies) (records_of (body ∷ []))))
-    ∙ append_assoc (front bodies) (records_of (body ∷ [])) rest
-    ∙ ap (λ l. front bodies ++ 1 ∷ (l ++ rest)) (append-nil (bytes_of body))
+pub front-more : (version : ℕ) (bodies : List (List ℕ)) (body rest : List ℕ) → front version (bodies ++ body ∷ []) ++ rest ≡ front version bodies ++ 1 ∷ (bytes_of body ++ rest)
+front-more version bodies body rest =
+    ap (λ l. (head_of version ++ l) ++ rest) (flat_map-append (λ (b : List ℕ). 1 ∷ bytes_of b) bodies (body ∷ []))
+    ∙ ap (λ l. l ++ rest) (sym (append_assoc (head_of version) (records_of bodies) (records_of (body ∷ []))))
+    ∙ append_assoc (front version bodies) (records_of (body ∷ [])) rest
+    ∙ ap (λ l. front version bodies ++ 1 ∷ (l ++ rest)) (append-nil (bytes_of body))
 
 -- behind another gate than the first, no more than wherever a body stands
 pub most_elsewhere : (place byte : ℕ) → (place ≡ 16 → ⊥) → most_at place byte ≡ 4_194_400
@@ -56,104 +56,109 @@ pub small_stands : (place : ℕ) (body : List ℕ) → MayHave (length body) →
 small_stands place body fits = (fits.0, omega (arith, fits.1, most_least place (get_or body 0 0)))
 
 -- sizes of one body more
-pub sizes-more : (bodies : List (List ℕ)) (body : List ℕ) → HaveSizes bodies → MayStandAt (length (front bodies)) body → HaveSizes (bodies ++ body ∷ [])
-sizes-more [] body sizes fits = (fits, λ k d below. absurd (omega arith))
-sizes-more (b ∷ bodies) body sizes fits =
-    let apart : length (front (b ∷ bodies)) ≡ 16 → ⊥ = λ same. omega (arith, same, length-front (b ∷ bodies), size-least bodies) in
-    let small : MayHave (length body) = (fits.0, omega (arith, fits.1, most_elsewhere (length (front (b ∷ bodies))) (get_or body 0 0) apart)) in
+pub sizes-more : (version : ℕ) (bodies : List (List ℕ)) (body : List ℕ) → HaveSizes bodies → MayStandAt (length (front version bodies)) body → HaveSizes (bodies ++ body ∷ [])
+sizes-more version [] body sizes fits = (fits, λ k d below. absurd (omega arith))
+sizes-more version (b ∷ bodies) body sizes fits =
+    let apart : length (front version (b ∷ bodies)) ≡ 16 → ⊥ = λ same. omega (arith, same, length-front version (b ∷ bodies), size-least bodies) in
+    let small : MayHave (length body) = (fits.0, omega (arith, fits.1, most_elsewhere (length (front version (b ∷ bodies))) (get_or body 0 0) apart)) in
     (sizes.0, All-append (λ (other : List ℕ). MayHave (length other)) bodies (body ∷ []) sizes.1 (λ k d below. let first : k ≡ 0 = omega arith in rw first small))
 
 -- the closed gate stands in each outcome of the first write
-pub torn_behind : (bodies : List (List ℕ)) (used n : ℕ) (d c : List ℕ) → used ≡ size bodies → AtRest d bodies → Torn used n d c → AtRest c bodies
-torn_behind bodies used n d c is rest torn =
-    let closing : take used d ≡ front bodies ++ rest.gate ∷ [] =
-    ap (take used) (rest.is ∙ sym (append_assoc (front bodies) (rest.gate ∷ []) rest.behind))
-    ∙ take_at (front bodies ++ rest.gate ∷ []) rest.behind used (omega (arith, length-append (front bodies) (rest.gate ∷ []), length-front bodies)) in
+pub torn_behind : (version : ℕ) (bodies : List (List ℕ)) (used n : ℕ) (d c : List ℕ) → used ≡ size bodies → AtRest version d bodies → Torn used n d c → AtRest version c bodies
+torn_behind version bodies used n d c is rest torn =
+    let closing : take used d ≡ front version bodies ++ rest.gate ∷ [] =
+    ap (take used) (rest.is ∙ sym (append_assoc (front version bodies) (rest.gate ∷ []) rest.behind))
+    ∙ take_at (front version bodies ++ rest.gate ∷ []) rest.behind used (omega (arith, length-append (front version bodies) (rest.gate ∷ []), length-front version bodies)) in
     record {
+      known = rest.known;
       gate = rest.gate;
       behind = drop used c;
       closed = rest.closed;
       sizes = rest.sizes;
-      is = sym (take-append-drop used c) ∙ ap (λ l. l ++ drop used c) (torn.before ∙ closing) ∙ append_assoc (front bodies) (rest.gate ∷ []) (drop used c);
+      is = sym (take-append-drop used c) ∙ ap (λ l. l ++ drop used c) (torn.before ∙ closing) ∙ append_assoc (front version bodies) (rest.gate ∷ []) (drop used c);
     }
 
 -- behind the closed gate stand the whole record and a next gate
-pub record Staged (bodies : List (List ℕ)) (body c : List ℕ) : Type 0 where
+pub record Staged (version : ℕ) (bodies : List (List ℕ)) (body c : List ℕ) : Type 0 where
+  pub known : IsVersion version
   pub gate : ℕ
   pub behind : List ℕ
   pub closed : gate ≢ 1
-  pub is : c ≡ front bodies ++ gate ∷ (bytes_of body ++ 0 ∷ behind)
+  pub is : c ≡ front version bodies ++ gate ∷ (bytes_of body ++ 0 ∷ behind)
 
-at_gate : (bodies : List (List ℕ)) (gate : ℕ) (rest : List ℕ) (used : ℕ) → used ≡ size bodies → take used (front bodies ++ gate ∷ rest) ≡ front bodies ++ gate ∷ []
-at_gate bodies gate rest used is =
-    ap (take used) (sym (append_assoc (front bodies) (gate ∷ []) rest)) ∙ take_at (front bodies ++ gate ∷ []) rest used (omega (arith, length-append (front bodies) (gate ∷ []), length-front bodies))
+at_gate : (version : ℕ) (bodies : List (List ℕ)) (gate : ℕ) (rest : List ℕ) (used : ℕ) → used ≡ size bodies → take used (front version bodies ++ gate ∷ rest) ≡ front version bodies ++ gate ∷ []
+at_gate version bodies gate rest used is =
+    ap (take used) (sym (append_assoc (front version bodies) (gate ∷ []) rest)) ∙ take_at (front version bodies ++ gate ∷ []) rest used (omega (arith, length-append (front version bodies) (gate ∷ []), length-front version bodies))
 
-pub staged : (bodies : List (List ℕ)) (body : List ℕ) (used : ℕ) (s t : List ℕ) → used ≡ size bodies → AtRest s bodies
-    → t ≡ take used s ++ (bytes_of body ++ 0 ∷ []) ++ drop (used + length (bytes_of body ++ 0 ∷ [])) s → Staged bodies body t
-staged bodies body used s t is rest new =
+pub staged : (version : ℕ) (bodies : List (List ℕ)) (body : List ℕ) (used : ℕ) (s t : List ℕ) → used ≡ size bodies → AtRest version s bodies
+    → t ≡ take used s ++ (bytes_of body ++ 0 ∷ []) ++ drop (used + length (bytes_of body ++ 0 ∷ [])) s → Staged version bodies body t
+staged version bodies body used s t is rest new =
     let behind = drop (used + length (bytes_of body ++ 0 ∷ [])) s in
     record {
+      known = rest.known;
       gate = rest.gate;
       behind = behind;
       closed = rest.closed;
-      is = new ∙ ap (λ l. l ++ (bytes_of body ++ 0 ∷ []) ++ behind) (ap (take used) rest.is ∙ at_gate bodies rest.gate rest.behind used is)
-          ∙ append_assoc (front bodies ++ rest.gate ∷ []) (bytes_of body ++ 0 ∷ []) behind
-          ∙ append_assoc (front bodies) (rest.gate ∷ []) ((bytes_of body ++ 0 ∷ []) ++ behind)
-          ∙ ap (λ l. front bodies ++ rest.gate ∷ l) (append_assoc (bytes_of body) (0 ∷ []) behind);
+      is = new ∙ ap (λ l. l ++ (bytes_of body ++ 0 ∷ []) ++ behind) (ap (take used) rest.is ∙ at_gate version bodies rest.gate rest.behind used is)
+          ∙ append_assoc (front version bodies ++ rest.gate ∷ []) (bytes_of body ++ 0 ∷ []) behind
+          ∙ append_assoc (front version bodies) (rest.gate ∷ []) ((bytes_of body ++ 0 ∷ []) ++ behind)
+          ∙ ap (λ l. front version bodies ++ rest.gate ∷ l) (append_assoc (bytes_of body) (0 ∷ []) behind);
     }
 
 -- whatever a staged area has at the gate, it has the old bodies or one more
-gate_decides : (bodies : List (List ℕ)) (body behind c : List ℕ) (x : ℕ) → HaveSizes bodies → MayStandAt (length (front bodies)) body
-    → c ≡ front bodies ++ x ∷ (bytes_of body ++ 0 ∷ behind) → AtRest c bodies ⊎ AtRest c (bodies ++ body ∷ [])
-gate_decides bodies body behind c x sizes fits is =
+gate_decides : (version : ℕ) (bodies : List (List ℕ)) (body behind c : List ℕ) (x : ℕ) → IsVersion version → HaveSizes bodies → MayStandAt (length (front version bodies)) body
+    → c ≡ front version bodies ++ x ∷ (bytes_of body ++ 0 ∷ behind) → AtRest version c bodies ⊎ AtRest version c (bodies ++ body ∷ [])
+gate_decides version bodies body behind c x known sizes fits is =
     ⊎_elim
     (λ (t : (eqb x 1 ≡ true) × (x ≡ 1)). inr (record {
+      known = known;
       gate = 0;
       behind = behind;
       closed = λ e. omega arith;
-      sizes = sizes-more bodies body sizes fits;
-      is = is ∙ ap (λ y. front bodies ++ y ∷ (bytes_of body ++ 0 ∷ behind)) t.1 ∙ sym (front-more bodies body (0 ∷ behind));
+      sizes = sizes-more version bodies body sizes fits;
+      is = is ∙ ap (λ y. front version bodies ++ y ∷ (bytes_of body ++ 0 ∷ behind)) t.1 ∙ sym (front-more version bodies body (0 ∷ behind));
     }))
-    (λ (t : (eqb x 1 ≡ false) × (x ≢ 1)). inl (record { gate = x; behind = bytes_of body ++ 0 ∷ behind; closed = t.1; sizes = sizes; is = is }))
+    (λ (t : (eqb x 1 ≡ false) × (x ≢ 1)). inl (record { known = known; gate = x; behind = bytes_of body ++ 0 ∷ behind; closed = t.1; sizes = sizes; is = is }))
     (eqb_tells x 1)
 
-around : (bodies : List (List ℕ)) (gate : ℕ) (rest : List ℕ) (at : ℕ) → at + 1 ≡ size bodies → (take at (front bodies ++ gate ∷ rest) ≡ front bodies) × (drop (at + 1) (front bodies ++ gate ∷ rest) ≡ rest)
-around bodies gate rest at is = (
-  take_at (front bodies) (gate ∷ rest) at (omega (arith, length-front bodies)),
-  ap (drop (at + 1)) (sym (append_assoc (front bodies) (gate ∷ []) rest)) ∙ drop_at (front bodies ++ gate ∷ []) rest (at + 1) (omega (arith, length-append (front bodies) (gate ∷ []), length-front bodies)),
+around : (version : ℕ) (bodies : List (List ℕ)) (gate : ℕ) (rest : List ℕ) (at : ℕ) → at + 1 ≡ size bodies → (take at (front version bodies ++ gate ∷ rest) ≡ front version bodies) × (drop (at + 1) (front version bodies ++ gate ∷ rest) ≡ rest)
+around version bodies gate rest at is = (
+  take_at (front version bodies) (gate ∷ rest) at (omega (arith, length-front version bodies)),
+  ap (drop (at + 1)) (sym (append_assoc (front version bodies) (gate ∷ []) rest)) ∙ drop_at (front version bodies ++ gate ∷ []) rest (at + 1) (omega (arith, length-append (front version bodies) (gate ∷ []), length-front version bodies)),
 )
 
 -- each outcome of the second write
-pub torn_gate : (bodies : List (List ℕ)) (body : List ℕ) (at : ℕ) (d c : List ℕ) → HaveSizes bodies → MayStandAt (length (front bodies)) body → at + 1 ≡ size bodies
-    → Staged bodies body d → Torn at 1 d c → AtRest c bodies ⊎ AtRest c (bodies ++ body ∷ [])
-torn_gate bodies body at d c sizes fits is st torn =
-    let sides = around bodies st.gate (bytes_of body ++ 0 ∷ st.behind) at is in
+pub torn_gate : (version : ℕ) (bodies : List (List ℕ)) (body : List ℕ) (at : ℕ) (d c : List ℕ) → HaveSizes bodies → MayStandAt (length (front version bodies)) body → at + 1 ≡ size bodies
+    → Staged version bodies body d → Torn at 1 d c → AtRest version c bodies ⊎ AtRest version c (bodies ++ body ∷ [])
+torn_gate version bodies body at d c sizes fits is st torn =
+    let sides = around version bodies st.gate (bytes_of body ++ 0 ∷ st.behind) at is in
     let x = get_or c at 0 in
-    let long : at < length c = omega (arith, torn.no_shorter, ap length st.is, length-append (front bodies) (st.gate ∷ (bytes_of body ++ 0 ∷ st.behind)), length-front bodies) in
-    let before : take at c ≡ front bodies = torn.before ∙ ap (take at) st.is ∙ sides.0 in
+    let long : at < length c = omega (arith, torn.no_shorter, ap length st.is, length-append (front version bodies) (st.gate ∷ (bytes_of body ++ 0 ∷ st.behind)), length-front version bodies) in
+    let before : take at c ≡ front version bodies = torn.before ∙ ap (take at) st.is ∙ sides.0 in
     let back : drop at c ≡ x ∷ (bytes_of body ++ 0 ∷ st.behind) = drop_more c at 0 long ∙ ap (λ l. x ∷ l) (torn.after ∙ ap (drop (at + 1)) st.is ∙ sides.1) in
-    gate_decides bodies body st.behind c x sizes fits (sym (take-append-drop at c) ∙ ap (λ l. l ++ drop at c) before ∙ ap (λ l. front bodies ++ l) back)
+    gate_decides version bodies body st.behind c x st.known sizes fits (sym (take-append-drop at c) ∙ ap (λ l. l ++ drop at c) before ∙ ap (λ l. front version bodies ++ l) back)
 
-pub opened : (bodies : List (List ℕ)) (body : List ℕ) (at : ℕ) (t u : List ℕ) → HaveSizes bodies → MayStandAt (length (front bodies)) body → at + 1 ≡ size bodies
-    → Staged bodies body t → u ≡ take at t ++ (1 ∷ []) ++ drop (at + 1) t → AtRest u (bodies ++ body ∷ [])
-opened bodies body at t u sizes fits is st new =
-    let sides = around bodies st.gate (bytes_of body ++ 0 ∷ st.behind) at is in
+pub opened : (version : ℕ) (bodies : List (List ℕ)) (body : List ℕ) (at : ℕ) (t u : List ℕ) → HaveSizes bodies → MayStandAt (length (front version bodies)) body → at + 1 ≡ size bodies
+    → Staged version bodies body t → u ≡ take at t ++ (1 ∷ []) ++ drop (at + 1) t → AtRest version u (bodies ++ body ∷ [])
+opened version bodies body at t u sizes fits is st new =
+    let sides = around version bodies st.gate (bytes_of body ++ 0 ∷ st.behind) at is in
     record {
+      known = st.known;
       gate = 0;
       behind = st.behind;
       closed = λ e. omega arith;
-      sizes = sizes-more bodies body sizes fits;
-      is = new ∙ ap (λ l. l ++ (1 ∷ []) ++ drop (at + 1) t) (ap (take at) st.is ∙ sides.0) ∙ ap (λ l. (front bodies ++ 1 ∷ []) ++ l) (ap (drop (at + 1)) st.is ∙ sides.1)
-          ∙ append_assoc (front bodies) (1 ∷ []) (bytes_of body ++ 0 ∷ st.behind) ∙ sym (front-more bodies body (0 ∷ st.behind));
+      sizes = sizes-more version bodies body sizes fits;
+      is = new ∙ ap (λ l. l ++ (1 ∷ []) ++ drop (at + 1) t) (ap (take at) st.is ∙ sides.0) ∙ ap (λ l. (front version bodies ++ 1 ∷ []) ++ l) (ap (drop (at + 1)) st.is ∙ sides.1)
+          ∙ append_assoc (front version bodies) (1 ∷ []) (bytes_of body ++ 0 ∷ st.behind) ∙ sym (front-more version bodies body (0 ∷ st.behind));
     }
 
 -- a staged area is at rest with the old bodies
-pub staged_rests : (bodies : List (List ℕ)) (body c : List ℕ) → HaveSizes bodies → Staged bodies body c → AtRest c bodies
-staged_rests bodies body c sizes st = record { gate = st.gate; behind = bytes_of body ++ 0 ∷ st.behind; closed = st.closed; sizes = sizes; is = st.is }
+pub staged_rests : (version : ℕ) (bodies : List (List ℕ)) (body c : List ℕ) → HaveSizes bodies → Staged version bodies body c → AtRest version c bodies
+staged_rests version bodies body c sizes st = record { known = st.known; gate = st.gate; behind = bytes_of body ++ 0 ∷ st.behind; closed = st.closed; sizes = sizes; is = st.is }
 
 -- the place behind the closed gate is within the area
-pub rest_place : (bodies : List (List ℕ)) (used : ℕ) (s : List ℕ) → used ≡ size bodies → AtRest s bodies → used ≤ length s
-rest_place bodies used s is at_rest = omega (arith, ap length at_rest.is, length-append (front bodies) (at_rest.gate ∷ at_rest.behind), length-front bodies)
+pub rest_place : (version : ℕ) (bodies : List (List ℕ)) (used : ℕ) (s : List ℕ) → used ≡ size bodies → AtRest version s bodies → used ≤ length s
+rest_place version bodies used s is at_rest = omega (arith, ap length at_rest.is, length-append (front version bodies) (at_rest.gate ∷ at_rest.behind), length-front version bodies)
 
 -- what follows from two clauses of a call that are so where it answers `Ok`
 pub on_ok_both : {T E P Q R : Type 0} (r : Result T E) → OnOk r P → OnOk r Q → (P → Q → R) → OnOk r R

@@ -6,7 +6,7 @@ use Rattle.std.proofs.lemmas.List.{take_at, drop_at, get_or-take}
 use Rattle.std.proofs.lemmas.Nat.{from_be_bytes-to_be_bytes_4}
 use Rattle.std.proofs.lemmas.Bool.{cases_order}
 use Rattle.arc_io.specs.Areas.{Areas}
-use Rattle.disk_journal.specs.Records.{name, version, front, records_of, bytes_of, AtRest, Stands, MayHave, MayStandAt, most_at, HaveSizes, IsNoJournal, IsWhole, length_in, size}
+use Rattle.disk_journal.specs.Records.{name, digits_of, front, records_of, bytes_of, AtRest, Stands, MayHave, MayStandAt, most_at, HaveSizes, IsNoJournal, IsWhole, length_in, size}
 use Rattle.disk_journal.specs.Faults.{IsShown, IsOfContent, HasOneAnswer, HaveOneAnswer}
 use Rattle.disk_journal.specs.Standing.{chosen_part, all_of}
 use Rattle.disk_journal.specs.declared.fault.OpenFault.{OpenFault}
@@ -39,8 +39,8 @@ unfolding end_of
 end_is place [] = omega arith
 end_is place (body ∷ bodies) = omega (arith, end_is (place + (5 + length body)) bodies)
 
-front_end : (bodies : List (List ℕ)) → end_of 16 bodies ≡ length (front bodies)
-front_end bodies = omega (arith, end_is 16 bodies, length-front bodies)
+front_end : (version : ℕ) (bodies : List (List ℕ)) → end_of 16 bodies ≡ length (front version bodies)
+front_end version bodies = omega (arith, end_is 16 bodies, length-front version bodies)
 
 -- one record is read in one way
 record Same (a b x y : List ℕ) : Type 0 where
@@ -123,16 +123,22 @@ broken_same p (a ∷ ones) (b ∷ others) x y sa sb broken_x broken_y is =
     let more = broken_same (p + (5 + length a)) ones others x y sa.1 sizes_b broken_x still_broken one.rest in
     ap (λ c. c ∷ ones) one.body ∙ ap (λ cs. b ∷ cs) more
 
--- what begins with a front has the head
-record HasHead (bytes : List ℕ) : Type 0 where
+-- what begins with a front has the head of its version
+record HasHead (version : ℕ) (bytes : List ℕ) : Type 0 where
   named : take 12 bytes ≡ name
-  versioned : take 4 (drop 12 bytes) ≡ version
+  versioned : take 4 (drop 12 bytes) ≡ digits_of version
 
-has_head : (bytes rest : List ℕ) (bodies : List (List ℕ)) → bytes ≡ front bodies ++ rest → HasHead bytes
-has_head bytes rest bodies is = record { named = ap (take 12) is; versioned = ap (λ l. take 4 (drop 12 l)) is }
+has_head : (version : ℕ) (bytes rest : List ℕ) (bodies : List (List ℕ)) → bytes ≡ front version bodies ++ rest → HasHead version bytes
+has_head version bytes rest bodies is = record { named = ap (take 12) is; versioned = ap (λ l. take 4 (drop 12 l)) is }
 
-behind_head : (bytes x y : List ℕ) (ones others : List (List ℕ)) → bytes ≡ front ones ++ x → bytes ≡ front others ++ y → records_of ones ++ x ≡ records_of others ++ y
-behind_head bytes x y ones others one two = ap (drop 16) (sym one ∙ two)
+behind_head : (version further : ℕ) (bytes x y : List ℕ) (ones others : List (List ℕ)) → bytes ≡ front version ones ++ x → bytes ≡ front further others ++ y
+    → records_of ones ++ x ≡ records_of others ++ y
+behind_head version further bytes x y ones others one two = ap (drop 16) (sym one ∙ two)
+
+-- it has one version
+one_version : (version further : ℕ) (bytes x y : List ℕ) (ones others : List (List ℕ)) → bytes ≡ front version ones ++ x → bytes ≡ front further others ++ y → version ≡ further
+one_version version further bytes x y ones others one two =
+    let same : 48 + version ≡ 48 + further = ap (λ (l : List ℕ). get_or l 15 0) (sym one ∙ two) in omega (arith, same)
 
 named_is_no_other : (bytes : List ℕ) (k : ℕ) → take 12 bytes ≡ name → IsNoJournal bytes k → ⊥
 named_is_no_other bytes k named first = first.other (sym (get_or-take 12 bytes k 0 first.within) ∙ ap (λ (l : List ℕ). get_or l k 0) named)
@@ -149,51 +155,68 @@ one_place bytes k j one two = elim (cases_order k j) [
 ]
 
 -- an area of at most 17 bytes has no record
-no_record : (bytes : List ℕ) (bodies : List (List ℕ)) → length bytes ≤ 17 → AtRest bytes bodies → bodies ≡ []
-no_record bytes [] short at_rest = refl
-no_record bytes (b ∷ bodies) short at_rest =
-    absurd (omega (arith, ap length at_rest.is, length-append (front (b ∷ bodies)) (at_rest.gate ∷ at_rest.behind), length-front (b ∷ bodies), size-least bodies))
+no_record : (version : ℕ) (bytes : List ℕ) (bodies : List (List ℕ)) → length bytes ≤ 17 → AtRest version bytes bodies → bodies ≡ []
+no_record version bytes [] short at_rest = refl
+no_record version bytes (b ∷ bodies) short at_rest =
+    absurd (omega (arith, ap length at_rest.is, length-append (front version (b ∷ bodies)) (at_rest.gate ∷ at_rest.behind), length-front version (b ∷ bodies), size-least bodies))
 
-lists : (bytes : List ℕ) (ones others : List (List ℕ)) → Stands bytes ones → Stands bytes others → ones ≡ others
-lists bytes ones others (inl one) (inl two) = one.1 ∙ sym two.1
-lists bytes ones others (inl one) (inr two) = one.1 ∙ sym (no_record bytes others one.0 two)
-lists bytes ones others (inr one) (inl two) = no_record bytes ones two.0 one ∙ sym two.1
-lists bytes ones others (inr one) (inr two) =
-    lists_same 16 ones others one.gate two.gate one.behind two.behind (sizes_of ones one.sizes) (sizes_of others two.sizes) one.closed two.closed (behind_head bytes (one.gate ∷ one.behind) (two.gate ∷ two.behind) ones others one.is two.is)
+lists : (version further : ℕ) (bytes : List ℕ) (ones others : List (List ℕ)) → Stands version bytes ones → Stands further bytes others → ones ≡ others
+lists version further bytes ones others (inl one) (inl two) = one.1 ∙ sym two.1
+lists version further bytes ones others (inl one) (inr two) = one.1 ∙ sym (no_record further bytes others one.0 two)
+lists version further bytes ones others (inr one) (inl two) = no_record version bytes ones two.0 one ∙ sym two.1
+lists version further bytes ones others (inr one) (inr two) =
+    lists_same 16 ones others one.gate two.gate one.behind two.behind (sizes_of ones one.sizes) (sizes_of others two.sizes) one.closed two.closed
+    (behind_head version further bytes (one.gate ∷ one.behind) (two.gate ∷ two.behind) ones others one.is two.is)
 
-apart : (bytes : List ℕ) (bodies : List (List ℕ)) (f : OpenFault) → IsOfContent f → Stands bytes bodies → IsShown f bytes → ⊥
-apart bytes bodies (Open.DiskFault was is) of stands shown = of
-apart bytes bodies Open.Memory of stands shown = of
-apart bytes bodies (Open.NotJournal k) of (inl short) shown = omega (arith, shown.long, short.0)
-apart bytes bodies (Open.NotJournal k) of (inr rest) shown = named_is_no_other bytes k (has_head bytes (rest.gate ∷ rest.behind) bodies rest.is).named shown
-apart bytes bodies (Open.WrongVersion found) of (inl short) shown = omega (arith, shown.long, short.0)
-apart bytes bodies (Open.WrongVersion found) of (inr rest) shown = shown.other (shown.is ∙ (has_head bytes (rest.gate ∷ rest.behind) bodies rest.is).versioned)
-apart bytes bodies (Open.Damaged place) of (inl short) shown = omega (arith, shown.long, short.0)
-apart bytes bodies (Open.Damaged place) of (inr rest) shown =
+versions : (version further : ℕ) (bytes : List ℕ) (ones others : List (List ℕ)) → 17 < length bytes → Stands version bytes ones → Stands further bytes others → version ≡ further
+versions version further bytes ones others long (inl one) two = absurd (omega (arith, long, one.0))
+versions version further bytes ones others long (inr one) (inl two) = absurd (omega (arith, long, two.0))
+versions version further bytes ones others long (inr one) (inr two) =
+    one_version version further bytes (one.gate ∷ one.behind) (two.gate ∷ two.behind) ones others one.is two.is
+
+apart : (version : ℕ) (bytes : List ℕ) (bodies : List (List ℕ)) (f : OpenFault) → IsOfContent f → Stands version bytes bodies → IsShown f bytes → ⊥
+apart version bytes bodies (Open.DiskFault was is) of stands shown = of
+apart version bytes bodies Open.Memory of stands shown = of
+apart version bytes bodies (Open.TooWide wide) of stands shown = shown
+apart version bytes bodies (Open.NotJournal k) of (inl short) shown = omega (arith, shown.long, short.0)
+apart version bytes bodies (Open.NotJournal k) of (inr rest) shown = named_is_no_other bytes k (has_head version bytes (rest.gate ∷ rest.behind) bodies rest.is).named shown
+apart version bytes bodies (Open.WrongVersion found) of (inl short) shown = omega (arith, shown.long, short.0)
+apart version bytes bodies (Open.WrongVersion found) of (inr rest) shown =
+    shown.other version rest.known (shown.is ∙ (has_head version bytes (rest.gate ∷ rest.behind) bodies rest.is).versioned)
+apart version bytes bodies (Open.Damaged place) of (inl short) shown = omega (arith, shown.long, short.0)
+apart version bytes bodies (Open.Damaged place) of (inr rest) shown =
     never_both 16 bodies shown.bodies rest.gate rest.behind shown.rest (sizes_of bodies rest.sizes) (sizes_of shown.bodies shown.sizes) rest.closed
-    (λ whole. shown.broken (subst (λ (n : ℕ). IsWhole n shown.rest) (front_end shown.bodies ∙ sym shown.at) whole)) (behind_head bytes (rest.gate ∷ rest.behind) (1 ∷ shown.rest) bodies shown.bodies rest.is shown.is)
+    (λ whole. shown.broken (subst (λ (n : ℕ). IsWhole n shown.rest) (front_end shown.version shown.bodies ∙ sym shown.at) whole))
+    (behind_head version shown.version bytes (rest.gate ∷ rest.behind) (1 ∷ shown.rest) bodies shown.bodies rest.is shown.is)
 
 faults : (bytes : List ℕ) (f h : OpenFault) → IsOfContent f → IsOfContent h → IsShown f bytes → IsShown h bytes → f ≡ h
 faults bytes (Open.DiskFault was is) h of_f of_h one two = absurd of_f
 faults bytes Open.Memory h of_f of_h one two = absurd of_f
 faults bytes f (Open.DiskFault was is) of_f of_h one two = absurd of_h
 faults bytes f Open.Memory of_f of_h one two = absurd of_h
+faults bytes (Open.TooWide wide) h of_f of_h one two = absurd one
+faults bytes f (Open.TooWide wide) of_f of_h one two = absurd two
 faults bytes (Open.NotJournal k) (Open.NotJournal j) of_f of_h one two = ap Open.NotJournal (one_place bytes k j one two)
 faults bytes (Open.NotJournal k) (Open.WrongVersion found) of_f of_h one two = absurd (named_is_no_other bytes k two.named one)
-faults bytes (Open.NotJournal k) (Open.Damaged place) of_f of_h one two = absurd (named_is_no_other bytes k (has_head bytes (1 ∷ two.rest) two.bodies two.is).named one)
+faults bytes (Open.NotJournal k) (Open.Damaged place) of_f of_h one two = absurd (named_is_no_other bytes k (has_head two.version bytes (1 ∷ two.rest) two.bodies two.is).named one)
 faults bytes (Open.WrongVersion found) (Open.NotJournal j) of_f of_h one two = absurd (named_is_no_other bytes j one.named two)
 faults bytes (Open.WrongVersion found) (Open.WrongVersion other) of_f of_h one two = ap Open.WrongVersion (one.is ∙ sym two.is)
-faults bytes (Open.WrongVersion found) (Open.Damaged place) of_f of_h one two = absurd (one.other (one.is ∙ (has_head bytes (1 ∷ two.rest) two.bodies two.is).versioned))
-faults bytes (Open.Damaged place) (Open.NotJournal j) of_f of_h one two = absurd (named_is_no_other bytes j (has_head bytes (1 ∷ one.rest) one.bodies one.is).named two)
-faults bytes (Open.Damaged place) (Open.WrongVersion found) of_f of_h one two = absurd (two.other (two.is ∙ (has_head bytes (1 ∷ one.rest) one.bodies one.is).versioned))
+faults bytes (Open.WrongVersion found) (Open.Damaged place) of_f of_h one two = absurd (one.other two.version two.known (one.is ∙ (has_head two.version bytes (1 ∷ two.rest) two.bodies two.is).versioned))
+faults bytes (Open.Damaged place) (Open.NotJournal j) of_f of_h one two = absurd (named_is_no_other bytes j (has_head one.version bytes (1 ∷ one.rest) one.bodies one.is).named two)
+faults bytes (Open.Damaged place) (Open.WrongVersion found) of_f of_h one two = absurd (two.other one.version one.known (two.is ∙ (has_head one.version bytes (1 ∷ one.rest) one.bodies one.is).versioned))
 faults bytes (Open.Damaged place) (Open.Damaged other) of_f of_h one two =
     let same = broken_same 16 one.bodies two.bodies one.rest two.rest (sizes_of one.bodies one.sizes) (sizes_of two.bodies two.sizes)
-    (λ whole. one.broken (subst (λ (n : ℕ). IsWhole n one.rest) (front_end one.bodies ∙ sym one.at) whole))
-    (λ whole. two.broken (subst (λ (n : ℕ). IsWhole n two.rest) (front_end two.bodies ∙ sym two.at) whole)) (behind_head bytes (1 ∷ one.rest) (1 ∷ two.rest) one.bodies two.bodies one.is two.is) in
-    ap Open.Damaged (one.at ∙ ap (λ bodies. length (front bodies)) same ∙ sym two.at)
+    (λ whole. one.broken (subst (λ (n : ℕ). IsWhole n one.rest) (front_end one.version one.bodies ∙ sym one.at) whole))
+    (λ whole. two.broken (subst (λ (n : ℕ). IsWhole n two.rest) (front_end two.version two.bodies ∙ sym two.at) whole)) (behind_head one.version two.version bytes (1 ∷ one.rest) (1 ∷ two.rest) one.bodies two.bodies one.is two.is) in
+    ap Open.Damaged (one.at ∙ sym (front_end one.version one.bodies) ∙ ap (end_of 16) same ∙ front_end two.version two.bodies ∙ sym two.at)
 
 pub one_answer : (bytes : List ℕ) → HasOneAnswer bytes
-one_answer bytes = record { lists = lists bytes; faults = faults bytes; apart = apart bytes }
+one_answer bytes = record {
+  lists = λ version further one other. lists version further bytes one other;
+  versions = λ version further one other. versions version further bytes one other;
+  faults = faults bytes;
+  apart = λ version. apart version bytes;
+}
 
 record Same2 (one other : Option (List ℕ)) (bodies behind : List (List ℕ)) : Type 0 where
   summary : one ≡ other
@@ -211,9 +234,11 @@ parted (Some s) (Some t) bodies behind live same = record {
 
 pub one_standing : (areas : Areas) → HaveOneAnswer areas
 one_standing areas = record {
-  lists = λ one other bodies behind first second.
-      let same = parted one other bodies behind (sym first.0 ∙ second.0) (lists (chosen_part areas) (all_of one bodies) (all_of other behind) first.1 second.1) in
+  lists = λ version further one other bodies behind first second.
+      let same = parted one other bodies behind (sym first.0 ∙ second.0) (lists version further (chosen_part areas) (all_of one bodies) (all_of other behind) first.1 second.1) in
       (same.summary, same.records);
+  versions = λ version further one other bodies behind long first second.
+      versions version further (chosen_part areas) (all_of one bodies) (all_of other behind) long first.1 second.1;
   faults = faults (chosen_part areas);
-  apart = λ summary bodies fault of stands shown. apart (chosen_part areas) (all_of summary bodies) fault of stands.1 shown;
+  apart = λ version summary bodies fault of stands shown. apart version (chosen_part areas) (all_of summary bodies) fault of stands.1 shown;
 }

@@ -7,7 +7,7 @@ use Rattle.std.proofs.lemmas.Bool.Decides.{eqb_tells}
 use Rattle.std.proofs.lemmas.List.{take_at, drop_more, get_or-drop, drop-drop, drop-take, take-take, length-take, get_or-take}
 use Rattle.arc_io.specs.Areas.{Areas, part}
 use Rattle.arc_io.specs.declared.disk.Area.{Area}
-use Rattle.disk_journal.specs.Records.{name, version, front, AtRest, size, most_at, MayStandAt, HaveSizes, IsWhole, IsNoJournal, IsOfVersion, length_in}
+use Rattle.disk_journal.specs.Records.{name, IsVersion, head_of, front, AtRest, size, most_at, MayStandAt, HaveSizes, IsWhole, IsNoJournal, IsOfVersion, length_in}
 use Rattle.disk_journal.specs.Reading.{IsFilled, IsGate, IsRecord, IsBrokenAt}
 use Rattle.disk_journal.specs.Faults.{IsShown}
 use Rattle.disk_journal.specs.declared.fault.OpenFault.{OpenFault}
@@ -125,52 +125,56 @@ whole area (Some s) buf body len at n is gate size_is most some read_body length
       (omega (arith, long, some), omega (arith, long, most, ap (λ (k : ℕ). most_at at k) byte)),
     )
 
--- what was read so far: all before the place is the front of these bodies
-abbrev pub ReadTo : Area → Option Areas → ℕ → List (List ℕ) → Type 0
-ReadTo area o at bodies = IfSome o (λ s. (take at (part area s) ≡ front bodies) × HaveSizes bodies)
+-- what was read so far: all before the place is the front of these bodies of a version
+abbrev pub ReadTo : ℕ → Area → Option Areas → ℕ → List (List ℕ) → Type 0
+ReadTo version area o at bodies = IfSome o (λ s. (take at (part area s) ≡ front version bodies) × HaveSizes bodies)
 
 -- one record more
-pub read_more : (area : Area) (o : Option Areas) (at next : ℕ) (bodies : List (List ℕ)) (body : Vec ℕ Global) → at + 1 ≡ size bodies → next ≡ at + (5 + length body.items)
-    → ReadTo area o at bodies → IfSome o (λ s. IsRecord (part area s) at (Some body)) → ReadTo area o next (bodies ++ body.items ∷ [])
-read_more area None at next bodies body used step so_far one = tt
-read_more area (Some s) at next bodies body used step so_far one =
+pub read_more : (version : ℕ) (area : Area) (o : Option Areas) (at next : ℕ) (bodies : List (List ℕ)) (body : Vec ℕ Global) → at + 1 ≡ size bodies → next ≡ at + (5 + length body.items)
+    → ReadTo version area o at bodies → IfSome o (λ s. IsRecord (part area s) at (Some body)) → ReadTo version area o next (bodies ++ body.items ∷ [])
+read_more version area None at next bodies body used step so_far one = tt
+read_more version area (Some s) at next bodies body used step so_far one =
     let rest = one.0 ∷ one.1 in
-    let is : part area s ≡ front (bodies ++ body.items ∷ []) ++ rest =
-    sym (take-append-drop at (part area s)) ∙ ap (λ l. l ++ drop at (part area s)) so_far.0 ∙ ap (λ l. front bodies ++ l) one.2 ∙ sym (front-more bodies body.items rest) in
-    let place : at ≡ length (front bodies) = omega (arith, used, length-front bodies) in (
-      ap (take next) is ∙ take_at (front (bodies ++ body.items ∷ [])) rest next (omega (arith, used, step, length-front (bodies ++ body.items ∷ []), size-more bodies body.items)),
-      sizes-more bodies body.items so_far.1 (subst (λ (p : ℕ). MayStandAt p body.items) place one.3),
+    let is : part area s ≡ front version (bodies ++ body.items ∷ []) ++ rest =
+    sym (take-append-drop at (part area s)) ∙ ap (λ l. l ++ drop at (part area s)) so_far.0 ∙ ap (λ l. front version bodies ++ l) one.2 ∙ sym (front-more version bodies body.items rest) in
+    let place : at ≡ length (front version bodies) = omega (arith, used, length-front version bodies) in (
+      ap (take next) is ∙ take_at (front version (bodies ++ body.items ∷ [])) rest next (omega (arith, used, step, length-front version (bodies ++ body.items ∷ []), size-more bodies body.items)),
+      sizes-more version bodies body.items so_far.1 (subst (λ (p : ℕ). MayStandAt p body.items) place one.3),
     )
 
 -- at the closed gate
-pub read_all : (area : Area) (o : Option Areas) (at : ℕ) (bodies : List (List ℕ)) → ReadTo area o at bodies → IfSome o (λ s. IsRecord (part area s) at None)
-    → IfSome o (λ s. AtRest (part area s) bodies)
-read_all area None at bodies so_far gate = tt
-read_all area (Some s) at bodies so_far gate = record {
+pub read_all : (version : ℕ) (area : Area) (o : Option Areas) (at : ℕ) (bodies : List (List ℕ)) → IsVersion version → ReadTo version area o at bodies
+    → IfSome o (λ s. IsRecord (part area s) at None) → IfSome o (λ s. AtRest version (part area s) bodies)
+read_all version area None at bodies known so_far gate = tt
+read_all version area (Some s) at bodies known so_far gate = record {
+  known = known;
   gate = gate.0;
   behind = gate.1;
   closed = gate.2;
   sizes = so_far.1;
-  is = sym (take-append-drop at (part area s)) ∙ ap (λ l. l ++ drop at (part area s)) so_far.0 ∙ ap (λ l. front bodies ++ l) gate.3;
+  is = sym (take-append-drop at (part area s)) ∙ ap (λ l. l ++ drop at (part area s)) so_far.0 ∙ ap (λ l. front version bodies ++ l) gate.3;
 }
 
 -- at a broken record
-pub read_broken : (area : Area) (o : Option Areas) (len at : ℕ) (bodies : List (List ℕ)) (f : OpenFault) → IfSome o (λ s. len ≡ length (part area s)) → 17 < len → at + 1 ≡ size bodies → ReadTo area o at bodies
-    → IfSome o (λ s. IsBrokenAt f (part area s) at) → IfSome o (λ s. IsShown f (part area s))
-read_broken area None len at bodies f is long used so_far shown = tt
-read_broken area (Some s) len at bodies (Open.Damaged place) is long used so_far shown = record {
+pub read_broken : (version : ℕ) (area : Area) (o : Option Areas) (len at : ℕ) (bodies : List (List ℕ)) (f : OpenFault) → IsVersion version → IfSome o (λ s. len ≡ length (part area s))
+    → 17 < len → at + 1 ≡ size bodies → ReadTo version area o at bodies → IfSome o (λ s. IsBrokenAt f (part area s) at) → IfSome o (λ s. IsShown f (part area s))
+read_broken version area None len at bodies f known is long used so_far shown = tt
+read_broken version area (Some s) len at bodies (Open.Damaged place) known is long used so_far shown = record {
   long = omega arith;
+  version = version;
+  known = known;
   bodies = bodies;
   rest = shown.0;
   sizes = so_far.1;
-  is = sym (take-append-drop at (part area s)) ∙ ap (λ l. l ++ drop at (part area s)) so_far.0 ∙ ap (λ l. front bodies ++ l) shown.2;
-  at = omega (arith, shown.1, length-front bodies);
+  is = sym (take-append-drop at (part area s)) ∙ ap (λ l. l ++ drop at (part area s)) so_far.0 ∙ ap (λ l. front version bodies ++ l) shown.2;
+  at = omega (arith, shown.1, length-front version bodies);
   broken = subst (λ (n : ℕ). IsWhole n shown.0 → ⊥) (sym shown.1) shown.3;
 }
-read_broken area (Some s) len at bodies (Open.DiskFault was now) is long used so_far shown = tt
-read_broken area (Some s) len at bodies (Open.NotJournal byte) is long used so_far shown = absurd shown
-read_broken area (Some s) len at bodies (Open.WrongVersion found) is long used so_far shown = absurd shown
-read_broken area (Some s) len at bodies Open.Memory is long used so_far shown = tt
+read_broken version area (Some s) len at bodies (Open.DiskFault was now) known is long used so_far shown = tt
+read_broken version area (Some s) len at bodies (Open.NotJournal byte) known is long used so_far shown = absurd shown
+read_broken version area (Some s) len at bodies (Open.WrongVersion found) known is long used so_far shown = absurd shown
+read_broken version area (Some s) len at bodies (Open.TooWide size) known is long used so_far shown = absurd shown
+read_broken version area (Some s) len at bodies Open.Memory known is long used so_far shown = tt
 
 -- the first byte of the front that is not the name's
 pub no_journal : (bytes buf part : List ℕ) (k : ℕ) → 17 < length bytes → take 16 bytes ≡ buf → part ≡ take 12 buf
@@ -195,18 +199,19 @@ four_bytes (a ∷ b ∷ c ∷ []) is = absurd (omega arith)
 four_bytes (a ∷ b ∷ c ∷ d ∷ []) is = refl
 four_bytes (a ∷ b ∷ c ∷ d ∷ e ∷ l) is = absurd (omega arith)
 
--- another version behind the name
+-- the digits of no version behind the name
 pub other_version : (bytes buf part rest : List ℕ) → 17 < length bytes → take 16 bytes ≡ buf → length buf ≡ 16
-    → part ≡ take 12 buf → part ≡ name → rest ≡ drop 12 buf → (rest ≡ version → ⊥)
+    → part ≡ take 12 buf → part ≡ name → rest ≡ drop 12 buf → ((version : ℕ) → IsVersion version → buf ≡ head_of version → ⊥)
     → IsOfVersion bytes (get_or rest 0 0 ∷ get_or rest 1 0 ∷ get_or rest 2 0 ∷ get_or rest 3 0 ∷ [])
 other_version bytes buf part rest long front_of sixteen is named behind other =
     let found : rest ≡ take 4 (drop 12 bytes) = behind ∙ ap (drop 12) (sym front_of) ∙ drop-take 12 4 bytes in
     let four : get_or rest 0 0 ∷ get_or rest 1 0 ∷ get_or rest 2 0 ∷ get_or rest 3 0 ∷ [] ≡ rest = four_bytes rest (omega (arith, sixteen, ap length behind, length-drop 12 buf)) in
+    let joined : buf ≡ name ++ rest = sym (take-append-drop 12 buf) ∙ ap (λ l. l ++ drop 12 buf) (sym is ∙ named) ∙ ap (λ l. name ++ l) (sym behind) in
     record {
       long = long;
       named = sym (take-take 12 16 bytes (omega arith)) ∙ ap (take 12) front_of ∙ sym is ∙ named;
       is = four ∙ found;
-      other = λ same. other (sym four ∙ same);
+      other = λ version known same. other version known (joined ∙ ap (λ l. name ++ l) (sym four ∙ same));
     }
 
 pub short_told : (area : Area) (o : Option Areas) (len : ℕ) → IfSome o (λ s. len ≡ length (part area s)) → len ≤ 17 → IfSome o (λ s. length (part area s) ≤ 17)

@@ -11,7 +11,7 @@ use Rattle.arc_io.specs.declared.disk.Area.{Area}
 use Rattle.arc_io.specs.declared.disk.Area.TheVariants.{A, B}
 use Rattle.arc_io.proofs.Moments.{written_torn, quiet_then}
 use Rattle.arc_io.specs.Disks.{DiskSeen}
-use Rattle.disk_journal.specs.Records.{head, bytes_of, AtRest, MayStandAt, most_at}
+use Rattle.disk_journal.specs.Records.{head_of, bytes_of, AtRest, MayStandAt, most_at}
 use Rattle.disk_journal.specs.Journal.{IsAtRestIn, HasBodies, IsSettled}
 use Rattle.disk_journal.specs.Standing.{is_live, generation_of, generation_in, other_of, all_of, IsDistinct, StandsForTurn}
 use Rattle.disk_journal.specs.Turning.{Changes, IsUndone, IsShut, IsBeside, IsStaged, IsNextTo, IsFirstGate}
@@ -58,7 +58,7 @@ undone_then area s t u one two = (
 )
 
 -- then it has a closed gate
-pub shut_fresh : (area : Area) (t u : Areas) → length (part area t) < 17 → IsWritten area 0 (head ++ 0 ∷ []) t u → IsShut (part area u)
+pub shut_fresh : (area : Area) (t u : Areas) → length (part area t) < 17 → IsWritten area 0 (head_of 2 ++ 0 ∷ []) t u → IsShut (part area u)
 shut_fresh area t u short written = (
   omega (arith, ap length written.0),
   λ is_one. let e : 0 ≡ 1 = sym (ap (λ (l : List ℕ). get_or l 16 0) written.0) ∙ is_one in omega (arith, e),
@@ -131,17 +131,17 @@ after_torn (Err e) area at bytes s t within after = after
 pub record IsLaid (more bytes : List ℕ) : Type 0 where
   pub gate : ℕ
   pub closed : gate ≢ 1
-  pub front : take (17 + length more) bytes ≡ (head ++ gate ∷ []) ++ more
+  pub front : take (17 + length more) bytes ≡ (head_of 2 ++ gate ∷ []) ++ more
   pub long : 17 + length more ≤ length bytes
 
-pub laid_head : (area : Area) (s t : Areas) → IsShut (part area s) → IsWritten area 0 head s t → IsLaid [] (part area t)
+pub laid_head : (area : Area) (s t : Areas) → IsShut (part area s) → IsWritten area 0 (head_of 2) s t → IsLaid [] (part area t)
 laid_head area s t shut written =
     let old = part area s in
-    let is : part area t ≡ head ++ (get_or old 16 0 ∷ drop 17 old) = written.0 ∙ ap (λ (l : List ℕ). head ++ l) (drop_more old 16 0 (omega (arith, shut.0))) in
+    let is : part area t ≡ head_of 2 ++ (get_or old 16 0 ∷ drop 17 old) = written.0 ∙ ap (λ (l : List ℕ). head_of 2 ++ l) (drop_more old 16 0 (omega (arith, shut.0))) in
     record {
       gate = get_or old 16 0;
       closed = shut.1;
-      front = ap (take 17) is ∙ take_at (head ++ get_or old 16 0 ∷ []) (drop 17 old) 17 refl;
+      front = ap (take 17) is ∙ take_at (head_of 2 ++ get_or old 16 0 ∷ []) (drop 17 old) 17 refl;
       long = omega (arith, ap length is);
     }
 
@@ -150,15 +150,15 @@ pub laid_more : (area : Area) (at : ℕ) (more bytes : List ℕ) (s t : Areas) �
 laid_more area at more bytes s t place laid written =
     let old = part area s in
     let behind = drop (at + length bytes) old in
-    let before = (head ++ laid.gate ∷ []) ++ more in
+    let before = (head_of 2 ++ laid.gate ∷ []) ++ more in
     let front : take at old ≡ before = ap (λ (n : ℕ). take n old) place ∙ laid.front in
     let is : part area t ≡ (before ++ bytes) ++ behind = written.0 ∙ ap (λ (l : List ℕ). (l ++ bytes) ++ behind) front in
     let size : length (before ++ bytes) ≡ 17 + length (more ++ bytes) =
-    omega (arith, length-append before bytes, length-append (head ++ laid.gate ∷ []) more, length-append more bytes) in
+    omega (arith, length-append before bytes, length-append (head_of 2 ++ laid.gate ∷ []) more, length-append more bytes) in
     record {
       gate = laid.gate;
       closed = laid.closed;
-      front = ap (take (17 + length (more ++ bytes))) is ∙ take_at (before ++ bytes) behind (17 + length (more ++ bytes)) size ∙ append_assoc (head ++ laid.gate ∷ []) more bytes;
+      front = ap (take (17 + length (more ++ bytes))) is ∙ take_at (before ++ bytes) behind (17 + length (more ++ bytes)) size ∙ append_assoc (head_of 2 ++ laid.gate ∷ []) more bytes;
       long = omega (arith, ap length is, length-append (before ++ bytes) behind, size);
     }
 
@@ -170,7 +170,7 @@ laid_staged body bytes laid =
       behind = drop n bytes;
       closed = laid.closed;
       is = sym (take-append-drop n bytes) ∙ ap (λ (l : List ℕ). l ++ drop n bytes) laid.front
-          ∙ ap (λ (l : List ℕ). head ++ laid.gate ∷ l) (append_assoc (bytes_of body) (0 ∷ []) (drop n bytes));
+          ∙ ap (λ (l : List ℕ). head_of 2 ++ laid.gate ∷ l) (append_assoc (bytes_of body) (0 ∷ []) (drop n bytes));
     }
 
 -- what stood is what stands, as long as the gate is not opened
@@ -178,31 +178,31 @@ pub part_other : (area : Area) (c : Areas) → part (other_of area) c ≡ rest a
 part_other A c = refl
 part_other B c = refl
 
-still_rests : (area : Area) (summary : Option (List ℕ)) (bodies : List (List ℕ)) (t c : Areas) → IsAtRestIn (other_of area) summary bodies t → rest area c ≡ rest area t
-    → (part area c ≡ part area t) ⊎ (is_live (part area c) ≡ false) → IsAtRestIn (other_of area) summary bodies c
-still_rests area summary bodies t c at same either = record {
+still_rests : (area : Area) (version : ℕ) (summary : Option (List ℕ)) (bodies : List (List ℕ)) (t c : Areas) → IsAtRestIn (other_of area) version summary bodies t → rest area c ≡ rest area t
+    → (part area c ≡ part area t) ⊎ (is_live (part area c) ≡ false) → IsAtRestIn (other_of area) version summary bodies c
+still_rests area version summary bodies t c at same either = record {
   chosen_is = shut_chosen area t c at.chosen_is same either;
-  at_rest = subst (λ (l : List ℕ). AtRest l (all_of summary bodies)) (part_other area t ∙ sym same ∙ sym (part_other area c)) at.at_rest;
+  at_rest = subst (λ (l : List ℕ). AtRest version l (all_of summary bodies)) (part_other area t ∙ sym same ∙ sym (part_other area c)) at.at_rest;
 }
 
-pub undone_rests : (area : Area) (summary : Option (List ℕ)) (bodies : List (List ℕ)) (t c : Areas) → IsAtRestIn (other_of area) summary bodies t → IsUndone area t c
-    → IsAtRestIn (other_of area) summary bodies c
-undone_rests area summary bodies t c at undone = still_rests area summary bodies t c at undone.0 undone.1
+pub undone_rests : (area : Area) (version : ℕ) (summary : Option (List ℕ)) (bodies : List (List ℕ)) (t c : Areas) → IsAtRestIn (other_of area) version summary bodies t → IsUndone area t c
+    → IsAtRestIn (other_of area) version summary bodies c
+undone_rests area version summary bodies t c at undone = still_rests area version summary bodies t c at undone.0 undone.1
 
 -- with the gate closed
-pub record IsShutIn (area : Area) (summary : Option (List ℕ)) (bodies : List (List ℕ)) (areas : Areas) : Type 0 where
-  pub rests : IsAtRestIn (other_of area) summary bodies areas
+pub record IsShutIn (area : Area) (version : ℕ) (summary : Option (List ℕ)) (bodies : List (List ℕ)) (areas : Areas) : Type 0 where
+  pub rests : IsAtRestIn (other_of area) version summary bodies areas
   pub shut : IsShut (part area areas)
 
-pub beside_rests : (area : Area) (summary : Option (List ℕ)) (bodies : List (List ℕ)) (t c : Areas) → IsShutIn area summary bodies t → IsBeside area t c
-    → IsAtRestIn (other_of area) summary bodies c
-beside_rests area summary bodies t c at beside =
+pub beside_rests : (area : Area) (version : ℕ) (summary : Option (List ℕ)) (bodies : List (List ℕ)) (t c : Areas) → IsShutIn area version summary bodies t → IsBeside area t c
+    → IsAtRestIn (other_of area) version summary bodies c
+beside_rests area version summary bodies t c at beside =
     let gate = beside.1 at.shut.0 in
-    still_rests area summary bodies t c at.rests beside.0 (inr (shut_not_live (part area c) (λ is_one. at.shut.1 (sym gate.1 ∙ is_one))))
+    still_rests area version summary bodies t c at.rests beside.0 (inr (shut_not_live (part area c) (λ is_one. at.shut.1 (sym gate.1 ∙ is_one))))
 
 -- with the body behind it
-pub record IsReadyIn (area : Area) (summary : Option (List ℕ)) (bodies : List (List ℕ)) (body : List ℕ) (areas : Areas) : Type 0 where
-  pub rests : IsAtRestIn (other_of area) summary bodies areas
+pub record IsReadyIn (area : Area) (version : ℕ) (summary : Option (List ℕ)) (bodies : List (List ℕ)) (body : List ℕ) (areas : Areas) : Type 0 where
+  pub rests : IsAtRestIn (other_of area) version summary bodies areas
   pub staged_is : IsStaged body (part area areas)
 
 module _ (generation : ℕ) (body : List ℕ) (next : IsNextTo generation body) where
@@ -233,12 +233,12 @@ other_rest B next s is = ap (λ (x : Area). rest x s) is
 
 -- a body that is staged, whose gate is opened
 pub opened_body : (area : Area) (generation : ℕ) (body : List ℕ) → IsNextTo generation body → length body < 2 ^ 32 → (m n : Areas) → IsStaged body (part area m)
-    → IsWritten area 16 (1 ∷ []) m n → HasBodies area (body ∷ []) n
+    → IsWritten area 16 (1 ∷ []) m n → HasBodies area 2 (body ∷ []) n
 opened_body area generation body next short m n st written =
-    let staged : Staged [] body (part area m) = record { gate = st.gate; behind = st.behind; closed = st.closed; is = st.is } in
-    opened [] body 16 (part area m) (part area n) tt (body_stands generation body next short) refl staged written.0
+    let staged : Staged 2 [] body (part area m) = record { known = inr refl; gate = st.gate; behind = st.behind; closed = st.closed; is = st.is } in
+    opened 2 [] body 16 (part area m) (part area n) tt (body_stands generation body next short) refl staged written.0
 
-module _ (area : Area) (summary : Option (List ℕ)) (bodies : List (List ℕ)) (body : List ℕ) (distinct : IsDistinct summary bodies)
+module _ (area : Area) (version : ℕ) (summary : Option (List ℕ)) (bodies : List (List ℕ)) (body : List ℕ) (distinct : IsDistinct summary bodies)
     (next : IsNextTo (generation_in summary) body) (short : length body < 2 ^ 32) where
   pub next_distinct : IsDistinct (Some body) []
   next_distinct = body_distinct (generation_in summary) body next
@@ -249,44 +249,44 @@ module _ (area : Area) (summary : Option (List ℕ)) (bodies : List (List ℕ)) 
   may_stand : MayStandAt 16 body
   may_stand = body_stands (generation_in summary) body next short
 
-  staged_body : (m : Areas) → IsReadyIn area summary bodies body m → Staged [] body (part area m)
-  staged_body m ready = record { gate = ready.staged_is.gate; behind = ready.staged_is.behind; closed = ready.staged_is.closed; is = ready.staged_is.is }
+  staged_body : (m : Areas) → IsReadyIn area version summary bodies body m → Staged 2 [] body (part area m)
+  staged_body m ready = record { known = inr refl; gate = ready.staged_is.gate; behind = ready.staged_is.behind; closed = ready.staged_is.closed; is = ready.staged_is.is }
 
   -- the generation of the area that was chosen, where it is live
-  old_generation : (s : Option (List ℕ)) (bytes : List ℕ) → IsDistinct s bodies → AtRest bytes (all_of s bodies) → is_live bytes ≡ true → generation_of bytes ≡ generation_in s
-  old_generation None bytes apart at live = absurd (no (sym live ∙ rest_live None bodies bytes apart at))
+  old_generation : (s : Option (List ℕ)) (bytes : List ℕ) → IsDistinct s bodies → AtRest version bytes (all_of s bodies) → is_live bytes ≡ true → generation_of bytes ≡ generation_in s
+  old_generation None bytes apart at live = absurd (no (sym live ∙ rest_live version None bodies bytes apart at))
     where
       no : true ≡ false → ⊥
       no e = cc
-  old_generation (Some s) bytes apart at live = rest_generation s bodies bytes apart.1 at
+  old_generation (Some s) bytes apart at live = rest_generation version s bodies bytes apart.1 at
 
-  opened_rests : (m c : Areas) → IsReadyIn area summary bodies body m → rest area c ≡ rest area m → AtRest (part area c) (body ∷ []) → IsAtRestIn area (Some body) [] c
+  opened_rests : (m c : Areas) → IsReadyIn area version summary bodies body m → rest area c ≡ rest area m → AtRest 2 (part area c) (body ∷ []) → IsAtRestIn area 2 (Some body) [] c
   opened_rests m c ready same at =
-      let live = rest_live (Some body) [] (part area c) next_distinct at in
-      let new : generation_of (part area c) ≡ generation_in summary + 1 = rest_generation body [] (part area c) next_distinct.1 at ∙ next_generation in
-      let old_at : AtRest (rest area c) (all_of summary bodies) =
-      subst (λ (l : List ℕ). AtRest l (all_of summary bodies)) (part_other area m ∙ sym same) ready.rests.at_rest in
+      let live = rest_live 2 (Some body) [] (part area c) next_distinct at in
+      let new : generation_of (part area c) ≡ generation_in summary + 1 = rest_generation 2 body [] (part area c) next_distinct.1 at ∙ next_generation in
+      let old_at : AtRest version (rest area c) (all_of summary bodies) =
+      subst (λ (l : List ℕ). AtRest version l (all_of summary bodies)) (part_other area m ∙ sym same) ready.rests.at_rest in
       record {
         chosen_is = opened_chosen area c live (λ was. omega (arith, new, old_generation summary (rest area c) distinct old_at was));
         at_rest = at;
       }
 
-  old_stands : (c : Areas) → IsAtRestIn (other_of area) summary bodies c → StandsForTurn summary bodies body c
-  old_stands c at = inl (rest_stands (other_of area) summary bodies c distinct at)
+  old_stands : (c : Areas) → IsAtRestIn (other_of area) version summary bodies c → StandsForTurn version summary bodies body c
+  old_stands c at = inl (rest_stands (other_of area) version summary bodies c distinct at)
 
-  pub undone_stands : (t c : Areas) → IsAtRestIn (other_of area) summary bodies t → IsUndone area t c → StandsForTurn summary bodies body c
-  undone_stands t c at undone = old_stands c (undone_rests area summary bodies t c at undone)
+  pub undone_stands : (t c : Areas) → IsAtRestIn (other_of area) version summary bodies t → IsUndone area t c → StandsForTurn version summary bodies body c
+  undone_stands t c at undone = old_stands c (undone_rests area version summary bodies t c at undone)
 
-  pub beside_stands : (t c : Areas) → IsShutIn area summary bodies t → IsBeside area t c → StandsForTurn summary bodies body c
-  beside_stands t c at beside = old_stands c (beside_rests area summary bodies t c at beside)
+  pub beside_stands : (t c : Areas) → IsShutIn area version summary bodies t → IsBeside area t c → StandsForTurn version summary bodies body c
+  beside_stands t c at beside = old_stands c (beside_rests area version summary bodies t c at beside)
 
-  pub opening_stands : (m c : Areas) → IsReadyIn area summary bodies body m → TornIn area 16 1 m c → StandsForTurn summary bodies body c
+  pub opening_stands : (m c : Areas) → IsReadyIn area version summary bodies body m → TornIn area 16 1 m c → StandsForTurn version summary bodies body c
   opening_stands m c ready torn =
       ⊎_elim
-      (λ (r : AtRest (part area c) []). old_stands c (still_rests area summary bodies m c ready.rests torn.1 (inr (rest_live None [] (part area c) (λ e. omega (arith, e)) r))))
-      (λ (r : AtRest (part area c) (body ∷ [])). inr (rest_stands area (Some body) [] c next_distinct (opened_rests m c ready torn.1 r)))
-      (torn_gate [] body 16 (part area m) (part area c) tt may_stand refl (staged_body m ready) torn.0)
+      (λ (r : AtRest 2 (part area c) []). old_stands c (still_rests area version summary bodies m c ready.rests torn.1 (inr (rest_live 2 None [] (part area c) (λ e. omega (arith, e)) r))))
+      (λ (r : AtRest 2 (part area c) (body ∷ [])). inr (rest_stands area 2 (Some body) [] c next_distinct (opened_rests m c ready torn.1 r)))
+      (torn_gate 2 [] body 16 (part area m) (part area c) tt may_stand refl (staged_body m ready) torn.0)
 
-  pub opened_stands : (m n : Areas) → IsReadyIn area summary bodies body m → IsWritten area 16 (1 ∷ []) m n → IsAtRestIn area (Some body) [] n
+  pub opened_stands : (m n : Areas) → IsReadyIn area version summary bodies body m → IsWritten area 16 (1 ∷ []) m n → IsAtRestIn area 2 (Some body) [] n
   opened_stands m n ready written =
-      opened_rests m n ready written.1 (opened [] body 16 (part area m) (part area n) tt may_stand refl (staged_body m ready) written.0)
+      opened_rests m n ready written.1 (opened 2 [] body 16 (part area m) (part area n) tt may_stand refl (staged_body m ready) written.0)

@@ -3,8 +3,8 @@ use Rattle.std.specs.Prelude.{◌≡◌, ◌<◌, ◌^◌, ℕ, false, List, len
 use Rattle.arc_io.specs.Areas.{Areas, part}
 use Rattle.arc_io.specs.Disks.{DiskSeen}
 use Rattle.arc_io.specs.declared.disk.Area.{Area}
-use Rattle.disk_journal.specs.Records.{AtRest, size}
-use Rattle.disk_journal.specs.Standing.{chosen, all_of, size_of, generation_in, generation_now, IsDistinct, AreasStand}
+use Rattle.disk_journal.specs.Records.{AtRest, IsVersion, size}
+use Rattle.disk_journal.specs.Standing.{chosen, all_of, size_of, generation_in, generation_now, version_now, IsDistinct, AreasStand}
 use Rattle.disk_journal.specs.declared.journal.Journal.{Journal}
 use Rattle.disk_journal.specs.declared.journal.OpenRefused.{OpenRefused}
 
@@ -12,50 +12,54 @@ use Rattle.disk_journal.specs.declared.journal.OpenRefused.{OpenRefused}
 abbrev pub IsSettled : DiskSeen → Type 0
 IsSettled disk = (c : Areas) → disk.may_leave c → disk.told ≡ Some c
 
--- the area is chosen, and is at rest with the body of the summary, where there is one, and these bodies
-pub record IsAtRestIn (area : Area) (summary : Option (List ℕ)) (bodies : List (List ℕ)) (areas : Areas) : Type 0 where
+-- the area is chosen, and is at rest with the body of the summary, where there is one, and these bodies, of a version
+pub record IsAtRestIn (area : Area) (version : ℕ) (summary : Option (List ℕ)) (bodies : List (List ℕ)) (areas : Areas) : Type 0 where
   pub chosen_is : chosen areas ≡ area
-  pub at_rest : AtRest (part area areas) (all_of summary bodies)
+  pub at_rest : AtRest version (part area areas) (all_of summary bodies)
 
 -- what a read gives is at rest so, and a crash leaves nothing else
-pub record Keeps (disk : DiskSeen) (area : Area) (summary : Option (List ℕ)) (bodies : List (List ℕ)) : Type 0 where
+pub record Keeps (disk : DiskSeen) (area : Area) (version : ℕ) (summary : Option (List ℕ)) (bodies : List (List ℕ)) : Type 0 where
   pub distinct : IsDistinct summary bodies
-  pub file : IfSome disk.told (IsAtRestIn area summary bodies)
+  pub file : IfSome disk.told (IsAtRestIn area version summary bodies)
   pub settled : IsSettled disk
 
--- the journal has the body of this summary, or none, and these bodies, and no call of it has answered a fault of the disk
-pub record Holds {D : Type 0} (seen : D → DiskSeen) (j : Journal D) (summary : Option (List ℕ)) (bodies : List (List ℕ)) : Type 0 where
+-- the journal has the body of this summary, or none, and these bodies, of a version, and no call of it has answered a fault of the disk
+pub record Holds {D : Type 0} (seen : D → DiskSeen) (j : Journal D)
+    (version : ℕ) (summary : Option (List ℕ)) (bodies : List (List ℕ)) : Type 0 where
+  pub version_is : j.version ≡ version
   pub used : j.used ≡ size_of summary bodies
   pub count : j.records ≡ length bodies
   pub generation : j.generation ≡ generation_in summary
   pub few : j.limits.bytes < 2 ^ 32
   pub met_none : j.has_failed ≡ false
-  pub kept : Keeps (seen j.disk) j.area summary bodies
+  pub kept : Keeps (seen j.disk) j.area version summary bodies
 
--- these bodies stand in the area
-abbrev pub HasBodies : Area → List (List ℕ) → Areas → Type 0
-HasBodies area bodies areas = AtRest (part area areas) bodies
+-- these bodies of a version stand in the area
+abbrev pub HasBodies : Area → ℕ → List (List ℕ) → Areas → Type 0
+HasBodies area version bodies areas = AtRest version (part area areas) bodies
 
--- No call of the journal has answered a fault of the disk, and bodies stand in its area up to its closed gate.
+-- No call of the journal has answered a fault of the disk, and bodies of its version stand in its area up to its closed gate.
 pub record Works {D : Type 0} (seen : D → DiskSeen) (j : Journal D) : Type 0 where
   pub bodies : List (List ℕ)
   pub used : j.used ≡ size bodies
   pub few : j.limits.bytes < 2 ^ 32
   pub met_none : j.has_failed ≡ false
-  pub file : IfSome (seen j.disk).told (HasBodies j.area bodies)
+  pub file : IfSome (seen j.disk).told (HasBodies j.area j.version bodies)
   pub settled : IsSettled (seen j.disk)
 
--- What an opening gives: the bodies are those of the summary and the records for which the areas stood. The journal holds them, where an
--- area can tell of them.
+-- What an opening gives: the bodies are those of the summary and the records for which the areas stood, of the version that they had. The
+-- journal holds them, where an area can tell of them.
 pub record IsOpen {D : Type 0} (seen : D → DiskSeen) (disk : D) (j : Journal D) (given : List (List ℕ)) : Type 0 where
   pub summary : Option (List ℕ)
   pub bodies : List (List ℕ)
   pub all : given ≡ all_of summary bodies
-  pub stands : IfSome (seen disk).told (λ s. AreasStand s summary bodies)
+  pub known : IsVersion j.version
+  pub version : IfSome (seen disk).told (λ s. j.version ≡ version_now s)
+  pub stands : IfSome (seen disk).told (λ s. AreasStand s j.version summary bodies)
   pub used : j.used ≡ size_of summary bodies
   pub count : j.records ≡ length bodies
   pub generation : IfSome (seen disk).told (λ s. j.generation ≡ generation_now s)
-  pub holds : IsDistinct summary bodies → Holds seen j summary bodies
+  pub holds : IsDistinct summary bodies → Holds seen j j.version summary bodies
 
 -- the room for records that was reserved
 abbrev pub room_of : {D : Type 0} → Journal D → ℕ

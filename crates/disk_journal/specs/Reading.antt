@@ -42,6 +42,7 @@ IsBrokenAt (Open.Damaged place) bytes at = (rest : List ℕ) × (place ≡ at) �
 IsBrokenAt (Open.DiskFault was is) bytes at = Unit {0}
 IsBrokenAt (Open.NotJournal byte) bytes at = ⊥
 IsBrokenAt (Open.WrongVersion found) bytes at = ⊥
+IsBrokenAt (Open.TooWide size) bytes at = ⊥
 IsBrokenAt Open.Memory bytes at = Unit {0}
 
 -- the area is live, with this generation, or is not

@@ -6,7 +6,7 @@ use Rattle.arc_io.specs.Areas.{Areas, part, rest}
 use Rattle.arc_io.specs.Disks.{DiskSeen}
 use Rattle.arc_io.specs.Crashes.{Becomes, Follows, LeavesOnly}
 use Rattle.arc_io.specs.declared.disk.Area.{Area}
-use Rattle.disk_journal.specs.Records.{head, tag, bytes_of}
+use Rattle.disk_journal.specs.Records.{head_of, tag, bytes_of}
 use Rattle.disk_journal.specs.Standing.{is_live}
 
 -- From old to new this was done: what is told has changed so, and a crash at any moment between leaves what one at old might have left,
@@ -35,12 +35,12 @@ abbrev pub IsBeside : Area → Areas → Areas → Type 0
 IsBeside area s t = (rest area t ≡ rest area s)
     × (17 ≤ length (part area s) → (17 ≤ length (part area t)) × (slice_index (part area t) 16 ≡ slice_index (part area s) 16))
 
--- behind the closed gate stand the whole body and a closed gate
+-- behind the head of the second version and the closed gate stand the whole body and a closed gate
 pub record IsStaged (body bytes : List ℕ) : Type 0 where
   pub gate : ℕ
   pub behind : List ℕ
   pub closed : gate ≢ 1
-  pub is : bytes ≡ head ++ gate ∷ (bytes_of body ++ 0 ∷ behind)
+  pub is : bytes ≡ head_of 2 ++ gate ∷ (bytes_of body ++ 0 ∷ behind)
 
 -- the body is that of the next summary: it begins with 0B and the next generation in eight bytes
 pub record IsNextTo (generation : ℕ) (body : List ℕ) : Type 0 where

@@ -3,7 +3,7 @@ ghost use Rattle.std.specs.Prelude.{◌≡◌, ◌≤◌, ◌+◌, ℕ, List, le
 ghost use Rattle.arc_io.specs.Areas.{part};
 ghost use Rattle.arc_io.specs.Causes.{IsCounted};
 ghost use Rattle.arc_io.specs.Crashes.{IsQuiet};
-ghost use Rattle.disk_journal.specs.Faults.{IsShown, IsOfContent, HasCounts};
+ghost use Rattle.disk_journal.specs.Faults.{IsShown, IsOfContent, HasCause};
 ghost use Rattle.disk_journal.specs.Reading.{IsFilled, IsPiece};
 
 use crate::fault::OpenFault;
@@ -35,7 +35,7 @@ pub fn read<D: Disk>(
     ensures quiet { IsQuiet (D.seen disk.old) (D.seen disk.new) }
     ensures later { (D.seen disk.old).faults ≤ (D.seen disk.new).faults }
     ensures met_none { OnOk result ((D.seen disk.new).faults ≡ (D.seen disk.old).faults) }
-    ensures counts { IfErr result (λ f. HasCounts f before (D.seen disk.new).faults) }
+    ensures counts { IfErr result (λ f. HasCause f before (D.seen disk.new).faults) }
     ensures shown { IfErr result (λ f. (IsOfContent f → ⊥) × ((bytes : List ℕ) → IsShown f bytes)) }
 {
     match read_filled(disk, area, at, buf) {
@@ -63,7 +63,7 @@ pub fn read_front<D: Disk>(
     ensures quiet { IsQuiet (D.seen disk.old) (D.seen disk.new) }
     ensures later { (D.seen disk.old).faults ≤ (D.seen disk.new).faults }
     ensures met_none { OnOk result ((D.seen disk.new).faults ≡ (D.seen disk.old).faults) }
-    ensures counts { IfErr result (λ f. HasCounts f before (D.seen disk.new).faults) }
+    ensures counts { IfErr result (λ f. HasCause f before (D.seen disk.new).faults) }
     ensures shown { IfErr result (λ f. (IsOfContent f → ⊥) × ((bytes : List ℕ) → IsShown f bytes)) }
 {
     read(disk, before, area, at, &mut buf[..count])

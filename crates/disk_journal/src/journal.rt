@@ -7,11 +7,11 @@ ghost use Rattle.disk_journal.specs.Standing.{chosen_part, other_of, GoesOn, IsD
 ghost use Rattle.disk_journal.specs.Turning.{Changes, IsNextTo};
 ghost use Rattle.disk_journal.specs.OtherArea.{IsSameIn, SparesOther};
 ghost use Rattle.disk_journal.specs.Behind.{SparesBehind};
-ghost use Rattle.disk_journal.specs.Faults.{IsShown, IsOfContent, HasCounts, IsOver, IsFull, IsDiskFault, HasCountsOf};
+ghost use Rattle.disk_journal.specs.Faults.{IsShown, IsOfContent, HasCause, IsOver, IsFull, IsDiskFault, HasCountsOf};
 
 use crate::bodies::Bodies;
 use crate::fault::{AppendFault, OpenFault};
-use crate::open::load;
+use crate::open::{WRITTEN, load};
 use crate::record::{lay, write_record};
 use crate::summary::{generation_of, records_of};
 use crate::turn::{other, write_turn};
@@ -36,6 +36,7 @@ pub const SHIPPED: Limits = Limits {
 pub struct Journal<D: Disk> {
     disk: D,
     area: Area,
+    version: u8,
     generation: u64,
     used: u64,
     records: u64,
@@ -51,6 +52,7 @@ impl<D: Disk + Drop> Drop for Journal<D> {
         let Journal {
             disk,
             area: _,
+            version: _,
             generation: _,
             used: _,
             records: _,
@@ -89,15 +91,19 @@ impl<D: Disk> Journal<D> {
         ensures limits { IfOk result (λ r. r.0.limits ≡ limits) }
         ensures room { IfOk result (λ r. room_of r.0 ≡ 0) }
         ensures shown { IfErr result (λ r. IfSome (D.seen disk).told (λ s. IsShown r.fault (chosen_part s))) }
-        ensures counts { IfErr result (λ r. HasCounts r.fault (D.seen disk).faults (D.seen r.disk).faults) }
+        ensures counts { IfErr result (λ r. HasCause r.fault (D.seen disk).faults (D.seen r.disk).faults) }
 
         // A crash at any moment of the call leaves what stands for all that an image at its start stood for, and so does a read.
         ensures goes_on { Changes GoesOn (D.seen disk) (D.seen (disk_after result)) }
         ensures spared { SparesOther (D.seen disk) (D.seen (disk_after result)) }
 
-        // Where the bytes of the area are refused, or some body stands there, nothing was written.
+        // Where the bytes of the area are refused, or some body stands there, nothing was written; nor where they are more than 17, or are
+        // those of the first version.
         ensures unwritten { IfErr result (λ r. IsOfContent r.fault → IsQuiet (D.seen disk) (D.seen r.disk)) }
         ensures untouched { IfOk result (λ r. (r.1 ≡ [] → ⊥) → IsQuiet (D.seen disk) (D.seen r.0.disk)) }
+        ensures first { IfOk result (λ r. r.0.version ≡ 1 → IsQuiet (D.seen disk) (D.seen r.0.disk)) }
+        ensures long { IfSome (D.seen disk).told (λ s. 17 < length (chosen_part s)
+            → IsQuiet (D.seen disk) (D.seen (disk_after result))) }
         ensures later { (D.seen disk).faults ≤ (D.seen (disk_after result)).faults }
 
         // An opening that answers Ok met no fault.
@@ -111,6 +117,7 @@ impl<D: Disk> Journal<D> {
                 let journal = Journal {
                     disk,
                     area: loaded.area,
+                    version: loaded.version,
                     generation,
                     used: loaded.used,
                     records,
@@ -153,23 +160,26 @@ impl<D: Disk> Journal<D> {
         ensures works { OnOk result (Works D.seen self.new) }
 
         // A first body that begins as that of a summary would be read as one.
-        ensures added { OnOk result ((summary : Option (List ℕ)) (bodies : List (List ℕ)) → Holds D.seen self.old summary bodies
-            → IsDistinct summary (bodies ++ body.now ∷ []) → Holds D.seen self.new summary (bodies ++ body.now ∷ [])) }
+        ensures added { OnOk result ((version : ℕ) (summary : Option (List ℕ)) (bodies : List (List ℕ))
+            → Holds D.seen self.old version summary bodies → IsDistinct summary (bodies ++ body.now ∷ [])
+            → Holds D.seen self.new version summary (bodies ++ body.now ∷ [])) }
 
         // A crash at any moment of the call leaves what stood before it, with the new record or without.
-        ensures any_moment { (summary : Option (List ℕ)) (bodies : List (List ℕ)) → Holds D.seen self.old summary bodies
-            → IsDistinct summary (bodies ++ body.now ∷ [])
-            → LeavesOnly (D.seen self.old.disk) (D.seen self.new.disk) (StandsForEither summary bodies body.now) }
+        ensures any_moment { (version : ℕ) (summary : Option (List ℕ)) (bodies : List (List ℕ))
+            → Holds D.seen self.old version summary bodies → IsDistinct summary (bodies ++ body.now ∷ [])
+            → LeavesOnly (D.seen self.old.disk) (D.seen self.new.disk) (StandsForEither version summary bodies body.now) }
 
         // What a read gives afterwards, too.
-        ensures told { (summary : Option (List ℕ)) (bodies : List (List ℕ)) → Holds D.seen self.old summary bodies
-            → IsDistinct summary (bodies ++ body.now ∷ [])
-            → Becomes (D.seen self.old.disk).told (D.seen self.new.disk).told (λ _ t. StandsForEither summary bodies body.now t) }
+        ensures told { (version : ℕ) (summary : Option (List ℕ)) (bodies : List (List ℕ))
+            → Holds D.seen self.old version summary bodies → IsDistinct summary (bodies ++ body.now ∷ [])
+            → Becomes (D.seen self.old.disk).told (D.seen self.new.disk).told (λ _ t. StandsForEither version summary bodies body.now t) }
 
         // Nothing but the record and its gates is written: all that stands behind is as it was, and so is the other area.
-        ensures spared { (summary : Option (List ℕ)) (bodies : List (List ℕ)) → Holds D.seen self.old summary bodies
+        ensures spared { (version : ℕ) (summary : Option (List ℕ)) (bodies : List (List ℕ))
+            → Holds D.seen self.old version summary bodies
             → SparesOther (D.seen self.old.disk) (D.seen self.new.disk) }
-        ensures behind { (summary : Option (List ℕ)) (bodies : List (List ℕ)) → Holds D.seen self.old summary bodies
+        ensures behind { (version : ℕ) (summary : Option (List ℕ)) (bodies : List (List ℕ))
+            → Holds D.seen self.old version summary bodies
             → SparesBehind (self.old.used + 5 + length body.now) (D.seen self.old.disk) (D.seen self.new.disk) }
 
         // Full comes exactly over a limit, before any device call.
@@ -182,6 +192,7 @@ impl<D: Disk> Journal<D> {
         ensures later { (D.seen self.old.disk).faults ≤ (D.seen self.new.disk).faults }
         ensures met_none { OnOk result ((D.seen self.new.disk).faults ≡ (D.seen self.old.disk).faults) }
         ensures area { self.new.area ≡ self.old.area }
+        ensures version { self.new.version ≡ self.old.version }
         ensures limits { self.new.limits ≡ self.old.limits }
         ensures same_room { room_of self.new ≡ room_of self.old }
     {
@@ -220,25 +231,28 @@ impl<D: Disk> Journal<D> {
     pub fn turn(&mut self, body: &[u8]) -> Result<(), AppendFault>
         requires works { Works D.seen self.old }
         requires next { IsNextTo self.old.generation body.now }
-        requires fits { 22 + length body.now ≤ self.old.limits.bytes }
+        requires short { length body.now ≤ 4_294_967_295 }
 
         ensures works { OnOk result (Works D.seen self.new) }
-        ensures turned { OnOk result ((summary : Option (List ℕ)) (bodies : List (List ℕ)) → Holds D.seen self.old summary bodies
-            → Holds D.seen self.new (Some body.now) []) }
+        ensures turned { OnOk result ((version : ℕ) (summary : Option (List ℕ)) (bodies : List (List ℕ))
+            → Holds D.seen self.old version summary bodies → Holds D.seen self.new 2 (Some body.now) []) }
 
         // A crash at any moment of the call leaves what stood before it, or the new summary and no records.
-        ensures any_moment { (summary : Option (List ℕ)) (bodies : List (List ℕ)) → Holds D.seen self.old summary bodies
-            → LeavesOnly (D.seen self.old.disk) (D.seen self.new.disk) (StandsForTurn summary bodies body.now) }
+        ensures any_moment { (version : ℕ) (summary : Option (List ℕ)) (bodies : List (List ℕ))
+            → Holds D.seen self.old version summary bodies
+            → LeavesOnly (D.seen self.old.disk) (D.seen self.new.disk) (StandsForTurn version summary bodies body.now) }
 
         // What a read gives afterwards, too.
-        ensures told { (summary : Option (List ℕ)) (bodies : List (List ℕ)) → Holds D.seen self.old summary bodies
-            → Becomes (D.seen self.old.disk).told (D.seen self.new.disk).told (λ _ t. StandsForTurn summary bodies body.now t) }
+        ensures told { (version : ℕ) (summary : Option (List ℕ)) (bodies : List (List ℕ))
+            → Holds D.seen self.old version summary bodies
+            → Becomes (D.seen self.old.disk).told (D.seen self.new.disk).told (λ _ t. StandsForTurn version summary bodies body.now t) }
 
         // The area that counted before keeps all its bytes, at any moment and in whatever a crash leaves. Behind Ok the journal's is the other.
         ensures spared { Changes (IsSameIn self.old.area) (D.seen self.old.disk) (D.seen self.new.disk) }
         ensures area { OnOk result (self.new.area ≡ other_of self.old.area) }
 
         ensures generation { OnOk result (self.new.generation ≡ self.old.generation + 1) }
+        ensures version { OnOk result (self.new.version ≡ 2) }
 
         // A fault of the disk is the one refusal.
         ensures cause { IfErr result (HasCountsOf ⊥ (D.seen self.old.disk).faults (D.seen self.new.disk).faults) }
@@ -253,6 +267,7 @@ impl<D: Disk> Journal<D> {
         match write_turn(&mut self.disk, next, body) {
             Ok(()) => {
                 self.area = next;
+                self.version = WRITTEN;
                 self.generation += 1;
                 self.used = 22 + body.len() as u64;
                 self.records = 0;
@@ -273,6 +288,13 @@ impl<D: Disk> Journal<D> {
         ensures { result ≡ self.now.used }
     {
         self.used
+    }
+
+    /// The version of the area that counts, by whose table the bodies are spelled.
+    pub fn version(&self) -> u8
+        ensures { result ≡ self.now.version }
+    {
+        self.version
     }
 
     /// The generation of the summary, 0 without one.
@@ -310,6 +332,7 @@ impl<D: Disk> Journal<D> {
         let Journal {
             disk,
             area: _,
+            version: _,
             generation: _,
             used: _,
             records: _,

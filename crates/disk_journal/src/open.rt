@@ -4,12 +4,12 @@ ghost use Rattle.std.specs.Int.{to_be_bytes, from_be_bytes, w32, w64};
 ghost use Rattle.arc_io.specs.Areas.{Areas, part};
 ghost use Rattle.arc_io.specs.Crashes.{Becomes, Follows, IsQuiet, OnlyIn, LeavesTorn, TornIn};
 ghost use Rattle.arc_io.specs.Causes.{IsCounted};
-ghost use Rattle.disk_journal.specs.Records.{AtRest, Stands, head, size, most_at};
-ghost use Rattle.disk_journal.specs.Faults.{IsShown, IsOfContent, IsOfFront, HasCounts};
+ghost use Rattle.disk_journal.specs.Records.{AtRest, IsVersion, Stands, head_of, size, most_at};
+ghost use Rattle.disk_journal.specs.Faults.{IsShown, IsOfContent, IsOfFront, HasCause};
 ghost use Rattle.disk_journal.specs.Reading.{Shows, IsGate, IsRecord, IsBrokenAt, IsFound, IsSelected, found_or_none};
 ghost use Rattle.disk_journal.specs.Journal.{IsSettled, IsAtRestIn};
 ghost use Rattle.disk_journal.specs.OtherArea.{SparesOther};
-ghost use Rattle.disk_journal.specs.Standing.{chosen, chosen_part, choice, GoesOn};
+ghost use Rattle.disk_journal.specs.Standing.{chosen, chosen_part, choice, version_now, GoesOn};
 ghost use Rattle.disk_journal.specs.Turning.{Changes};
 
 use crate::bodies::Bodies;
@@ -21,12 +21,17 @@ use std::alloc::Global;
 
 const NAME: [u8; 12] = *b"ARC JOURNAL ";
 
-const VERSION: [u8; 4] = *b"0001";
+// The head of the first version, which is read but no more written.
+const FIRST_HEAD: [u8; 16] = *b"ARC JOURNAL 0001";
 
-pub const HEAD: [u8; 16] = *b"ARC JOURNAL 0001";
+// The head of the second.
+pub const HEAD: [u8; 16] = *b"ARC JOURNAL 0002";
 
 // What a new area begins with: the head and a closed gate.
-pub const FRESH: [u8; 17] = *b"ARC JOURNAL 0001\0";
+pub const FRESH: [u8; 17] = *b"ARC JOURNAL 0002\0";
+
+// The version that is written.
+pub const WRITTEN: u8 = 2;
 
 // The most bytes that a body may have, wherever it stands.
 const MOST: u32 = 4_194_400;
@@ -40,9 +45,10 @@ const TAG: u8 = 11;
 // How many bytes are read at a time.
 const PIECE: u64 = 1 << 20;
 
-// The bodies that were read, and the place of the closed gate, plus 1.
+// The version and the bodies that were read, and the place of the closed gate, plus 1.
 #[derive(Drop)]
 struct Records {
+    version: u8,
     bodies: Bodies,
     used: u64,
 }
@@ -60,6 +66,7 @@ struct Selected {
 pub struct Loaded {
     pub area: Area,
     pub found: Option<u64>,
+    pub version: u8,
     pub bodies: Bodies,
     pub used: u64,
 }
@@ -111,7 +118,7 @@ fn is_open<D: Disk>(
     ensures quiet { IsQuiet (D.seen disk.old) (D.seen disk.new) }
     ensures later { (D.seen disk.old).faults ≤ (D.seen disk.new).faults }
     ensures met_none { OnOk result ((D.seen disk.new).faults ≡ (D.seen disk.old).faults) }
-    ensures counts { IfErr result (λ f. HasCounts f before (D.seen disk.new).faults) }
+    ensures counts { IfErr result (λ f. HasCause f before (D.seen disk.new).faults) }
     ensures shown { IfErr result (λ f. IfSome (D.seen disk.old).told (λ s. IsBrokenAt f (part area s) at)) }
 {
     let mut gate = [0; 1];
@@ -140,7 +147,7 @@ fn read_size<D: Disk>(
     ensures quiet { IsQuiet (D.seen disk.old) (D.seen disk.new) }
     ensures later { (D.seen disk.old).faults ≤ (D.seen disk.new).faults }
     ensures met_none { OnOk result ((D.seen disk.new).faults ≡ (D.seen disk.old).faults) }
-    ensures counts { IfErr result (λ f. HasCounts f before (D.seen disk.new).faults) }
+    ensures counts { IfErr result (λ f. HasCause f before (D.seen disk.new).faults) }
     ensures shown { IfErr result (λ f. IfSome (D.seen disk.old).told (λ s. IsBrokenAt f (part area s) at)) }
 {
     if len - at <= 5 {
@@ -175,7 +182,7 @@ fn read_record<D: Disk>(
     ensures quiet { IsQuiet (D.seen disk.old) (D.seen disk.new) }
     ensures later { (D.seen disk.old).faults ≤ (D.seen disk.new).faults }
     ensures met_none { OnOk result ((D.seen disk.new).faults ≡ (D.seen disk.old).faults) }
-    ensures counts { IfErr result (λ f. HasCounts f before (D.seen disk.new).faults) }
+    ensures counts { IfErr result (λ f. HasCause f before (D.seen disk.new).faults) }
     ensures shown { IfErr result (λ f. IfSome (D.seen disk.old).told (λ s. IsBrokenAt f (part area s) at)) }
 {
     if !is_open(disk, window, before, area, len, at)? {
@@ -189,7 +196,7 @@ fn read_record<D: Disk>(
     Ok(Some(body))
 }
 
-// Reads the records from the first gate to the closed one.
+// Reads the records of an area of this version from the first gate to the closed one.
 fn read_records<D: Disk>(
     alloc: Global,
     disk: &mut D,
@@ -197,18 +204,21 @@ fn read_records<D: Disk>(
     before: u64,
     area: Area,
     len: u64,
+    version: u8,
 ) -> Result<Records, OpenFault>
     requires before { before ≤ (D.seen disk.old).faults }
     requires len { IfSome (D.seen disk.old).told (λ s. len ≡ length (part area s)) }
     requires long { 17 < len }
-    requires head { IfSome (D.seen disk.old).told (λ s. take 16 (part area s) ≡ head) }
+    requires known { IsVersion version }
+    requires head { IfSome (D.seen disk.old).told (λ s. take 16 (part area s) ≡ head_of version) }
     requires piece { Shows area (D.seen disk.old).told window.old }
     ensures used { IfOk result (λ r. r.used ≡ size r.bodies) }
-    ensures bytes { IfOk result (λ r. IfSome (D.seen disk.old).told (λ s. AtRest (part area s) r.bodies)) }
+    ensures known { IfOk result (λ r. IsVersion r.version) }
+    ensures bytes { IfOk result (λ r. IfSome (D.seen disk.old).told (λ s. AtRest r.version (part area s) r.bodies)) }
     ensures quiet { IsQuiet (D.seen disk.old) (D.seen disk.new) }
     ensures later { (D.seen disk.old).faults ≤ (D.seen disk.new).faults }
     ensures met_none { OnOk result ((D.seen disk.new).faults ≡ (D.seen disk.old).faults) }
-    ensures counts { IfErr result (λ f. HasCounts f before (D.seen disk.new).faults) }
+    ensures counts { IfErr result (λ f. HasCause f before (D.seen disk.new).faults) }
     ensures shown { IfErr result (λ f. IfSome (D.seen disk.old).told (λ s. IsShown f (part area s))) }
 {
     let mut bodies = Bodies::new(alloc);
@@ -220,6 +230,7 @@ fn read_records<D: Disk>(
         };
     }
     Ok(Records {
+        version,
         bodies,
         used: at + 1,
     })
@@ -239,23 +250,39 @@ fn first_other(found: &[u8], wanted: &[u8]) -> Option<usize>
     None
 }
 
+// The version of which these sixteen bytes are the head.
+fn version_in(head: &[u8]) -> Option<u8>
+    requires { length head.now ≡ 16 }
+    ensures { MatchOption result ((version : ℕ) → IsVersion version → head.now ≢ head_of version)
+        (λ version. IsVersion version × (head.now ≡ head_of version)) }
+{
+    let Some(_) = first_other(head, &FIRST_HEAD) else {
+        return Some(1);
+    };
+    let Some(_) = first_other(head, &HEAD) else {
+        return Some(2);
+    };
+    None
+}
+
 /// Finds the name and the version in the sixteen bytes at the front of an area that has more than 17. The fault is NotJournal or
 /// WrongVersion.
-pub fn check_front(front: &[u8; 16]) -> Result<(), OpenFault>
-    ensures head { OnOk result (front.now ≡ head) }
+pub fn check_front(front: &[u8; 16]) -> Result<u8, OpenFault>
+    ensures known { IfOk result (λ version. IsVersion version) }
+    ensures head { IfOk result (λ version. front.now ≡ head_of version) }
     ensures front { IfErr result IsOfFront }
     ensures shown { IfErr result (λ f. (bytes : List ℕ) → 17 < length bytes → take 16 bytes ≡ front.now → IsShown f bytes) }
 {
+    if let Some(version) = version_in(front) {
+        return Ok(version);
+    }
     let (found_name, found) = front.split_at(12);
-    if let Some(byte) = first_other(found_name, &NAME) {
-        return Err(OpenFault::NotJournal { byte: byte as u64 });
-    }
-    if first_other(found, &VERSION).is_some() {
-        return Err(OpenFault::WrongVersion {
+    match first_other(found_name, &NAME) {
+        Some(byte) => Err(OpenFault::NotJournal { byte: byte as u64 }),
+        None => Err(OpenFault::WrongVersion {
             found: [found[0], found[1], found[2], found[3]],
-        });
+        }),
     }
-    Ok(())
 }
 
 // Finds the name and the version at the front of an area that is long enough to have them.
@@ -265,17 +292,18 @@ fn check_head<D: Disk>(
     before: u64,
     area: Area,
     len: u64,
-) -> Result<(), OpenFault>
+) -> Result<u8, OpenFault>
     requires before { before ≤ (D.seen disk.old).faults }
     requires len { IfSome (D.seen disk.old).told (λ s. len ≡ length (part area s)) }
     requires long { 17 < len }
     requires piece { Shows area (D.seen disk.old).told window.old }
-    ensures head { OnOk result (IfSome (D.seen disk.old).told (λ s. take 16 (part area s) ≡ head)) }
+    ensures known { IfOk result (λ version. IsVersion version) }
+    ensures head { IfOk result (λ version. IfSome (D.seen disk.old).told (λ s. take 16 (part area s) ≡ head_of version)) }
     ensures piece { OnOk result (Shows area (D.seen disk.old).told window.new) }
     ensures quiet { IsQuiet (D.seen disk.old) (D.seen disk.new) }
     ensures later { (D.seen disk.old).faults ≤ (D.seen disk.new).faults }
     ensures met_none { OnOk result ((D.seen disk.new).faults ≡ (D.seen disk.old).faults) }
-    ensures counts { IfErr result (λ f. HasCounts f before (D.seen disk.new).faults) }
+    ensures counts { IfErr result (λ f. HasCause f before (D.seen disk.new).faults) }
     ensures shown { IfErr result (λ f. IfSome (D.seen disk.old).told (λ s. IsShown f (part area s))) }
 {
     let mut front = [0; 16];
@@ -291,7 +319,7 @@ fn settle<D: Disk>(disk: &mut D, before: u64) -> Result<(u64, u64), OpenFault>
     ensures quiet { IsQuiet (D.seen disk.old) (D.seen disk.new) }
     ensures later { (D.seen disk.old).faults ≤ (D.seen disk.new).faults }
     ensures met_none { OnOk result ((D.seen disk.new).faults ≡ (D.seen disk.old).faults) }
-    ensures counts { IfErr result (λ f. HasCounts f before (D.seen disk.new).faults) }
+    ensures counts { IfErr result (λ f. HasCause f before (D.seen disk.new).faults) }
     ensures shown { IfErr result (λ f. (IsOfContent f → ⊥) × ((bytes : List ℕ) → IsShown f bytes)) }
 {
     match synced_lengths(disk) {
@@ -344,9 +372,9 @@ fn found_in(front: &[u8; 30]) -> Option<u64>
         return None;
     }
     let (start, _) = front.split_at(16);
-    match first_other(start, &HEAD) {
-        Some(_) => None,
-        None => Some(number_at_22(front)),
+    match version_in(start) {
+        Some(_) => Some(number_at_22(front)),
+        None => None,
     }
 }
 
@@ -358,7 +386,7 @@ fn look<D: Disk>(disk: &mut D, before: u64, area: Area, len: u64) -> Result<Opti
     ensures quiet { IsQuiet (D.seen disk.old) (D.seen disk.new) }
     ensures later { (D.seen disk.old).faults ≤ (D.seen disk.new).faults }
     ensures met_none { OnOk result ((D.seen disk.new).faults ≡ (D.seen disk.old).faults) }
-    ensures counts { IfErr result (λ f. HasCounts f before (D.seen disk.new).faults) }
+    ensures counts { IfErr result (λ f. HasCause f before (D.seen disk.new).faults) }
     ensures shown { IfErr result (λ f. (IsOfContent f → ⊥) × ((bytes : List ℕ) → IsShown f bytes)) }
 {
     if len < 30 {
@@ -388,7 +416,7 @@ fn select<D: Disk>(disk: &mut D, before: u64) -> Result<Selected, OpenFault>
     ensures quiet { IsQuiet (D.seen disk.old) (D.seen disk.new) }
     ensures later { (D.seen disk.old).faults ≤ (D.seen disk.new).faults }
     ensures met_none { OnOk result ((D.seen disk.new).faults ≡ (D.seen disk.old).faults) }
-    ensures counts { IfErr result (λ f. HasCounts f before (D.seen disk.new).faults) }
+    ensures counts { IfErr result (λ f. HasCause f before (D.seen disk.new).faults) }
     ensures shown { IfErr result (λ f. (IsOfContent f → ⊥) × ((bytes : List ℕ) → IsShown f bytes)) }
 {
     let (len_a, len_b) = settle(disk, before)?;
@@ -426,18 +454,20 @@ fn begin<D: Disk>(
     requires before { before ≤ (D.seen disk.old).faults }
     requires short { IfSome (D.seen disk.old).told (λ s. length (part area s) ≤ 17) }
     ensures used { IfOk result (λ r. (r.used ≡ size r.bodies) × (r.bodies ≡ [])) }
-    ensures bytes { OnOk result (IfSome (D.seen disk.new).told (λ s. AtRest (part area s) [])) }
+    ensures version { IfOk result (λ r. r.version ≡ 2) }
+    ensures bytes { OnOk result (IfSome (D.seen disk.new).told (λ s. AtRest 2 (part area s) [])) }
     ensures durable { OnOk result (IfSome (D.seen disk.new).told (λ s. OnlyIn area s (D.seen disk.new).may_leave)) }
     ensures torn { Becomes (D.seen disk.old).told (D.seen disk.new).told (TornIn area 0 17) }
     ensures crash { Follows (TornIn area 0 17) (D.seen disk.old).may_leave (D.seen disk.new).may_leave }
     ensures any_moment { LeavesTorn (D.seen disk.old) (D.seen disk.new) area 0 17 }
     ensures later { (D.seen disk.old).faults ≤ (D.seen disk.new).faults }
     ensures met_none { OnOk result ((D.seen disk.new).faults ≡ (D.seen disk.old).faults) }
-    ensures counts { IfErr result (λ f. HasCounts f before (D.seen disk.new).faults) }
+    ensures counts { IfErr result (λ f. HasCause f before (D.seen disk.new).faults) }
     ensures shown { IfErr result (λ f. (IsOfContent f → ⊥) × ((bytes : List ℕ) → IsShown f bytes)) }
 {
     match write_synced(disk, area, 0, &FRESH) {
         Ok(()) => Ok(Records {
+            version: WRITTEN,
             bodies: Bodies::new(alloc),
             used: 17,
         }),
@@ -460,18 +490,19 @@ fn read_area<D: Disk>(
     requires len { IfSome (D.seen disk.old).told (λ s. len ≡ length (part area s)) }
     requires long { 17 < len }
     ensures used { IfOk result (λ r. r.used ≡ size r.bodies) }
-    ensures bytes { IfOk result (λ r. IfSome (D.seen disk.old).told (λ s. AtRest (part area s) r.bodies)) }
+    ensures known { IfOk result (λ r. IsVersion r.version) }
+    ensures bytes { IfOk result (λ r. IfSome (D.seen disk.old).told (λ s. AtRest r.version (part area s) r.bodies)) }
     ensures quiet { IsQuiet (D.seen disk.old) (D.seen disk.new) }
     ensures later { (D.seen disk.old).faults ≤ (D.seen disk.new).faults }
     ensures met_none { OnOk result ((D.seen disk.new).faults ≡ (D.seen disk.old).faults) }
-    ensures counts { IfErr result (λ f. HasCounts f before (D.seen disk.new).faults) }
+    ensures counts { IfErr result (λ f. HasCause f before (D.seen disk.new).faults) }
     ensures shown { IfErr result (λ f. IfSome (D.seen disk.old).told (λ s. IsShown f (part area s))) }
 {
     let Ok(mut window) = Window::new(alloc, len.min(PIECE) as usize) else {
         return Err(OpenFault::Memory);
     };
-    check_head(disk, &mut window, before, area, len)?;
-    read_records(alloc, disk, &mut window, before, area, len)
+    let version = check_head(disk, &mut window, before, area, len)?;
+    read_records(alloc, disk, &mut window, before, area, len, version)
 }
 
 // Reads the records of the area that was selected, or begins it.
@@ -486,17 +517,21 @@ fn take_up<D: Disk>(
     requires chosen { IfSome (D.seen disk.old).told (λ s. (chosen s ≡ area) × (len ≡ length (part area s))) }
     requires settled { IsSettled (D.seen disk.old) }
     ensures used { IfOk result (λ r. r.used ≡ size r.bodies) }
-    ensures rest { IfOk result (λ r. IfSome (D.seen disk.new).told (IsAtRestIn area None r.bodies)) }
+    ensures known { IfOk result (λ r. IsVersion r.version) }
+    ensures version { IfOk result (λ r. IfSome (D.seen disk.old).told (λ s. r.version ≡ version_now s)) }
+    ensures rest { IfOk result (λ r. IfSome (D.seen disk.new).told (IsAtRestIn area r.version None r.bodies)) }
     ensures settled { OnOk result (IsSettled (D.seen disk.new)) }
-    ensures stands { IfOk result (λ r. IfSome (D.seen disk.old).told (λ s. Stands (part area s) r.bodies)) }
+    ensures stands { IfOk result (λ r. IfSome (D.seen disk.old).told (λ s. Stands r.version (part area s) r.bodies)) }
     ensures shown { IfErr result (λ f. IfSome (D.seen disk.old).told (λ s. IsShown f (part area s))) }
     ensures unwritten { IfErr result (λ f. IsOfContent f → IsQuiet (D.seen disk.old) (D.seen disk.new)) }
     ensures untouched { IfOk result (λ r. (r.bodies ≡ [] → ⊥) → IsQuiet (D.seen disk.old) (D.seen disk.new)) }
+    ensures first { IfOk result (λ r. r.version ≡ 1 → IsQuiet (D.seen disk.old) (D.seen disk.new)) }
+    ensures long { IfSome (D.seen disk.old).told (λ s. 17 < length (chosen_part s) → IsQuiet (D.seen disk.old) (D.seen disk.new)) }
     ensures goes_on { Changes GoesOn (D.seen disk.old) (D.seen disk.new) }
     ensures spared { SparesOther (D.seen disk.old) (D.seen disk.new) }
     ensures later { (D.seen disk.old).faults ≤ (D.seen disk.new).faults }
     ensures met_none { OnOk result ((D.seen disk.new).faults ≡ (D.seen disk.old).faults) }
-    ensures counts { IfErr result (λ f. HasCounts f before (D.seen disk.new).faults) }
+    ensures counts { IfErr result (λ f. HasCause f before (D.seen disk.new).faults) }
 {
     if len <= 17 {
         begin(alloc, disk, before, area)
@@ -508,18 +543,22 @@ fn take_up<D: Disk>(
 // All that opening does to the disk.
 pub fn load<D: Disk>(alloc: Global, disk: &mut D) -> Result<Loaded, OpenFault>
     ensures used { IfOk result (λ r. r.used ≡ size r.bodies) }
-    ensures rest { IfOk result (λ r. IfSome (D.seen disk.new).told (IsAtRestIn r.area None r.bodies)) }
+    ensures known { IfOk result (λ r. IsVersion r.version) }
+    ensures version { IfOk result (λ r. IfSome (D.seen disk.old).told (λ s. r.version ≡ version_now s)) }
+    ensures rest { IfOk result (λ r. IfSome (D.seen disk.new).told (IsAtRestIn r.area r.version None r.bodies)) }
     ensures settled { OnOk result (IsSettled (D.seen disk.new)) }
     ensures found { IfOk result (λ r. IfSome (D.seen disk.old).told (λ s. IsFound r.found (chosen_part s))) }
-    ensures stands { IfOk result (λ r. IfSome (D.seen disk.old).told (λ s. Stands (chosen_part s) r.bodies)) }
+    ensures stands { IfOk result (λ r. IfSome (D.seen disk.old).told (λ s. Stands r.version (chosen_part s) r.bodies)) }
     ensures shown { IfErr result (λ f. IfSome (D.seen disk.old).told (λ s. IsShown f (chosen_part s))) }
     ensures unwritten { IfErr result (λ f. IsOfContent f → IsQuiet (D.seen disk.old) (D.seen disk.new)) }
     ensures untouched { IfOk result (λ r. (r.bodies ≡ [] → ⊥) → IsQuiet (D.seen disk.old) (D.seen disk.new)) }
+    ensures first { IfOk result (λ r. r.version ≡ 1 → IsQuiet (D.seen disk.old) (D.seen disk.new)) }
+    ensures long { IfSome (D.seen disk.old).told (λ s. 17 < length (chosen_part s) → IsQuiet (D.seen disk.old) (D.seen disk.new)) }
     ensures goes_on { Changes GoesOn (D.seen disk.old) (D.seen disk.new) }
     ensures spared { SparesOther (D.seen disk.old) (D.seen disk.new) }
     ensures later { (D.seen disk.old).faults ≤ (D.seen disk.new).faults }
     ensures met_none { OnOk result ((D.seen disk.new).faults ≡ (D.seen disk.old).faults) }
-    ensures counts { IfErr result (λ f. HasCounts f (D.seen disk.old).faults (D.seen disk.new).faults) }
+    ensures counts { IfErr result (λ f. HasCause f (D.seen disk.old).faults (D.seen disk.new).faults) }
 {
     let before = disk.faults();
     let selected = select(disk, before)?;
@@ -527,6 +566,7 @@ pub fn load<D: Disk>(alloc: Global, disk: &mut D) -> Result<Loaded, OpenFault>
     Ok(Loaded {
         area: selected.area,
         found: selected.found,
+        version: records.version,
         bodies: records.bodies,
         used: records.used,
     })

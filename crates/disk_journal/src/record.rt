@@ -30,26 +30,30 @@ pub fn write_record<D: Disk>(
     body: &[u8],
     laid: &[u8],
 ) -> Result<(), Failed>
-    requires works { (bodies : List (List ℕ)) × (used ≡ size bodies) × IfSome (D.seen disk.old).told (HasBodies area bodies) }
+    requires works { (version : ℕ) × (bodies : List (List ℕ)) × (used ≡ size bodies)
+        × IfSome (D.seen disk.old).told (HasBodies area version bodies) }
     requires settled { IsSettled (D.seen disk.old) }
     requires size { MayHave (length body.now) }
     requires laid { laid.now ≡ bytes_of body.now ++ 0 ∷ [] }
     requires fits { used + length laid.now < 2 ^ 63 }
-    ensures added { OnOk result ((summary : Option (List ℕ)) (bodies : List (List ℕ)) → used ≡ size_of summary bodies
-        → Keeps (D.seen disk.old) area summary bodies → IsDistinct summary (bodies ++ body.now ∷ [])
-        → Keeps (D.seen disk.new) area summary (bodies ++ body.now ∷ [])) }
-    ensures any_moment { (summary : Option (List ℕ)) (bodies : List (List ℕ)) → used ≡ size_of summary bodies
-        → Keeps (D.seen disk.old) area summary bodies → IsDistinct summary (bodies ++ body.now ∷ [])
-        → LeavesOnly (D.seen disk.old) (D.seen disk.new) (StandsForEither summary bodies body.now) }
-    ensures told { (summary : Option (List ℕ)) (bodies : List (List ℕ)) → used ≡ size_of summary bodies
-        → Keeps (D.seen disk.old) area summary bodies → IsDistinct summary (bodies ++ body.now ∷ [])
-        → Becomes (D.seen disk.old).told (D.seen disk.new).told (λ _ t. StandsForEither summary bodies body.now t) }
-    ensures rests { OnOk result ((bodies : List (List ℕ)) → used ≡ size bodies → IfSome (D.seen disk.old).told (HasBodies area bodies)
-        → IfSome (D.seen disk.new).told (HasBodies area (bodies ++ body.now ∷ []))) }
+    ensures added { OnOk result ((version : ℕ) (summary : Option (List ℕ)) (bodies : List (List ℕ)) → used ≡ size_of summary bodies
+        → Keeps (D.seen disk.old) area version summary bodies → IsDistinct summary (bodies ++ body.now ∷ [])
+        → Keeps (D.seen disk.new) area version summary (bodies ++ body.now ∷ [])) }
+    ensures any_moment { (version : ℕ) (summary : Option (List ℕ)) (bodies : List (List ℕ)) → used ≡ size_of summary bodies
+        → Keeps (D.seen disk.old) area version summary bodies → IsDistinct summary (bodies ++ body.now ∷ [])
+        → LeavesOnly (D.seen disk.old) (D.seen disk.new) (StandsForEither version summary bodies body.now) }
+    ensures told { (version : ℕ) (summary : Option (List ℕ)) (bodies : List (List ℕ)) → used ≡ size_of summary bodies
+        → Keeps (D.seen disk.old) area version summary bodies → IsDistinct summary (bodies ++ body.now ∷ [])
+        → Becomes (D.seen disk.old).told (D.seen disk.new).told (λ _ t. StandsForEither version summary bodies body.now t) }
+    ensures rests { OnOk result ((version : ℕ) (bodies : List (List ℕ)) → used ≡ size bodies
+        → IfSome (D.seen disk.old).told (HasBodies area version bodies)
+        → IfSome (D.seen disk.new).told (HasBodies area version (bodies ++ body.now ∷ []))) }
     ensures settled { OnOk result (IsSettled (D.seen disk.new)) }
-    ensures spared { (summary : Option (List ℕ)) (bodies : List (List ℕ)) → Keeps (D.seen disk.old) area summary bodies
+    ensures spared { (version : ℕ) (summary : Option (List ℕ)) (bodies : List (List ℕ))
+        → Keeps (D.seen disk.old) area version summary bodies
         → SparesOther (D.seen disk.old) (D.seen disk.new) }
-    ensures behind { (summary : Option (List ℕ)) (bodies : List (List ℕ)) → Keeps (D.seen disk.old) area summary bodies
+    ensures behind { (version : ℕ) (summary : Option (List ℕ)) (bodies : List (List ℕ))
+        → Keeps (D.seen disk.old) area version summary bodies
         → SparesBehind (used + 5 + length body.now) (D.seen disk.old) (D.seen disk.new) }
     ensures cause { IsCounted (D.seen disk.old).faults (D.seen disk.new).faults result }
 {

@@ -102,16 +102,19 @@ pub fn write_turn<D: Disk>(disk: &mut D, area: Area, body: &[u8]) -> Result<(), 
     requires settled { IsSettled (D.seen disk.old) }
     requires next { (generation : ℕ) × IsNextTo generation body.now }
     requires short { length body.now < 2 ^ 32 }
-    ensures rests { OnOk result (IfSome (D.seen disk.new).told (HasBodies area (body.now ∷ []))) }
+    ensures rests { OnOk result (IfSome (D.seen disk.new).told (HasBodies area 2 (body.now ∷ []))) }
     ensures settled { OnOk result (IsSettled (D.seen disk.new)) }
-    ensures turned { OnOk result ((summary : Option (List ℕ)) (bodies : List (List ℕ)) → Keeps (D.seen disk.old) (other_of area) summary bodies
-        → IsNextTo (generation_in summary) body.now → Keeps (D.seen disk.new) area (Some body.now) []) }
-    ensures any_moment { (summary : Option (List ℕ)) (bodies : List (List ℕ)) → Keeps (D.seen disk.old) (other_of area) summary bodies
+    ensures turned { OnOk result ((version : ℕ) (summary : Option (List ℕ)) (bodies : List (List ℕ))
+        → Keeps (D.seen disk.old) (other_of area) version summary bodies
+        → IsNextTo (generation_in summary) body.now → Keeps (D.seen disk.new) area 2 (Some body.now) []) }
+    ensures any_moment { (version : ℕ) (summary : Option (List ℕ)) (bodies : List (List ℕ))
+        → Keeps (D.seen disk.old) (other_of area) version summary bodies
         → IsNextTo (generation_in summary) body.now
-        → LeavesOnly (D.seen disk.old) (D.seen disk.new) (StandsForTurn summary bodies body.now) }
-    ensures told { (summary : Option (List ℕ)) (bodies : List (List ℕ)) → Keeps (D.seen disk.old) (other_of area) summary bodies
+        → LeavesOnly (D.seen disk.old) (D.seen disk.new) (StandsForTurn version summary bodies body.now) }
+    ensures told { (version : ℕ) (summary : Option (List ℕ)) (bodies : List (List ℕ))
+        → Keeps (D.seen disk.old) (other_of area) version summary bodies
         → IsNextTo (generation_in summary) body.now
-        → Becomes (D.seen disk.old).told (D.seen disk.new).told (λ _ t. StandsForTurn summary bodies body.now t) }
+        → Becomes (D.seen disk.old).told (D.seen disk.new).told (λ _ t. StandsForTurn version summary bodies body.now t) }
     ensures spared { Changes (IsSameBeside area) (D.seen disk.old) (D.seen disk.new) }
     ensures cause { IsCounted (D.seen disk.old).faults (D.seen disk.new).faults result }
 {

@@ -2,7 +2,7 @@
 ghost use Rattle.std.specs.Prelude.{◌≡◌, ◌≤◌, ◌+◌, ◌-◌, ℕ, List, length, min, OnOk, IfOk, IfErr, IfSome, vec_len};
 ghost use Rattle.arc_io.specs.Areas.{part};
 ghost use Rattle.arc_io.specs.Crashes.{IsQuiet};
-ghost use Rattle.disk_journal.specs.Faults.{IsShown, IsOfContent, HasCounts};
+ghost use Rattle.disk_journal.specs.Faults.{IsShown, IsOfContent, HasCause};
 
 use crate::fault::OpenFault;
 use crate::filled::{read, read_front};
@@ -70,7 +70,7 @@ impl Window {
         ensures quiet { IsQuiet (D.seen disk.old) (D.seen disk.new) }
         ensures later { (D.seen disk.old).faults ≤ (D.seen disk.new).faults }
         ensures met_none { OnOk result ((D.seen disk.new).faults ≡ (D.seen disk.old).faults) }
-        ensures counts { IfErr result (λ f. HasCounts f before (D.seen disk.new).faults) }
+        ensures counts { IfErr result (λ f. HasCause f before (D.seen disk.new).faults) }
         ensures shown { IfErr result (λ f. (IsOfContent f → ⊥) × ((bytes : List ℕ) → IsShown f bytes)) }
     {
         let count = (len - at).min(self.room.len() as u64) as usize;
@@ -100,7 +100,7 @@ impl Window {
         ensures quiet { IsQuiet (D.seen disk.old) (D.seen disk.new) }
         ensures later { (D.seen disk.old).faults ≤ (D.seen disk.new).faults }
         ensures met_none { OnOk result ((D.seen disk.new).faults ≡ (D.seen disk.old).faults) }
-        ensures counts { IfErr result (λ f. HasCounts f before (D.seen disk.new).faults) }
+        ensures counts { IfErr result (λ f. HasCause f before (D.seen disk.new).faults) }
         ensures shown { IfErr result (λ f. (IsOfContent f → ⊥) × ((bytes : List ℕ) → IsShown f bytes)) }
     {
         let given = self.give(at, buf);
@@ -137,7 +137,7 @@ impl Window {
         ensures quiet { IsQuiet (D.seen disk.old) (D.seen disk.new) }
         ensures later { (D.seen disk.old).faults ≤ (D.seen disk.new).faults }
         ensures met_none { OnOk result ((D.seen disk.new).faults ≡ (D.seen disk.old).faults) }
-        ensures counts { IfErr result (λ f. HasCounts f before (D.seen disk.new).faults) }
+        ensures counts { IfErr result (λ f. HasCause f before (D.seen disk.new).faults) }
         ensures shown { IfErr result (λ f. (IsOfContent f → ⊥) × ((bytes : List ℕ) → IsShown f bytes)) }
     {
         if buf.len() >= self.room.len() {

@@ -17,6 +17,7 @@ use Rattle.arc_data.specs.declared.step.Outcome.{Outcome}
 use Rattle.arc_data.specs.declared.step.Outcome.TheVariants.{Reached, NoAnswer, Done}
 use Rattle.arc_data.specs.declared.step.Step.{Step}
 use Rattle.arc_data.specs.declared.step.Step.TheVariants.{Premises, Holder, Police, Fire, Ambulance, Guard, Note}
+use Rattle.event_codec.specs.Spelling.{via_of_one}
 
 infixl 10 ◌>>=◌
 abbrev pub ◌>>=◌ : {A B : Type 0} → Option A → (A → Option B) → Option B
@@ -100,6 +101,17 @@ message_at bytes = do
   content ← long_at w16 4095 token.1
   Some (record { account = account.0; receiver = receiver.0; line = line.0; seq = seq.0; token = token.0; content = content.0 }, content.1)
 
+-- the name of a line; version 1 leaves it out, and it is `v1` there
+unfoldable pub via_at : ℕ → List ℕ → Option (List ℕ × List ℕ)
+via_at version bytes = if version == 1 then Some (via_of_one, bytes) else short_at is_name bytes
+
+-- a message and the name of its line
+unfoldable pub sent_at : ℕ → List ℕ → Option (Event × List ℕ)
+sent_at version bytes = do
+  message ← message_at bytes
+  via ← via_at version message.1
+  Some (Sent message.0 via.0, via.1)
+
 -- an operator and the number of an incident
 unfoldable pub order_at : List ℕ → Option ((List ℕ × ℕ) × List ℕ)
 order_at bytes = do
@@ -114,11 +126,10 @@ outcome_at bytes = do
   outcome ← coded_at outcome_of step.1
   if fits step.0 outcome.0 then Some ((step.0, outcome.0), outcome.1) else None
 
--- the fields behind a tag
-unfoldable pub fields_at : ℕ → List ℕ → Option (Event × List ℕ)
-fields_at tag bytes = if tag == 1 then (long_at w32 4194304 bytes >>= λ text. Some (Adopt text.0, text.1))
+-- the fields behind the tag of another event than a message
+unfoldable pub other_fields_at : ℕ → List ℕ → Option (Event × List ℕ)
+other_fields_at tag bytes = if tag == 1 then (long_at w32 4194304 bytes >>= λ text. Some (Adopt text.0, text.1))
     else if tag == 2 then Some (Start, bytes)
-    else if tag == 3 then (message_at bytes >>= λ m. Some (Sent m.0, m.1))
     else if tag == 4 then (account_at bytes >>= λ account. Some (Beat account.0, account.1))
     else if tag == 5 then Some (Tick, bytes)
     else if tag == 6 then (order_at bytes >>= λ o. Some (Claim o.0.0 o.0.1, o.1))
@@ -128,12 +139,16 @@ fields_at tag bytes = if tag == 1 then (long_at w32 4194304 bytes >>= λ text. S
     else if tag == 10 then (order_at bytes >>= λ o. coded_at code_of o.1 >>= λ code. Some (Close o.0.0 o.0.1 code.0, code.1))
     else None
 
+-- the fields behind a tag
+abbrev pub fields_at : ℕ → ℕ → List ℕ → Option (Event × List ℕ)
+fields_at version tag bytes = if tag == 3 then sent_at version bytes else other_fields_at tag bytes
+
 -- the last moment is the second before the year 10000
-unfoldable pub event_at : List ℕ → Option ((Event × ℕ) × List ℕ)
-event_at bytes = do
+unfoldable pub event_at : ℕ → List ℕ → Option ((Event × ℕ) × List ℕ)
+event_at version bytes = do
   tag ← byte_at bytes
   moment ← number_up_to w64 253_402_300_799 tag.1
-  event ← fields_at tag.0 moment.1
+  event ← fields_at version tag.0 moment.1
   Some ((event.0, moment.0), event.1)
 
 -- an event and nothing behind it
@@ -142,5 +157,5 @@ alone None = None
 alone (Some (x, [])) = Some x
 alone (Some (x, b ∷ rest)) = None
 
-abbrev pub decoded : List ℕ → Option (Event × ℕ)
-decoded bytes = alone (event_at bytes)
+abbrev pub decoded : ℕ → List ℕ → Option (Event × ℕ)
+decoded version bytes = alone (event_at version bytes)

@@ -1,5 +1,6 @@
--- The one spelling of each event that is kept, at a moment.
-use Rattle.std.specs.Prelude.{ℕ, ◌+◌, List, [], ◌∷◌, ◌++◌, length, Option, Some, None}
+-- The one spelling of each event that is kept, at a moment, in each of two versions: in the second a message tells by which line it came.
+use Rattle.std.specs.Prelude.{◌≡◌, ◌⊎◌, ◌==◌, if◌then◌else◌}
+use Rattle.std.specs.Prelude.{ℕ, ◌+◌, List, [], ◌∷◌, ◌++◌, length, codes, Option, Some, None}
 use Rattle.std.specs.Int.{w16, w32, w64, to_be_bytes}
 use Rattle.arc_data.specs.Moments.{IsMoment}
 use Rattle.arc_data.specs.WellFormed.{IsWellFormed}
@@ -15,6 +16,10 @@ use Rattle.arc_data.specs.declared.step.Outcome.{Outcome}
 use Rattle.arc_data.specs.declared.step.Outcome.TheVariants.{Reached, NoAnswer, Done}
 use Rattle.arc_data.specs.declared.step.Step.{Step}
 use Rattle.arc_data.specs.declared.step.Step.TheVariants.{Premises, Holder, Police, Fire, Ambulance, Guard, Note}
+
+-- the versions of what is spelled
+abbrev pub IsVersion : ℕ → Type 0
+IsVersion version = (version ≡ 1) ⊎ (version ≡ 2)
 
 -- a short text: a byte of length, and that many bytes
 abbrev pub short_text : List ℕ → List ℕ
@@ -58,11 +63,19 @@ abbrev pub message_fields : Message → List ℕ
 message_fields m = short_text m.account ++ (receiver_text m.receiver ++ (short_text m.line ++ (to_be_bytes w16 m.seq
     ++ (token_byte m.token ∷ (to_be_bytes w16 (length m.content) ++ m.content)))))
 
+-- the name of every line in version 1, which tells none
+abbrev pub via_of_one : List ℕ
+via_of_one = codes "v1"
+
+-- the name of a line, which version 1 leaves out
+abbrev pub via_text : ℕ → List ℕ → List ℕ
+via_text version via = if version == 1 then [] else short_text via
+
 -- a number of its own for each kind of event that is kept
 abbrev pub tag : Event → ℕ
 tag (Adopt text) = 1
 tag Start = 2
-tag (Sent message) = 3
+tag (Sent message via) = 3
 tag (Beat account) = 4
 tag Tick = 5
 tag (Claim operator number) = 6
@@ -74,23 +87,27 @@ tag (Show number) = 0
 tag Rows = 0
 
 -- what stands behind the moment
-abbrev pub fields : Event → List ℕ
-fields (Adopt text) = to_be_bytes w32 (length text) ++ text
-fields Start = []
-fields (Sent message) = message_fields message
-fields (Beat account) = short_text account
-fields Tick = []
-fields (Claim operator number) = order_fields operator number
-fields (Next operator) = short_text operator
-fields (Act operator number step outcome) = order_fields operator number ++ step_byte step ∷ outcome_byte outcome ∷ []
-fields (Release operator number) = order_fields operator number
-fields (Close operator number code) = order_fields operator number ++ code_byte code ∷ []
-fields (Show number) = []
-fields Rows = []
+abbrev pub fields_in : ℕ → Event → List ℕ
+fields_in version (Adopt text) = to_be_bytes w32 (length text) ++ text
+fields_in version Start = []
+fields_in version (Sent message via) = message_fields message ++ via_text version via
+fields_in version (Beat account) = short_text account
+fields_in version Tick = []
+fields_in version (Claim operator number) = order_fields operator number
+fields_in version (Next operator) = short_text operator
+fields_in version (Act operator number step outcome) = order_fields operator number ++ step_byte step ∷ outcome_byte outcome ∷ []
+fields_in version (Release operator number) = order_fields operator number
+fields_in version (Close operator number code) = order_fields operator number ++ code_byte code ∷ []
+fields_in version (Show number) = []
+fields_in version Rows = []
 
 -- a tag, the moment in eight bytes, and the fields; all numbers have their highest byte first
+abbrev pub spelling_in : ℕ → Event → ℕ → List ℕ
+spelling_in version event at = tag event ∷ to_be_bytes w64 at ++ fields_in version event
+
+-- what is written
 abbrev pub spelling : Event → ℕ → List ℕ
-spelling event at = tag event ∷ to_be_bytes w64 at ++ fields event
+spelling event at = spelling_in 2 event at
 
 -- questions are not kept
 abbrev pub IsKept : Event → Type 0
@@ -98,8 +115,18 @@ IsKept (Show number) = ⊥
 IsKept Rows = ⊥
 IsKept other = Unit {0}
 
--- what has a spelling: a well-formed event that is kept, at a moment
+-- what has one: a well-formed event that is kept, at a moment
 pub record HasSpelling (event : Event) (at : ℕ) : Type 0 where
   pub kept : IsKept event
   pub well_formed : IsWellFormed event
   pub moment : IsMoment at
+
+-- in version 1 each message came by the line of the one name
+abbrev pub IsNamedIn : ℕ → Event → Type 0
+IsNamedIn version (Sent message via) = version ≡ 1 → via ≡ via_of_one
+IsNamedIn version other = Unit {0}
+
+-- what has a spelling in a version
+pub record HasSpellingIn (version : ℕ) (event : Event) (at : ℕ) : Type 0 where
+  pub spelled : HasSpelling event at
+  pub named : IsNamedIn version event

@@ -1,11 +1,11 @@
-// The event that bytes spell.
+// The event that bytes spell in a version.
 ghost use Rattle.std.specs.Prelude.{◌≡◌, ◌≤◌, ◌<◌, ◌^◌, ℕ, List, length, None, Some, IfOk, IfSome, IsSome, IsTrue, MatchOption};
 ghost use Rattle.std.specs.Int.{w16, w32, w64};
 ghost use Rattle.std.specs.List.{list_all};
 ghost use Rattle.arc_data.specs.Digits.{is_run, is_hex, is_capital_hex, is_name};
-ghost use Rattle.event_codec.specs.Spelling.{spelling, HasSpelling};
+ghost use Rattle.event_codec.specs.Spelling.{via_of_one, spelling_in, IsVersion, HasSpellingIn};
 ghost use Rattle.event_codec.specs.Reading.{byte_at, piece_at, number_at, number_up_to, text_at, short_at, receiver_at, long_at, token_of, step_of, outcome_of, code_of};
-ghost use Rattle.event_codec.specs.Reading.{coded_at, account_at, message_at, order_at, outcome_at, fields_at, event_at, decoded};
+ghost use Rattle.event_codec.specs.Reading.{coded_at, account_at, message_at, via_at, sent_at, order_at, outcome_at, other_fields_at, fields_at, event_at, decoded};
 ghost use Rattle.arc_data.specs.declared.event.Event.{Event as AnEvent};
 
 use action_plans::fits;
@@ -356,11 +356,32 @@ fn message_parts(bytes: &[u8]) -> Option<MessageParts<'_>>
     })
 }
 
-#[tactic(auto, unfolding(crate::specs::Reading::fields_at))]
-fn sent(alloc: Global, bytes: &[u8]) -> Result<Option<(Event, &[u8])>, Memory>
-    ensures { IfOk result (λ found. MatchOption found (fields_at 3 bytes.now ≡ None) (λ x. fields_at 3 bytes.now ≡ Some (x.0, x.1.now))) }
+// The name of a line, and the bytes behind it. Version 1 leaves it out: it is `v1` there.
+#[tactic(auto, unfolding(crate::specs::Reading::via_at))]
+fn via_at(version: u8, bytes: &[u8]) -> Option<(Txt, &[u8])>
+    ensures { MatchOption result (via_at version bytes.now ≡ None) (λ x. via_at version bytes.now ≡ Some (x.0, x.1.now)) }
+{
+    if version == 1 {
+        return Some((via_of_one(), bytes));
+    }
+    operator_at(bytes)
+}
+
+/// The name of every line in version 1, which tells none.
+pub fn via_of_one() -> Txt
+    ensures { result ≡ via_of_one }
+{
+    short(b"v1")
+}
+
+#[tactic(auto, unfolding(crate::specs::Reading::sent_at))]
+fn sent(alloc: Global, version: u8, bytes: &[u8]) -> Result<Option<(Event, &[u8])>, Memory>
+    ensures { IfOk result (λ found. MatchOption found (sent_at version bytes.now ≡ None) (λ x. sent_at version bytes.now ≡ Some (x.0, x.1.now))) }
 {
     let Some(parts) = message_parts(bytes) else {
+        return Ok(None);
+    };
+    let Some((via, rest)) = via_at(version, parts.rest) else {
         return Ok(None);
     };
     let message = Message {
@@ -371,12 +392,12 @@ fn sent(alloc: Global, bytes: &[u8]) -> Result<Option<(Event, &[u8])>, Memory>
         token: parts.token,
         content: Blob::of(alloc, parts.content)?,
     };
-    Ok(Some((Event::Message(message), parts.rest)))
+    Ok(Some((Event::Message { message, via }, rest)))
 }
 
-#[tactic(auto, unfolding(crate::specs::Reading::fields_at))]
+#[tactic(auto, unfolding(crate::specs::Reading::other_fields_at))]
 fn adopt(alloc: Global, bytes: &[u8]) -> Result<Option<(Event, &[u8])>, Memory>
-    ensures { IfOk result (λ found. MatchOption found (fields_at 1 bytes.now ≡ None) (λ x. fields_at 1 bytes.now ≡ Some (x.0, x.1.now))) }
+    ensures { IfOk result (λ found. MatchOption found (other_fields_at 1 bytes.now ≡ None) (λ x. other_fields_at 1 bytes.now ≡ Some (x.0, x.1.now))) }
 {
     let Some((text, rest)) = setup_at(bytes) else {
         return Ok(None);
@@ -386,10 +407,10 @@ fn adopt(alloc: Global, bytes: &[u8]) -> Result<Option<(Event, &[u8])>, Memory>
 }
 
 // The fields of an event that takes no memory.
-#[tactic(auto, unfolding(crate::specs::Reading::fields_at))]
+#[tactic(auto, unfolding(crate::specs::Reading::other_fields_at))]
 fn short_fields(tag: u8, bytes: &[u8]) -> Option<(Event, &[u8])>
     requires { (tag ≡ 1 → ⊥) × (tag ≡ 3 → ⊥) }
-    ensures { MatchOption result (fields_at tag bytes.now ≡ None) (λ x. fields_at tag bytes.now ≡ Some (x.0, x.1.now)) }
+    ensures { MatchOption result (other_fields_at tag bytes.now ≡ None) (λ x. other_fields_at tag bytes.now ≡ Some (x.0, x.1.now)) }
 {
     match tag {
         2 => Some((Event::Start, bytes)),
@@ -404,9 +425,9 @@ fn short_fields(tag: u8, bytes: &[u8]) -> Option<(Event, &[u8])>
     }
 }
 
-#[tactic(auto, unfolding(crate::specs::Reading::fields_at))]
+#[tactic(auto, unfolding(crate::specs::Reading::other_fields_at))]
 fn beat(bytes: &[u8]) -> Option<(Event, &[u8])>
-    ensures { MatchOption result (fields_at 4 bytes.now ≡ None) (λ x. fields_at 4 bytes.now ≡ Some (x.0, x.1.now)) }
+    ensures { MatchOption result (other_fields_at 4 bytes.now ≡ None) (λ x. other_fields_at 4 bytes.now ≡ Some (x.0, x.1.now)) }
 {
     let Some((account, rest)) = account_at(bytes) else {
         return None;
@@ -414,9 +435,9 @@ fn beat(bytes: &[u8]) -> Option<(Event, &[u8])>
     Some((Event::Beat { account }, rest))
 }
 
-#[tactic(auto, unfolding(crate::specs::Reading::fields_at))]
+#[tactic(auto, unfolding(crate::specs::Reading::other_fields_at))]
 fn claim(bytes: &[u8]) -> Option<(Event, &[u8])>
-    ensures { MatchOption result (fields_at 6 bytes.now ≡ None) (λ x. fields_at 6 bytes.now ≡ Some (x.0, x.1.now)) }
+    ensures { MatchOption result (other_fields_at 6 bytes.now ≡ None) (λ x. other_fields_at 6 bytes.now ≡ Some (x.0, x.1.now)) }
 {
     let Some((operator, number, rest)) = order_at(bytes) else {
         return None;
@@ -424,9 +445,9 @@ fn claim(bytes: &[u8]) -> Option<(Event, &[u8])>
     Some((Event::Claim { operator, number }, rest))
 }
 
-#[tactic(auto, unfolding(crate::specs::Reading::fields_at))]
+#[tactic(auto, unfolding(crate::specs::Reading::other_fields_at))]
 fn next(bytes: &[u8]) -> Option<(Event, &[u8])>
-    ensures { MatchOption result (fields_at 7 bytes.now ≡ None) (λ x. fields_at 7 bytes.now ≡ Some (x.0, x.1.now)) }
+    ensures { MatchOption result (other_fields_at 7 bytes.now ≡ None) (λ x. other_fields_at 7 bytes.now ≡ Some (x.0, x.1.now)) }
 {
     let Some((operator, rest)) = operator_at(bytes) else {
         return None;
@@ -434,9 +455,9 @@ fn next(bytes: &[u8]) -> Option<(Event, &[u8])>
     Some((Event::Next { operator }, rest))
 }
 
-#[tactic(auto, unfolding(crate::specs::Reading::fields_at))]
+#[tactic(auto, unfolding(crate::specs::Reading::other_fields_at))]
 fn act(bytes: &[u8]) -> Option<(Event, &[u8])>
-    ensures { MatchOption result (fields_at 8 bytes.now ≡ None) (λ x. fields_at 8 bytes.now ≡ Some (x.0, x.1.now)) }
+    ensures { MatchOption result (other_fields_at 8 bytes.now ≡ None) (λ x. other_fields_at 8 bytes.now ≡ Some (x.0, x.1.now)) }
 {
     let Some((operator, number, rest)) = order_at(bytes) else {
         return None;
@@ -453,9 +474,9 @@ fn act(bytes: &[u8]) -> Option<(Event, &[u8])>
     Some((event, rest))
 }
 
-#[tactic(auto, unfolding(crate::specs::Reading::fields_at))]
+#[tactic(auto, unfolding(crate::specs::Reading::other_fields_at))]
 fn release(bytes: &[u8]) -> Option<(Event, &[u8])>
-    ensures { MatchOption result (fields_at 9 bytes.now ≡ None) (λ x. fields_at 9 bytes.now ≡ Some (x.0, x.1.now)) }
+    ensures { MatchOption result (other_fields_at 9 bytes.now ≡ None) (λ x. other_fields_at 9 bytes.now ≡ Some (x.0, x.1.now)) }
 {
     let Some((operator, number, rest)) = order_at(bytes) else {
         return None;
@@ -463,9 +484,9 @@ fn release(bytes: &[u8]) -> Option<(Event, &[u8])>
     Some((Event::Release { operator, number }, rest))
 }
 
-#[tactic(auto, unfolding(crate::specs::Reading::fields_at))]
+#[tactic(auto, unfolding(crate::specs::Reading::other_fields_at))]
 fn close(bytes: &[u8]) -> Option<(Event, &[u8])>
-    ensures { MatchOption result (fields_at 10 bytes.now ≡ None) (λ x. fields_at 10 bytes.now ≡ Some (x.0, x.1.now)) }
+    ensures { MatchOption result (other_fields_at 10 bytes.now ≡ None) (λ x. other_fields_at 10 bytes.now ≡ Some (x.0, x.1.now)) }
 {
     let Some((operator, number, rest)) = order_at(bytes) else {
         return None;
@@ -481,19 +502,24 @@ fn close(bytes: &[u8]) -> Option<(Event, &[u8])>
     Some((event, rest))
 }
 
-fn event_fields(alloc: Global, tag: u8, bytes: &[u8]) -> Result<Option<(Event, &[u8])>, Memory>
-    ensures { IfOk result (λ found. MatchOption found (fields_at tag bytes.now ≡ None) (λ x. fields_at tag bytes.now ≡ Some (x.0, x.1.now))) }
+fn event_fields(
+    alloc: Global,
+    version: u8,
+    tag: u8,
+    bytes: &[u8],
+) -> Result<Option<(Event, &[u8])>, Memory>
+    ensures { IfOk result (λ found. MatchOption found (fields_at version tag bytes.now ≡ None) (λ x. fields_at version tag bytes.now ≡ Some (x.0, x.1.now))) }
 {
     match tag {
         1 => adopt(alloc, bytes),
-        3 => sent(alloc, bytes),
+        3 => sent(alloc, version, bytes),
         _ => Ok(short_fields(tag, bytes)),
     }
 }
 
 #[tactic(auto, unfolding(crate::specs::Reading::event_at))]
-fn whole(alloc: Global, bytes: &[u8]) -> Result<Option<(Event, u64)>, Memory>
-    ensures { IfOk result (λ found. MatchOption found (decoded bytes.now ≡ None) (λ x. decoded bytes.now ≡ Some (x.0, x.1))) }
+fn whole(alloc: Global, version: u8, bytes: &[u8]) -> Result<Option<(Event, u64)>, Memory>
+    ensures { IfOk result (λ found. MatchOption found (decoded version bytes.now ≡ None) (λ x. decoded version bytes.now ≡ Some (x.0, x.1))) }
 {
     let Some((tag, rest)) = byte_at(bytes) else {
         return Ok(None);
@@ -501,18 +527,20 @@ fn whole(alloc: Global, bytes: &[u8]) -> Result<Option<(Event, u64)>, Memory>
     let Some((at, rest)) = moment_at(rest) else {
         return Ok(None);
     };
-    match event_fields(alloc, tag, rest) {
+    match event_fields(alloc, version, tag, rest) {
         Ok(Some((event, []))) => Ok(Some((event, at))),
         Ok(_) => Ok(None),
         Err(Memory) => Err(Memory),
     }
 }
 
-/// The event and the moment that the bytes spell. None exactly where they are no spelling. The error is want of memory.
-pub fn decode(alloc: Global, bytes: &[u8]) -> Result<Option<(Event, u64)>, Memory>
-    ensures found { IfOk result (λ found. IfSome found (λ x. HasSpelling x.0 x.1 × (bytes.now ≡ spelling x.0 x.1))) }
-    ensures only { (event : AnEvent) (at : ℕ) → HasSpelling event at → bytes.now ≡ spelling event at
+/// The event and the moment that the bytes spell in the version, which is 1 or 2. None exactly where they are no spelling in it. The error
+/// is want of memory.
+pub fn decode(alloc: Global, version: u8, bytes: &[u8]) -> Result<Option<(Event, u64)>, Memory>
+    requires version { IsVersion version }
+    ensures found { IfOk result (λ found. IfSome found (λ x. HasSpellingIn version x.0 x.1 × (bytes.now ≡ spelling_in version x.0 x.1))) }
+    ensures only { (event : AnEvent) (at : ℕ) → HasSpellingIn version event at → bytes.now ≡ spelling_in version event at
         → IfOk result (λ found. IfSome found (λ x. (x.0 ≡ event) × (x.1 ≡ at)) × IsSome found) }
 {
-    whole(alloc, bytes)
+    whole(alloc, version, bytes)
 }

@@ -1,15 +1,15 @@
-// The spelling of an event.
+// The spelling of an event, in version 2.
 ghost use Rattle.std.specs.Prelude.{◌≡◌, ◌++◌, ◌∷◌, [], length, OnOk, OnErr};
 ghost use Rattle.std.specs.Prelude.{ℕ};
 ghost use Rattle.arc_data.specs.WellFormed.{IsMessage};
 ghost use Rattle.arc_data.specs.Steps.{is_step};
 ghost use Rattle.event_codec.specs.Spelling.{short_text, receiver_text, token_byte, step_byte, outcome_byte, code_byte};
-ghost use Rattle.event_codec.specs.Spelling.{order_fields, message_fields, tag, fields, spelling, HasSpelling};
+ghost use Rattle.event_codec.specs.Spelling.{order_fields, message_fields, tag, fields_in, spelling, HasSpelling};
 ghost use Rattle.std.specs.Prelude.{true};
 
 use arc_data::{CloseCode, Event, Memory, Message, Outcome, Step, Token, Txt};
 
-/// Puts the spelling of the event at the moment into the vector, in place of what it holds. The event is neither a question for one
+/// Puts the spelling of the event at the moment, in version 2, into the vector, in place of what it holds. The event is neither a question for one
 /// incident nor one for the list. The error is want of memory; the vector is then empty.
 pub fn encode(event: &Event, at: u64, out: &mut Vec<u8>) -> Result<(), Memory>
     requires { HasSpelling event.now at }
@@ -41,7 +41,7 @@ fn tag_of(event: &Event) -> u8
     match event {
         Event::Adopt { .. } => 1,
         Event::Start => 2,
-        Event::Message(_) => 3,
+        Event::Message { .. } => 3,
         Event::Beat { .. } => 4,
         Event::Tick => 5,
         Event::Claim { .. } => 6,
@@ -55,14 +55,17 @@ fn tag_of(event: &Event) -> u8
 
 fn put_fields(event: &Event, out: &mut Vec<u8>) -> Result<(), Memory>
     requires { (at : ℕ) × HasSpelling event.now at }
-    ensures { OnOk result (out.new.items ≡ out.old.items ++ fields event.now) }
+    ensures { OnOk result (out.new.items ≡ out.old.items ++ fields_in 2 event.now) }
 {
     match event {
         Event::Adopt { text } => {
             put(&(text.count() as u32).to_be_bytes(), out)?;
             put(text.bytes(), out)
         }
-        Event::Message(message) => put_message(message, out),
+        Event::Message { message, via } => {
+            put_message(message, out)?;
+            put_text(via, out)
+        }
         Event::Beat { account } => put_text(account, out),
         Event::Next { operator } => put_text(operator, out),
         Event::Claim { operator, number } | Event::Release { operator, number } => {

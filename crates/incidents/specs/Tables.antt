@@ -78,9 +78,9 @@ held holder at i = record i { holder = holder; touched = if is_some holder then 
 abbrev pub acted : Acted → Incident → Incident
 acted act i = record i { acts = i.acts ++ act ∷ []; touched = act.at }
 
--- an incident as it opens
-abbrev pub raised : ℕ → List ℕ → Class → List ℕ → ℕ → List Step → Incident
-raised number account class code at steps = record {
+-- an incident as it opens, by a signal that came by a line, or by none
+abbrev pub raised : ℕ → List ℕ → Class → List ℕ → ℕ → List Step → List ℕ → Incident
+raised number account class code at steps via = record {
   number = number;
   account = account;
   class = class;
@@ -92,4 +92,5 @@ raised number account class code at steps = record {
   touched = 0;
   steps = steps;
   acts = [];
+  via = via;
 }

@@ -140,14 +140,23 @@ impl Table {
         }
     }
 
-    /// Opens an incident with the next number, which is the answer. It has one signal. Takes no memory.
-    pub fn raise(&mut self, account: Txt, class: Class, code: Txt, at: u64, steps: StepList) -> u64
+    /// Opens an incident with the next number, which is the answer. It has one signal, which came by this line, or by none where
+    /// the name is empty. Takes no memory.
+    pub fn raise(
+        &mut self,
+        account: Txt,
+        class: Class,
+        code: Txt,
+        at: u64,
+        steps: StepList,
+        via: Txt,
+    ) -> u64
         requires room { length self.old.incidents < self.old.room }
         requires none { find (is_of account class) self.old.incidents ≡ None }
         requires few { self.old.opened < 2 ^ 62 }
         ensures number { result ≡ self.old.opened + 1 }
         ensures opened { self.new.opened ≡ self.old.opened + 1 }
-        ensures incidents { self.new.incidents ≡ self.old.incidents ++ raised (self.old.opened + 1) account class code at steps ∷ [] }
+        ensures incidents { self.new.incidents ≡ self.old.incidents ++ raised (self.old.opened + 1) account class code at steps via ∷ [] }
         ensures room { self.new.room ≡ self.old.room }
     {
         self.opened += 1;
@@ -164,6 +173,7 @@ impl Table {
             touched: 0,
             steps,
             acts: Acts::new(),
+            via,
         });
         self.opened
     }

@@ -13,7 +13,7 @@ use Rattle.line_gate.specs.Entries.{Entry, Extends, made_by, longer}
 use Rattle.line_gate.specs.declared.view.View.{View}
 use Rattle.line_gate.specs.Views.{first_view, settled, pass_of}
 use Rattle.line_gate.specs.Terms.{Terms, IsOfGate}
-use Rattle.line_gate.specs.UnderLock.{IsKept}
+use Rattle.line_gate.specs.UnderLock.{IsKept, IsUnderLock}
 use Rattle.line_gate.specs.Blanks.{Names, IsBlank}
 use Rattle.line_gate.specs.Passes.{PassSeen, pass_seen, IsLater, IsSeated, IsPass, grown}
 use Rattle.line_gate.proofs.Histories.{extends_self, extends_further, extends_length, longer_right}
@@ -69,24 +69,47 @@ new_seated t number table from me book e same is count none of_gate = record {
   of_gate = subst (λ (m : Me (Unit {0}) View). IsOfGate t m.0.seen) (sym e) of_gate;
 }
 
+-- the store before the gate, which is given its name
+first_kept : {D : Type 0} (seen : D → DiskSeen)
+    (t : Terms) (table from first_from : TableId) (book first : Me (Unit {0}) View) (s : Stored D) (text : List ℕ)
+    → Names seen t (record { table = table; store = s; text = text })
+    → IsBlank table from first_from book first s text → IsKept seen t [] 0 s
+first_kept seen t table from first_from book first s text n i = record {
+  stands = n.stood;
+  submitted = All-nil (λ (e : Entry). IsSubmitted e.event);
+  entries = let e = n.entries in omega arith;
+  most_told = omega arith;
+  at_open = n.at_open;
+  limits = n.limits;
+  text = sym i.text_is ∙ ap Some n.text;
+  setting = i.setting;
+}
+
 -- the first pass is seated: it has seen just the base
 pub first_seated : {D : Type 0} (seen : D → DiskSeen)
     (t : Terms) (table from first_from : TableId) (book first : Me (Unit {0}) View) (s : Stored D) (text : List ℕ)
     → Names seen t (record { table = table; store = s; text = text })
     → IsBlank table from first_from book first s text → IsSeated t 1 first_from first
 first_seated seen t table from first_from book first s text n i =
-    let kept : IsKept seen t [] 0 s = record {
-      stands = n.stood;
-      submitted = All-nil (λ (e : Entry). IsSubmitted e.event);
-      entries = let e = n.entries in omega arith;
-      most_told = omega arith;
-      at_open = n.at_open;
-      limits = n.limits;
-      text = sym i.text_is ∙ ap Some n.text;
-      setting = i.setting;
-    } in
     new_seated t 1 first_from table first (first_view, []) i.first_is i.first_at n.table refl refl
-    (kept_of_gate seen t [] 0 s kept)
+    (kept_of_gate seen t [] 0 s (first_kept seen t table from first_from book first s text n i))
+
+-- what lies under the lock first: the book has seen just the base, too
+pub first_locked : {D : Type 0} (seen : D → DiskSeen)
+    (t : Terms) (table from first_from : TableId) (book first : Me (Unit {0}) View) (s : Stored D) (text : List ℕ)
+    → Names seen t (record { table = table; store = s; text = text })
+    → IsBlank table from first_from book first s text → IsUnderLock seen t 2 from book s
+first_locked seen t table from first_from book first s text n i = record {
+  seat = record {
+    table_is = i.book_at ∙ n.table;
+    carries = ap (λ (m : Me (Unit {0}) View). m.1) i.book_is;
+    is_book = ap (λ (m : Me (Unit {0}) View). m.0.book) i.book_is;
+    free = ap (λ (m : Me (Unit {0}) View). m.0.named) i.book_is;
+  };
+  count_is = ap (λ (m : Me (Unit {0}) View). m.0.count) i.book_is;
+  kept = subst (λ (m : Me (Unit {0}) View). IsKept seen t m.0.seen m.0.told s) (sym i.book_is)
+      (first_kept seen t table from first_from book first s text n i);
+}
 
 -- one list begins with another, and so with the base behind both
 pub extends_base : (a b base : List Entry) → Extends a b → Extends (a ++ base) (b ++ base)

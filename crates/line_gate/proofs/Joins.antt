@@ -8,7 +8,7 @@ use Rattle.line_gate.specs.Views.{nobody, learned, taking, shown}
 use Rattle.line_gate.specs.Rule.{Core, Fits, Keeps}
 use Rattle.line_gate.proofs.Histories.{extends_self, longer_within}
 use Rattle.line_gate.proofs.Places.{each_join, other_at}
-use Rattle.line_gate.proofs.Splits.{moved, one_book, spent_fits}
+use Rattle.line_gate.proofs.Splits.{moved, spent_fits}
 
 -- A pass takes in a pass or a note that names nothing: it has then seen the longer of both histories, and keeps both as old ones.
 pub learns : (id : ℕ) (v : View) (other : ℕ) (w : View) → v.book ≡ false → v.named ≡ None → Joins Keeps id v other w (learned v w) nobody

@@ -10,7 +10,7 @@ use Rattle.centre_core.specs.Halls.{HallSeen, IsKept}
 use Rattle.centre_rules.specs.Summary.{Summary}
 use Rattle.centre_rules.specs.History.{Entry}
 use Rattle.dc09_frame.specs.Frames.{bodies}
-use Rattle.session_rules.specs.Sessions.{answered, Goes}
+use Rattle.session_rules.specs.Sessions.{answered, changed, Goes}
 use Rattle.session_rules.proofs.Ahead.{reads_no_further}
 use Rattle.session_rules.proofs.Joined.{session_read, session_then, all_pieces}
 use Rattle.session_rules.specs.Inputs.{in_limit, input_limit}
@@ -31,40 +31,40 @@ IsAtRest Spent = ⊥
 IsAtRest WriteFault = ⊥
 IsAtRest (Stopped stop) = ⊥
 
-module _ (b : Summary) (h : List Entry) where
-  answered_line : (end : LineEnd) (read : List ℕ) {hall hall' : HallSeen} {p p' : PortSeen} → IsAtRest end → IsLine answered b (bodies read) h hall hall' p p' → Goes h (λ w. ServesLine end read b w hall hall' p p')
-  answered_line InputEnded read rest s = (s.history, entries_of line_turns s.turns, record { session = s; to = refl; made = refl; ahead = tt; complete = completes s })
-  answered_line ReadFault read rest s = (s.history, entries_of line_turns s.turns, record { session = s; to = refl; made = refl; ahead = tt; complete = completes s })
+module _ (name : List ℕ) (b : Summary) (h : List Entry) where
+  answered_line : (end : LineEnd) (read : List ℕ) {hall hall' : HallSeen} {p p' : PortSeen} → IsAtRest end → IsLine name answered b (bodies read) h (changed hall hall' p p') → Goes h (λ w. ServesLine name end read b w (changed hall hall' p p'))
+  answered_line InputEnded read rest s = (s.history, entries_of line_turns s.turns, record { session = s; to = refl; made = refl; ahead = tt; complete = completes name s })
+  answered_line ReadFault read rest s = (s.history, entries_of line_turns s.turns, record { session = s; to = refl; made = refl; ahead = tt; complete = completes name s })
   answered_line Spent read rest s = absurd rest
   answered_line WriteFault read rest s = absurd rest
   answered_line (Stopped stop) read rest s = absurd rest
 
   -- A session ends with what it read.
-  pub line_rests : (end : LineEnd) (read : List ℕ) {hall hall' : HallSeen} {p q r : PortSeen} → IsAtRest end → OnlyReads q r → IsLine answered b (bodies read) h hall hall' p q → Goes h (λ w. ServesLine end read b w hall hall' p r)
+  pub line_rests : (end : LineEnd) (read : List ℕ) {hall hall' : HallSeen} {p q r : PortSeen} → IsAtRest end → OnlyReads q r → IsLine name answered b (bodies read) h (changed hall hall' p q) → Goes h (λ w. ServesLine name end read b w (changed hall hall' p r))
   line_rests end read rest only s = answered_line end read rest (session_read line_turns refl only s)
 
-  module _ (stream piece : List ℕ) {hall mid hall' : HallSeen} {p q q' r : PortSeen} (kept : IsKept hall mid) (only : OnlyReads q q') (first : IsLine answered b (bodies stream) h hall mid p q) where
+  module _ (stream piece : List ℕ) {hall mid hall' : HallSeen} {p q q' r : PortSeen} (kept : IsKept hall mid) (only : OnlyReads q q') (first : IsLine name answered b (bodies stream) h (changed hall mid p q)) where
     -- A session goes on behind a piece.
-    pub line_goes : ((x : List Entry) → mid.stands b x → ServesBytes (Ok tt) stream piece b x mid hall' q' r) → IsLine answered b (bodies (stream ++ piece)) h hall hall' p r
+    pub line_goes : ((x : List Entry) → mid.stands b x → ServesBytes name (Ok tt) stream piece b x (changed mid hall' q' r)) → IsLine name answered b (bodies (stream ++ piece)) h (changed hall hall' p r)
     unfolding session_read
     line_goes next =
         let n = next first.history first.holds in
-        session_read line_turns n.ended (record { rest = refl }) (session_then line_turns (line_follows b kept (first.up tt) hall' h) (session_read line_turns refl only first) n.session)
+        session_read line_turns n.ended (record { rest = refl }) (session_then line_turns (line_follows name b kept (first.up tt) hall' h) (session_read line_turns refl only first) n.session)
 
     -- A session ends within its last piece.
-    pub line_ends : (end : LineEnd) → length piece ≤ 4096 → ((x : List Entry) → mid.stands b x → ServesBytes (Err end) stream piece b x mid hall' q' r) → Goes h (λ w. ServesLine end (stream ++ piece) b w hall hall' p r)
+    pub line_ends : (end : LineEnd) → length piece ≤ 4096 → ((x : List Entry) → mid.stands b x → ServesBytes name (Err end) stream piece b x (changed mid hall' q' r)) → Goes h (λ w. ServesLine name end (stream ++ piece) b w (changed hall hall' p r))
     unfolding session_read session_then
     line_ends end short next =
         let n = next first.history first.holds in
-        let session = session_read line_turns n.ended (record { rest = refl }) (session_then line_turns (line_follows b kept (first.up tt) hall' h) (session_read line_turns refl only first) n.session) in (
+        let session = session_read line_turns n.ended (record { rest = refl }) (session_then line_turns (line_follows name b kept (first.up tt) hall' h) (session_read line_turns refl only first) n.session) in (
           session.history,
           entries_of line_turns session.turns,
           record {
             session = session;
             to = refl;
             made = refl;
-            ahead = reads_no_further line_turns bodies stream piece first.turns short (all_pieces line_turns first) (line_rules b mid hall') (ending_of (Err end)) n.session.history n.session.turns n.session.behind n.session.added n.session.left n.session.ended;
-            complete = completes session;
+            ahead = reads_no_further line_turns bodies stream piece first.turns short (all_pieces line_turns first) (line_rules name b mid hall') (ending_of (Err end)) n.session.history n.session.turns n.session.behind n.session.added n.session.left n.session.ended;
+            complete = completes name session;
           },
         )
 
@@ -85,18 +85,18 @@ pub rose_earlier : (first before now : ℕ) → first ≤ before → Rose before
 rose_earlier first before now le rose = omega (arith, le, rose)
 
 -- why a session ended within its last piece
-pub ended_by : (end : LineEnd) (stream piece : List ℕ) (s : LineValue) (p p' : PortSeen) → IsTaken (Err end) stream piece s → length stream < input_limit → length piece ≤ input_limit - length stream
+pub ended_by : (name : List ℕ) (end : LineEnd) (stream piece : List ℕ) (s : LineValue) (p p' : PortSeen) → IsTaken name (Err end) stream piece s → length stream < input_limit → length piece ≤ input_limit - length stream
     → (end ≡ WriteFault → Rose p.write_faults p'.write_faults) → HasEnded end (stream ++ piece) p p'
-ended_by InputEnded stream piece s p p' taken short fits rose = absurd taken
-ended_by ReadFault stream piece s p p' taken short fits rose = absurd taken
-ended_by WriteFault stream piece s p p' taken short fits rose = (rose refl, omega (arith, length-append stream piece, short, fits))
-ended_by Spent stream piece s p p' taken short fits rose = omega (arith, length-append stream piece, short, fits, taken)
-ended_by (Stopped stop) stream piece s p p' taken short fits rose = omega (arith, length-append stream piece, short, fits)
+ended_by name InputEnded stream piece s p p' taken short fits rose = absurd taken
+ended_by name ReadFault stream piece s p p' taken short fits rose = absurd taken
+ended_by name WriteFault stream piece s p p' taken short fits rose = (rose refl, omega (arith, length-append stream piece, short, fits))
+ended_by name Spent stream piece s p p' taken short fits rose = omega (arith, length-append stream piece, short, fits, taken)
+ended_by name (Stopped stop) stream piece s p p' taken short fits rose = omega (arith, length-append stream piece, short, fits)
 
 -- bytes that are handed in meet no input's end
-pub taken_not_out : (end : LineEnd) (stream piece : List ℕ) (s : LineValue) → IsTaken (Err end) stream piece s → end ≡ InputEnded → ⊥
-taken_not_out InputEnded stream piece s taken is = taken
-taken_not_out ReadFault stream piece s taken is = taken
-taken_not_out WriteFault stream piece s taken is = cc
-taken_not_out Spent stream piece s taken is = cc
-taken_not_out (Stopped stop) stream piece s taken is = cc
+pub taken_not_out : (name : List ℕ) (end : LineEnd) (stream piece : List ℕ) (s : LineValue) → IsTaken name (Err end) stream piece s → end ≡ InputEnded → ⊥
+taken_not_out name InputEnded stream piece s taken is = taken
+taken_not_out name ReadFault stream piece s taken is = taken
+taken_not_out name WriteFault stream piece s taken is = cc
+taken_not_out name Spent stream piece s taken is = cc
+taken_not_out name (Stopped stop) stream piece s taken is = cc

@@ -17,7 +17,7 @@ use Rattle.dc09_frame.specs.declared.header.Echo.TheVariants.{Ack}
 use Rattle.dc09_frame.specs.declared.header.Header.{Header}
 use Rattle.dc09_message.specs.Verdicts.{verdict_of, TakesMemory}
 use Rattle.dc09_message.specs.declared.outcome.Verdict.{Verdict}
-use Rattle.session_rules.specs.Sessions.{stopped}
+use Rattle.session_rules.specs.Sessions.{changed, stopped}
 use Rattle.session_rules.specs.Turns.{entries_of}
 use Rattle.session_rules.proofs.Made.{session_sent, session_cut, session_stopped}
 use Rattle.line_session.specs.Turns.{Turn, line_turns, IsAckBy, IsAnswered, IsTurn, TakesEntry, event_of}
@@ -38,50 +38,50 @@ sealed_ack true key h reading noise reply is a = a
 sealed_ack false key h reading noise reply is a = absurd (cc)
 
 -- the turn of a verdict that is known
-pub turn_is : (b : Summary) (setup : Setup) (caller : ℕ) (h x : List Entry) (v : Verdict) (t : Turn) → verdict_of setup t.reading t.body ≡ v → IsAnswered b setup caller h x t v → IsTurn b setup caller h x t
-turn_is b setup caller h x v t is a = subst (IsAnswered b setup caller h x t) (sym is) a
+pub turn_is : (name : List ℕ) (b : Summary) (setup : Setup) (caller : ℕ) (h x : List Entry) (v : Verdict) (t : Turn) → verdict_of setup t.reading t.body ≡ v → IsAnswered name b setup caller h x t v → IsTurn name b setup caller h x t
+turn_is name b setup caller h x v t is a = subst (IsAnswered name b setup caller h x t) (sym is) a
 
 -- the verdict under the setup of this text
 pub verdict_is : (text kept body : List ℕ) (reading : ℕ) (told v : Verdict) → kept ≡ text → told ≡ verdict_of (meaning kept) reading body → told ≡ v → verdict_of (meaning text) reading body ≡ v
 verdict_is text kept body reading told v same exact is = ap (λ (t : List ℕ). verdict_of (meaning t) reading body) (sym same) ∙ sym exact ∙ is
 
-module _ (b : Summary) (h : List Entry) (hall hall' : HallSeen) (p p' : PortSeen) where
+module _ (name : List ℕ) (b : Summary) (h : List Entry) (hall hall' : HallSeen) (p p' : PortSeen) where
   -- A session over one whole piece, whose reply was sent or cut off.
-  session_turn : (end : Result (Unit {0}) LineEnd) (x : List Entry) (t : Turn) → IsTurn b (meaning hall.text) hall.caller h x t → hall'.stands b x → IsLegal b x
+  session_turn : (end : Result (Unit {0}) LineEnd) (x : List Entry) (t : Turn) → IsTurn name b (meaning hall.text) hall.caller h x t → hall'.stands b x → IsLegal b x
       → hall'.own x ≡ reverse (entries_of line_turns (t ∷ [])) ++ hall.own h → (hall.readable b h → hall'.readable b x) → (hall.up → hall'.up) → Puts (after_noise t.noise (after_reading t.reading p)) p' end t.reply → IfErr end (λ e. e ≡ WriteFault)
-      → IsLine (ending_of end) b (t.body ∷ []) h hall hall' p p'
+      → IsLine name (ending_of end) b (t.body ∷ []) h (changed hall hall' p p')
   session_turn (Ok tt) x t turn s legal own reads up put ends =
-      session_sent line_turns (line_rules b hall hall') b h refl x t (x, turn, ([], refl)) s legal own reads up (adds_put p p' t.reading t.noise t.reply tt put)
+      session_sent line_turns (line_rules name b hall hall') b h refl x t (x, turn, ([], refl)) s legal own reads up (adds_put p p' t.reading t.noise t.reply tt put)
   session_turn (Err WriteFault) x t turn s legal own reads up put ends =
       let cut = adds_front p p' t.reading t.noise t.reply WriteFault put in
-      session_cut line_turns (line_rules b hall hall') b h refl x t cut.count (x, turn, ([], refl)) s legal own reads up cut.short cut.adds
+      session_cut line_turns (line_rules name b hall hall') b h refl x t cut.count (x, turn, ([], refl)) s legal own reads up cut.short cut.adds
   session_turn (Err InputEnded) x t turn s legal own reads up put ends = absurd (cc)
   session_turn (Err ReadFault) x t turn s legal own reads up put ends = absurd (cc)
   session_turn (Err Spent) x t turn s legal own reads up put ends = absurd (cc)
   session_turn (Err (Stopped stop)) x t turn s legal own reads up put ends = absurd (cc)
 
   module _ (r : Report) (body : List ℕ) (v : Verdict) (is : verdict_of (meaning hall.text) r.reading body ≡ v)
-      (turn : (x : List Entry) (t : Turn) → TakesEntry b (meaning hall.text) hall.caller h x t r.header r.event → IsAnswered b (meaning hall.text) hall.caller h x t v) where
-    took : (end : Result (Unit {0}) LineEnd) → Reported end b h hall hall' r (after_reading r.reading p) p' → IfErr end (λ e. e ≡ WriteFault) → IsLine (ending_of end) b (body ∷ []) h hall hall' p p'
+      (turn : (x : List Entry) (t : Turn) → TakesEntry b (meaning hall.text) hall.caller h x t r.header r.event → IsAnswered name b (meaning hall.text) hall.caller h x t v) where
+    took : (end : Result (Unit {0}) LineEnd) → Reported end b h hall hall' r (after_reading r.reading p) p' → IfErr end (λ e. e ≡ WriteFault) → IsLine name (ending_of end) b (body ∷ []) h (changed hall hall' p p')
     took end told ends =
         let goes = told.took.goes in
         let entry = told.took.entry in
         let x : List Entry = entry ∷ goes.before in
         let t : Turn = record { body = body; reading = r.reading; noise = told.sends.taken; entry = Some entry; reply = told.sends.reply } in
         session_turn end x t
-        (turn_is b (meaning hall.text) hall.caller h x v t is
+        (turn_is name b (meaning hall.text) hall.caller h x v t is
         (turn x t (record { before = goes.before; entry = entry; extends = goes.extends; is = refl; taken = refl; by = told.took.by; of = told.took.of; at = goes.at; known = told.known; reply = told.sends.ack })))
         goes.holds goes.legal goes.own goes.reads (λ _. goes.up) told.sends.put ends
 
-    left_it : (stop : Stop) → event_of v ≡ Some r.event → LeftEvent stop b hall hall' h r.event r.reading → p' ≡ after_reading r.reading p → IsLine (stopped stop) b (body ∷ []) h hall hall' p p'
+    left_it : (stop : Stop) → event_of name v ≡ Some r.event → LeftEvent stop b hall hall' h r.event r.reading → p' ≡ after_reading r.reading p → IsLine name (stopped stop) b (body ∷ []) h (changed hall hall' p p')
     left_it stop brings told unsent =
-        subst (λ (q : PortSeen). IsLine (stopped stop) b (body ∷ []) h hall hall' p q) (sym unsent)
-        (session_stopped line_turns (line_rules b hall hall') b h refl p stop body r.reading told.waits told.waits.extends (inr (r.event, ap event_of is ∙ brings, told.cause)))
+        subst (λ (q : PortSeen). IsLine name (stopped stop) b (body ∷ []) h (changed hall hall' p q)) (sym unsent)
+        (session_stopped line_turns (line_rules name b hall hall') b h refl p stop body r.reading told.waits told.waits.extends (inr (r.event, ap (event_of name) is ∙ brings, told.cause)))
 
     -- A session over one whole piece whose event was reported.
-    pub session_reported : (end : Result (Unit {0}) LineEnd) → event_of v ≡ Some r.event → {q : PortSeen} → q ≡ after_reading r.reading p → Reports end b h hall hall' r q p' → IsLine (ending_of end) b (body ∷ []) h hall hall' p p'
+    pub session_reported : (end : Result (Unit {0}) LineEnd) → event_of name v ≡ Some r.event → {q : PortSeen} → q ≡ after_reading r.reading p → Reports end b h hall hall' r q p' → IsLine name (ending_of end) b (body ∷ []) h (changed hall hall' p p')
     session_reported end brings {q} read told = by end (subst (λ (x : PortSeen). Reports end b h hall hall' r x p') read told) where
-      by : (end : Result (Unit {0}) LineEnd) → Reports end b h hall hall' r (after_reading r.reading p) p' → IsLine (ending_of end) b (body ∷ []) h hall hall' p p'
+      by : (end : Result (Unit {0}) LineEnd) → Reports end b h hall hall' r (after_reading r.reading p) p' → IsLine name (ending_of end) b (body ∷ []) h (changed hall hall' p p')
       by (Ok tt) told = took (Ok tt) told tt
       by (Err WriteFault) told = took (Err WriteFault) told refl
       by (Err (Stopped stop)) told = left_it stop brings told.0 told.1
@@ -89,18 +89,18 @@ module _ (b : Summary) (h : List Entry) (hall hall' : HallSeen) (p p' : PortSeen
       by (Err ReadFault) told = absurd told
       by (Err Spent) told = absurd told
 
-module _ (b : Summary) (h : List Entry) (hall : HallSeen) (p p' : PortSeen) (body : List ℕ) (reading : ℕ) where
+module _ (name : List ℕ) (b : Summary) (h : List Entry) (hall : HallSeen) (p p' : PortSeen) (body : List ℕ) (reading : ℕ) where
   -- A session over one whole piece that brings no event.
   pub session_quiet : (end : Result (Unit {0}) LineEnd) (reply : List ℕ) (v : Verdict) → verdict_of (meaning hall.text) reading body ≡ v
-      → IsAnswered b (meaning hall.text) hall.caller h h (record { body = body; reading = reading; noise = []; entry = None; reply = reply }) v → hall.stands b h → IsLegal b h
-      → {q : PortSeen} → q ≡ after_reading reading p → Puts q p' end reply → IfErr end (λ e. e ≡ WriteFault) → IsLine (ending_of end) b (body ∷ []) h hall hall p p'
+      → IsAnswered name b (meaning hall.text) hall.caller h h (record { body = body; reading = reading; noise = []; entry = None; reply = reply }) v → hall.stands b h → IsLegal b h
+      → {q : PortSeen} → q ≡ after_reading reading p → Puts q p' end reply → IfErr end (λ e. e ≡ WriteFault) → IsLine name (ending_of end) b (body ∷ []) h (changed hall hall p p')
   session_quiet end reply v is turn s legal {q} read put ends =
       let t : Turn = record { body = body; reading = reading; noise = []; entry = None; reply = reply } in
-      session_turn b h hall hall p p' end h t (turn_is b (meaning hall.text) hall.caller h h v t is turn) s legal refl (λ r. r) (λ u. u)
+      session_turn name b h hall hall p p' end h t (turn_is name b (meaning hall.text) hall.caller h h v t is turn) s legal refl (λ r. r) (λ u. u)
       (subst (λ (x : PortSeen). Puts x p' end reply) (read ∙ sym (noise_none (after_reading reading p))) put) ends
 
   -- A session over one whole piece whose message wants memory.
-  pub session_wanting : TakesMemory (verdict_of (meaning hall.text) reading body) → hall.stands b h → IsLegal b h → p' ≡ after_reading reading p → IsLine (stopped Memory) b (body ∷ []) h hall hall p p'
+  pub session_wanting : TakesMemory (verdict_of (meaning hall.text) reading body) → hall.stands b h → IsLegal b h → p' ≡ after_reading reading p → IsLine name (stopped Memory) b (body ∷ []) h (changed hall hall p p')
   session_wanting wanted s legal read =
-      subst (λ (q : PortSeen). IsLine (stopped Memory) b (body ∷ []) h hall hall p q) (sym read)
-      (session_stopped line_turns (line_rules b hall hall) b h refl p Memory body reading (record { now = h; extends = ([], refl); holds = s; legal = legal; own = refl; reads = λ r. r }) ([], refl) (inl (refl, wanted)))
+      subst (λ (q : PortSeen). IsLine name (stopped Memory) b (body ∷ []) h (changed hall hall p q)) (sym read)
+      (session_stopped line_turns (line_rules name b hall hall) b h refl p Memory body reading (record { now = h; extends = ([], refl); holds = s; legal = legal; own = refl; reads = λ r. r }) ([], refl) (inl (refl, wanted)))

@@ -4,13 +4,12 @@ use Rattle.std.specs.Io.KnownBytes.{prepend_known, IsAtEnd}
 use Rattle.alarm_rules.specs.Setups.{meaning}
 use Rattle.arc_io.specs.Causes.{Rose}
 use Rattle.arc_io.specs.Seen.{PortSeen}
-use Rattle.centre_core.specs.Halls.{HallSeen}
 use Rattle.centre_rules.specs.Summary.{Summary}
 use Rattle.centre_rules.specs.History.{Entry}
 use Rattle.dc09_frame.specs.Cutting.{CutterValue, WasFed}
 use Rattle.dc09_frame.specs.Frames.{bodies}
 use Rattle.session_rules.specs.Inputs.{input_limit}
-use Rattle.session_rules.specs.Sessions.{ReadsNoFurther, Way}
+use Rattle.session_rules.specs.Sessions.{Change, ReadsNoFurther, Way}
 use Rattle.session_rules.specs.Turns.{entries_of}
 use Rattle.line_session.specs.Completeness.{IsComplete}
 use Rattle.line_session.specs.Sessions.{IsLine, ending_of}
@@ -18,32 +17,34 @@ use Rattle.line_session.specs.Turns.{line_turns}
 use Rattle.line_session.specs.declared.line_end.LineEnd.{LineEnd}
 use Rattle.line_session.specs.declared.line_end.LineEnd.TheVariants.{InputEnded, ReadFault, WriteFault, Spent, Stopped}
 
--- what a line's state keeps: its cutter, and how many bytes it took
+-- what a line's state keeps: its name, its cutter, and how many bytes it took
 pub record LineValue : Type 0 where
+  pub name : List ℕ
   pub cutter : CutterValue
   pub count : ℕ
 
--- the state took this stream, which is shorter than the limit
-pub record TookStream (stream : List ℕ) (s : LineValue) : Type 0 where
+-- the state is that of a line of this name, and took this stream, which is shorter than the limit
+pub record TookStream (name stream : List ℕ) (s : LineValue) : Type 0 where
+  pub named : s.name ≡ name
   pub fed : WasFed stream s.cutter
   pub count : s.count ≡ length stream
   pub short : length stream < input_limit
 
 -- What is left of a state that took a piece behind a stream, by what it answered. Of one that answered an end nothing is left.
-abbrev pub IsTaken : Result (Unit {0}) LineEnd → List ℕ → List ℕ → LineValue → Type 0
-IsTaken (Ok done) stream piece s = TookStream (stream ++ piece) s
-IsTaken (Err InputEnded) stream piece s = ⊥
-IsTaken (Err ReadFault) stream piece s = ⊥
-IsTaken (Err WriteFault) stream piece s = Unit {0}
-IsTaken (Err Spent) stream piece s = input_limit ≤ length (stream ++ piece)
-IsTaken (Err (Stopped stop)) stream piece s = Unit {0}
+abbrev pub IsTaken : List ℕ → Result (Unit {0}) LineEnd → List ℕ → List ℕ → LineValue → Type 0
+IsTaken name (Ok done) stream piece s = TookStream name (stream ++ piece) s
+IsTaken name (Err InputEnded) stream piece s = ⊥
+IsTaken name (Err ReadFault) stream piece s = ⊥
+IsTaken name (Err WriteFault) stream piece s = Unit {0}
+IsTaken name (Err Spent) stream piece s = input_limit ≤ length (stream ++ piece)
+IsTaken name (Err (Stopped stop)) stream piece s = Unit {0}
 
--- A session over the whole pieces that these bytes end behind a stream.
-pub record ServesBytes (end : Result (Unit {0}) LineEnd) (stream bytes : List ℕ) (b : Summary) (h : List Entry) (hall hall' : HallSeen)
-    (p p' : PortSeen) : Type 0 where
+-- A session of a line of this name over the whole pieces that these bytes end behind a stream.
+pub record ServesBytes (name : List ℕ) (end : Result (Unit {0}) LineEnd) (stream bytes : List ℕ) (b : Summary) (h : List Entry)
+    (c : Change) : Type 0 where
   pub whole : List (List ℕ)
   pub ended : bodies (stream ++ bytes) ≡ bodies stream ++ whole
-  pub session : IsLine (ending_of end) b whole h hall hall' p p'
+  pub session : IsLine name (ending_of end) b whole h c
 
 -- Why a session over a port ended, of the bytes that it read: the input ended; a read failed; a write failed; 2^40 bytes were
 -- read; or the hall stopped.
@@ -60,10 +61,10 @@ pub record ReadsLine (end : LineEnd) (read : List ℕ) (p p' : PortSeen) : Type 
   pub out : (p'.ended ≡ true) ↔ (end ≡ InputEnded)
   pub cause : HasEnded end read p p'
 
--- A line session over a port that read these bytes, on this way: a session over all their whole pieces.
-pub record ServesLine (end : LineEnd) (read : List ℕ) (b : Summary) (w : Way) (hall hall' : HallSeen) (p p' : PortSeen) : Type 0 where
-  pub session : IsLine (ending_of (Err end)) b (bodies read) w.from hall hall' p p'
+-- A session of a line of this name over a port that read these bytes, on this way: a session over all their whole pieces.
+pub record ServesLine (name : List ℕ) (end : LineEnd) (read : List ℕ) (b : Summary) (w : Way) (c : Change) : Type 0 where
+  pub session : IsLine name (ending_of (Err end)) b (bodies read) w.from c
   pub to : w.to ≡ session.history
   pub made : w.made ≡ entries_of line_turns session.turns
   pub ahead : ReadsNoFurther line_turns bodies (ending_of (Err end)) read session.turns session.behind
-  pub complete : IsComplete (ending_of (Err end)) (meaning hall.text) session.turns session.behind session.added.text (bodies read)
+  pub complete : IsComplete (ending_of (Err end)) (meaning c.hall.text) session.turns session.behind session.added.text (bodies read)

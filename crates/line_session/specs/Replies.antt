@@ -21,7 +21,7 @@ use Rattle.line_session.specs.declared.report.Report.{Report}
 
 -- the setup has the event's account, and where it is a message, its content has signals
 abbrev pub IsKnownEvent : Setup → Event → Type 0
-IsKnownEvent setup (Sent m) = IsReadable setup m
+IsKnownEvent setup (Sent m via) = IsReadable setup m
 IsKnownEvent setup (Heartbeat account) = has_account setup account ≡ true
 IsKnownEvent setup other = ⊥
 

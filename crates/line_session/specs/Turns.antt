@@ -35,11 +35,11 @@ line_turns = record {
   entry = λ t. t.entry;
 }
 
--- what is submitted of a verdict
-abbrev pub event_of : Verdict → Option Event
-event_of (Beat header account) = Some (Heartbeat account)
-event_of (Numbered header m) = Some (Sent m)
-event_of verdict = None
+-- what a line of this name submits of a verdict: of a numbered message it, with the name
+abbrev pub event_of : List ℕ → Verdict → Option Event
+event_of name (Beat header account) = Some (Heartbeat account)
+event_of name (Numbered header m) = Some (Sent m name)
+event_of name verdict = None
 
 -- The acknowledgement of a message with this header, at a reading: of a plain one its echo, which takes no noise; of a sealed
 -- one it is sealed under the account's key, with the stamp of the reading and ten bytes of noise.
@@ -73,20 +73,21 @@ pub record TakesEntry (b : Summary) (setup : Setup) (caller : ℕ) (h x : List E
   pub known : entry.reply ≢ Unknown
   pub reply : IsAck setup header t.reading t.noise t.reply
 
--- The turn of each verdict, from the history h on, to x: silence gives nothing; NAK gives its frame with the stamp of the
--- reading; DUH gives its frame; a heartbeat and a numbered message take an entry and give their acknowledgement.
-abbrev pub IsAnswered : Summary → Setup → ℕ → List Entry → List Entry → Turn → Verdict → Type 0
-IsAnswered b setup caller h x t Silence = TakesNothing h x t []
-IsAnswered b setup caller h x t Nak = TakesNothing h x t (frame_of (nak_body (stamp t.reading)))
-IsAnswered b setup caller h x t (Duh header why) = TakesNothing h x t (frame_of (echo_body DuhWord header))
-IsAnswered b setup caller h x t (Beat header account) = TakesEntry b setup caller h x t header (Heartbeat account)
-IsAnswered b setup caller h x t (Numbered header m) = TakesEntry b setup caller h x t header (Sent m)
+-- The turn of each verdict on a line of this name, from the history h on, to x: silence gives nothing; NAK gives its frame with the stamp
+-- of the reading; DUH gives its frame; a heartbeat and a numbered message take an entry and give their acknowledgement.
+abbrev pub IsAnswered : List ℕ → Summary → Setup → ℕ → List Entry → List Entry → Turn → Verdict → Type 0
+IsAnswered name b setup caller h x t Silence = TakesNothing h x t []
+IsAnswered name b setup caller h x t Nak = TakesNothing h x t (frame_of (nak_body (stamp t.reading)))
+IsAnswered name b setup caller h x t (Duh header why) = TakesNothing h x t (frame_of (echo_body DuhWord header))
+IsAnswered name b setup caller h x t (Beat header account) = TakesEntry b setup caller h x t header (Heartbeat account)
+IsAnswered name b setup caller h x t (Numbered header m) = TakesEntry b setup caller h x t header (Sent m name)
 
 -- the turn is that of its body's verdict under the setup, at its reading
-abbrev pub IsTurn : Summary → Setup → ℕ → List Entry → List Entry → Turn → Type 0
-IsTurn b setup caller h x t = IsAnswered b setup caller h x t (verdict_of setup t.reading t.body)
+abbrev pub IsTurn : List ℕ → Summary → Setup → ℕ → List Entry → List Entry → Turn → Type 0
+IsTurn name b setup caller h x t = IsAnswered name b setup caller h x t (verdict_of setup t.reading t.body)
 
--- From h on, to x: the turns stand behind one another, with entries of others between them.
-abbrev pub AreTurns : Summary → Setup → ℕ → List Entry → List Entry → List Turn → Type 0
-AreTurns b setup caller h x [] = Extends h x
-AreTurns b setup caller h x (t ∷ ts) = (mid : List Entry) × IsTurn b setup caller h mid t × AreTurns b setup caller mid x ts
+-- From h on, to x: the turns of a line of this name stand behind one another, with entries of others between them.
+abbrev pub AreTurns : List ℕ → Summary → Setup → ℕ → List Entry → List Entry → List Turn → Type 0
+AreTurns name b setup caller h x [] = Extends h x
+AreTurns name b setup caller h x (t ∷ ts) =
+    (mid : List Entry) × IsTurn name b setup caller h mid t × AreTurns name b setup caller mid x ts

@@ -1,18 +1,19 @@
 // Answering one whole piece.
-ghost use Rattle.std.specs.Prelude.{◌≡◌, ◌∷◌, [], Err, List};
+ghost use Rattle.std.specs.Prelude.{◌≡◌, ◌∷◌, [], true, Err, List};
+ghost use Rattle.arc_data.specs.Digits.{is_name};
 ghost use Rattle.arc_io.specs.Added.{Answers};
 ghost use Rattle.centre_core.specs.Halls.{IsKept};
 ghost use Rattle.centre_rules.specs.Summary.{Summary};
 ghost use Rattle.centre_rules.specs.History.{Entry};
 ghost use Rattle.dc09_frame.specs.Frames.{IsBody};
-ghost use Rattle.session_rules.specs.Sessions.{HasShown};
+ghost use Rattle.session_rules.specs.Sessions.{HasShown, changed};
 ghost use Rattle.line_session.specs.Sessions.{IsLine, IsCutShort, ending_of};
 
 use crate::buffers::Buffers;
 use crate::line_end::LineEnd;
 use crate::reply::send;
 use crate::report::{Report, submit_and_acknowledge};
-use arc_data::{Event, Memory};
+use arc_data::{Event, Memory, Txt};
 use arc_io::Port;
 use centre_core::{Hall, Stop};
 use civil_time::stamp_of;
@@ -20,19 +21,21 @@ use dc09_frame::{Echo, write_echo, write_nak};
 use dc09_message::{Verdict, verdict};
 use std::alloc::Global;
 
-/// Answers a whole piece of this body, which takes one reading of the clock.
+/// Answers a whole piece of this body, which takes one reading of the clock, on a line of this name.
 pub(crate) fn answer<H: Hall, P: Port>(
     alloc: Global,
     hall: &mut H,
     port: &mut P,
+    name: &Txt,
     body: &[u8],
     buffers: &mut Buffers,
 ) -> Result<(), LineEnd>
     requires ready { (H.seen hall.old).ready }
+    requires name { is_name name.now ≡ true }
     requires body { IsBody body.now }
     ensures kept { IsKept (H.seen hall.old) (H.seen hall.new) }
     ensures session { (b : Summary) (h : List Entry) → (H.seen hall.old).stands b h →
-        IsLine (ending_of result) b (body.now ∷ []) h (H.seen hall.old) (H.seen hall.new) (P.seen port.old) (P.seen port.new) }
+        IsLine name.now (ending_of result) b (body.now ∷ []) h (changed (H.seen hall.old) (H.seen hall.new) (P.seen port.old) (P.seen port.new)) }
     ensures ends { IsCutShort result }
     ensures stop { HasShown (H.seen hall.new) (ending_of result) }
     ensures port { Answers (result ≡ Err LineEnd.WriteFault) (P.seen port.old) (P.seen port.new) }
@@ -59,7 +62,10 @@ pub(crate) fn answer<H: Hall, P: Port>(
             submit_and_acknowledge(alloc, hall, port, report, &mut buffers.reply)
         }
         Ok(Verdict::Numbered(header, message)) => {
-            let event = Event::Message(message);
+            let event = Event::Message {
+                message,
+                via: *name,
+            };
             let report = Report {
                 event,
                 header,

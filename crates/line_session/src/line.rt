@@ -1,29 +1,38 @@
 // A line session over a port.
-ghost use Rattle.std.specs.Prelude.{◌≡◌, ◌≤◌, List, ℕ, false, Err};
+ghost use Rattle.std.specs.Prelude.{◌≡◌, ◌≤◌, List, ℕ, true, false, Err};
+ghost use Rattle.arc_data.specs.Digits.{is_name};
 ghost use Rattle.arc_io.specs.Causes.{Rose};
 ghost use Rattle.centre_core.specs.Halls.{IsKept};
 ghost use Rattle.centre_rules.specs.Summary.{Summary};
 ghost use Rattle.centre_rules.specs.History.{Entry};
-ghost use Rattle.session_rules.specs.Sessions.{HasShown, Goes};
+ghost use Rattle.session_rules.specs.Sessions.{HasShown, Goes, changed};
 ghost use Rattle.line_session.specs.Sessions.{ending_of};
 ghost use Rattle.line_session.specs.Lines.{ReadsLine, ServesLine};
 
 use crate::line_end::LineEnd;
 use crate::line_state::LineState;
+use arc_data::Txt;
 use arc_io::{Failed, Port};
 use centre_core::Hall;
 use session_rules::{PIECE, read_piece};
 use std::alloc::Global;
 
 /// Serves one line over a port: reads it piece by piece, each of at most 4,096 bytes, and answers the whole frames of a piece
-/// before it reads the next. `InputEnded` comes at the input's end, `ReadFault` where a read failed, `Spent` after 2^40 bytes, and
-/// the others as of `LineState::take`.
-pub fn serve_line<H: Hall, P: Port>(alloc: Global, hall: &mut H, port: &mut P) -> LineEnd
+/// before it reads the next. The line's name, of 1 to 16 bytes as an operator's, stands with each message that is recorded.
+/// `InputEnded` comes at the input's end, `ReadFault` where a read failed, `Spent` after 2^40 bytes, and the others as of
+/// `LineState::take`.
+pub fn serve_line<H: Hall, P: Port>(
+    alloc: Global,
+    hall: &mut H,
+    port: &mut P,
+    name: &Txt,
+) -> LineEnd
     requires ready { (H.seen hall.old).ready }
+    requires name { is_name name.now ≡ true }
     requires not_ended { (P.seen port.old).ended ≡ false }
     ensures line { (read : List ℕ) × ReadsLine result read (P.seen port.old) (P.seen port.new)
         × ((b : Summary) (h : List Entry) → (H.seen hall.old).stands b h →
-        Goes h (λ w. ServesLine result read b w (H.seen hall.old) (H.seen hall.new) (P.seen port.old) (P.seen port.new))) }
+        Goes h (λ w. ServesLine name.now result read b w (changed (H.seen hall.old) (H.seen hall.new) (P.seen port.old) (P.seen port.new)))) }
     ensures stop { HasShown (H.seen hall.new) (ending_of (Err result)) }
     ensures read { result ≡ LineEnd.ReadFault → Rose (P.seen port.old).read_faults (P.seen port.new).read_faults }
     ensures write { result ≡ LineEnd.WriteFault → Rose (P.seen port.old).write_faults (P.seen port.new).write_faults }
@@ -32,7 +41,7 @@ pub fn serve_line<H: Hall, P: Port>(alloc: Global, hall: &mut H, port: &mut P) -
     ensures reads { (P.seen port.old).read_faults ≤ (P.seen port.new).read_faults }
     ensures writes { (P.seen port.old).write_faults ≤ (P.seen port.new).write_faults }
 {
-    let mut state = LineState::new();
+    let mut state = LineState::new(*name);
     let mut buffer = [0; PIECE];
     'pieces: loop {
         let most = (PIECE as u64).min(state.room()) as usize;

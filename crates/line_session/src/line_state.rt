@@ -1,48 +1,54 @@
 // A line whose bytes are handed in.
-ghost use Rattle.std.specs.Prelude.{◌≡◌, ◌-◌, [], Err, List, ℕ};
+ghost use Rattle.std.specs.Prelude.{◌≡◌, ◌-◌, [], true, Err, List, ℕ};
+ghost use Rattle.arc_data.specs.Digits.{is_name};
 ghost use Rattle.arc_io.specs.Added.{Answers};
 ghost use Rattle.centre_core.specs.Halls.{IsKept};
 ghost use Rattle.centre_rules.specs.Summary.{Summary};
 ghost use Rattle.centre_rules.specs.History.{Entry};
 ghost use Rattle.session_rules.specs.Inputs.{in_limit, input_limit};
-ghost use Rattle.session_rules.specs.Sessions.{HasShown};
+ghost use Rattle.session_rules.specs.Sessions.{HasShown, changed};
 ghost use Rattle.line_session.specs.Sessions.{ReadsNothing, ending_of};
 ghost use Rattle.line_session.specs.Lines.{TookStream, IsTaken, ServesBytes};
 
 use crate::line_end::LineEnd;
 use crate::pieces::Pieces;
+use arc_data::Txt;
 use arc_io::Port;
 use centre_core::Hall;
 use session_rules::{room_behind, up_to};
 use std::alloc::Global;
 use std::marker::Model;
 
-/// The state of a line between two pieces of its bytes: what is open of a frame, and how many bytes were taken. It takes no
+/// The state of a line between two pieces of its bytes: its name, what is open of a frame, and how many bytes were taken. It takes no
 /// memory, and has room for the longest frame.
 #[derive(Drop)]
 pub struct LineState {
+    name: Txt,
     pieces: Pieces,
     count: u64,
 }
 
 impl Model for LineState {
-    ghost use Rattle.std.specs.Prelude.{◌≤◌};
+    ghost use Rattle.std.specs.Prelude.{◌≡◌, ◌≤◌, true};
+    ghost use Rattle.arc_data.specs.Digits.{is_name};
     ghost use Rattle.session_rules.specs.Inputs.{input_limit};
     ghost use Rattle.line_session.specs.Lines.{LineValue};
 
     ghost Value = { LineValue };
 
-    ghost view = { λ s. record { cutter = s.pieces.cutter; count = s.count } };
+    ghost view = { λ s. record { name = s.name; cutter = s.pieces.cutter; count = s.count } };
 
-    ghost invariant = { λ s. s.count ≤ input_limit };
+    ghost invariant = { λ s. (s.count ≤ input_limit) × (is_name s.name ≡ true) };
 }
 
 impl LineState {
-    /// A line of which no byte was taken.
-    pub fn new() -> LineState
-        ensures { TookStream [] result }
+    /// A line of this name, of which no byte was taken. The name has 1 to 16 bytes, as an operator's.
+    pub fn new(name: Txt) -> LineState
+        requires { is_name name ≡ true }
+        ensures { TookStream name [] result }
     {
         LineState {
+            name,
             pieces: Pieces::new(),
             count: 0,
         }
@@ -66,17 +72,18 @@ impl LineState {
         piece: &[u8],
     ) -> Result<(), LineEnd>
         requires { (H.seen hall.old).ready }
-        ensures taken { (stream : List ℕ) → TookStream stream self.old → IsTaken result stream piece.now self.new }
+        ensures taken { (name stream : List ℕ) → TookStream name stream self.old → IsTaken name result stream piece.now self.new }
         ensures kept { IsKept (H.seen hall.old) (H.seen hall.new) }
-        ensures served { (stream : List ℕ) (b : Summary) (h : List Entry) → TookStream stream self.old → (H.seen hall.old).stands b h →
-            ServesBytes result stream (in_limit stream piece.now) b h (H.seen hall.old) (H.seen hall.new) (P.seen port.old) (P.seen port.new) }
+        ensures served { (name stream : List ℕ) (b : Summary) (h : List Entry) → TookStream name stream self.old → (H.seen hall.old).stands b h →
+            ServesBytes name result stream (in_limit stream piece.now) b h (changed (H.seen hall.old) (H.seen hall.new) (P.seen port.old) (P.seen port.new)) }
         ensures ends { ReadsNothing result }
         ensures stop { HasShown (H.seen hall.new) (ending_of result) }
         ensures port { Answers (result ≡ Err LineEnd.WriteFault) (P.seen port.old) (P.seen port.new) }
     {
         let bytes = up_to(piece, room_behind(self.count));
         self.count += bytes.len() as u64;
-        self.pieces.answer_whole(alloc, hall, port, bytes)?;
+        self.pieces
+            .answer_whole(alloc, hall, port, &self.name, bytes)?;
         if room_behind(self.count) == 0 {
             return Err(LineEnd::Spent);
         }

@@ -1,17 +1,19 @@
 // The pieces of a stream: they are cut, and each whole one is answered.
-ghost use Rattle.std.specs.Prelude.{◌≡◌, ◌↔◌, ◌++◌, [], Err, Some, List, ℕ, IsTrue, OnOk};
+ghost use Rattle.std.specs.Prelude.{◌≡◌, ◌↔◌, ◌++◌, [], true, Err, Some, List, ℕ, IsTrue, OnOk};
+ghost use Rattle.arc_data.specs.Digits.{is_name};
 ghost use Rattle.arc_io.specs.Added.{Answers};
 ghost use Rattle.centre_core.specs.Halls.{IsKept};
 ghost use Rattle.centre_rules.specs.Summary.{Summary};
 ghost use Rattle.centre_rules.specs.History.{Entry};
 ghost use Rattle.dc09_frame.specs.Cutting.{WasFed};
-ghost use Rattle.session_rules.specs.Sessions.{HasShown};
+ghost use Rattle.session_rules.specs.Sessions.{HasShown, changed};
 ghost use Rattle.line_session.specs.Lines.{ServesBytes};
 ghost use Rattle.line_session.specs.Sessions.{IsCutShort, ending_of};
 
 use crate::answer::answer;
 use crate::buffers::Buffers;
 use crate::line_end::LineEnd;
+use arc_data::Txt;
 use arc_io::Port;
 use centre_core::Hall;
 use dc09_frame::{Cut, Cutter, FrameBuf};
@@ -38,19 +40,21 @@ impl Pieces {
         }
     }
 
-    /// Answers each whole piece that ends in these bytes, behind those that were taken before.
+    /// Answers each whole piece that ends in these bytes, behind those that were taken before, on a line of this name.
     pub(crate) fn answer_whole<H: Hall, P: Port>(
         &mut self,
         alloc: Global,
         hall: &mut H,
         port: &mut P,
+        name: &Txt,
         bytes: &[u8],
     ) -> Result<(), LineEnd>
-        requires { (H.seen hall.old).ready }
+        requires ready { (H.seen hall.old).ready }
+        requires name { is_name name.now ≡ true }
         ensures fed { OnOk result ((stream : List ℕ) → WasFed stream self.old.cutter → WasFed (stream ++ bytes.now) self.new.cutter) }
         ensures kept { IsKept (H.seen hall.old) (H.seen hall.new) }
         ensures served { (stream : List ℕ) (b : Summary) (h : List Entry) → WasFed stream self.old.cutter → (H.seen hall.old).stands b h →
-            ServesBytes result stream bytes.now b h (H.seen hall.old) (H.seen hall.new) (P.seen port.old) (P.seen port.new) }
+            ServesBytes name.now result stream bytes.now b h (changed (H.seen hall.old) (H.seen hall.new) (P.seen port.old) (P.seen port.new)) }
         ensures ends { IsCutShort result }
         ensures stop { HasShown (H.seen hall.new) (ending_of result) }
         ensures port { Answers (result ≡ Err LineEnd.WriteFault) (P.seen port.old) (P.seen port.new) }
@@ -60,7 +64,14 @@ impl Pieces {
             let (count, cut) = self.cutter.feed(&bytes[at..]);
             at += count;
             if is_whole(cut) {
-                answer(alloc, hall, port, self.cutter.body(), &mut self.buffers)?;
+                answer(
+                    alloc,
+                    hall,
+                    port,
+                    name,
+                    self.cutter.body(),
+                    &mut self.buffers,
+                )?;
             }
         }
         Ok(())

@@ -223,11 +223,11 @@ opened_table x t false is i o e f = absurd (false≢true o)
 of_itself : (x : Carried) (n : ℕ) → of_signal x (fresh n x) ≡ true
 of_itself x n = both (bytes_eq x.account x.account) (nat_eq (class_place x.signal.class) (class_place x.signal.class)) ((bytes_eq-Decides x.account x.account).1 refl) (eq-eqb (class_place x.signal.class) (class_place x.signal.class) refl)
 
-new_one : (x : Carried) (n : ℕ) → (x.signal.kind ≡ New) ⊎ (x.signal.kind ≡ Again) → raised n x.account x.signal.class x.signal.code x.at x.steps ≡ touched_by (Carries x) (fresh n x)
+new_one : (x : Carried) (n : ℕ) → (x.signal.kind ≡ New) ⊎ (x.signal.kind ≡ Again) → raised n x.account x.signal.class x.signal.code x.at x.steps x.via ≡ touched_by (Carries x) (fresh n x)
 new_one x n k = hit_news x k (fresh n x) (of_itself x n)
 
 pub raise_carries : (x : Carried) (t : TableValue) → (x.signal.kind ≡ New) ⊎ (x.signal.kind ≡ Again) → 0 < priority_of x.signal.class → number_of (find (of_signal x) t.incidents) ≡ None
-    → record t { opened = t.opened + 1; incidents = t.incidents ++ raised (t.opened + 1) x.account x.signal.class x.signal.code x.at x.steps ∷ [] } ≡ marked_table (Carries x) t
+    → record t { opened = t.opened + 1; incidents = t.incidents ++ raised (t.opened + 1) x.account x.signal.class x.signal.code x.at x.steps x.via ∷ [] } ≡ marked_table (Carries x) t
 raise_carries x t k lt e =
     let none = none_each (of_signal x) t.incidents (number_none (find (of_signal x) t.incidents) e) in
     opened_table x t (opens x t.incidents) t.incidents _ (does_open x.signal.kind (nat_lt 0 (priority_of x.signal.class)) (list_any (of_signal x) t.incidents) (news x.signal.kind k) (high (priority_of x.signal.class) lt) (none_any (of_signal x) t.incidents none))

@@ -93,5 +93,6 @@ fn copied(i: &Incident) -> Incident
         touched: i.touched,
         steps: i.steps.copy(),
         acts: i.acts.copy(),
+        via: i.via,
     }
 }

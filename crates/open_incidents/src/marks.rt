@@ -78,7 +78,14 @@ pub fn carry(table: &mut Table, x: &Carried)
             None => {
                 if x.signal.class.priority() > 0 {
                     let steps = x.steps.copy();
-                    let _ = table.raise(x.account, x.signal.class, x.signal.code, x.at, steps);
+                    let _ = table.raise(
+                        x.account,
+                        x.signal.class,
+                        x.signal.code,
+                        x.at,
+                        steps,
+                        x.via,
+                    );
                 }
             }
         },

@@ -133,6 +133,7 @@ pub fn view(i: &Incident, at: u64, lapse: Option<u64>) -> View
         restored: i.restored,
         holder: holder_at(i, at, lapse),
         expected: expected_step(&i.steps, &i.acts),
+        via: i.via,
     }
 }
 

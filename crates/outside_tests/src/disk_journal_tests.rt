@@ -16,12 +16,13 @@ const FIRST: &[u8] = b"\x01\0\0\0\0\x3b\x9a\xca\0\0\0\0\x0daccount 1234\n";
 
 const SECOND: &[u8] = b"\x02\0\0\0\0\x3b\x9a\xca\0";
 
-const THIRD: &[u8] = b"\x03\0\0\0\0\x3b\x9a\xca\0\x041234\0\x010\0\x01\x02\0\x0b1131 01 001";
+const THIRD: &[u8] =
+    b"\x03\0\0\0\0\x3b\x9a\xca\0\x041234\0\x010\0\x01\x02\0\x0b1131 01 001\x04line";
 
-const AREA: &[u8] = b"ARC JOURNAL 0001\
+const AREA: &[u8] = b"ARC JOURNAL 0002\
     \x01\0\0\0\x1a\x01\0\0\0\0\x3b\x9a\xca\0\0\0\0\x0daccount 1234\n\
     \x01\0\0\0\x09\x02\0\0\0\0\x3b\x9a\xca\0\
-    \x01\0\0\0\x21\x03\0\0\0\0\x3b\x9a\xca\0\x041234\0\x010\0\x01\x02\0\x0b1131 01 001\0";
+    \x01\0\0\0\x26\x03\0\0\0\0\x3b\x9a\xca\0\x041234\0\x010\0\x01\x02\0\x0b1131 01 001\x04line\0";
 
 // Opens the journal of the disk and appends the three bodies, until a call fails. How many were appended, the fault of
 // the call that failed, and the disk.
@@ -30,7 +31,7 @@ fn append_three(alloc: Global, disk: MemDisk) -> (usize, Option<OpenFault>, MemD
         Ok(opened) => opened,
         Err(refused) => return (0, Some(refused.fault), refused.disk),
     };
-    if journal.reserve(38).is_err() {
+    if journal.reserve(43).is_err() {
         return (0, Some(OpenFault::Memory), journal.close());
     }
     if let Err(fault) = journal.append(FIRST) {
@@ -85,7 +86,7 @@ fn appends_byte_for_byte(rt: HostRuntime) -> Result<(), Fail> {
     same(
         &rt,
         told.as_str(),
-        "3 bodies, 100 bytes, 3 records, 24 calls",
+        "3 bodies of version 2, 105 bytes, 3 records, 24 calls",
         "an opening",
     );
     Ok(())
@@ -104,9 +105,11 @@ fn opening_of(alloc: Global, disk: MemDisk) -> Result<String, Fail> {
         return Err("not opened")?;
     };
     let count = first_of_three(&bodies);
-    let (used, records) = (journal.used(), journal.records());
+    let (version, used, records) = (journal.version(), journal.used(), journal.records());
     let calls = journal.disk().calls();
-    Ok(format!(in alloc; "{count} bodies, {used} bytes, {records} records, {calls} calls")?)
+    Ok(format!(in alloc;
+        "{count} bodies of version {version}, {used} bytes, {records} records, {calls} calls"
+    )?)
 }
 
 // How many of the three records a stop within this call leaves, of the calls of `append_three` over an empty disk. The third and
@@ -183,13 +186,13 @@ fn compare_failing(rt: &impl Abort, alloc: Global, call: u64) -> Result<(), Fail
     Ok(())
 }
 
-// What is opened of an area, by its text and what stands behind it in hexadecimal digits.
+// What is opened of an area, the bodies with their version, by its text and what stands behind it in hexadecimal digits.
 const AREAS: &str = "\
-0 bodies;;
-0 bodies;0123456789;
-0 bodies;0123456789abcdef;
-0 bodies;ARC JOURNAL 0001;00
-0 bodies;ARC JOURNAL 0001;01
+0 of 2;;
+0 of 2;0123456789;
+0 of 2;0123456789abcdef;
+0 of 2;ARC JOURNAL 0001;00
+0 of 2;ARC JOURNAL 0001;01
 NotJournal { byte: 0 };XRC JOURNAL 0001;00 00
 NotJournal { byte: 1 };AXC JOURNAL 0001;00 00
 NotJournal { byte: 2 };ARX JOURNAL 0001;00 00
@@ -206,8 +209,11 @@ WrongVersion { found: [88, 48, 48, 49] };ARC JOURNAL X001;00 00
 WrongVersion { found: [48, 88, 48, 49] };ARC JOURNAL 0X01;00 00
 WrongVersion { found: [48, 48, 88, 49] };ARC JOURNAL 00X1;00 00
 WrongVersion { found: [48, 48, 48, 88] };ARC JOURNAL 000X;00 00
-0 bodies;ARC JOURNAL 0001;00 01
-0 bodies;ARC JOURNAL 0001;ff 00 00 00 01 78 00
+WrongVersion { found: [48, 48, 48, 48] };ARC JOURNAL 0000;00 00
+WrongVersion { found: [48, 48, 48, 51] };ARC JOURNAL 0003;00 00
+WrongVersion { found: [48, 48, 49, 50] };ARC JOURNAL 0012;00 00
+0 of 1;ARC JOURNAL 0001;00 01
+0 of 1;ARC JOURNAL 0001;ff 00 00 00 01 78 00
 Damaged { at: 16 };ARC JOURNAL 0001;01 00
 Damaged { at: 16 };ARC JOURNAL 0001;01 00 00 00 01
 Damaged { at: 16 };ARC JOURNAL 0001;01 00 00 00 00 00 00
@@ -215,9 +221,12 @@ Damaged { at: 16 };ARC JOURNAL 0001;01 00 40 00 61 78 00
 Damaged { at: 16 };ARC JOURNAL 0001;01 ff 00 00 01 78 00
 Damaged { at: 16 };ARC JOURNAL 0001;01 00 00 00 01 78
 Damaged { at: 16 };ARC JOURNAL 0001;01 00 00 00 02 78 00
-1 bodies;ARC JOURNAL 0001;01 00 00 00 02 78 79 00
-1 bodies;ARC JOURNAL 0001;01 00 00 00 01 78 02 00 00
-2 bodies;ARC JOURNAL 0001;01 00 00 00 01 78 01 00 00 00 01 79 00
+1 of 1;ARC JOURNAL 0001;01 00 00 00 02 78 79 00
+1 of 1;ARC JOURNAL 0001;01 00 00 00 01 78 02 00 00
+2 of 1;ARC JOURNAL 0001;01 00 00 00 01 78 01 00 00 00 01 79 00
+0 of 2;ARC JOURNAL 0002;00 01
+2 of 2;ARC JOURNAL 0002;01 00 00 00 01 78 01 00 00 00 01 79 00
+Damaged { at: 16 };ARC JOURNAL 0002;01 00
 Damaged { at: 22 };ARC JOURNAL 0001;01 00 00 00 01 78 01 00
 Damaged { at: 22 };ARC JOURNAL 0001;01 00 00 00 01 78 01 00 00 00 01 79";
 
@@ -230,10 +239,14 @@ fn area_of(alloc: Global, text: &str, digits: &str) -> Result<Vec<u8>, Fail> {
     Ok(area)
 }
 
-// What an opening shows: how many bodies, or the fault.
+// What an opening shows: how many bodies, and of which version, or the fault.
 fn shown(alloc: Global, area: &[u8]) -> Result<String, Fail> {
     match Journal::open(alloc, disk_of(alloc, area)?, SHIPPED) {
-        Ok((_, bodies)) => Ok(format!(in alloc; "{} bodies", bodies.count())?),
+        Ok((journal, bodies)) => Ok(format!(in alloc;
+            "{} of {}",
+            bodies.count(),
+            journal.version()
+        )?),
         Err(refused) => Ok(format!(in alloc; "{:?}", refused.fault)?),
     }
 }
@@ -257,7 +270,7 @@ fn compare_area(rt: &impl Abort, alloc: Global, row: &str) -> Result<(), Fail> {
 #[test]
 fn a_short_area_is_begun_anew(rt: HostRuntime) -> Result<(), Fail> {
     let area = begun(rt.alloc(), b"0123456789")?;
-    let wanted = b"ARC JOURNAL 0001\0".as_slice();
+    let wanted = b"ARC JOURNAL 0002\0".as_slice();
     same(&rt, area.as_slice(), wanted, "an area begun anew");
     Ok(())
 }
@@ -273,12 +286,12 @@ fn begun(alloc: Global, area: &[u8]) -> Result<Vec<u8>, Fail> {
     Ok(journal.close().bytes(Area::A).to_vec(alloc)?)
 }
 
-// The limits of bytes and of records, and the answer to a fourth record of 6 bytes behind 100 bytes, and its calls.
+// The limits of bytes and of records, and the answer to a fourth record of 6 bytes behind 105 bytes, and its calls.
 const FULL: &str = "\
-106 4=done, 4 calls
-105 4=Full { used: 100, need: 6, records: 3 }, 0 calls
-106 3=Full { used: 100, need: 6, records: 3 }, 0 calls
-5 4=Full { used: 100, need: 6, records: 3 }, 0 calls
+111 4=done, 4 calls
+110 4=Full { used: 105, need: 6, records: 3 }, 0 calls
+111 3=Full { used: 105, need: 6, records: 3 }, 0 calls
+5 4=Full { used: 105, need: 6, records: 3 }, 0 calls
 4294967295 18446744073709551615=done, 4 calls";
 
 #[test]
@@ -367,7 +380,7 @@ fn a_body_of_one_byte_more_is_damage(rt: HostRuntime) -> Result<(), Fail> {
     }
     area[..21].copy_from_slice(b"ARC JOURNAL 0001\x01\0\x40\0\x60");
     let whole = shown(alloc, &area)?;
-    same(&rt, whole.as_str(), "1 bodies", "the longest body");
+    same(&rt, whole.as_str(), "1 of 1", "the longest body");
     area[20] = b'\x61';
     let damaged = shown(alloc, &area)?;
     same(&rt, damaged.as_str(), "Damaged { at: 16 }", "one byte more");

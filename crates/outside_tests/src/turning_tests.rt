@@ -1,5 +1,5 @@
-// What no clause says of a turn: that it succeeds, with worked bytes, and that whatever a stop leaves of it opens again as before it or as
-// after it.
+// What no clause says of a turn: that it succeeds, with worked bytes, and that whatever a stop leaves of it opens again as before it, of
+// either version, or as after it, of the second.
 ghost use Rattle.std.specs.Prelude.{◌≡◌, ◌+◌, ◌<◌, ◌^◌, length, IfOk};
 ghost use Rattle.disk_journal.specs.Turning.{IsNextTo};
 
@@ -10,7 +10,9 @@ use std::alloc::Global;
 use std::process::Abort;
 use std::test::Fail;
 
-const HEAD: &[u8] = b"ARC JOURNAL 0001";
+const HEAD: &[u8] = b"ARC JOURNAL 0002";
+
+const FIRST_HEAD: &[u8] = b"ARC JOURNAL 0001";
 
 // What may stand in an area.
 #[derive(Clone, Copy, Debug, PartialEq, Eq)]
@@ -22,16 +24,16 @@ enum Content {
     Stopped,
 }
 
-// A record of one byte, without a summary.
+// A record of one byte, without a summary, of version 1.
 const RECORD: &[u8] = b"ARC JOURNAL 0001\x01\0\0\0\x01\x05\0";
 
-// A summary of generation 1, and a record behind it.
+// A summary of generation 1, and a record behind it, of version 1.
 const FIRST: &[u8] =
     b"ARC JOURNAL 0001\x01\0\0\0\x0a\x0b\0\0\0\0\0\0\0\x01\x09\x01\0\0\0\x01\x05\0";
 
-// A summary of generation 2, and two records behind it.
+// A summary of generation 2, and two records behind it, of version 2.
 const SECOND: &[u8] =
-    b"ARC JOURNAL 0001\x01\0\0\0\x0a\x0b\0\0\0\0\0\0\0\x02\x09\x01\0\0\0\x01\x06\x01\0\0\0\x02\x05\x06\0";
+    b"ARC JOURNAL 0002\x01\0\0\0\x0a\x0b\0\0\0\0\0\0\0\x02\x09\x01\0\0\0\x01\x06\x01\0\0\0\x02\x05\x06\0";
 
 // What a stopped turn may have left behind a closed gate: four bytes 00, 0B and 200 bytes ff.
 fn stopped_turn(alloc: Global) -> Result<Vec<u8>, Fail> {
@@ -138,7 +140,12 @@ fn opened(alloc: Global, disk: MemDisk) -> Result<Standing, Fail> {
     let Ok((journal, bodies)) = Journal::open(alloc, disk, SHIPPED) else {
         return Err("not opened")?;
     };
-    let area = area_with(alloc, &bodies)?;
+    let head = if journal.version() == 1 {
+        FIRST_HEAD
+    } else {
+        HEAD
+    };
+    let area = area_with(alloc, head, &bodies)?;
     if journal.used() != area.len() as u64 {
         return Err("other bytes are used")?;
     }
@@ -149,8 +156,8 @@ fn opened(alloc: Global, disk: MemDisk) -> Result<Standing, Fail> {
     })
 }
 
-fn area_with(alloc: Global, bodies: &Bodies) -> Result<Vec<u8>, Fail> {
-    let mut area = HEAD.to_vec(alloc)?;
+fn area_with(alloc: Global, head: &[u8], bodies: &Bodies) -> Result<Vec<u8>, Fail> {
+    let mut area = head.to_vec(alloc)?;
     for i in 0..bodies.count() {
         put_body(&mut area, bodies.at(i))?;
     }
@@ -181,7 +188,7 @@ fn a_turn_goes_to_the_other_area(rt: HostRuntime) -> Result<(), Fail> {
     let disk = disk_of(alloc, Content::Record, Content::Empty)?;
     let (disk, _) = turned(alloc, disk)?;
     same(&rt, disk.bytes(Area::A), RECORD, "area A");
-    let wanted = b"ARC JOURNAL 0001\x01\0\0\0\x0a\x0b\0\0\0\0\0\0\0\x01\x07\0".as_slice();
+    let wanted = b"ARC JOURNAL 0002\x01\0\0\0\x0a\x0b\0\0\0\0\0\0\0\x01\x07\0".as_slice();
     same(&rt, disk.bytes(Area::B), wanted, "area B");
     Ok(())
 }

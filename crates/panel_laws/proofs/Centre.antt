@@ -23,7 +23,7 @@ use Rattle.panel_laws.proofs.Holds.{acked_more, IsFrame, IsReply, Holds, stood, 
 
 -- another event is no message
 not_message : (e : Event) → is_other e ≡ true → message_in e ≡ None
-not_message (Sends m) other = absurd (true≢false (sym other))
+not_message (Sends m via) other = absurd (true≢false (sym other))
 not_message rest other = refl
 
 module _ (x : Schedule) (s : Setting) (ms : List Mark) (now : ℕ) (fs rs : List Copy) (ts : List Step) (h : Holds x s ms now fs rs ts)
@@ -50,59 +50,59 @@ module _ (x : Schedule) (s : Setting) (ms : List Mark) (now : ℕ) (fs rs : List
   }
 
   -- the item that it adds
-  item_is : (y : Sent) (b : Bool) → IsAmong y h.xs → clock ≤ y.first + 240
-      → IsItem s h.xs clock (sent_item y.event b (message_entry (ideal_after x ts) (message_of s y.event y.report) clock))
-  item_is y b there soon =
+  item_is : (y : Sent) (via : List ℕ) (b : Bool) → IsAmong y h.xs → clock ≤ y.first + 240
+      → IsItem s h.xs clock (sent_item y.event b (message_entry (ideal_after x ts) (message_of s y.event y.report) via clock))
+  item_is y via b there soon =
       let at = moment_is s h.xs now clock (ideal_after x ts) le h.items in
       record {
         upto = omega (arith, at);
         of = Its y there (record {
           number = refl;
-          event = refl;
+          message = refl;
           low = omega (arith, at, first_below ms now h.xs y h.sent there, le);
           high = omega (arith, at, soon);
         });
       }
 
-  replied : (y : Sent) (at : ℕ) (b : Bool) → IsAmong y h.xs → clock ≤ y.first + 240
-      → AllByRecursion (IsReply h.xs (Deliver y.event (message_of s y.event y.report) clock b ∷ ts))
-      (reply_at (Delivers (record { event = y.event; report = y.report; at = at }) clock b) ++ rs)
-  replied y at true there soon = let t = Deliver y.event (message_of s y.event y.report) clock true in (
+  replied : (y : Sent) (via : List ℕ) (at : ℕ) (b : Bool) → IsAmong y h.xs → clock ≤ y.first + 240
+      → AllByRecursion (IsReply h.xs (Deliver y.event (message_of s y.event y.report) via clock b ∷ ts))
+      (reply_at (Delivers (record { event = y.event; report = y.report; at = at }) via clock b) ++ rs)
+  replied y via at true there soon = let t = Deliver y.event (message_of s y.event y.report) via clock true in (
     record {
       of = y;
       there = there;
       copy = record { event = refl; report = refl; high = soon };
-      acked = record { later = []; earlier = ts; message = message_of s y.event y.report; clock = clock; is = refl };
+      acked = record { later = []; earlier = ts; message = message_of s y.event y.report; via = via; clock = clock; is = refl };
     },
     replies_later h.xs t ts rs h.replies,
   )
-  replied y at false there soon = replies_later h.xs (Deliver y.event (message_of s y.event y.report) clock false) ts rs h.replies
+  replied y via at false there soon = replies_later h.xs (Deliver y.event (message_of s y.event y.report) via clock false) ts rs h.replies
 
   -- what holds once the copy that was sent at a moment is delivered
-  abbrev Delivered : ℕ → Bool → ℕ → Report → Type 0
-  Delivered at b e r = Holds x s ms clock fs (reply_at (Delivers (record { event = e; report = r; at = at }) clock b) ++ rs)
-      (Deliver e (message_of s e r) clock b ∷ ts)
+  abbrev Delivered : List ℕ → ℕ → Bool → ℕ → Report → Type 0
+  Delivered via at b e r = Holds x s ms clock fs (reply_at (Delivers (record { event = e; report = r; at = at }) via clock b) ++ rs)
+      (Deliver e (message_of s e r) via clock b ∷ ts)
 
-  arrive : (y : Sent) (at : ℕ) (b : Bool) → is_setting s ≡ true → has_account (meaning x.text) s.account ≡ true → IsAmong y h.xs
-      → clock ≤ y.first + 240 → Delivered at b y.event y.report
-  arrive y at b ok has there soon =
+  arrive : (y : Sent) (via : List ℕ) (at : ℕ) (b : Bool) → is_setting s ≡ true → has_account (meaning x.text) s.account ≡ true → IsAmong y h.xs
+      → clock ≤ y.first + 240 → Delivered via at b y.event y.report
+  arrive y via at b ok has there soon =
       let w = ideal_after x ts in
       let m = message_of s y.event y.report in
       let v = arrival y ok there soon in
       let own = all_among (IsSent ms) y h.xs h.sent.each there in
-      let new = sent_item y.event b (message_entry w m clock) in
-      let t = Deliver y.event m clock b in
+      let new = sent_item y.event b (message_entry w m via clock) in
+      let t = Deliver y.event m via clock b in
       record {
         xs = h.xs;
         sent = sent_later ms now clock h.xs le h.sent;
         frames = h.frames;
-        replies = replied y at b there soon;
+        replies = replied y via at b there soon;
         acked = λ n is. acked_more n t ts (h.acked n is);
         good = h.good;
         deliveries = ((y, there, refl, refl), h.deliveries);
-        items = delivered_has (AreItems s h.xs clock) y.event m clock b w passed (items_acknowledged s h.xs clock y.event w passed)
-            (λ none. (item_is y b there soon, passed));
-        falls = delivered_has AreFalling y.event m clock b w h.falls (falling_acknowledged y.event w h.falls)
+        items = delivered_has (AreItems s h.xs clock) y.event m via clock b w passed (items_acknowledged s h.xs clock y.event w passed)
+            (λ none. (item_is y via b there soon, passed));
+        falls = delivered_has AreFalling y.event m via clock b w h.falls (falling_acknowledged y.event w h.falls)
             (λ none. (above_all s (IsAcked ms) h.xs now clock w y v new refl none, h.falls));
         steps = (record { account = has; signals = signals_of y.report (good_of y.event y.report (taken ms) h.good own.told) }, h.steps);
         spaced = (
@@ -113,15 +113,15 @@ module _ (x : Schedule) (s : Setting) (ms : List Mark) (now : ℕ) (fs rs : List
       }
 
   -- a frame that is under way
-  pub deliver : (c : Copy) (b : Bool) → is_setting s ≡ true → has_account (meaning x.text) s.account ≡ true → IsAmong c fs
+  pub deliver : (c : Copy) (via : List ℕ) (b : Bool) → is_setting s ≡ true → has_account (meaning x.text) s.account ≡ true → IsAmong c fs
       → clock ≤ c.at + 60
-      → Holds x s ms clock fs (reply_at (Delivers c clock b) ++ rs) (Deliver c.event (message_of s c.event c.report) clock b ∷ ts)
-  deliver c b ok has there soon =
+      → Holds x s ms clock fs (reply_at (Delivers c via clock b) ++ rs) (Deliver c.event (message_of s c.event c.report) via clock b ∷ ts)
+  deliver c via b ok has there soon =
       let f = all_among (IsFrame h.xs) c fs h.frames there in
       let y = f.of in
-      let own = arrive y c.at b ok has f.there (omega (arith, f.copy.high, soon)) in
-      subst (λ (e : ℕ). Delivered c.at b e c.report) (sym f.copy.event)
-      (subst (λ (r : Report). Delivered c.at b y.event r) (sym f.copy.report) own)
+      let own = arrive y via c.at b ok has f.there (omega (arith, f.copy.high, soon)) in
+      subst (λ (e : ℕ). Delivered via c.at b e c.report) (sym f.copy.event)
+      (subst (λ (r : Report). Delivered via c.at b y.event r) (sym f.copy.report) own)
 
   -- Another event comes.
 

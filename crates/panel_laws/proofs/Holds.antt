@@ -24,12 +24,13 @@ pub record HasAcked (n : ℕ) (ts : List Step) : Type 0 where
   pub later : List Step
   pub earlier : List Step
   pub message : Message
+  pub via : List ℕ
   pub clock : ℕ
-  pub is : ts ≡ later ++ Deliver n message clock true ∷ earlier
+  pub is : ts ≡ later ++ Deliver n message via clock true ∷ earlier
 
 pub acked_more : (n : ℕ) (t : Step) (ts : List Step) → HasAcked n ts → HasAcked n (t ∷ ts)
 acked_more n t ts a =
-    record { later = t ∷ a.later; earlier = a.earlier; message = a.message; clock = a.clock; is = ap (λ l. t ∷ l) a.is }
+    record { later = t ∷ a.later; earlier = a.earlier; message = a.message; via = a.via; clock = a.clock; is = ap (λ l. t ∷ l) a.is }
 
 -- a copy is of an event that was sent, and was made so many seconds after the first copy at most
 pub record IsCopyOf (limit : ℕ) (c : Copy) (y : Sent) : Type 0 where
@@ -105,8 +106,8 @@ any_of n j [] is = cc
 any_of n j (i ∷ w) is = any_step (is_of_sending n i) n i j w (filter (is_of_sending n) w) refl is (any_of n j w)
 
 pub once : (x : Schedule) (ts : List Step) (n : ℕ) → Each (IsStep x) ts → Each (IsSpacedStep x) ts → (a : HasAcked n ts)
-    → StandsOnce n a.message (ideal_after x ts)
-once x ts n steps spaced a = stands_once false x ts a.later a.earlier n a.message a.clock true refl a.is spaced steps
+    → StandsOnce n a.message ts (ideal_after x ts)
+once x ts n steps spaced a = stands_once false x ts a.later a.earlier n a.message a.via a.clock true refl a.is spaced steps
 
 pub stood : (x : Schedule) (ts : List Step) (n : ℕ) → Each (IsStep x) ts → Each (IsSpacedStep x) ts → HasAcked n ts
     → stands n (ideal_after x ts) ≡ true

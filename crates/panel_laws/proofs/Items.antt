@@ -3,7 +3,6 @@ use Rattle.std.proofs.Common.{◌≡◌, ◌≤◌, ◌<◌, ◌+◌, ◌-◌, �
 use Rattle.std.specs.Prelude.{Some, None}
 use Rattle.std.specs.List.{AllByRecursion}
 use Rattle.std.proofs.lemmas.Bool.{cond_both, eq-eqb}
-use Rattle.arc_data.specs.declared.event.Event.TheVariants.{Message as Sends}
 use Rattle.centre_rules.specs.Summary.{nothing}
 use Rattle.centre_rules.specs.History.{is_recorded, last, moment_after}
 use Rattle.centre_laws.specs.Schedules.{Item, entries, is_same, is_of_sending, stands, acknowledge, acknowledge_item}
@@ -17,7 +16,7 @@ use Rattle.panel_laws.proofs.Sent.{Sent, all_weaker}
 -- the item is of this event of the panel
 pub record IsOfEvent (s : Setting) (i : Item) (x : Sent) : Type 0 where
   pub number : i.number ≡ Some x.event
-  pub event : i.entry.event ≡ Sends (message_of s x.event x.report)
+  pub message : message_in i.entry.event ≡ Some (message_of s x.event x.report)
   pub low : x.first ≤ i.entry.at
   pub high : i.entry.at ≤ x.first + 240
 
@@ -58,7 +57,7 @@ items_later s xs ys now then w le more all =
 acknowledged_of : (s : Setting) (xs : List Sent) (n : ℕ) (i : Item) → IsOf s xs i → IsOf s xs (acknowledge_item n i)
 acknowledged_of s xs n i (Another none other) = Another none other
 acknowledged_of s xs n i (Its x there own) =
-    Its x there (record { number = own.number; event = own.event; low = own.low; high = own.high })
+    Its x there (record { number = own.number; message = own.message; low = own.low; high = own.high })
 
 -- once one is acknowledged
 pub items_acknowledged : (s : Setting) (xs : List Sent) (now n : ℕ) (w : List Item) → AreItems s xs now w → AreItems s xs now (acknowledge n w)

@@ -72,7 +72,7 @@ module _ (x : Schedule) (s : Setting) (ms : List Mark) (now : ℕ) (fs rs : List
   }
     where
       of_more : (t : Step) → IsOfSent s h.xs t → IsOfSent s ys t
-      of_more (Deliver k a c b) own = (own.0, more own.0 own.1, own.2, own.3)
+      of_more (Deliver k a via c b) own = (own.0, more own.0 own.1, own.2, own.3)
       of_more (Others e c b) own = tt
       of_more Lose own = tt
       of_more (Crash kept c) own = tt

@@ -27,7 +27,7 @@ abbrev sent : List Step
 sent = Turn 1000000001 ∷ Queue AdmCid content ∷ []
 
 abbrev delivered : List Step
-delivered = Deliver (copy 1000000001) 1000000002 true ∷ sent
+delivered = Deliver (copy 1000000001) (codes "tcp") 1000000002 true ∷ sent
 
 abbrev steps : List Step
 steps = Hand (copy 1000000002) 1000000003 ∷ delivered

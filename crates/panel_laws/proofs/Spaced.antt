@@ -3,7 +3,6 @@ use Rattle.std.proofs.Common.{◌≡◌, ◌≤◌, ◌<◌, ◌+◌, ◌⊎◌,
 use Rattle.std.specs.Prelude.{Some}
 use Rattle.std.specs.List.{AllByRecursion}
 use Rattle.std.proofs.lemmas.Option.{none-some, same_Some}
-use Rattle.arc_data.specs.declared.event.Event.TheVariants.{Message as Sends}
 use Rattle.arc_data.specs.declared.event.Message.{Message}
 use Rattle.centre_laws.specs.Schedules.{Step, Deliver, Other, Lose, Crash, Item, stands}
 use Rattle.centre_laws.specs.Spacing.{message_in, Agrees, IsNear, AreFar, HasMessage, IsSpaced}
@@ -16,7 +15,7 @@ use Rattle.panel_laws.proofs.Items.{IsOfEvent, IsOf, Another, Its, IsItem, AreIt
 
 -- the step, if it is a delivery, is of an event that was sent, with its message
 abbrev pub IsOfSent : Setting → List Sent → Step → Type 0
-IsOfSent s xs (Deliver k a clock acknowledged) = (x : Sent) × IsAmong x xs × (k ≡ x.event) × (a ≡ message_of s x.event x.report)
+IsOfSent s xs (Deliver k a via clock acknowledged) = (x : Sent) × IsAmong x xs × (k ≡ x.event) × (a ≡ message_of s x.event x.report)
 IsOfSent s xs other = Unit {0}
 
 -- A copy of the message of x reaches the centre at a reading: at most 240 seconds after its first copy. If it was acknowledged, it stands.
@@ -45,7 +44,7 @@ same_sent acked xs x y order a b same = same_by acked x y (ordered acked xs x y 
 
 message_step : (s : Setting) (acked : ℕ → Type 0) (xs : List Sent) (x : Sent) (t : Step) → AreOrdered acked xs → IsAmong x xs
     → IsOfSent s xs t → HasMessage x.event (message_of s x.event x.report) t
-message_step s acked xs x (Deliver k a clock b) order there own =
+message_step s acked xs x (Deliver k a via clock b) order there own =
     λ is. own.3 ∙ sym (ap (λ (z : Sent). message_of s z.event z.report) (same_sent acked xs x own.0 order there own.1 (is ∙ own.2)))
 message_step s acked xs x (Other e clock b) order there own = tt
 message_step s acked xs x Lose order there own = tt
@@ -119,11 +118,11 @@ module _ (s : Setting) (acked : ℕ → Type 0) (xs : List Sent) (now clock : �
       let number : i.number ≡ Some x.event = own.number ∙ ap (λ (z : Sent). Some z.event) (sym is) in
       true≢false (sym (stands_among x.event i w there number) ∙ none)
 
-  far_of : (i : Item) (a : Message) → stands x.event w ≡ false → IsAmong i w → i.entry.event ≡ Sends a
+  far_of : (i : Item) (a : Message) → stands x.event w ≡ false → IsAmong i w → message_in i.entry.event ≡ Some a
       → Agrees a (message_of s x.event x.report) → i.entry.at ≤ now → IsOf s xs i → i.entry.at + 300 < clock
-  far_of i a none there is agree upto (Another empty other) = absurd (none-some a (sym other ∙ ap message_in is))
+  far_of i a none there is agree upto (Another empty other) = absurd (none-some a (sym other ∙ is))
   far_of i a none there is agree upto (Its y sent own) =
-      let same : a ≡ message_of s y.event y.report = same_Some a _ (ap message_in (sym is ∙ own.event)) in
+      let same : a ≡ message_of s y.event y.report = same_Some a _ (sym is ∙ own.message) in
       let number : number s y.event ≡ number s x.event = ap (λ (m : Message). m.seq) (sym same) ∙ agree.sequence in
       far_by i y sent own upto (other_of i y none there own) number (ordered acked xs x y v.order v.there sent)
 

@@ -39,8 +39,8 @@ HoldsAfter w steps =
 holds_step : (w : World) (t : Step) (ss : List Step) → IsWorld w → IsStep w t ss → HoldsAfter w ss → HoldsAfter w (t ∷ ss)
 holds_step w (Queue token content) ss is ok h = queue _ _ _ _ _ _ _ h token content
 holds_step w (Turn clock) ss is ok h = turn _ _ _ _ _ _ _ h clock ok.later
-holds_step w (Deliver frame clock b) ss is ok h =
-    deliver _ _ _ _ _ _ _ h clock ok.later frame b is.setting is.account ok.possible.among ok.possible.young
+holds_step w (Deliver frame via clock b) ss is ok h =
+    deliver _ _ _ _ _ _ _ h clock ok.later frame via b is.setting is.account ok.possible.among ok.possible.young
 holds_step w (Hand reply clock) ss is ok h = hear _ _ _ _ _ _ _ h clock reply is.setting ok.later ok.possible.among ok.possible.young
 holds_step w (Other e clock b) ss is ok h = other _ _ _ _ _ _ _ h clock ok.later e b ok.possible
 holds_step w Lose ss is ok h = lose _ _ _ _ _ _ _ h
@@ -110,7 +110,7 @@ messages_step s xs told i w tells (Another none empty) same =
     ap (map Some) (message_none s.account i.entry (entries w) empty) ∙ same ∙ ap (map told) (sym (number_none i w none))
 messages_step s xs told i w tells (Its y there own) same =
     let m = message_of s y.event y.report in
-    ap (map Some) (message_here s.account i.entry (entries w) m (ap message_in own.event) ((bytes_eq-Decides s.account s.account).1 refl))
+    ap (map Some) (message_here s.account i.entry (entries w) m own.message ((bytes_eq-Decides s.account s.account).1 refl))
     ∙ ap (λ l. Some m ∷ l) same ∙ ap (λ (o : Option Message). o ∷ map told (numbers_of w)) (sym (tells y there))
     ∙ ap (map told) (sym (number_here y.event i w own.number))
 

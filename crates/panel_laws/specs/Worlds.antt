@@ -18,13 +18,13 @@ pub record Copy : Type 0 where
   pub report : Report
   pub at : ℕ
 
--- The panel is given an event. It does a step. A copy of a frame reaches the centre, which acknowledges it or not: it does not where it
--- stops before that. A copy of a reply reaches the panel. Another event comes to the centre, which acknowledges it or not. A frame or a
--- reply is lost. The centre crashes, keeps so many entries, and starts again.
+-- The panel is given an event. It does a step. A copy of a frame reaches the centre by some line, and the centre acknowledges it or not:
+-- it does not where it stops before that. A copy of a reply reaches the panel. Another event comes to the centre, which acknowledges it
+-- or not. A frame or a reply is lost. The centre crashes, keeps so many entries, and starts again.
 pub data Step : Type 0 where
   Queue : (token : Token) (content : List ℕ) → Step
   Turn : (clock : ℕ) → Step
-  Deliver : (frame : Copy) (clock : ℕ) (acknowledged : Bool) → Step
+  Deliver : (frame : Copy) (via : List ℕ) (clock : ℕ) (acknowledged : Bool) → Step
   Hand : (reply : Copy) (clock : ℕ) → Step
   Other : (event : Event) (clock : ℕ) (acknowledged : Bool) → Step
   Lose : Step
@@ -78,7 +78,7 @@ frames s (x ∷ earlier) = frame_at (marks_after s earlier) x ++ frames s earlie
 
 -- the replies that the centre made in these steps: it acknowledges a frame at the reading at which it comes
 abbrev pub reply_at : Step → List Copy
-reply_at (Deliver frame clock true) = record { event = frame.event; report = frame.report; at = clock } ∷ []
+reply_at (Deliver frame via clock true) = record { event = frame.event; report = frame.report; at = clock } ∷ []
 reply_at other = []
 
 abbrev pub replies : List Step → List Copy
@@ -100,8 +100,8 @@ message_of s n report = record {
 
 -- What a step is to the centre. The sending of a message has the number of its event.
 abbrev pub scheduled_at : Setting → Step → List Stepped → List Stepped
-scheduled_at s (Deliver frame clock acknowledged) before =
-    Delivers frame.event (message_of s frame.event frame.report) clock acknowledged ∷ before
+scheduled_at s (Deliver frame via clock acknowledged) before =
+    Delivers frame.event (message_of s frame.event frame.report) via clock acknowledged ∷ before
 scheduled_at s (Other event clock acknowledged) before = Others event clock acknowledged ∷ before
 scheduled_at s Lose before = Loses ∷ before
 scheduled_at s (Crash kept clock) before = Crashes kept clock ∷ before
@@ -121,7 +121,7 @@ schedule_of w = record { text = w.text; first = w.first; steps = scheduled w.set
 -- the last reading of the clock
 abbrev pub reading_at : Step → ℕ → ℕ
 reading_at (Turn clock) before = clock
-reading_at (Deliver frame clock acknowledged) before = clock
+reading_at (Deliver frame via clock acknowledged) before = clock
 reading_at (Hand reply clock) before = clock
 reading_at (Other event clock acknowledged) before = clock
 reading_at (Crash kept clock) before = clock
@@ -143,7 +143,7 @@ pub record IsUnderWay (copy : Copy) (sent : List Copy) (clock : ℕ) : Type 0 wh
 
 -- what a step of a world is besides, after the steps before it
 abbrev pub IsPossible : World → Step → List Step → Type 0
-IsPossible w (Deliver frame clock acknowledged) earlier = IsUnderWay frame (frames w.setting earlier) clock
+IsPossible w (Deliver frame via clock acknowledged) earlier = IsUnderWay frame (frames w.setting earlier) clock
 IsPossible w (Hand reply clock) earlier = IsUnderWay reply (replies earlier) clock
 IsPossible w (Other event clock acknowledged) earlier = is_other event ≡ true
 IsPossible w (Crash kept clock) earlier = IsKept kept (ideal_after (schedule_of w) (scheduled w.setting earlier))

@@ -22,11 +22,18 @@ use Rattle.screen_page.specs.declared.tone.Tone.TheVariants.{Plainly, Heading, M
 abbrev pub restored_text : Bool → List ℕ
 restored_text restored = if restored then codes " restored" else codes ""
 
+-- the line by which it came, where one is named
+abbrev pub with_via : List ℕ → List ℕ → List ℕ
+with_via before [] = before
+with_via before (byte ∷ bytes) = with_texts before (codes " via " ∷ (byte ∷ bytes) ∷ [])
+
 abbrev pub viewed_row : ℕ → Option View → ℕ → List ℕ
 viewed_row number None moment = with_texts [] (codes "YOURS " ∷ decimal number ∷ [])
 viewed_row number (Some view) moment =
-    with_texts [] (codes "YOURS " ∷ decimal number ∷ codes " " ∷ name_of view.class ∷ codes " account " ∷ view.account ∷ codes " code "
-    ∷ view.code ∷ codes " since " ∷ age (moment - view.at) ∷ codes " signals " ∷ decimal view.signals ∷ restored_text view.restored ∷ [])
+    with_via
+    (with_texts [] (codes "YOURS " ∷ decimal number ∷ codes " " ∷ name_of view.class ∷ codes " account " ∷ view.account ∷ codes " code "
+    ∷ view.code ∷ codes " since " ∷ age (moment - view.at) ∷ codes " signals " ∷ decimal view.signals ∷ restored_text view.restored ∷ []))
+    view.via
 
 -- what the file of sites says of its account
 abbrev pub site_text : Option (List ℕ) → List ℕ → List ℕ

@@ -1,7 +1,7 @@
 // The rows of the operator's own incident.
 ghost use Rattle.std.specs.Prelude.{◌≡◌, ◌-◌, ◌∷◌, [], codes, decimal};
 ghost use Rattle.screen_page.specs.Mine.{ahead_row, called_text, due_row, keys_text, mine_rows, outcome_words, own_rows, recorded_row};
-ghost use Rattle.screen_page.specs.Mine.{restored_text, site_of_view, site_row, site_text, viewed_row, with_act, with_called};
+ghost use Rattle.screen_page.specs.Mine.{restored_text, site_of_view, site_row, site_text, viewed_row, with_act, with_called, with_via};
 ghost use Rattle.screen_page.specs.Texts.{age, with_texts};
 
 use crate::commands::step_line;
@@ -28,6 +28,19 @@ fn put_since(strip: &mut Strip, view: &View, moment: u64)
     strip.put(restored_text(view.restored));
 }
 
+// The line by which an incident came, where one is named.
+fn put_via(strip: &mut Strip, via: &Txt)
+    ensures { strip.new ≡ with_via strip.old via.now }
+{
+    match via.bytes() {
+        [] => {}
+        name => {
+            strip.put(b" via ");
+            strip.put(name);
+        }
+    }
+}
+
 // What is known of the own incident.
 fn viewed_row(number: u64, view: &Option<View>, moment: u64) -> Strip
     ensures { result ≡ viewed_row number view.now moment }
@@ -43,6 +56,7 @@ fn viewed_row(number: u64, view: &Option<View>, moment: u64) -> Strip
         strip.put(b" code ");
         strip.put(view.code.bytes());
         put_since(&mut strip, view, moment);
+        put_via(&mut strip, &view.via);
     }
     strip
 }

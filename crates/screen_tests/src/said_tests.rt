@@ -52,12 +52,15 @@ list2;list 40 1/fire/1234/ann 2/medical/ABC/-
 -;list 1 1/burglary/1234/-/
 -;list 1  1/burglary/1234/-
 -;list
-incident;incident 1 burglary 1234 code 131 opened 1000000000 signals 1 restored no holder ann next premises
-incident;incident 9 fire 00AA code FA opened 0 signals 12 restored yes holder none next none
--;incident 1 burglary 1234 code 131 opened 1000000000 signals 1 restored maybe holder ann next premises
--;incident 1 burglary 1234 code 131 opened 1000000000 signals 1 restored no holder ann next
--;incident 1 burglary 1234 code 131 opened 1000000000 signals 1 restored no holder ann next premises now
--;incident 1 burglary 1234 opened 1000000000 code 131 signals 1 restored no holder ann next premises
+incident;incident 1 burglary 1234 code 131 opened 1000000000 signals 1 restored no holder ann next premises via tcp
+incident;incident 9 fire 00AA code FA opened 0 signals 12 restored yes holder none next none via -
+-;incident 1 burglary 1234 code 131 opened 1000000000 signals 1 restored no holder ann next premises
+-;incident 1 burglary 1234 code 131 opened 1000000000 signals 1 restored no holder ann next premises via
+-;incident 1 burglary 1234 code 131 opened 1000000000 signals 1 restored no holder ann next premises via t,p
+-;incident 1 burglary 1234 code 131 opened 1000000000 signals 1 restored maybe holder ann next premises via tcp
+-;incident 1 burglary 1234 code 131 opened 1000000000 signals 1 restored no holder ann next via tcp
+-;incident 1 burglary 1234 code 131 opened 1000000000 signals 1 restored no holder ann next premises via tcp now
+-;incident 1 burglary 1234 opened 1000000000 code 131 signals 1 restored no holder ann next premises via tcp
 -;
 -; ok ann
 -;OK ann

@@ -79,7 +79,7 @@ fn an_incident_from_its_ring_to_its_closing(rt: HostRuntime) {
     answer(
         &rt,
         &mut screen,
-        "incident 1 burglary 1234 code 131 opened 1000000000 signals 1 restored no holder ann next premises",
+        "incident 1 burglary 1234 code 131 opened 1000000000 signals 1 restored no holder ann next premises via tcp",
         "(list)",
     );
     answer(&rt, &mut screen, "list 1 1/burglary/1234/ann", "-");
@@ -90,7 +90,7 @@ fn an_incident_from_its_ring_to_its_closing(rt: HostRuntime) {
     answer(
         &rt,
         &mut screen,
-        "incident 1 burglary 1234 code 131 opened 1000000000 signals 1 restored no holder ann next holder1",
+        "incident 1 burglary 1234 code 131 opened 1000000000 signals 1 restored no holder ann next holder1 via tcp",
         "(list)",
     );
     // the list is on the way: the act waits for its answer
@@ -100,7 +100,7 @@ fn an_incident_from_its_ring_to_its_closing(rt: HostRuntime) {
     answer(
         &rt,
         &mut screen,
-        "incident 1 burglary 1234 code 131 opened 1000000000 signals 1 restored no holder ann next police",
+        "incident 1 burglary 1234 code 131 opened 1000000000 signals 1 restored no holder ann next police via tcp",
         "(list)",
     );
     answer(&rt, &mut screen, "list 1 1/burglary/1234/ann", "-");
@@ -109,7 +109,7 @@ fn an_incident_from_its_ring_to_its_closing(rt: HostRuntime) {
     answer(
         &rt,
         &mut screen,
-        "incident 1 burglary 1234 code 131 opened 1000000000 signals 1 restored no holder ann next none",
+        "incident 1 burglary 1234 code 131 opened 1000000000 signals 1 restored no holder ann next none via tcp",
         "(list)",
     );
     answer(&rt, &mut screen, "list 1 1/burglary/1234/ann", "-");
@@ -120,7 +120,7 @@ fn an_incident_from_its_ring_to_its_closing(rt: HostRuntime) {
     answer(
         &rt,
         &mut screen,
-        "incident 1 burglary 1234 code 131 opened 1000000000 signals 1 restored no holder ann next none",
+        "incident 1 burglary 1234 code 131 opened 1000000000 signals 1 restored no holder ann next none via tcp",
         "(list)",
     );
     answer(&rt, &mut screen, "list 1 1/burglary/1234/ann", "-");
@@ -131,22 +131,22 @@ fn an_incident_from_its_ring_to_its_closing(rt: HostRuntime) {
 }
 
 const NOTE: &str =
-    "incident 1 burglary 1234 code 131 opened 1000000000 signals 1 restored no holder ann next note";
+    "incident 1 burglary 1234 code 131 opened 1000000000 signals 1 restored no holder ann next note via tcp";
 
 const POLICE: &str =
-    "incident 1 burglary 1234 code 131 opened 1000000000 signals 1 restored no holder ann next police";
+    "incident 1 burglary 1234 code 131 opened 1000000000 signals 1 restored no holder ann next police via tcp";
 
 const PREMISES: &str =
-    "incident 1 burglary 1234 code 131 opened 1000000000 signals 1 restored no holder ann next premises";
+    "incident 1 burglary 1234 code 131 opened 1000000000 signals 1 restored no holder ann next premises via tcp";
 
 const HOLDER1: &str =
-    "incident 1 burglary 1234 code 131 opened 1000000000 signals 1 restored no holder ann next holder1";
+    "incident 1 burglary 1234 code 131 opened 1000000000 signals 1 restored no holder ann next holder1 via tcp";
 
 const HOLDER2: &str =
-    "incident 1 burglary 1234 code 131 opened 1000000000 signals 1 restored no holder ann next holder2";
+    "incident 1 burglary 1234 code 131 opened 1000000000 signals 1 restored no holder ann next holder2 via tcp";
 
 const HOLDER3: &str =
-    "incident 1 burglary 1234 code 131 opened 1000000000 signals 1 restored no holder ann next holder3";
+    "incident 1 burglary 1234 code 131 opened 1000000000 signals 1 restored no holder ann next holder3 via tcp";
 
 const MINE: &str = "list 1 1/burglary/1234/ann";
 

@@ -251,7 +251,7 @@ fn a_worker_goes_on_behind_a_checkpoint(rt: HostRuntime) {
 }
 
 // An area whose summary says that 281,474,976,710,654 entries are recorded, and has nothing else.
-const NEARLY_WORN: &[u8] = b"ARC JOURNAL 0001\x01\0\0\0\x2b\
+const NEARLY_WORN: &[u8] = b"ARC JOURNAL 0002\x01\0\0\0\x2b\
     \x0b\0\0\0\0\0\0\0\x01\0\0\0\0\x3b\x9a\xca\0\0\0\xff\xff\xff\xff\xff\xfe\
     \0\0\0\0\0\0\0\0\0\0\0\0\0\0\0\0\0\0\0";
 

@@ -145,6 +145,7 @@ M 1 \"ADM-CID\"0001L0#1234[#1234|1131 01 001] > M 1 1BC10012\"ACK\"0001L0#1234[]
 M 1 \"ADM-CID\"0001L0#1234[#1234|1131 01 001] > M 1 1BC10012\"ACK\"0001L0#1234[]
 D 1 login ann 1234\r > D 1 ok ann
 D 1 next > D 1 claimed 1 burglary 1234
+D 1 show 1 > D 1 incident 1 burglary 1234 code 131 opened 1000000000 signals 1 restored no holder ann next note via l1
 D 1 act 1 note done > D 1 recorded 1 left 0
 D 1 close 1 real > D 1 closed 1
 D 1 quit > D 1 bye
@@ -162,6 +163,7 @@ M 1 \"x > M 1 -
 M 1 \"ADM-CID\"0001L0#9999[#9999|1131 01 001] > M 1 B7290012\"DUH\"0001L0#9999[]
 D 8 login bob 5678 > D 8 ok bob
 D 8 next > D 8 claimed 2 fire 12345A
+D 8 show 2 > D 8 incident 2 fire 12345A code FA opened 1000000000 signals 1 restored no holder bob next note via l1
 X > X recorded 11
 D 8 list > D 8 denied
 ";
@@ -220,18 +222,21 @@ D 5 hello > D 5 what
 D 6 hello > D 6 what
 D 7 hello > D 7 what
 D 8 hello > D 8 what
+M 16 \"ADM-CID\"0001L0#1234[#1234|1131 01 001] > M 16 1BC10012\"ACK\"0001L0#1234[]
+D 8 login ann 1234 > D 8 ok ann
+D 8 show 1 > D 8 incident 1 burglary 1234 code 131 opened 253402300799 signals 1 restored no holder none next note via l16
 ";
 
 // The remark behind them is as long as a line may be.
 #[test]
 fn sixteen_lines_and_eight_desks_are_played(rt: HostRuntime) {
     let tally = Tally {
-        sent: 16,
+        sent: 17,
         repeats: 0,
-        recorded: 18,
-        opened: 0,
+        recorded: 19,
+        opened: 1,
         closed: 0,
-        total: 0,
+        total: 1,
     };
     let rows = SIXTEEN_LINES_AND_EIGHT_DESKS;
     play(&rt, rt.alloc(), rows, 16_384, tally);

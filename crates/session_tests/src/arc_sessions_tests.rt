@@ -4,6 +4,7 @@ use arc_serving::{SessionEnd, Side, serve};
 use std::alloc::Global;
 use std::process::Abort;
 use test_fixtures::halls::ram_hall;
+use test_fixtures::messages::via;
 use test_fixtures::ports::port_of;
 
 // What a session of this kind with this input answers, over a hall of a run that has begun, and how it ends.
@@ -18,7 +19,7 @@ fn check_session(
     let setup = b"account 2468\noperator ann 1234\n";
     let mut hall = ram_hall(alloc, setup).expect(rt, "a hall");
     let mut port = port_of(alloc, input).expect(rt, "memory");
-    let end = serve(side, alloc, &mut hall, &mut port);
+    let end = serve(side, &via(), alloc, &mut hall, &mut port);
     same(rt, end, wanted, "the end");
     same(rt, port.sink.bytes(), answer, "the answers");
     drop(port);

@@ -1,5 +1,6 @@
 // What no clause says: that whole sessions succeed, byte for byte.
-ghost use Rattle.std.specs.Prelude.{◌≡◌, false};
+ghost use Rattle.std.specs.Prelude.{◌≡◌, true, false};
+ghost use Rattle.arc_data.specs.Digits.{is_name};
 
 mod ends;
 pub(crate) mod panel;
@@ -7,6 +8,7 @@ mod pieces;
 mod replies;
 mod sealed;
 
+use arc_data::Txt;
 use arc_io::Port;
 use centre_core::RamHall;
 use line_session::{LineEnd, serve_line};
@@ -34,8 +36,18 @@ fn session<P: Port>(rt: &impl Abort, alloc: Global, setup: &[u8], port: &mut P) 
     requires { (P.seen port.old).ended ≡ false }
 {
     let mut hall = ram_hall(alloc, setup).expect(rt, "a hall");
-    let end = serve_line(alloc, &mut hall, port);
+    let end = serve_line(alloc, &mut hall, port, &line_name());
     (end, recorded_of(hall))
+}
+
+// The name of each line.
+fn line_name() -> Txt
+    ensures { is_name result ≡ true }
+{
+    match Txt::of(b"line") {
+        Some(name) => name,
+        None => unreachable!(),
+    }
 }
 
 // How many entries a hall has recorded. Its centre is given to `drop`, since its parts needn't be looked at here.

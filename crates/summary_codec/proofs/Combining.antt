@@ -12,7 +12,7 @@ use Rattle.summary_rules.specs.Fields.{Given, IsLongNumber}
 use Rattle.summary_rules.specs.Spelling.{truth_byte, option_text, long_number, few_texts, many_texts}
 use Rattle.summary_codec.specs.Reading.{Reading, pair_at, made_at, front_of, times_at, few_at, many_at, truth_of, some_of, option_at}
 
-abbrev some : {A : Type 0} → A → Option A
+abbrev pub some : {A : Type 0} → A → Option A
 some x = Some x
 
 pub some_is : {A : Type 0} (x y : A) → some x ≡ some y → x ≡ y

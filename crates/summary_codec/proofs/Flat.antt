@@ -44,8 +44,10 @@ pub six_behind : (old a b c d e f : List ℕ) → (((((old ++ a) ++ b) ++ c) ++ 
 six_behind old a b c d e f = append_assoc ((((old ++ a) ++ b) ++ c) ++ d) e f ∙ five_behind old a b c d (e ++ f)
 
 -- what an incident was opened by, and what stands behind that
-pub opened_behind : (n a k t x : List ℕ) (c : ℕ) → (n ++ (a ++ (c ∷ (k ++ t)))) ++ x ≡ n ++ (a ++ (c ∷ (k ++ (t ++ x))))
-opened_behind n a k t x c = append_assoc n (a ++ (c ∷ (k ++ t))) x ∙ ap (λ l. n ++ l) (append_assoc a (c ∷ (k ++ t)) x ∙ ap (λ l. a ++ (c ∷ l)) (append_assoc k t x))
+pub opened_behind : (n a k v t x : List ℕ) (c : ℕ) → (n ++ (a ++ (c ∷ (k ++ (v ++ t))))) ++ x ≡ n ++ (a ++ (c ∷ (k ++ (v ++ (t ++ x)))))
+opened_behind n a k v t x c =
+    append_assoc n (a ++ (c ∷ (k ++ (v ++ t)))) x
+    ∙ ap (λ l. n ++ l) (append_assoc a (c ∷ (k ++ (v ++ t))) x ∙ ap (λ l. a ++ (c ∷ l)) (append_assoc k (v ++ t) x ∙ ap (λ l. k ++ l) (append_assoc v t x)))
 
 -- the head of a summary, and what stands behind it
 pub head_behind : (g l r o x : List ℕ) (tag : ℕ) → (tag ∷ (g ++ (l ++ (r ++ o)))) ++ x ≡ tag ∷ (g ++ (l ++ (r ++ (o ++ x))))

@@ -1,26 +1,30 @@
--- Incidents: each is read exactly where it is spelled.
-use Rattle.std.proofs.Common.{◌≡◌, ℕ, zero, suc, ◌<◌, ◌≤◌, Bool, true, false, leb, List, [], ◌∷◌, ◌++◌, length, Option, Some, None, refl, sym, ap, subst, ◌∙◌, arith}
+-- Incidents: each is read exactly where it is spelled, in either version.
+use Rattle.std.proofs.Common.{◌≡◌, ℕ, zero, suc, ◌<◌, ◌≤◌, Bool, true, false, eqb, leb, List, [], ◌∷◌, ◌++◌, length, Option, Some, None, refl, sym, ap, subst, ◌∙◌, arith}
+use Rattle.std.specs.Prelude.{if◌then◌else◌, codes}
+use Rattle.std.specs.Str.{bytes_eq}
 use Rattle.std.specs.Int.{w64}
-use Rattle.std.proofs.lemmas.Bool.{leb-true, le-leb}
+use Rattle.std.proofs.lemmas.Bool.{leb-true, le-leb, eqb-true, false≢true}
 use Rattle.arc_data.specs.Classes.{priority_of}
 use Rattle.arc_data.specs.Digits.{is_name, AreBytes}
 use Rattle.arc_data.specs.Steps.{is_step, fits}
+use Rattle.arc_data.specs.declared.incident.Incident.{Incident}
 use Rattle.arc_data.specs.declared.signal.Class.{Class}
 use Rattle.arc_data.specs.declared.signal.Class.TheVariants.{Fire, Medical, Panic, Gas, Burglary, Tamper, Environment, CommFail}
 use Rattle.arc_data.specs.declared.signal.Class.TheVariants.{Trouble, Irregular, LateClose, Unlisted, Test, OpenClose, Bypass, Cancel, Program}
 use Rattle.arc_data.specs.declared.step.Outcome.{Outcome}
 use Rattle.arc_data.specs.declared.step.Step.{Step}
 use Rattle.arc_data.proofs.ByteLemmas.{are_bytes}
-use Rattle.event_codec.specs.Spelling.{short_text, step_byte, outcome_byte}
+use Rattle.event_codec.specs.Spelling.{short_text, via_of_one, via_text, step_byte, outcome_byte}
 use Rattle.event_codec.specs.Reading.{number_at, piece_at, step_of, coded_at, outcome_at}
 use Rattle.event_codec.proofs.Readers.{IsReader, IsBytes, reworded, Then, seq, Given as Gives, giving, either, Either, Nothing, nothing, a_byte, IsFullPiece, a_full_piece}
 use Rattle.event_codec.proofs.Fields.{step, last}
 use Rattle.event_codec.proofs.Codes.{step_of-byte, step_byte-of}
 use Rattle.event_codec.proofs.Parts.{an_outcome}
-use Rattle.summary_rules.specs.Fields.{IsLongNumber, IsShortText, IsHolding, IsActed, IsIncident}
+use Rattle.summary_rules.specs.Conditions.{name_of_one, HasNameOfOne}
+use Rattle.summary_rules.specs.Fields.{IsLongNumber, IsShortText, IsLineText, IsHolding, IsActed, IsIncident}
 use Rattle.summary_rules.specs.Spelling.{long_number, class_byte, holder_text, act_text, incident_text}
-use Rattle.summary_codec.specs.Reading.{class_of, code_text_at, is_empty, is_holder_name, holding_of, holding_at, acted_of, acted_at, incident_of_parts, incident_at, made_at}
-use Rattle.summary_codec.proofs.Combining.{Spelled, paired, made, chosen, some_is, a_long_number, a_few, a_coded, a_truth}
+use Rattle.summary_codec.specs.Reading.{class_of, text_up_to, code_text_at, line_text_at, is_empty, is_holder_name, holding_of, holding_at, acted_of, acted_at, incident_of_parts, incident_at, made_at}
+use Rattle.summary_codec.proofs.Combining.{Spelled, paired, made, chosen, some, some_is, a_long_number, a_few, a_coded, a_truth}
 use Rattle.summary_codec.proofs.RowReading.{a_short_text, an_account}
 
 -- Classes.
@@ -67,13 +71,18 @@ class_back Program w = absurd (omega (arith, w))
 a_class : IsReader (coded_at class_of) (Spelled Urgent (λ x. class_byte x ∷ []))
 a_class = a_coded class_of class_byte Urgent class_there class_back
 
--- Codes.
+-- Codes and lines.
 
-a_code_text : IsReader code_text_at (Spelled IsShortText short_text)
-unfolding code_text_at
-a_code_text = reworded (Spelled IsShortText short_text)
-    (seq a_byte (λ n. either (leb n 32) (piece_at n) (λ bytes. None) (IsFullPiece n) Nothing (a_full_piece n) nothing))
-    (λ x bytes h. there h.first (leb h.first 32) refl x bytes h.front h.back h.joined h.is_first h.is_second)
+-- a text of bytes, at most so many
+record IsUpTo (most : ℕ) (text : List ℕ) : Type 0 where
+  size : length text ≤ most
+  bytes : AreBytes text
+
+a_text_up_to : (most : ℕ) → IsReader (text_up_to most) (Spelled (IsUpTo most) short_text)
+unfolding text_up_to
+a_text_up_to most = reworded (Spelled (IsUpTo most) short_text)
+    (seq a_byte (λ n. either (leb n most) (piece_at n) (λ bytes. None) (IsFullPiece n) Nothing (a_full_piece n) nothing))
+    (λ x bytes h. there h.first (leb h.first most) refl x bytes h.front h.back h.joined h.is_first h.is_second)
     (λ x bytes h. record {
       first = length x;
       front = length x ∷ [];
@@ -88,12 +97,55 @@ a_code_text = reworded (Spelled IsShortText short_text)
     each_byte (x ∷ xs) h zero = h.0
     each_byte (x ∷ xs) h (suc i) = each_byte xs h.1 i
 
-    there : (n : ℕ) (b : Bool) → leb n 32 ≡ b → (x bytes front back : List ℕ) → bytes ≡ front ++ back → front ≡ n ∷ []
-        → Either b (IsFullPiece n) Nothing x back → Spelled IsShortText short_text x bytes
+    there : (n : ℕ) (b : Bool) → leb n most ≡ b → (x bytes front back : List ℕ) → bytes ≡ front ++ back → front ≡ n ∷ []
+        → Either b (IsFullPiece n) Nothing x back → Spelled (IsUpTo most) short_text x bytes
     there n true le x bytes front back j is h =
-        let small : n ≤ 32 = leb-true _ _ le in
+        let small : n ≤ most = leb-true _ _ le in
         record { ok = record { size = omega (arith, h.long, small); bytes = are_bytes x h.bytes }; is = step j (is ∙ ap (λ (k : ℕ). k ∷ []) (sym h.long)) h.is }
     there n false le x bytes front back j is h = absurd h
+
+a_code_text : IsReader code_text_at (Spelled IsShortText short_text)
+a_code_text = reworded (Spelled IsShortText short_text) (a_text_up_to 32)
+    (λ x bytes h. record { ok = record { size = h.ok.size; bytes = h.ok.bytes }; is = h.is })
+    (λ x bytes h. record { ok = record { size = h.ok.size; bytes = h.ok.bytes }; is = h.is })
+
+-- the line of an incident of this code
+record IsLineOf (version : ℕ) (code via : List ℕ) : Type 0 where
+  text : IsLineText via
+  name : version ≡ 1 → via ≡ name_of_one code
+
+name_short : (code : List ℕ) → IsLineText (name_of_one code)
+name_short code = by (bytes_eq code (codes "-"))
+  where
+    by : (b : Bool) → IsLineText (if b then [] else via_of_one)
+    by true = record { size = omega arith; bytes = tt }
+    by false = record { size = omega arith; bytes = (omega arith, (omega arith, tt)) }
+
+a_line : (version : ℕ) (code : List ℕ) → IsReader (line_text_at version code) (Spelled (IsLineOf version code) (via_text version))
+unfolding line_text_at
+a_line version code = reworded (Spelled (IsLineOf version code) (via_text version))
+    (either (eqb version 1) (λ bytes. Some (name_of_one code, bytes)) (text_up_to 16) (Gives (Some (name_of_one code))) (Spelled (IsUpTo 16) short_text)
+    (giving (Some (name_of_one code))) (a_text_up_to 16))
+    (λ via text h. there via text (eqb version 1) refl h)
+    (λ via text h. back via text (eqb version 1) refl h)
+  where
+    text_by : (via : List ℕ) (test : Bool) → eqb version 1 ≡ test → via_text version via ≡ (if test then [] else short_text via)
+    text_by via test e = ap (λ (b : Bool). if b then [] else short_text via) e
+
+    there : (via text : List ℕ) (test : Bool) → eqb version 1 ≡ test → Either test (Gives (Some (name_of_one code))) (Spelled (IsUpTo 16) short_text) via text
+        → Spelled (IsLineOf version code) (via_text version) via text
+    there via text true same h =
+        let one : name_of_one code ≡ via = some_is (name_of_one code) via h.is in
+        record { ok = record { text = subst IsLineText one (name_short code); name = λ e. sym one }; is = h.none ∙ sym (text_by via true same) }
+    there via text false differs h = record {
+      ok = record { text = record { size = h.ok.size; bytes = h.ok.bytes }; name = λ e. absurd (false≢true (sym differs ∙ ap (λ (k : ℕ). eqb k 1) e)) };
+      is = h.is ∙ sym (text_by via false differs);
+    }
+
+    back : (via text : List ℕ) (test : Bool) → eqb version 1 ≡ test → Spelled (IsLineOf version code) (via_text version) via text
+        → Either test (Gives (Some (name_of_one code))) (Spelled (IsUpTo 16) short_text) via text
+    back via text true same h = record { is = ap some (sym (h.ok.name (eqb-true version 1 same))); none = h.is ∙ text_by via true same }
+    back via text false differs h = record { ok = record { size = h.ok.text.size; bytes = h.ok.text.bytes }; is = h.is ∙ text_by via false differs }
 
 -- Holders.
 
@@ -189,31 +241,40 @@ an_act = made acted_of IsActed act_text (paired an_outcome_text (λ s. paired a_
 
 -- Incidents.
 
-pub an_incident : IsReader incident_at (Spelled IsIncident incident_text)
+-- its fields are in their ranges, and in version 1 it has the line that this version gives it
+pub record IsIncidentIn (version : ℕ) (i : Incident) : Type 0 where
+  pub fields : IsIncident i
+  pub name : version ≡ 1 → HasNameOfOne i
+
+pub an_incident : (version : ℕ) → IsReader (incident_at version) (Spelled (IsIncidentIn version) (incident_text version))
 unfolding incident_at incident_text Urgent Holding holding_text IsStep
-an_incident = made incident_of_parts IsIncident incident_text
-    (paired a_long_number (λ n. paired an_account (λ account. paired a_class (λ class. paired a_code_text (λ code. paired a_long_number (λ at.
-    paired a_long_number (λ signals. paired a_truth (λ restored. paired a_holding (λ holding.
-    paired (a_few 10 IsStep (λ s. step_byte s ∷ []) a_step) (λ steps. a_few 10 IsActed act_text an_act))))))))))
+an_incident version = made incident_of_parts (IsIncidentIn version) (incident_text version)
+    (paired a_long_number (λ n. paired an_account (λ account. paired a_class (λ class. paired a_code_text (λ code. paired (a_line version code) (λ via.
+    paired a_long_number (λ at. paired a_long_number (λ signals. paired a_truth (λ restored. paired a_holding (λ holding.
+    paired (a_few 10 IsStep (λ s. step_byte s ∷ []) a_step) (λ steps. a_few 10 IsActed act_text an_act)))))))))))
     (λ p w. record {
       ok = record {
-        number = w.0;
-        account = w.1.0;
-        class = w.1.1.0;
-        code = w.1.1.1.0;
-        at = w.1.1.1.1.0;
-        signals = w.1.1.1.1.1.0;
-        holder = w.1.1.1.1.1.1.1.0;
-        few_steps = w.1.1.1.1.1.1.1.1.0.0;
-        steps = w.1.1.1.1.1.1.1.1.0.1;
-        few_acts = w.1.1.1.1.1.1.1.1.1.0;
-        acts = w.1.1.1.1.1.1.1.1.1.1;
+        fields = record {
+          number = w.0;
+          account = w.1.0;
+          class = w.1.1.0;
+          code = w.1.1.1.0;
+          via = w.1.1.1.1.0.text;
+          at = w.1.1.1.1.1.0;
+          signals = w.1.1.1.1.1.1.0;
+          holder = w.1.1.1.1.1.1.1.1.0;
+          few_steps = w.1.1.1.1.1.1.1.1.1.0.0;
+          steps = w.1.1.1.1.1.1.1.1.1.0.1;
+          few_acts = w.1.1.1.1.1.1.1.1.1.1.0;
+          acts = w.1.1.1.1.1.1.1.1.1.1.1;
+        };
+        name = w.1.1.1.1.0.name;
       };
       text = refl;
     })
-    (λ i w. record {
-      part = (i.number, (i.account, (i.class, (i.code, (i.at, (i.signals, (i.restored, ((i.holder, i.touched), (i.steps, i.acts)))))))));
-      ok = (w.number, (w.account, (w.class, (w.code, (w.at, (w.signals, (tt, (w.holder, ((w.few_steps, w.steps), (w.few_acts, w.acts))))))))));
+    (λ i v. let w = v.fields in record {
+      part = (i.number, (i.account, (i.class, (i.code, (i.via, (i.at, (i.signals, (i.restored, ((i.holder, i.touched), (i.steps, i.acts))))))))));
+      ok = (w.number, (w.account, (w.class, (w.code, (record { text = w.via; name = v.name }, (w.at, (w.signals, (tt, (w.holder, ((w.few_steps, w.steps), (w.few_acts, w.acts)))))))))));
       made = refl;
       text = refl;
     })

@@ -17,13 +17,13 @@ later_at = pair_at (number_at w64) (λ signals. pair_at (coded_at truth_of) (λ 
     pair_at (few_at 10 (coded_at step_of)) (λ steps. few_at 10 acted_at))))
 
 abbrev pub with_later : OpenedBy → LaterParts → Incident
-with_later o p = incident_of_parts (o.number, (o.account, (o.class, (o.code, (o.at, p)))))
+with_later o p = incident_of_parts (o.number, (o.account, (o.class, (o.code, (o.via, (o.at, p))))))
 
-pub opened_none : (bytes : List ℕ) (o : OpenedBy) → IsOpenedBy bytes o → later_at o.rest.now ≡ None → incident_at bytes ≡ None
+pub opened_none : (version : ℕ) (bytes : List ℕ) (o : OpenedBy) → IsOpenedBy version bytes o → later_at o.rest.now ≡ None → incident_at version bytes ≡ None
 unfolding incident_at
-opened_none bytes o h later = rw (h.number, h.account, h.class, h.code, h.at, later) refl
+opened_none version bytes o h later = rw (h.number, h.account, h.class, h.code, h.via, h.at, later) refl
 
-pub opened_some : (bytes : List ℕ) (o : OpenedBy) (p : LaterParts) (end : List ℕ) → IsOpenedBy bytes o → later_at o.rest.now ≡ Some (p, end)
-    → incident_at bytes ≡ Some (with_later o p, end)
+pub opened_some : (version : ℕ) (bytes : List ℕ) (o : OpenedBy) (p : LaterParts) (end : List ℕ) → IsOpenedBy version bytes o → later_at o.rest.now ≡ Some (p, end)
+    → incident_at version bytes ≡ Some (with_later o p, end)
 unfolding incident_at
-opened_some bytes o p end h later = rw (h.number, h.account, h.class, h.code, h.at, later) refl
+opened_some version bytes o p end h later = rw (h.number, h.account, h.class, h.code, h.via, h.at, later) refl

@@ -1,4 +1,4 @@
--- No bytes spell two summaries.
+-- No bytes spell two summaries in one version.
 use Rattle.std.specs.Prelude.{◌≡◌, ℕ, List}
 use Rattle.centre_rules.specs.Summary.{Summary}
 use Rattle.summary_rules.specs.Conditions.{IsSpelling}
@@ -9,5 +9,5 @@ pub record AreOne (generation : ℕ) (s : Summary) (other : ℕ) (t : Summary) :
   pub summaries : s ≡ t
 
 abbrev pub SpellsOne : Type 0
-SpellsOne = (bytes : List ℕ) (generation other : ℕ) (s t : Summary)
-    → IsSpelling generation s bytes → IsSpelling other t bytes → AreOne generation s other t
+SpellsOne = (version : ℕ) (bytes : List ℕ) (generation other : ℕ) (s t : Summary)
+    → IsSpelling version generation s bytes → IsSpelling version other t bytes → AreOne generation s other t

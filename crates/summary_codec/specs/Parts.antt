@@ -2,6 +2,7 @@
 use Rattle.std.specs.Prelude.{◌≡◌, ℕ, List, map}
 use Rattle.std.specs.Option.{option_map}
 use Rattle.centre_rules.specs.Summary.{Summary, AccountRow}
+use Rattle.summary_rules.specs.Conditions.{AreNamedIn}
 use Rattle.summary_rules.specs.Fields.{HasFields}
 use Rattle.summary_rules.specs.Spelling.{summary_text}
 use Rattle.summary_codec.specs.declared.reading.ReadRow.{ReadRow}
@@ -21,11 +22,13 @@ summary_of_read r = record {
   incidents = r.incidents.items;
 }
 
--- they are the bytes of what was read, each field of which is in its range
-pub record IsTextOf (bytes : List ℕ) (r : ReadSummary) : Type 0 where
+-- they are the bytes of what was read, in this version, and each field of it is in its range
+pub record IsTextOf (version : ℕ) (bytes : List ℕ) (r : ReadSummary) : Type 0 where
   pub fields : HasFields r.head.generation (summary_of_read r)
-  pub is : bytes ≡ summary_text r.head.generation (summary_of_read r)
+  pub names : AreNamedIn version r.incidents.items
+  pub is : bytes ≡ summary_text version r.head.generation (summary_of_read r)
 
--- they are the bytes of no summary whose fields are in their ranges
-abbrev pub IsNoText : List ℕ → Type 0
-IsNoText bytes = (generation : ℕ) (s : Summary) → HasFields generation s → bytes ≡ summary_text generation s → ⊥
+-- they are the bytes of no summary whose fields are in their ranges, in this version
+abbrev pub IsNoText : ℕ → List ℕ → Type 0
+IsNoText version bytes = (generation : ℕ) (s : Summary) → HasFields generation s → AreNamedIn version s.incidents
+    → bytes ≡ summary_text version generation s → ⊥

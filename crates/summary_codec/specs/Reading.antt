@@ -1,4 +1,5 @@
--- Reading a summary from left to right. A reading is None where the bytes do not begin so, and else a value and the bytes behind it.
+-- Reading a summary of either version from left to right. A reading is None where the bytes do not begin so, and else a value and the bytes
+-- behind it.
 use Rattle.std.specs.Prelude.{ℕ, suc, zero, ◌==◌, ◌||◌, List, [], ◌∷◌, reverse, Bool, true, false, Option, Some, None}
 use Rattle.std.specs.Prelude.{nat_le, if◌then◌else◌}
 use Rattle.std.specs.Int.{w16, w32, w64}
@@ -16,6 +17,7 @@ use Rattle.arc_data.specs.declared.step.Step.{Step}
 use Rattle.event_codec.specs.Reading.{◌>>=◌, byte_at, piece_at, number_at, number_up_to, short_at, receiver_at, long_at}
 use Rattle.event_codec.specs.Reading.{token_of, step_of, coded_at, account_at, outcome_at}
 use Rattle.centre_rules.specs.Summary.{Summary, AccountRow, Past}
+use Rattle.summary_rules.specs.Conditions.{name_of_one}
 
 -- What a reading gives.
 abbrev pub Reading : Type 0 → Type 0
@@ -111,9 +113,17 @@ class_of b = if b == 1 then Some Fire else if b == 2 then Some Medical else if b
     else if b == 9 then Some Trouble else if b == 10 then Some Irregular else if b == 11 then Some LateClose
     else if b == 12 then Some Unlisted else None
 
--- a byte of length, at most 32, and that many bytes
-unfoldable pub code_text_at : Reading (List ℕ)
-code_text_at bytes = byte_at bytes >>= λ n. if nat_le n.0 32 then piece_at n.0 n.1 else None
+-- a byte of length, at most so much, and that many bytes
+unfoldable pub text_up_to : ℕ → Reading (List ℕ)
+text_up_to most bytes = byte_at bytes >>= λ n. if nat_le n.0 most then piece_at n.0 n.1 else None
+
+-- a code has at most 32 bytes
+abbrev pub code_text_at : Reading (List ℕ)
+code_text_at = text_up_to 32
+
+-- the line of an incident of this code, at most 16 bytes; version 1 leaves it out
+unfoldable pub line_text_at : ℕ → List ℕ → Reading (List ℕ)
+line_text_at version code bytes = if version == 1 then Some (name_of_one code, bytes) else text_up_to 16 bytes
 
 abbrev pub is_empty : List ℕ → Bool
 is_empty [] = true
@@ -138,7 +148,7 @@ unfoldable pub acted_at : Reading Acted
 acted_at = made_at acted_of (pair_at outcome_at (λ s. pair_at (number_at w64) (λ at. short_at is_name)))
 
 abbrev pub IncidentParts : Type 0
-IncidentParts = ℕ × (List ℕ × (Class × (List ℕ × (ℕ × (ℕ × (Bool × ((Option (List ℕ) × ℕ) × (List Step × List Acted))))))))
+IncidentParts = ℕ × (List ℕ × (Class × (List ℕ × (List ℕ × (ℕ × (ℕ × (Bool × ((Option (List ℕ) × ℕ) × (List Step × List Acted)))))))))
 
 abbrev pub incident_of_parts : IncidentParts → Incident
 incident_of_parts p = record {
@@ -146,20 +156,21 @@ incident_of_parts p = record {
   account = p.1.0;
   class = p.1.1.0;
   code = p.1.1.1.0;
-  at = p.1.1.1.1.0;
-  signals = p.1.1.1.1.1.0;
-  restored = p.1.1.1.1.1.1.0;
-  holder = p.1.1.1.1.1.1.1.0.0;
-  touched = p.1.1.1.1.1.1.1.0.1;
-  steps = p.1.1.1.1.1.1.1.1.0;
-  acts = p.1.1.1.1.1.1.1.1.1;
+  via = p.1.1.1.1.0;
+  at = p.1.1.1.1.1.0;
+  signals = p.1.1.1.1.1.1.0;
+  restored = p.1.1.1.1.1.1.1.0;
+  holder = p.1.1.1.1.1.1.1.1.0.0;
+  touched = p.1.1.1.1.1.1.1.1.0.1;
+  steps = p.1.1.1.1.1.1.1.1.1.0;
+  acts = p.1.1.1.1.1.1.1.1.1.1;
 }
 
-unfoldable pub incident_at : Reading Incident
-incident_at = made_at incident_of_parts (pair_at (number_at w64) (λ n. pair_at account_at (λ account. pair_at (coded_at class_of) (λ class.
-    pair_at code_text_at (λ code. pair_at (number_at w64) (λ at. pair_at (number_at w64) (λ signals.
-    pair_at (coded_at truth_of) (λ restored. pair_at holding_at (λ holding.
-    pair_at (few_at 10 (coded_at step_of)) (λ steps. few_at 10 acted_at))))))))))
+unfoldable pub incident_at : ℕ → Reading Incident
+incident_at version = made_at incident_of_parts (pair_at (number_at w64) (λ n. pair_at account_at (λ account.
+    pair_at (coded_at class_of) (λ class. pair_at code_text_at (λ code. pair_at (line_text_at version code) (λ via. pair_at (number_at w64) (λ at.
+    pair_at (number_at w64) (λ signals. pair_at (coded_at truth_of) (λ restored. pair_at holding_at (λ holding.
+    pair_at (few_at 10 (coded_at step_of)) (λ steps. few_at 10 acted_at)))))))))))
 
 -- The whole.
 
@@ -184,7 +195,7 @@ summary_of_parts p = (
   },
 )
 
-unfoldable pub summary_at : Reading (ℕ × Summary)
-summary_at = made_at summary_of_parts (pair_at tag_at (λ tag. pair_at (number_at w64) (λ generation. pair_at (number_at w64) (λ last.
-    pair_at (number_at w64) (λ recorded. pair_at (number_at w64) (λ opened. pair_at (option_at (number_at w64)) (λ start.
-    pair_at (option_at (long_at w32 4194304)) (λ text. pair_at (many_at row_at) (λ rows. many_at incident_at)))))))))
+unfoldable pub summary_at : ℕ → Reading (ℕ × Summary)
+summary_at version = made_at summary_of_parts (pair_at tag_at (λ tag. pair_at (number_at w64) (λ generation.
+    pair_at (number_at w64) (λ last. pair_at (number_at w64) (λ recorded. pair_at (number_at w64) (λ opened. pair_at (option_at (number_at w64)) (λ start.
+    pair_at (option_at (long_at w32 4194304)) (λ text. pair_at (many_at row_at) (λ rows. many_at (incident_at version))))))))))

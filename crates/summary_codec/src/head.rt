@@ -1,5 +1,5 @@
 // What stands before the rows of a summary.
-ghost use Rattle.std.specs.Prelude.{◌≡◌, None, Some, MatchOption};
+ghost use Rattle.std.specs.Prelude.{◌≡◌, ℕ, None, Some, MatchOption};
 ghost use Rattle.summary_codec.specs.Reading.{tag_at, summary_at};
 ghost use Rattle.summary_codec.specs.Heads.{IsHead};
 
@@ -29,10 +29,10 @@ fn tag_read_at(bytes: &[u8]) -> Option<&[u8]>
     }
 }
 
-/// What stands before the rows. None only where no summary stands there.
+/// What stands before the rows, which both versions have alike. None only where no summary stands there, in neither of them.
 #[tactic(auto, unfolding(crate::specs::Reading::summary_at))]
 pub fn head_at(bytes: &[u8]) -> Option<Head<'_>>
-    ensures { MatchOption result (summary_at bytes.now ≡ None) (IsHead bytes.now) }
+    ensures { MatchOption result ((version : ℕ) → summary_at version bytes.now ≡ None) (IsHead bytes.now) }
 {
     let rest = tag_read_at(bytes)?;
     let (generation, rest) = u64_at(rest)?;

@@ -1,4 +1,4 @@
-//! Summaries as bytes: the one spelling of each summary of a centre, and its writer.
+//! Summaries as bytes: the one spelling of each summary of a centre in either version, its reader, and the writer of version 2.
 #![tactic(auto)]
 
 mod head;

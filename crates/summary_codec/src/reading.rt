@@ -1,10 +1,11 @@
-// The parts of a summary, read from left to right. A reading is None where the bytes do not begin so.
+// The parts of a summary of either version, read from left to right. A reading is None where the bytes do not begin so.
 ghost use Rattle.std.specs.Prelude.{◌≡◌, ◌≤◌, [], List, ℕ, None, Some, length, map, reverse, IfOk, MatchOption};
 ghost use Rattle.std.specs.Int.{w32, w64};
 ghost use Rattle.std.specs.Option.{option_map};
 ghost use Rattle.event_codec.specs.Reading.{number_at, long_at, coded_at, step_of};
-ghost use Rattle.summary_codec.specs.Reading.{few_at, many_at, times_at, option_at, truth_of, opening_at, message_parts_at, past_at, row_at, class_of, code_text_at};
-ghost use Rattle.summary_codec.specs.Reading.{holding_at, acted_at, incident_at};
+ghost use Rattle.summary_rules.specs.Conditions.{name_of_one};
+ghost use Rattle.summary_codec.specs.Reading.{few_at, many_at, times_at, option_at, truth_of, opening_at, message_parts_at, past_at, row_at, class_of};
+ghost use Rattle.summary_codec.specs.Reading.{text_up_to, line_text_at, holding_at, acted_at, incident_at};
 ghost use Rattle.summary_codec.specs.Parts.{row_of_read};
 ghost use Rattle.summary_codec.specs.Heads.{IsOpenedBy};
 
@@ -14,7 +15,7 @@ use arc_data::{
 };
 use event_codec::{
     account_at, act_at, byte_at, content_at, line_at, operator_at, piece_at, receiver_at, setup_at,
-    step_at, text_at, token_at, u16_at, u64_at,
+    step_at, text_at, token_at, u16_at, u64_at, via_of_one,
 };
 use repeat_window::{Seen, Window};
 use std::alloc::Global;
@@ -300,18 +301,41 @@ fn class_of_byte(byte: u8) -> Option<Class>
     }
 }
 
-// A code of at most 32 bytes.
-#[tactic(auto, unfolding(crate::specs::Reading::code_text_at))]
-fn code_at(bytes: &[u8]) -> Option<(Txt, &[u8])>
-    ensures { MatchOption result (code_text_at bytes.now ≡ None) (λ x. code_text_at bytes.now ≡ Some (x.0, x.1.now)) }
+// A text of at most so many bytes: 32 of a code, 16 of the name of a line.
+#[tactic(auto, unfolding(crate::specs::Reading::text_up_to))]
+fn text_up_to(most: u8, bytes: &[u8]) -> Option<(Txt, &[u8])>
+    requires { most ≤ 32 }
+    ensures { MatchOption result (text_up_to most bytes.now ≡ None) (λ x. text_up_to most bytes.now ≡ Some (x.0, x.1.now)) }
 {
     let (count, rest) = byte_at(bytes)?;
-    if count > 32 {
+    if count > most {
         return None;
     }
     let (text, rest) = piece_at(usize::from(count), rest)?;
-    let code = Txt::of(text)?;
-    Some((code, rest))
+    let text = Txt::of(text)?;
+    Some((text, rest))
+}
+
+// The line by which the signal of this code came. Version 1 leaves it out.
+#[tactic(auto, unfolding(crate::specs::Reading::line_text_at))]
+fn via_at<'a>(version: u8, code: &Txt, bytes: &'a [u8]) -> Option<(Txt, &'a [u8])>
+    ensures { MatchOption result (line_text_at version code.now bytes.now ≡ None) (λ x. line_text_at version code.now bytes.now ≡ Some (x.0, x.1.now)) }
+{
+    if version == 1 {
+        return Some((name_of_one(code), bytes));
+    }
+    text_up_to(16, bytes)
+}
+
+// The line that version 1 gives a signal of this code: none where no panel sent it.
+fn name_of_one(code: &Txt) -> Txt
+    ensures { result ≡ name_of_one code.now }
+{
+    if code.bytes() == b"-".as_slice() {
+        Txt::empty()
+    } else {
+        via_of_one()
+    }
 }
 
 // The claimer of an incident, and since when it was not touched.
@@ -404,13 +428,14 @@ pub(crate) struct OpenedBy<'a> {
     pub account: Txt,
     pub class: Class,
     pub code: Txt,
+    pub via: Txt,
     pub at: u64,
     pub rest: &'a [u8],
 }
 
 #[tactic(auto, unfolding(crate::specs::Reading::incident_at))]
-fn opened_by_at(bytes: &[u8]) -> Option<OpenedBy<'_>>
-    ensures { MatchOption result (incident_at bytes.now ≡ None) (IsOpenedBy bytes.now) }
+fn opened_by_at(version: u8, bytes: &[u8]) -> Option<OpenedBy<'_>>
+    ensures { MatchOption result (incident_at version bytes.now ≡ None) (IsOpenedBy version bytes.now) }
 {
     let Some((number, rest)) = u64_at(bytes) else {
         return None;
@@ -421,7 +446,10 @@ fn opened_by_at(bytes: &[u8]) -> Option<OpenedBy<'_>>
     let Some((class, rest)) = class_at(rest) else {
         return None;
     };
-    let Some((code, rest)) = code_at(rest) else {
+    let Some((code, rest)) = text_up_to(32, rest) else {
+        return None;
+    };
+    let Some((via, rest)) = via_at(version, &code, rest) else {
         return None;
     };
     let Some((at, rest)) = u64_at(rest) else {
@@ -432,15 +460,16 @@ fn opened_by_at(bytes: &[u8]) -> Option<OpenedBy<'_>>
         account,
         class,
         code,
+        via,
         at,
         rest,
     })
 }
 
-fn incident_read_at(bytes: &[u8]) -> Option<(Incident, &[u8])>
-    ensures { MatchOption result (incident_at bytes.now ≡ None) (λ x. incident_at bytes.now ≡ Some (x.0, x.1.now)) }
+fn incident_read_at(version: u8, bytes: &[u8]) -> Option<(Incident, &[u8])>
+    ensures { MatchOption result (incident_at version bytes.now ≡ None) (λ x. incident_at version bytes.now ≡ Some (x.0, x.1.now)) }
 {
-    let Some(by) = opened_by_at(bytes) else {
+    let Some(by) = opened_by_at(version, bytes) else {
         return None;
     };
     let Some((signals, rest)) = u64_at(by.rest) else {
@@ -470,21 +499,26 @@ fn incident_read_at(bytes: &[u8]) -> Option<(Incident, &[u8])>
         touched,
         steps,
         acts,
+        via: by.via,
     };
     Some((incident, rest))
 }
 
 /// A count in four bytes, and so many incidents. The error is want of memory.
 #[tactic(auto, unfolding(crate::specs::Reading::many_at))]
-pub fn incidents_at(alloc: Global, bytes: &[u8]) -> Result<Option<(Vec<Incident>, &[u8])>, Memory>
-    ensures { IfOk result (λ found. MatchOption found (many_at incident_at bytes.now ≡ None) (λ x. many_at incident_at bytes.now ≡ Some (x.0.items, x.1.now))) }
+pub fn incidents_at(
+    alloc: Global,
+    version: u8,
+    bytes: &[u8],
+) -> Result<Option<(Vec<Incident>, &[u8])>, Memory>
+    ensures { IfOk result (λ found. MatchOption found (many_at (incident_at version) bytes.now ≡ None) (λ x. many_at (incident_at version) bytes.now ≡ Some (x.0.items, x.1.now))) }
 {
     let Some((count, mut rest)) = count_at(bytes) else {
         return Ok(None);
     };
     let mut incidents = Vec::new(alloc);
     for _ in 0..count {
-        let Some((incident, behind)) = incident_read_at(rest) else {
+        let Some((incident, behind)) = incident_read_at(version, rest) else {
             return Ok(None);
         };
         let Ok(()) = incidents.push(incident) else {

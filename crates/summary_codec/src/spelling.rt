@@ -1,7 +1,7 @@
-// No bytes spell two summaries.
+// No bytes spell two summaries in one version.
 ghost use Rattle.summary_codec.specs.OneSpelling.{SpellsOne};
 
-/// Bytes that spell a summary spell no other one, and none of another generation.
+/// Bytes that spell a summary in a version spell no other one in it, and none of another generation.
 #[tactic(auto, using(crate::proofs::Whole::spells_one))]
 pub fn law_one_spelling()
     ensures { SpellsOne }

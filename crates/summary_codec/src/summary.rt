@@ -1,5 +1,6 @@
 // A whole summary, read.
 ghost use Rattle.std.specs.Prelude.{◌≡◌, IfOk, MatchOption};
+ghost use Rattle.event_codec.specs.Spelling.{IsVersion};
 ghost use Rattle.summary_codec.specs.Parts.{IsNoText, IsTextOf};
 
 use crate::head::{Head, head_at};
@@ -43,10 +44,15 @@ impl<'a> ReadSummary<'a> {
     }
 }
 
-/// What the bytes of a summary say, each field of which is in its range. None exactly where they are not the bytes of one. What has
-/// to hold of a summary besides is not looked at. The error is want of memory.
-pub fn summary_read(alloc: Global, bytes: &[u8]) -> Result<Option<ReadSummary<'_>>, Memory>
-    ensures { IfOk result (λ found. MatchOption found (IsNoText bytes.now) (IsTextOf bytes.now)) }
+/// What the bytes of a summary of the version, which is 1 or 2, say, each field of which is in its range. None exactly where they are not the
+/// bytes of one. What has to hold of a summary besides is not looked at. The error is want of memory.
+pub fn summary_read(
+    alloc: Global,
+    version: u8,
+    bytes: &[u8],
+) -> Result<Option<ReadSummary<'_>>, Memory>
+    requires version { IsVersion version }
+    ensures { IfOk result (λ found. MatchOption found (IsNoText version bytes.now) (IsTextOf version bytes.now)) }
 {
     let Some(head) = head_at(bytes) else {
         return Ok(None);
@@ -56,7 +62,7 @@ pub fn summary_read(alloc: Global, bytes: &[u8]) -> Result<Option<ReadSummary<'_
         Ok(None) => return Ok(None),
         Err(Memory) => return Err(Memory),
     };
-    let (incidents, rest) = match incidents_at(alloc, rest) {
+    let (incidents, rest) = match incidents_at(alloc, version, rest) {
         Ok(Some(found)) => found,
         Ok(None) => return Ok(None),
         Err(Memory) => return Err(Memory),

@@ -1,4 +1,4 @@
-// The bytes of a summary, part by part, each put last. Each error is want of memory.
+// The bytes of a summary in version 2, part by part, each put last. Each error is want of memory.
 ghost use Rattle.std.specs.Prelude.{◌≡◌, ◌++◌, ◌∷◌, ◌≤◌, [], true, length, reverse, take, OnOk};
 ghost use Rattle.std.specs.Int.{w16, w32, to_be_bytes};
 ghost use Rattle.std.specs.Option.{option_map};
@@ -204,19 +204,20 @@ fn put_acts(acts: &[Acted], out: &mut Vec<u8>) -> Result<(), Memory>
 
 // What an incident was opened by, and what came of it since.
 fn put_opened(i: &Incident, out: &mut Vec<u8>) -> Result<(), Memory>
-    ensures { OnOk result (out.new.items ≡ out.old.items ++ (long_number i.now.number ++ (length i.now.account ∷ i.now.account ++ (class_byte i.now.class ∷ (length i.now.code ∷ i.now.code ++ long_number i.now.at))))) }
+    ensures { OnOk result (out.new.items ≡ out.old.items ++ (long_number i.now.number ++ (length i.now.account ∷ i.now.account ++ (class_byte i.now.class ∷ (length i.now.code ∷ i.now.code ++ (length i.now.via ∷ i.now.via ++ long_number i.now.at)))))) }
 {
     put_number(i.number, out)?;
     put_text(&i.account, out)?;
     put_byte(byte_of_class(i.class), out)?;
     put_text(&i.code, out)?;
+    put_text(&i.via, out)?;
     put_number(i.at, out)
 }
 
 /// Puts an open incident, with its steps and acts.
 #[tactic(auto, unfolding(summary_rules::specs::Spelling::incident_text))]
 pub fn put_incident(i: &Incident, out: &mut Vec<u8>) -> Result<(), Memory>
-    ensures { OnOk result (AreGood i.now.steps → AreActsGood i.now.acts → out.new.items ≡ out.old.items ++ incident_text i.now) }
+    ensures { OnOk result (AreGood i.now.steps → AreActsGood i.now.acts → out.new.items ≡ out.old.items ++ incident_text 2 i.now) }
 {
     put_opened(i, out)?;
     put_number(i.signals, out)?;

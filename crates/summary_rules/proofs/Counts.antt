@@ -107,21 +107,21 @@ irregular_few : (b : Bool) (x y : Carried) → length (x ∷ cond b (y ∷ []) [
 irregular_few true x y = omega arith
 irregular_few false x y = omega arith
 
-sent_few : (s : Summary) (ms : List Mark) (m : Message) (at : ℕ) → length (sent s ms m at) ≤ 16
-sent_few s ms m at =
-    under_few 16 (force s ms) (λ setup. flat_map (carried_sent setup m.account at) (unwrap_or (signals m.token m.content) [])) (force_few (text s ms))
+sent_few : (s : Summary) (ms : List Mark) (m : Message) (via : List ℕ) (at : ℕ) → length (sent s ms m via at) ≤ 16
+sent_few s ms m via at =
+    under_few 16 (force s ms) (λ setup. flat_map (carried_sent setup m.account via at) (unwrap_or (signals m.token m.content) [])) (force_few (text s ms))
     (λ setup _. omega (
       arith,
       unwrapped (signals m.token m.content) (signals_few m.token m.content),
-      length_flat (carried_sent setup m.account at)
-          (λ x. irregular_few (is_irregular (account_of setup m.account) x.kind at) (carried setup m.account at false x) (carried setup m.account at false (own_signal Irregular)))
+      length_flat (carried_sent setup m.account via at)
+          (λ x. irregular_few (is_irregular (account_of setup m.account) x.kind at) (carried setup m.account at false via x) (carried setup m.account at false [] (own_signal Irregular)))
           (unwrap_or (signals m.token m.content) []),
     ))
 
 where_few : (test : Account → Bool) (class : Class) (at : ℕ) (setup : Setup) → Enough setup → length (raised_where test class at setup) ≤ 2000
 unfolding Enough
 where_few test class at setup w =
-    omega (arith, w, length_filter test setup.accounts, length-map (filter test setup.accounts) (λ (a : Account). carried setup a.number at true (own_signal class)))
+    omega (arith, w, length_filter test setup.accounts, length-map (filter test setup.accounts) (λ (a : Account). carried setup a.number at true [] (own_signal class)))
 
 raised_few : (s : Summary) (ms : List Mark) (at : ℕ) → length (raised s ms at) ≤ 4000
 raised_few s ms at =
@@ -154,7 +154,7 @@ close_few r = omega arith
 marks_few : (s : Summary) (ms : List Mark) (e : Event) (at : ℕ) (r : Reply) → length (marks_of s ms e at r) ≤ 4000
 marks_few s ms (Adopt text) at r = omega arith
 marks_few s ms Start at r = omega arith
-marks_few s ms (Sent m) at r = omega (arith, sent_few s ms m at, length-map (sent s ms m at) Carries)
+marks_few s ms (Sent m via) at r = omega (arith, sent_few s ms m via at, length-map (sent s ms m via at) Carries)
 marks_few s ms (Beat account) at r = omega arith
 marks_few s ms Tick at r = omega (arith, raised_few s ms at, length-map (raised s ms at) Carries)
 marks_few s ms (Claim operator number) at r = claim_few at operator r

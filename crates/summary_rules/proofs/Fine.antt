@@ -5,7 +5,7 @@ use Rattle.std.specs.Result.{result_ok}
 use Rattle.std.specs.List.{filter, flat_map}
 use Rattle.std.specs.Str.{bytes_eq}
 use Rattle.std.proofs.lemmas.Bool.{false≢true}
-use Rattle.arc_data.specs.WellFormed.{IsWellFormed, IsMessage, IsText}
+use Rattle.arc_data.specs.WellFormed.{IsWellFormed, IsMessage, IsSent, IsText}
 use Rattle.arc_data.specs.declared.event.Event.{Event}
 use Rattle.arc_data.specs.declared.event.Event.TheVariants.{Adopt, Start, Message as Sent, Beat, Tick, Claim, Next, Act as Do, Release, Close, Show, List as Rows}
 use Rattle.arc_data.specs.declared.event.Message.{Message}
@@ -31,11 +31,12 @@ use Rattle.centre_rules.specs.Desks.{numbered, held_by, best, claim_unless, clai
 use Rattle.centre_rules.specs.History.{is_recorded, claim_marks, act_marks, release_marks, close_marks, marks_of, acted_by}
 use Rattle.centre_rules.specs.Answers.{if_known, knows_account, knows_operator, taken_or, repeat_of, answer_over}
 use Rattle.summary_rules.specs.Lists.{Every}
-use Rattle.summary_rules.specs.Fields.{Given, IsAccount, IsShortText}
+use Rattle.summary_rules.specs.Fields.{Given, IsAccount, IsShortText, IsLineText}
 use Rattle.summary_rules.proofs.Everies.{every_append, every_map, every_filter}
 use Rattle.summary_rules.proofs.SetupMeaning.{IsGoodAccount, IsGoodSetup, setup_good}
 use Rattle.summary_rules.proofs.PlanSteps.{AreGoodSteps, steps_good}
 use Rattle.summary_rules.proofs.SignalCodes.{codes_of}
+use Rattle.summary_rules.proofs.LineNames.{line_short}
 
 -- a setup text that comes into force
 pub record IsAdopted (text : List ℕ) : Type 0 where
@@ -53,11 +54,12 @@ pub record IsHeardAt (at : ℕ) (account : List ℕ) (moment : ℕ) : Type 0 whe
   pub moment_is : moment ≡ at
   pub account_ok : IsAccount account
 
--- a signal at this moment: of an account, with a short code and with the steps of a plan
+-- a signal at this moment: of an account, with a short code, by a line or none, and with the steps of a plan
 pub record IsCarriedAt (at : ℕ) (x : Carried) : Type 0 where
   pub moment_is : x.at ≡ at
   pub account_ok : IsAccount x.account
   pub code : IsShortText x.signal.code
+  pub via : IsLineText x.via
   pub good_steps : AreGoodSteps x.steps
 
 -- a claim at this moment, of an operator that holds none of these as they stand
@@ -115,13 +117,18 @@ under_any : (at : ℕ) (o : Option Setup) (f : Setup → List Carried) → Given
 under_any at None f w g = tt
 under_any at (Some setup) f w g = g setup w
 
-carried_good : (setup : Setup) (account : List ℕ) (at : ℕ) (by_tick : Bool) (x : Signal) → IsGoodSetup setup → IsAccount account → IsShortText x.code
-    → IsCarriedAt at (carried setup account at by_tick x)
-carried_good setup account at by_tick x w ok code = record { moment_is = refl; account_ok = ok; code = code; good_steps = steps_good setup account x.class at w }
+carried_good : (setup : Setup) (account : List ℕ) (at : ℕ) (by_tick : Bool) (via : List ℕ) (x : Signal) → IsGoodSetup setup → IsAccount account → IsLineText via
+    → IsShortText x.code → IsCarriedAt at (carried setup account at by_tick via x)
+carried_good setup account at by_tick via x w ok line code =
+    record { moment_is = refl; account_ok = ok; code = code; via = line; good_steps = steps_good setup account x.class at w }
 
 -- the code of a signal that no panel sent
 dash : (class : Class) → IsShortText (own_signal class).code
 dash class = record { size = omega arith; bytes = (omega arith, tt) }
+
+-- no line
+no_line : IsLineText []
+no_line = record { size = omega arith; bytes = tt }
 
 irregular_at : (at : ℕ) (b : Bool) (x y : Carried) → IsCarriedAt at x → IsCarriedAt at y → Every (IsCarriedAt at) (x ∷ cond b (y ∷ []) [])
 irregular_at at true x y v w = (v, (w, tt))
@@ -131,18 +138,19 @@ every_flat_of : {A B : Type 0} (P : A → Type 0) (Q : B → Type 0) (f : A → 
 every_flat_of P Q f g [] w = tt
 every_flat_of P Q f g (x ∷ xs) w = every_append Q (f x) (flat_map f xs) (g x w.0) (every_flat_of P Q f g xs w.1)
 
-sent_at : (s : Summary) (ms : List Mark) (m : Message) (at : ℕ) → IsMessage m → Every (IsCarriedAt at) (sent s ms m at)
-sent_at s ms m at formed =
-    under_any at (force s ms) (λ setup. flat_map (carried_sent setup m.account at) (unwrap_or (signals m.token m.content) [])) (force_good (text s ms))
-    (λ setup w. every_flat_of (λ (x : Signal). IsShortText x.code) (IsCarriedAt at) (carried_sent setup m.account at)
-    (λ x code. irregular_at at (is_irregular (account_of setup m.account) x.kind at) (carried setup m.account at false x) (carried setup m.account at false (own_signal Irregular))
-    (carried_good setup m.account at false x w formed.account code) (carried_good setup m.account at false (own_signal Irregular) w formed.account (dash Irregular)))
-    (unwrap_or (signals m.token m.content) []) (codes_of m.token m.content formed.bytes))
+sent_at : (s : Summary) (ms : List Mark) (m : Message) (via : List ℕ) (at : ℕ) → IsSent m via → Every (IsCarriedAt at) (sent s ms m via at)
+sent_at s ms m via at formed =
+    let ok = formed.message.account in
+    under_any at (force s ms) (λ setup. flat_map (carried_sent setup m.account via at) (unwrap_or (signals m.token m.content) [])) (force_good (text s ms))
+    (λ setup w. every_flat_of (λ (x : Signal). IsShortText x.code) (IsCarriedAt at) (carried_sent setup m.account via at)
+    (λ x code. irregular_at at (is_irregular (account_of setup m.account) x.kind at) (carried setup m.account at false via x) (carried setup m.account at false [] (own_signal Irregular))
+    (carried_good setup m.account at false via x w ok (line_short via formed.line_name) code) (carried_good setup m.account at false [] (own_signal Irregular) w ok no_line (dash Irregular)))
+    (unwrap_or (signals m.token m.content) []) (codes_of m.token m.content formed.message.bytes))
 
 raised_where_at : (test : Account → Bool) (class : Class) (at : ℕ) (setup : Setup) → IsGoodSetup setup → Every (IsCarriedAt at) (raised_where test class at setup)
 raised_where_at test class at setup w =
-    every_map IsGoodAccount (IsCarriedAt at) (λ (a : Account). carried setup a.number at true (own_signal class))
-    (λ a v. carried_good setup a.number at true (own_signal class) w v.number (dash class)) (filter test setup.accounts) (every_filter IsGoodAccount test setup.accounts w.accounts)
+    every_map IsGoodAccount (IsCarriedAt at) (λ (a : Account). carried setup a.number at true [] (own_signal class))
+    (λ a v. carried_good setup a.number at true [] (own_signal class) w v.number no_line (dash class)) (filter test setup.accounts) (every_filter IsGoodAccount test setup.accounts w.accounts)
 
 raised_at : (s : Summary) (ms : List Mark) (at : ℕ) → Every (IsCarriedAt at) (raised s ms at)
 raised_at s ms at =
@@ -267,10 +275,10 @@ pub fine_marks : (s : Summary) (ms : List Mark) (e : Event) (at : ℕ) (r : Repl
     → AreFine s ms at (marks_of s ms e at r)
 fine_marks s ms (Adopt text) at r formed is recorded = (record { setup = known (is_ok (setup_of text)) r Adopted is recorded; formed = formed }, tt)
 fine_marks s ms Start at r formed is recorded = (refl, tt)
-fine_marks s ms (Sent m) at r formed is recorded =
+fine_marks s ms (Sent m via) at r formed is recorded =
     let both = known (knows_account (force s ms) m.account && has_signals m.token m.content) r (taken_or (repeat_of s ms m at)) is recorded in (
-      record { moment_is = refl; message = formed; signals = second (knows_account (force s ms) m.account) (has_signals m.token m.content) both },
-      carried_fine s (Sends m at ∷ ms) at (sent s ms m at) (sent_at s ms m at formed),
+      record { moment_is = refl; message = formed.message; signals = second (knows_account (force s ms) m.account) (has_signals m.token m.content) both },
+      carried_fine s (Sends m at ∷ ms) at (sent s ms m via at) (sent_at s ms m via at formed),
     )
 fine_marks s ms (Beat account) at r formed is recorded = (record { moment_is = refl; account_ok = formed }, tt)
 fine_marks s ms Tick at r formed is recorded = carried_fine s ms at (raised s ms at) (raised_at s ms at)

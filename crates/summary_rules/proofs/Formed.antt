@@ -20,7 +20,7 @@ use Rattle.centre_rules.specs.Answers.{IsLegal}
 use Rattle.centre_rules.specs.Sums.{names}
 use Rattle.centre_rules.proofs.Steps.{incidents_begin, incidents_step}
 use Rattle.summary_rules.specs.Lists.{Every}
-use Rattle.summary_rules.specs.Fields.{Given, IsAccount, IsShortText, IsPastOf, IsRow, IsHolding, IsActed, IsIncident, HasFields}
+use Rattle.summary_rules.specs.Fields.{Given, IsAccount, IsShortText, IsLineText, IsPastOf, IsRow, IsHolding, IsActed, IsIncident, HasFields}
 use Rattle.summary_rules.specs.Conditions.{AreSteps}
 use Rattle.summary_rules.proofs.Everies.{every_weaker, every_map}
 use Rattle.summary_rules.proofs.Ascending.{every_named}
@@ -42,6 +42,7 @@ pub record IsPlain (i : Incident) : Type 0 where
   pub account : IsAccount i.account
   pub class : 0 < priority_of i.class
   pub code : IsShortText i.code
+  pub via : IsLineText i.via
   pub holder : IsNamed i.holder
   pub steps : Every IsStep i.steps
   pub apart : AreSteps i.steps
@@ -71,6 +72,7 @@ plain_by stood at (Claims operator number moment) i fine w = record {
   account = w.account;
   class = w.class;
   code = w.code;
+  via = w.via;
   holder = named_if (i.number == number) (Some operator) i.holder fine.name w.holder;
   steps = w.steps;
   apart = w.apart;
@@ -80,6 +82,7 @@ plain_by stood at (Acts number acted) i fine w = record {
   account = w.account;
   class = w.class;
   code = w.code;
+  via = w.via;
   holder = w.holder;
   steps = w.steps;
   apart = w.apart;
@@ -89,6 +92,7 @@ plain_by stood at (Releases number) i fine w = record {
   account = w.account;
   class = w.class;
   code = w.code;
+  via = w.via;
   holder = named_if (i.number == number) None i.holder tt w.holder;
   steps = w.steps;
   apart = w.apart;
@@ -98,14 +102,15 @@ plain_by stood at (Closes number) i fine w = record {
   account = w.account;
   class = w.class;
   code = w.code;
+  via = w.via;
   holder = named_if (i.number == number) None i.holder tt w.holder;
   steps = w.steps;
   apart = w.apart;
   acts = w.acts;
 }
-plain_by stood at (Adopts words) i fine w = record { account = w.account; class = w.class; code = w.code; holder = tt; steps = w.steps; apart = w.apart; acts = w.acts }
-plain_by stood at (Starts moment) i fine w = record { account = w.account; class = w.class; code = w.code; holder = tt; steps = w.steps; apart = w.apart; acts = w.acts }
-plain_by stood at m i fine w = record { account = w.account; class = w.class; code = w.code; holder = w.holder; steps = w.steps; apart = w.apart; acts = w.acts }
+plain_by stood at (Adopts words) i fine w = record { account = w.account; class = w.class; code = w.code; via = w.via; holder = tt; steps = w.steps; apart = w.apart; acts = w.acts }
+plain_by stood at (Starts moment) i fine w = record { account = w.account; class = w.class; code = w.code; via = w.via; holder = tt; steps = w.steps; apart = w.apart; acts = w.acts }
+plain_by stood at m i fine w = record { account = w.account; class = w.class; code = w.code; via = w.via; holder = w.holder; steps = w.steps; apart = w.apart; acts = w.acts }
 
 left : (a b : Bool) → (a && b) ≡ true → a ≡ true
 left true b e = refl
@@ -122,6 +127,7 @@ new_plain (Carries x) at count is stood fine = λ e. record {
       (right (is_new x.signal.kind) (nat_lt 0 (priority_of x.signal.class))
       (left (is_new x.signal.kind && nat_lt 0 (priority_of x.signal.class)) (not (list_any (is_of x.account x.signal.class) is)) e));
   code = fine.code;
+  via = fine.via;
   holder = tt;
   steps = fine.good_steps.each;
   apart = fine.good_steps.apart;
@@ -191,6 +197,7 @@ plain_of i w v = record {
   account = w.account;
   class = w.class;
   code = w.code;
+  via = w.via;
   holder = holding_named i.holder i.touched w.holder;
   steps = w.steps;
   apart = v;

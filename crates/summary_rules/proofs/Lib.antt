@@ -4,6 +4,7 @@ pub mod Ascending
 pub mod SetupMeaning
 pub mod PlanSteps
 pub mod SignalCodes
+pub mod LineNames
 pub mod Fine
 pub mod Keeping
 pub mod Moments

@@ -1,11 +1,12 @@
--- The summary of a legal history has a spelling, where the one that it is over has one, or is empty.
-use Rattle.std.proofs.Common.{◌≤◌, ◌<◌, ◌^◌, ◌*◌, ℕ, List, [], ◌∷◌, map, take, length, Option, Some, None, refl, arith}
+-- The summary of a legal history has a spelling in version 2, where the one that it is over has one in either version, or is empty.
+use Rattle.std.proofs.Common.{◌≤◌, ◌<◌, ◌+◌, ◌^◌, ◌*◌, ℕ, List, [], ◌∷◌, map, take, length, Option, Some, None, refl, inl, inr, arith}
 use Rattle.std.proofs.lemmas.List.{length-take, length-map}
 use Rattle.arc_data.specs.Incidents.{Ascends}
 use Rattle.arc_data.specs.Moments.{IsMoment}
 use Rattle.arc_data.specs.declared.incident.Incident.{Incident}
 use Rattle.arc_data.specs.declared.incident.Opened.{Opened}
 use Rattle.arc_data.specs.declared.step.Acted.{Acted}
+use Rattle.event_codec.specs.Spelling.{IsVersion}
 use Rattle.centre_rules.specs.Summary.{Summary, Past}
 use Rattle.centre_rules.specs.Marks.{messages}
 use Rattle.centre_rules.specs.Cases.{opened}
@@ -42,8 +43,8 @@ untouched_of : (h : Option (List ℕ)) (touched : ℕ) → IsHolding h touched �
 untouched_of None touched w = w
 untouched_of (Some operator) touched w = tt
 
-are_incidents : (generation : ℕ) (s : Summary) → HasFields generation s → IsSummary generation s → AreIncidents s
-are_incidents generation s f b = record {
+are_incidents : (version generation : ℕ) (s : Summary) → HasFields generation s → IsSummary version generation s → AreIncidents s
+are_incidents version generation s f b = record {
   single = b.single;
   holders = b.holders;
   untouched = every_weaker IsIncident IsUntouched (λ i w. untouched_of i.holder i.touched w.holder) s.incidents f.incidents;
@@ -91,6 +92,7 @@ incident_ok last most opened m few many i w = record {
   account = w.plain.account;
   class = w.plain.class;
   code = w.plain.code;
+  via = w.plain.via;
   at = moment_fits i.at last m w.moments.at;
   signals = omega (arith, w.within, few);
   holder = held last m i.holder i.touched w.plain.holder w.untouched w.moments.touched;
@@ -142,11 +144,11 @@ counts_of : (most : ℕ) (is : List Incident) → Every HasSignal is → Every (
 counts_of most is w v = every_both HasSignal (λ (i : Incident). i.signals ≤ most) (λ (i : Incident). IsCount most i.signals) (λ i p q. record { any = p; within = q }) is w v
 
 pub summaries_spelled : SummariesAreSpelled
-summaries_spelled generation other s h f b legal may =
+summaries_spelled version generation other s h f b legal may =
     let t = summary_of s h in
     let moments = moments_stay s h b.moments legal in
     let numbers : Ascends 0 t.incidents t.opened = rise s h b.numbers in
-    let each = incidents_stay s h b.numbers (are_incidents generation s f b) legal in
+    let each = incidents_stay s h b.numbers (are_incidents version generation s f b) legal in
     let start : AreWithin (4000 * s.recorded) s.opened s.incidents = record {
       all = b.opened;
       each = every_weaker (λ (i : Incident). IsCount (4000 * s.recorded) i.signals) (λ (i : Incident). i.signals ≤ 4000 * s.recorded) (λ i w. w.within) s.incidents b.signals;
@@ -186,12 +188,13 @@ summaries_spelled generation other s h f b legal may =
         holders = each.holders;
         steps = every_weaker IsPlain (λ (i : Incident). AreSteps i.steps) (λ i w. w.apart) t.incidents formed.table;
         acts = acts;
+        names = λ one. absurd (omega (arith, one));
       };
       is = refl;
     }
 
 pub nothing_spelled : NothingIsSpelled
-nothing_spelled = record {
+nothing_spelled version known = record {
   fields = record {
     numbered = omega arith;
     last = omega arith;
@@ -209,7 +212,7 @@ nothing_spelled = record {
     moments = record { start = tt; rows = tt; incidents = tt };
     recorded = omega arith;
     first = omega arith;
-    followed = omega arith;
+    followed = at_least known;
     opened = omega arith;
     text = tt;
     rows = tt;
@@ -220,6 +223,11 @@ nothing_spelled = record {
     holders = tt;
     steps = tt;
     acts = tt;
+    names = λ one. tt;
   };
   is = refl;
 }
+  where
+    at_least : IsVersion version → 1 ≤ 0 + version
+    at_least (inl one) = omega (arith, one)
+    at_least (inr two) = omega (arith, two)

@@ -1,8 +1,9 @@
 -- What has to hold of a summary besides the ranges of its fields, for its bytes to be a spelling.
-use Rattle.std.specs.Prelude.{◌≡◌, ◌≤◌, ◌^◌, ◌+◌, ◌*◌, ℕ, List, true, false, IsOk}
+use Rattle.std.specs.Prelude.{◌≡◌, ◌≤◌, ◌^◌, ◌+◌, ◌*◌, ℕ, List, [], true, false, IsOk, codes, if◌then◌else◌}
 use Rattle.std.specs.Cmp.Lexicographic.{slice_cmp}
 use Rattle.std.specs.List.{list_any}
 use Rattle.std.specs.Ordering.{nat_cmp, is_lt}
+use Rattle.std.specs.Str.{bytes_eq}
 use Rattle.arc_data.specs.Incidents.{is_of, Ascends}
 use Rattle.arc_data.specs.Moments.{IsMoment}
 use Rattle.arc_data.specs.Steps.{same_step}
@@ -11,6 +12,7 @@ use Rattle.arc_data.specs.declared.step.Acted.{Acted}
 use Rattle.arc_data.specs.declared.step.Step.{Step}
 use Rattle.alarm_rules.specs.Setups.{setup_of}
 use Rattle.alarm_rules.specs.Signals.{has_signals}
+use Rattle.event_codec.specs.Spelling.{via_of_one}
 use Rattle.centre_rules.specs.Summary.{Summary, AccountRow, Past}
 use Rattle.centre_rules.specs.Standing.{last_standing}
 use Rattle.centre_rules.specs.Desks.{holds}
@@ -81,16 +83,28 @@ pub record AreActsOf (steps : List Step) (acts : List Acted) : Type 0 where
   pub among : Every (λ a. list_any (same_step a.step) steps ≡ true) acts
   pub apart : EveryTwo (λ a other. same_step a.step other.step ≡ false) acts
 
+-- the line by which a signal of this code came, as version 1 has it, which tells none: the one of its name, and none where no panel sent
+-- the signal
+abbrev pub name_of_one : List ℕ → List ℕ
+name_of_one code = if bytes_eq code (codes "-") then [] else via_of_one
+
+abbrev pub HasNameOfOne : Incident → Type 0
+HasNameOfOne i = i.via ≡ name_of_one i.code
+
+-- in version 1 each incident has the line that this version gives it
+abbrev pub AreNamedIn : ℕ → List Incident → Type 0
+AreNamedIn version is = version ≡ 1 → Every HasNameOfOne is
+
 -- The whole.
 
 -- A recorded entry raises no count by more than 4,000: a setup has at most 2,000 accounts, each of which a Tick may report
--- twice, and a message has fewer signals.
-pub record IsSummary (generation : ℕ) (s : Summary) : Type 0 where
+-- twice, and a message has fewer signals. In version 2 the generation may be one more, since what stood in version 1 is written again.
+pub record IsSummary (version generation : ℕ) (s : Summary) : Type 0 where
   pub last : IsMoment s.last
   pub moments : AreMomentsBy s
   pub recorded : s.recorded ≤ 2 ^ 48
   pub first : 1 ≤ generation
-  pub followed : generation ≤ s.recorded + 1
+  pub followed : generation ≤ s.recorded + version
   pub opened : s.opened ≤ 4000 * s.recorded
   pub text : Given (λ text. IsOk (setup_of text)) s.text
   pub rows : EveryTwo IsRowBefore s.rows
@@ -101,9 +115,10 @@ pub record IsSummary (generation : ℕ) (s : Summary) : Type 0 where
   pub holders : EveryTwo IsHeldApart (last_standing s)
   pub steps : Every (λ i. AreSteps i.steps) s.incidents
   pub acts : Every (λ i. AreActsOf i.steps i.acts) s.incidents
+  pub names : AreNamedIn version s.incidents
 
--- Of a generation and a summary that have one, it is the one spelling.
-pub record IsSpelling (generation : ℕ) (s : Summary) (bytes : List ℕ) : Type 0 where
+-- Of a generation and a summary that have one, it is the one spelling in the version.
+pub record IsSpelling (version generation : ℕ) (s : Summary) (bytes : List ℕ) : Type 0 where
   pub fields : HasFields generation s
-  pub besides : IsSummary generation s
-  pub is : bytes ≡ summary_text generation s
+  pub besides : IsSummary version generation s
+  pub is : bytes ≡ summary_text version generation s

@@ -23,6 +23,11 @@ pub record IsShortText (text : List ℕ) : Type 0 where
   pub size : length text ≤ 32
   pub bytes : AreBytes text
 
+-- the name of a line, or none
+pub record IsLineText (text : List ℕ) : Type 0 where
+  pub size : length text ≤ 16
+  pub bytes : AreBytes text
+
 abbrev pub IsAccount : List ℕ → Type 0
 IsAccount account = is_run is_capital_hex 3 16 account ≡ true
 
@@ -58,6 +63,7 @@ pub record IsIncident (i : Incident) : Type 0 where
   pub account : IsAccount i.account
   pub class : 0 < priority_of i.class
   pub code : IsShortText i.code
+  pub via : IsLineText i.via
   pub at : IsLongNumber i.at
   pub signals : IsLongNumber i.signals
   pub holder : IsHolding i.holder i.touched

@@ -4,6 +4,7 @@ use Rattle.arc_data.specs.Moments.{IsMoment}
 use Rattle.arc_data.specs.Incidents.{Ascends}
 use Rattle.arc_data.specs.declared.incident.Incident.{Incident}
 use Rattle.alarm_rules.specs.Setups.{setup_of}
+use Rattle.event_codec.specs.Spelling.{IsVersion}
 use Rattle.centre_rules.specs.Summary.{Summary, nothing}
 use Rattle.centre_rules.specs.Standing.{last_standing}
 use Rattle.centre_rules.specs.History.{Entry}
@@ -83,20 +84,22 @@ ActsStay = (s : Summary) (h : List Entry) → Ascends 0 s.incidents s.opened →
 
 -- The whole.
 
--- what has to hold of the summary of a history, and of a generation, beside what its entries bring: moments lie before the year
--- 10000, at most 2^48 entries are recorded, the generation is one that may come, and four bytes hold the counts of rows and incidents
+-- what has to hold of the summary of a history, and of a generation, beside what its entries bring, where it is written: moments lie before
+-- the year 10000, at most 2^48 entries are recorded, the generation is one that may come, and four bytes hold the counts of rows and
+-- incidents
 pub record MaySpell (generation : ℕ) (t : Summary) : Type 0 where
   pub last : IsMoment t.last
   pub recorded : t.recorded ≤ 2 ^ 48
   pub first : 1 ≤ generation
-  pub followed : generation ≤ t.recorded + 1
+  pub followed : generation ≤ t.recorded + 2
   pub few_rows : length t.rows < 2 ^ 32
   pub few_incidents : length t.incidents < 2 ^ 32
 
--- over one that has a spelling, the summary of a legal history has one, and so has the empty one, over which the first history is
+-- over one that has a spelling in a version, the summary of a legal history has one in version 2, in which it is written; and the empty one,
+-- over which the first history is, has one in both
 abbrev pub SummariesAreSpelled : Type 0
-SummariesAreSpelled = (generation other : ℕ) (s : Summary) (h : List Entry) → HasFields generation s → IsSummary generation s → IsLegal s h
-    → MaySpell other (summary_of s h) → IsSpelling other (summary_of s h) (summary_text other (summary_of s h))
+SummariesAreSpelled = (version generation other : ℕ) (s : Summary) (h : List Entry) → HasFields generation s → IsSummary version generation s
+    → IsLegal s h → MaySpell other (summary_of s h) → IsSpelling 2 other (summary_of s h) (summary_text 2 other (summary_of s h))
 
 -- where its bytes are fewer than 2^32, four bytes hold the counts of its rows and of its incidents
 pub record AreFew (s : Summary) : Type 0 where
@@ -104,10 +107,10 @@ pub record AreFew (s : Summary) : Type 0 where
   pub incidents : length s.incidents < 2 ^ 32
 
 abbrev pub ShortOnesAreFew : Type 0
-ShortOnesAreFew = (generation : ℕ) (s : Summary) → length (summary_text generation s) < 2 ^ 32 → AreFew s
+ShortOnesAreFew = (version generation : ℕ) (s : Summary) → length (summary_text version generation s) < 2 ^ 32 → AreFew s
 
 abbrev pub NothingIsSpelled : Type 0
-NothingIsSpelled = IsSpelling 1 nothing (summary_text 1 nothing)
+NothingIsSpelled = (version : ℕ) → IsVersion version → IsSpelling version 1 nothing (summary_text version 1 nothing)
 
 -- the summary of a history over the summary of a legal one is that of the first and then the other
 abbrev pub SummariesCompose : Type 0

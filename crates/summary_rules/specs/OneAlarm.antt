@@ -1,5 +1,5 @@
--- The summary of a station of one account, in which a setup came into force, a run began, and one burglary was reported, and its
--- bytes, written out by hand.
+-- The summary of a station of one account, in which a setup came into force, a run began, and one burglary was reported by the line `line`,
+-- and its bytes in both versions, written out by hand.
 use Rattle.std.specs.Prelude.{◌≡◌, ℕ, List, [], ◌∷◌, ◌++◌, length, false, Some, None, codes}
 use Rattle.arc_data.specs.declared.event.Message.{Message}
 use Rattle.arc_data.specs.declared.event.Token.TheVariants.{AdmCid}
@@ -34,6 +34,7 @@ the_incident = record {
   touched = 0;
   steps = Note ∷ [];
   acts = [];
+  via = codes "line";
 }
 
 abbrev pub one_alarm : Summary
@@ -63,10 +64,14 @@ abbrev pub row_bytes : List ℕ
 row_bytes = 0 ∷ 0 ∷ 0 ∷ 1 ∷ 4 ∷ codes "1234" ++ 1 ∷ the_moment ++ 0 ∷ 0 ∷ 1 ∷ the_moment
     ++ 0 ∷ 1 ∷ 0x30 ∷ 0 ∷ 1 ∷ 2 ∷ 0 ∷ 0x0b ∷ codes "1131 01 001"
 
-abbrev pub incident_bytes : List ℕ
-incident_bytes = 0 ∷ 0 ∷ 0 ∷ 1 ∷ small 1 ++ 4 ∷ codes "1234" ++ 5 ∷ 3 ∷ codes "131" ++ the_moment ++ small 1 ++ 0 ∷ 0 ∷ 1 ∷ 0x0a ∷ 0 ∷ []
+-- with the bytes of its line
+abbrev pub incident_bytes : List ℕ → List ℕ
+incident_bytes line = 0 ∷ 0 ∷ 0 ∷ 1 ∷ small 1 ++ 4 ∷ codes "1234" ++ 5 ∷ 3 ∷ codes "131" ++ line ++ the_moment ++ small 1
+    ++ 0 ∷ 0 ∷ 1 ∷ 0x0a ∷ 0 ∷ []
 
--- its text of generation 1 has these 151 bytes
+-- its text of generation 1 has these 156 bytes, and in version 1 these 151
 pub record IsWritten : Type 0 where
-  pub bytes : summary_text 1 one_alarm ≡ head_bytes ++ (row_bytes ++ incident_bytes)
-  pub long : length (summary_text 1 one_alarm) ≡ 151
+  pub bytes : summary_text 2 1 one_alarm ≡ head_bytes ++ (row_bytes ++ incident_bytes (4 ∷ codes "line"))
+  pub long : length (summary_text 2 1 one_alarm) ≡ 156
+  pub old_bytes : summary_text 1 1 one_alarm ≡ head_bytes ++ (row_bytes ++ incident_bytes [])
+  pub old_long : length (summary_text 1 1 one_alarm) ≡ 151

@@ -1,5 +1,5 @@
--- The bytes of a summary, which a checkpoint writes in place of the records that brought the centre there. All numbers have
--- their highest byte first.
+-- The bytes of a summary, which a checkpoint writes in place of the records that brought the centre there, in each of two versions: in the
+-- second an incident tells by which line the signal came that opened it. All numbers have their highest byte first.
 use Rattle.std.specs.Prelude.{ℕ, ◌+◌, List, [], ◌∷◌, ◌++◌, length, reverse, Bool, true, false, Option, Some, None}
 use Rattle.std.specs.Int.{w16, w32, w64, to_be_bytes}
 use Rattle.std.specs.List.{flat_map}
@@ -9,7 +9,7 @@ use Rattle.arc_data.specs.declared.incident.Incident.{Incident}
 use Rattle.arc_data.specs.declared.incident.Opened.{Opened}
 use Rattle.arc_data.specs.declared.signal.Class.{Class}
 use Rattle.arc_data.specs.declared.step.Acted.{Acted}
-use Rattle.event_codec.specs.Spelling.{short_text, receiver_text, token_byte, step_byte, outcome_byte}
+use Rattle.event_codec.specs.Spelling.{short_text, receiver_text, via_text, token_byte, step_byte, outcome_byte}
 use Rattle.centre_rules.specs.Summary.{Summary, AccountRow, Past}
 
 -- Truths, and values that may lack.
@@ -76,17 +76,17 @@ holder_text (Some operator) touched = short_text operator ++ long_number touched
 abbrev pub act_text : Acted → List ℕ
 act_text a = step_byte a.step ∷ outcome_byte a.outcome ∷ long_number a.at ++ short_text a.operator
 
--- number, account, class, code, moment, signals, whether it is restored, holder, steps and acts
-unfoldable pub incident_text : Incident → List ℕ
-incident_text i = long_number i.number ++ (short_text i.account ++ (class_byte i.class ∷ (short_text i.code ++ (long_number i.at
-    ++ (long_number i.signals ++ (truth_byte i.restored ∷ (holder_text i.holder i.touched
-    ++ (few_texts (λ s. step_byte s ∷ []) i.steps ++ few_texts act_text i.acts))))))))
+-- number, account, class, code, line, moment, signals, whether it is restored, holder, steps and acts
+unfoldable pub incident_text : ℕ → Incident → List ℕ
+incident_text version i = long_number i.number ++ (short_text i.account ++ (class_byte i.class ∷ (short_text i.code
+    ++ (via_text version i.via ++ (long_number i.at ++ (long_number i.signals ++ (truth_byte i.restored
+    ∷ (holder_text i.holder i.touched ++ (few_texts (λ s. step_byte s ∷ []) i.steps ++ few_texts act_text i.acts)))))))))
 
 -- The whole.
 
 -- a tag, the generation, the last moment, how many entries are recorded, how many incidents were opened, the last Start, the
 -- setup text, the rows and the open incidents
-unfoldable pub summary_text : ℕ → Summary → List ℕ
-summary_text generation s = 11 ∷ (long_number generation ++ (long_number s.last ++ (long_number s.recorded ++ (long_number s.opened
+unfoldable pub summary_text : ℕ → ℕ → Summary → List ℕ
+summary_text version generation s = 11 ∷ (long_number generation ++ (long_number s.last ++ (long_number s.recorded ++ (long_number s.opened
     ++ (option_text long_number s.start ++ (option_text long_text s.text
-    ++ (many_texts row_text s.rows ++ many_texts incident_text s.incidents)))))))
+    ++ (many_texts row_text s.rows ++ many_texts (incident_text version) s.incidents)))))))

@@ -44,8 +44,9 @@ pub fn law_acts_stay()
     ensures { ActsStay }
 {}
 
-/// The summary of a legal history has a spelling where the one that it goes on from has one, as long as its moments lie before the year
-/// 10000, at most 2^48 entries are recorded, and four bytes hold the counts of its rows and of its open incidents.
+/// The summary of a legal history has a spelling in version 2 where the one that it goes on from has one in either version, as long as its
+/// moments lie before the year 10000, at most 2^48 entries are recorded, and four bytes hold the counts of its rows and of its open
+/// incidents.
 pub fn law_summaries_are_spelled()
     ensures { SummariesAreSpelled }
 {}
@@ -56,7 +57,7 @@ pub fn law_short_ones_are_few()
     ensures { ShortOnesAreFew }
 {}
 
-/// The empty summary, over which a first history begins, has a spelling.
+/// The empty summary, over which a first history begins, has a spelling in both versions.
 #[tactic(auto, using(crate::proofs::Spelled::nothing_spelled))]
 pub fn law_nothing_is_spelled()
     ensures { NothingIsSpelled }

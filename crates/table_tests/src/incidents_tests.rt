@@ -18,7 +18,14 @@ fn open(rt: &impl Abort, table: &mut Table, account: &[u8], class: Class, at: u6
     if table.opened() > 99 || table.find(&account, class).is_some() {
         return 0;
     }
-    table.raise(account, class, text(rt, b"130"), at, note())
+    table.raise(
+        account,
+        class,
+        text(rt, b"130"),
+        at,
+        note(),
+        text(rt, b"l1"),
+    )
 }
 
 fn attach(table: &mut Table, number: u64) {
@@ -168,6 +175,7 @@ fn held_before(rt: &impl Abort) -> Incident {
         touched: 200,
         steps: note(),
         acts: Acts::new(),
+        via: text(rt, b"l2"),
     }
 }
 

@@ -24,7 +24,7 @@ pub(crate) fn message(rt: &impl Abort, alloc: Global, account: Txt, seq: u16) ->
     }
 }
 
-/// A signal of an account, without steps.
+/// A signal of an account, by no line and without steps.
 pub(crate) fn carried(account: Txt, signal: Signal, at: u64, by_tick: bool) -> Carried
     ensures at { result.at ≡ at }
     ensures account { result.account ≡ account }
@@ -35,6 +35,7 @@ pub(crate) fn carried(account: Txt, signal: Signal, at: u64, by_tick: bool) -> C
         at,
         by_tick,
         steps: StepList::new(),
+        via: Txt::empty(),
     }
 }
 

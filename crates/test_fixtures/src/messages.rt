@@ -1,6 +1,6 @@
-// Messages of a panel.
+// Messages of a panel, by the line `line`.
 ghost use Rattle.std.specs.Prelude.{◌≡◌, ◌≤◌, true, None, length, IfOk, codes};
-ghost use Rattle.arc_data.specs.Digits.{is_run, is_hex, is_capital_hex, AreBytes};
+ghost use Rattle.arc_data.specs.Digits.{is_run, is_hex, is_capital_hex, is_name, AreBytes};
 ghost use Rattle.arc_data.specs.WellFormed.{IsWellFormed};
 ghost use Rattle.centre_core.specs.Runs.{IsSubmitted};
 ghost use Rattle.event_codec.specs.Spelling.{IsKept};
@@ -23,6 +23,14 @@ fn line() -> Txt
     Txt::of(b"0").unwrap()
 }
 
+/// The name of a line.
+pub fn via() -> Txt
+    ensures formed { is_name result ≡ true }
+    ensures value { result ≡ codes "line" }
+{
+    Txt::of(b"line").unwrap()
+}
+
 /// A burglary of this account.
 pub fn burglary(alloc: Global, account: Txt, seq: u16) -> Result<Event, Memory>
     requires account { is_run is_capital_hex 3 16 account ≡ true }
@@ -35,7 +43,7 @@ pub fn burglary(alloc: Global, account: Txt, seq: u16) -> Result<Event, Memory>
       seq = seq;
       token = Token.AdmCid;
       content = codes "1131 01 001";
-    })) }
+    }) (codes "line")) }
 {
     message(alloc, account, seq, Token::AdmCid, b"1131 01 001")
 }
@@ -59,14 +67,18 @@ pub fn message(
       seq = seq;
       token = token;
       content = content.now;
-    })) }
+    }) (codes "line")) }
 {
-    Ok(Event::Message(Message {
+    let message = Message {
         account,
         receiver: None,
         line: line(),
         seq,
         token,
         content: Blob::of(alloc, content)?,
-    }))
+    };
+    Ok(Event::Message {
+        message,
+        via: via(),
+    })
 }

@@ -12,12 +12,12 @@ use Rattle.centre_rules.specs.Summary.{Summary}
 use Rattle.centre_rules.specs.History.{Entry}
 use Rattle.dc09_frame.specs.Frames.{bodies}
 use Rattle.session_rules.specs.Inputs.{input_limit}
-use Rattle.session_rules.specs.Sessions.{Ending, answered, cut_off, stopped, HasShown, IsShownFor}
+use Rattle.session_rules.specs.Sessions.{changed, Ending, answered, cut_off, stopped, HasShown, IsShownFor}
 use Rattle.line_session.specs.Lines.{IsTaken, LineValue}
 use Rattle.line_session.specs.Sessions.{IsLine, IsCutShort, ReadsNothing}
 use Rattle.line_session.specs.declared.line_end.LineEnd.{LineEnd}
 use Rattle.line_session.specs.declared.line_end.LineEnd.TheVariants.{InputEnded, ReadFault, WriteFault, Spent, Stopped}
-use Rattle.udp_line.specs.Datagrams.{EndsDatagram, FeedsDatagram, IsHalt, OnlyTakes, SendsText, has_bytes, sent_for}
+use Rattle.udp_line.specs.Datagrams.{EndsDatagram, FeedsDatagram, IsHalt, OnlyTakes, SendsText, has_bytes, sent_for, udp_name}
 use Rattle.udp_line.specs.declared.letter.Letter.{Letter}
 use Rattle.udp_line.specs.declared.mail_end.MailEnd.{MailEnd}
 use Rattle.udp_line.specs.declared.mail_end.MailEnd.TheVariants.{Quota, Ended, ReadFault as NotReceived, WriteFault as NotSent, Stopped as Halted}
@@ -84,7 +84,7 @@ module _ {M : Type 0} (seen : M → PortSeen) (l l' : Letter M) where
 
     -- A line that was fed whole pieces on a letter whose text was empty.
     pub letter_fed : (end : Ending) (b : Summary) (whole : List (List ℕ)) (bytes : List ℕ) (h : List Entry) (hall hall' : HallSeen) → l.text.now.items ≡ [] → bodies bytes ≡ whole
-        → IsLine end b whole h hall hall' (letter_seen seen l) (letter_seen seen l') → FeedsDatagram end bytes l'.text.now.items b h hall hall' (seen l.mail.now) (seen l'.mail.now)
+        → IsLine udp_name end b whole h (changed hall hall' (letter_seen seen l) (letter_seen seen l')) → FeedsDatagram end bytes l'.text.now.items b h hall hall' (seen l.mail.now) (seen l'.mail.now)
     letter_fed end b whole bytes h hall hall' blank is s = record {
       session = record {
         turns = s.turns;
@@ -108,7 +108,7 @@ module _ {M : Type 0} (seen : M → PortSeen) (l l' : Letter M) where
     }
 
 -- of what a line cannot come to, as few bytes were taken, nothing is left
-pub cut_short : (result : Result (Unit {0}) LineEnd) (piece : List ℕ) (s : LineValue) → ReadsNothing result → IsTaken result [] piece s → length piece < input_limit → IsCutShort result
+pub cut_short : (result : Result (Unit {0}) LineEnd) (piece : List ℕ) (s : LineValue) → ReadsNothing result → IsTaken udp_name result [] piece s → length piece < input_limit → IsCutShort result
 cut_short (Ok done) piece s reads taken few = tt
 cut_short (Err InputEnded) piece s reads taken few = absurd reads
 cut_short (Err ReadFault) piece s reads taken few = absurd reads

@@ -18,13 +18,13 @@ use Rattle.centre_rules.specs.History.{Entry}
 use Rattle.centre_rules.specs.Answers.{IsLegal}
 use Rattle.dc09_frame.specs.Frames.{bodies}
 use Rattle.session_rules.specs.Turns.{Rules, pieces_of, entries_of, readings_of, noise_of}
-use Rattle.session_rules.specs.Sessions.{Ending, answered, AnswersAll, IsEnd, IsUnstopped}
+use Rattle.session_rules.specs.Sessions.{changed, Ending, answered, AnswersAll, IsEnd, IsUnstopped}
 use Rattle.session_rules.proofs.Appended.{readings-append, noise-append, own_more}
 use Rattle.session_rules.proofs.Joined.{ends_under}
 use Rattle.line_session.specs.Sessions.{IsLine, line_rules}
 use Rattle.line_session.specs.Turns.{Turn, line_turns, AreTurns}
 use Rattle.line_session.proofs.Followed.{line_follows}
-use Rattle.udp_line.specs.Datagrams.{AnswersDatagram, EndsDatagram, FeedsDatagram, has_bytes, sent_for}
+use Rattle.udp_line.specs.Datagrams.{AnswersDatagram, EndsDatagram, FeedsDatagram, has_bytes, sent_for, udp_name}
 use Rattle.udp_line.specs.Mails.{Datagram, HasEnded, MailAdded, ServesMail, IsMailEnd, AnswersEach, AreWhole, text_for, replies_to, turns_of, IsUnhalted}
 use Rattle.udp_line.specs.declared.mail_end.MailEnd.{MailEnd}
 use Rattle.udp_line.specs.declared.mail_end.MailEnd.TheVariants.{Quota, Ended, ReadFault, WriteFault, Stopped}
@@ -159,7 +159,7 @@ module _ (b : Summary) (h : List Entry) {given : List (List ℕ)} {hall mid : Ha
 
   module _ (bytes : List ℕ) {hall' : HallSeen} {q' r : PortSeen} (kept : IsKept hall mid) (none : IsNoStream p) (none' : IsNoStream r) (rest : q' ≡ record q { datagrams = q'.datagrams; read_faults = q'.read_faults }) where
     -- one more datagram, of which this was sent, by an end of all
-    behind : (end : MailEnd) (e : Ending) {fed : PortSeen} (sent : List (List ℕ)) (s : ServesMail Quota given b h hall mid p q) (one : IsLine e b (bodies bytes) s.history mid hall' q' fed)
+    behind : (end : MailEnd) (e : Ending) {fed : PortSeen} (sent : List (List ℕ)) (s : ServesMail Quota given b h hall mid p q) (one : IsLine udp_name e b (bodies bytes) s.history (changed mid hall' q' fed))
         → r ≡ record fed { replies = r.replies; write_faults = r.write_faults } → r.replies ≡ append_replies fed.replies sent
         → (IsUnhalted end → IsUnstopped e)
         → IsMailEnd end b hall hall' one.history (s.datagrams ++ record { bytes = bytes; turns = one.turns } ∷ []) (record {
@@ -175,8 +175,8 @@ module _ (b : Summary) (h : List Entry) {given : List (List ℕ)} {hall mid : Ha
           history = one.history;
           added = record { replies = s.added.replies ++ sent; readings = s.added.readings ++ one.added.readings; noise = s.added.noise ++ one.added.noise };
           bytes = ap (λ (l : List (List ℕ)). l ++ bytes ∷ []) s.bytes ∙ sym (map-append (λ (o : Datagram). o.bytes) s.datagrams (d ∷ []));
-          each = subst (AreTurns b (meaning hall.text) hall.caller h one.history) (sym same)
-              ((line_follows b kept (s.up tt) hall' h).turns s.history one.history (turns_of s.datagrams) one.turns s.each one.each);
+          each = subst (AreTurns udp_name b (meaning hall.text) hall.caller h one.history) (sym same)
+              ((line_follows udp_name b kept (s.up tt) hall' h).turns s.history one.history (turns_of s.datagrams) one.turns s.each one.each);
           holds = one.holds;
           legal = one.legal;
           own =
@@ -202,7 +202,7 @@ module _ (b : Summary) (h : List Entry) {given : List (List ℕ)} {hall mid : Ha
     pub serves_on : (s : ServesMail Quota given b h hall mid p q) → AnswersDatagram (Ok tt) bytes b s.history mid hall' q' r → ServesMail Quota (given ++ bytes ∷ []) b h hall hall' p r
     serves_on s one =
         let line = one.session in
-        let all = all_of (line_rules b mid hall') one.end line.history line.turns line.behind line.added line.left one.sends.0 line.ended in
+        let all = all_of (line_rules udp_name b mid hall') one.end line.history line.turns line.behind line.added line.left one.sends.0 line.ended in
         let ds = s.datagrams in
         let d : Datagram = record { bytes = bytes; turns = line.turns } in
         behind Quota one.end (sent_for (line.added.text ∷ [])) s line one.only one.sends.1 (λ _. unstopped one.end one.sends.0) (record {
@@ -226,7 +226,7 @@ module _ (b : Summary) (h : List Entry) {given : List (List ℕ)} {hall mid : Ha
     serves_unsent : (s : ServesMail Quota given b h hall mid p q) → AnswersDatagram (Err WriteFault) bytes b s.history mid hall' q' r → ServesMail WriteFault (given ++ bytes ∷ []) b h hall hall' p r
     serves_unsent s one =
         let line = one.session in
-        let all = all_of (line_rules b mid hall') one.end line.history line.turns line.behind line.added line.left one.sends.0 line.ended in
+        let all = all_of (line_rules udp_name b mid hall') one.end line.history line.turns line.behind line.added line.left one.sends.0 line.ended in
         let ds = s.datagrams in
         let d : Datagram = record { bytes = bytes; turns = line.turns } in
         behind WriteFault one.end [] s line one.only (one.sends.2 ∙ sym (replies_none one.fed.replies)) (λ _. unstopped one.end one.sends.0) (record {
@@ -264,8 +264,8 @@ module _ (b : Summary) (h : List Entry) {given : List (List ℕ)} {hall mid : Ha
           line = line.added;
           left = line.left;
           taken = line.taken;
-          ended = ends_under line_turns (line_rules b mid hall') (line_rules b hall hall') one.end line.history line.turns line.behind line.added line.left
-              ((line_follows b kept (s.up tt) hall' h).cause line.history) line.ended;
+          ended = ends_under line_turns (line_rules udp_name b mid hall') (line_rules udp_name b hall hall') one.end line.history line.turns line.behind line.added line.left
+              ((line_follows udp_name b kept (s.up tt) hall' h).cause line.history) line.ended;
           halt = one.sends.0;
           none_behind = line.unanswered;
           added = λ i. record {

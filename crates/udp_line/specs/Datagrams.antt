@@ -1,5 +1,5 @@
 -- What answering one datagram did.
-use Rattle.std.specs.Prelude.{◌≡◌, ◌≤◌, ℕ, List, [], ◌∷◌, Bool, true, false, Result, Ok, Err, filter}
+use Rattle.std.specs.Prelude.{◌≡◌, ◌≤◌, ℕ, List, [], ◌∷◌, Bool, true, false, Result, Ok, Err, codes, filter}
 use Rattle.arc_doors.specs.Mails.{append_replies}
 use Rattle.arc_io.specs.Seen.{PortSeen}
 use Rattle.centre_core.specs.Halls.{HallSeen}
@@ -8,10 +8,14 @@ use Rattle.centre_core.specs.declared.hall.Stop.TheVariants.{Memory}
 use Rattle.centre_rules.specs.Summary.{Summary}
 use Rattle.centre_rules.specs.History.{Entry}
 use Rattle.dc09_frame.specs.Frames.{bodies}
-use Rattle.session_rules.specs.Sessions.{Ending, answered, cut_off, stopped}
+use Rattle.session_rules.specs.Sessions.{changed, Ending, answered, cut_off, stopped}
 use Rattle.line_session.specs.Sessions.{IsLine}
 use Rattle.udp_line.specs.declared.mail_end.MailEnd.{MailEnd}
 use Rattle.udp_line.specs.declared.mail_end.MailEnd.TheVariants.{Quota, Ended, ReadFault, WriteFault, Stopped}
+
+-- the name of the line of each datagram
+abbrev pub udp_name : List ℕ
+udp_name = codes "udp"
 
 -- a text has a byte
 abbrev pub has_bytes : List ℕ → Bool
@@ -39,7 +43,7 @@ pub record OnlyReplies (p p' : PortSeen) : Type 0 where
 -- A new line was fed these bytes: a session over all their whole pieces, which wrote this text.
 pub record FeedsDatagram (end : Ending) (bytes text : List ℕ) (b : Summary) (h : List Entry) (hall hall' : HallSeen) (p p' : PortSeen)
     : Type 0 where
-  pub session : IsLine end b (bodies bytes) h hall hall' p p'
+  pub session : IsLine udp_name end b (bodies bytes) h (changed hall hall' p p')
   pub written : text ≡ session.added.text
 
 -- a line that was not answered to its end halts a session over a mailbox: the hall stopped, or memory was wanted
@@ -71,6 +75,6 @@ pub record AnswersDatagram (result : Result (Unit {0}) MailEnd) (bytes : List �
     (p p' : PortSeen) : Type 0 where
   pub end : Ending
   pub fed : PortSeen
-  pub session : IsLine end b (bodies bytes) h hall hall' p fed
+  pub session : IsLine udp_name end b (bodies bytes) h (changed hall hall' p fed)
   pub only : p' ≡ record fed { replies = p'.replies; write_faults = p'.write_faults }
   pub sends : SendsText result end session.added.text fed p'

@@ -17,7 +17,7 @@ use Rattle.session_rules.specs.Turns.{pieces_of, entries_of, text_of, readings_o
 use Rattle.session_rules.specs.Sessions.{Ending, IsEnd, IsShownFor}
 use Rattle.line_session.specs.Turns.{Turn, line_turns, AreTurns}
 use Rattle.line_session.specs.Sessions.{line_rules}
-use Rattle.udp_line.specs.Datagrams.{has_bytes, sent_for, IsHalt}
+use Rattle.udp_line.specs.Datagrams.{has_bytes, sent_for, udp_name, IsHalt}
 use Rattle.udp_line.specs.declared.mail_end.MailEnd.{MailEnd}
 use Rattle.udp_line.specs.declared.mail_end.MailEnd.TheVariants.{Quota, Ended, ReadFault, WriteFault, Stopped}
 
@@ -83,7 +83,7 @@ pub record HaltsAtLast (stop : Stop) (b : Summary) (hall hall' : HallSeen) (x : 
   pub line : Added
   pub left : List (List ℕ)
   pub taken : bodies last.bytes ≡ pieces_of line_turns last.turns ++ left
-  pub ended : IsEnd line_turns (line_rules b hall hall') end x last.turns behind line left
+  pub ended : IsEnd line_turns (line_rules udp_name b hall hall') end x last.turns behind line left
   pub halt : IsHalt stop end
   pub none_behind : behind ≡ []
   pub added : a ≡ record {
@@ -117,7 +117,7 @@ pub record ServesMail (end : MailEnd) (given : List (List ℕ)) (b : Summary) (h
   pub history : List Entry
   pub added : MailAdded
   pub bytes : given ≡ map (λ d. d.bytes) datagrams
-  pub each : AreTurns b (meaning hall.text) hall.caller h history (turns_of datagrams)
+  pub each : AreTurns udp_name b (meaning hall.text) hall.caller h history (turns_of datagrams)
   pub holds : hall'.stands b history
   pub legal : IsLegal b history
   pub own : hall'.own history ≡ reverse (entries_of line_turns (turns_of datagrams)) ++ hall.own h

@@ -5,8 +5,9 @@ ghost use Rattle.centre_rules.specs.Summary.{Summary};
 ghost use Rattle.centre_rules.specs.History.{Entry};
 ghost use Rattle.session_rules.specs.Sessions.{HasShown};
 ghost use Rattle.line_session.specs.Sessions.{IsCutShort, ending_of};
-ghost use Rattle.udp_line.specs.Datagrams.{FeedsDatagram, OnlyTakes};
+ghost use Rattle.udp_line.specs.Datagrams.{FeedsDatagram, OnlyTakes, udp_name};
 
+use arc_data::Txt;
 use arc_doors::Mailbox;
 use arc_io::{Clock, Ends, Failed, Noise, Port, Sink, Source};
 use centre_core::Hall;
@@ -110,6 +111,16 @@ pub(crate) fn feed<H: Hall, M: Mailbox>(
     ensures stop { HasShown (H.seen hall.new) (ending_of result) }
     ensures takes { OnlyTakes (M.seen letter.old.mail.now) (M.seen letter.new.mail.now) }
 {
-    let mut line = LineState::new();
+    let mut line = LineState::new(udp());
     line.take(alloc, hall, letter, bytes)
+}
+
+// The name of the line of each datagram.
+fn udp() -> Txt
+    ensures { result ≡ udp_name }
+{
+    match Txt::of(b"udp") {
+        Some(name) => name,
+        None => unreachable!(),
+    }
 }

@@ -17,8 +17,8 @@ open 0
 
 const TWO: &[u8] = b"recorded 3
 open 2
-incident 1 commfail 1234 code - opened 1000000061 signals 1 restored no holder none next note
-incident 2 commfail ABC code - opened 1000000061 signals 1 restored no holder none next police
+incident 1 commfail 1234 code - opened 1000000061 signals 1 restored no holder none next note via -
+incident 2 commfail ABC code - opened 1000000061 signals 1 restored no holder none next police via -
 ";
 
 // A run that began at the moment 1000000000 is reported so after a Tick so many seconds later; and where one of so many calls of the sink

@@ -213,7 +213,7 @@ fn misses(rt: &impl Abort, alloc: Global, step: Step, want: &str) {
 }
 
 // An incident as it is shown.
-fn view(restored: bool, holder: Option<Txt>, expected: Option<Step>) -> View {
+fn view(restored: bool, holder: Option<Txt>, expected: Option<Step>, via: &[u8]) -> View {
     View {
         number: 1,
         class: Class::Burglary,
@@ -224,19 +224,20 @@ fn view(restored: bool, holder: Option<Txt>, expected: Option<Step>) -> View {
         restored,
         holder,
         expected,
+        via: text(via),
     }
 }
 
 #[test]
 fn prints_incidents(rt: HostRuntime) {
     let alloc = rt.alloc();
-    let waiting = Reply::Shown(view(false, None, Some(Step::Note)));
+    let waiting = Reply::Shown(view(false, None, Some(Step::Note), b"l1"));
     let want =
-        "incident 1 burglary 1234 code 131 opened 1000000000 signals 1 restored no holder none next note\n";
+        "incident 1 burglary 1234 code 131 opened 1000000000 signals 1 restored no holder none next note via l1\n";
     prints(&rt, alloc, &waiting, want);
-    let done = Reply::Shown(view(true, Some(text(b"bob")), None));
+    let done = Reply::Shown(view(true, Some(text(b"bob")), None, b""));
     let want =
-        "incident 1 burglary 1234 code 131 opened 1000000000 signals 1 restored yes holder bob next none\n";
+        "incident 1 burglary 1234 code 131 opened 1000000000 signals 1 restored yes holder bob next none via -\n";
     prints(&rt, alloc, &done, want);
 }
 

@@ -1,4 +1,5 @@
-// Summaries of centres as bytes, worked out by hand, and copies of centres. A row of bytes has hexadecimal digits, with spaces between.
+// Summaries of centres as bytes, worked out by hand, and copies of centres. A row of bytes has hexadecimal digits, with spaces between. The
+// messages came by the line `line`, whose name is 6c696e65.
 use super::{compare_entries, play_row};
 use crate::same::same;
 use centre_core::Centre;
@@ -24,7 +25,7 @@ pub(crate) const ONE_BYTES: &str = "\
 04 31323334 01 000000003b9aca00 00 00 01
 000000003b9aca00 00 01 30 0001 02 000b 3131333120303120303031
 00000001
-0000000000000001 04 31323334 05 03 313331 000000003b9aca00 0000000000000001 00 00 01 0a 00";
+0000000000000001 04 31323334 05 03 313331 04 6c696e65 000000003b9aca00 0000000000000001 00 00 01 0a 00";
 
 // Of two accounts the second is named first, is silent, and has an incident that is held; the first is open.
 const TWO: &str = "\
@@ -49,10 +50,10 @@ pub(crate) const TWO_BYTES: &str = "\
 04 39393939 01 000000003b9aca00 01 00 01
 000000003b9aca00 00 01 30 0001 02 000b 3131333120303120303031
 00000003
-0000000000000001 04 39393939 05 03 313331 000000003b9aca00 0000000000000001 00 03 616e6e 000000003b9aca19
+0000000000000001 04 39393939 05 03 313331 04 6c696e65 000000003b9aca00 0000000000000001 00 03 616e6e 000000003b9aca19
 01 0a 01 0a 03 000000003b9aca19 03 616e6e
-0000000000000002 04 31323334 05 03 313331 000000003b9aca05 0000000000000001 00 00 01 0a 00
-0000000000000003 04 39393939 08 01 2d 000000003b9aca3d 0000000000000001 00 00 01 0a 00";
+0000000000000002 04 31323334 05 03 313331 04 6c696e65 000000003b9aca05 0000000000000001 00 00 01 0a 00
+0000000000000003 04 39393939 08 01 2d 00 000000003b9aca3d 0000000000000001 00 00 01 0a 00";
 
 fn play(rt: &impl Abort, alloc: Global, centre: &mut Centre, rows: &str) {
     for row in rows.lines() {

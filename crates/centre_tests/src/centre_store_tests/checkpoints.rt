@@ -1,6 +1,6 @@
 // Checkpoints: when they are made, what they leave, and when there is no room behind them. A summary of nothing has 43 bytes, that of an
-// Adopt 60, of a Start too 68, of one message too 151, and 27 more for each of the next 31; an area uses 22 more. An Adopt takes 31 bytes,
-// another one 43, a Start 14 and a message 38.
+// Adopt 60, of a Start too 68, of one message too 156, and 27 more for each of the next 31; an area uses 22 more. An Adopt takes 31 bytes,
+// another one 43, a Start 14 and a message 43.
 
 use super::told::{alarm, left_of, play, play_parts, submitted};
 use super::{AREA, FRESH};
@@ -19,28 +19,28 @@ use test_fixtures::stores::{opened, recorded};
 // its disk had: six open it, four write a record, and ten put a summary into the other area, or eleven where the gate there is open.
 const CHECKPOINTS: &str = "\
 999 9|since=0;checkpoint=made;since=0;recorded=0;checkpoint=made|1 65 0|16
-999 9|begin=begun;1=7 taken;since=0;checkpoint=made;since=3;checkpoint=made;since=3;recorded=3|1 173 0|28
-999 9|begin=begun;1=7 taken;checkpoint=made;2=7 taken;since=3;list=7 listed;1=7 repeat;2=7 repeat;recorded=4|1 211 1|32
-999 9|begin=begun;checkpoint=made;1=7 taken;checkpoint=made;since=3;recorded=3|2 173 0|39
-999 9|begin=begun;checkpoint=made;1=7 taken;checkpoint=made;2=7 taken;checkpoint=made;since=4|3 200 0|54
+999 9|begin=begun;1=7 taken;since=0;checkpoint=made;since=3;checkpoint=made;since=3;recorded=3|1 178 0|28
+999 9|begin=begun;1=7 taken;checkpoint=made;2=7 taken;since=3;list=7 listed;1=7 repeat;2=7 repeat;recorded=4|1 221 1|32
+999 9|begin=begun;checkpoint=made;1=7 taken;checkpoint=made;since=3;recorded=3|2 178 0|39
+999 9|begin=begun;checkpoint=made;1=7 taken;checkpoint=made;2=7 taken;checkpoint=made;since=4|3 205 0|54
 999 9|begin=begun;checkpoint=made;begin=begun;since=2;recorded=3|1 104 1|28
 999 9|begin=begun;checkpoint=made;begin other=begun;since=2;recorded=4|1 147 2|32
-172 9|begin=begun;1=7 taken;checkpoint=Full { used: 173, need: 0, records: 0 };since=0;list=7 listed;1=7 repeat;2=7 taken;recorded=4|0 138 4|22
-173 9|begin=begun;1=7 taken;checkpoint=made;since=3;2=Full { used: 173, need: 38, records: 0 };list=7 listed|1 173 0|28
-999 3|begin=begun;1=7 taken;list=7 listed;1=7 repeat;since=0|0 100 3|18
-100 9|begin=begun;1=7 taken;list=7 listed;1=7 repeat;since=0|0 100 3|18
-100 3|begin=begun;1=7 taken;list=7 listed;1=7 repeat;since=0;2=Full { used: 173, need: 38, records: 0 }|0 100 3|18
-211 3|begin=begun;1=7 taken;2=7 taken;since=3;recorded=4|1 211 1|32
-210 3|begin=begun;1=7 taken;2=Full { used: 173, need: 38, records: 0 };since=0;list=7 listed;1=7 repeat;recorded=3|0 100 3|18
-210 3|begin=begun;1=7 taken;begin=begun;since=3;recorded=4|1 187 1|32
-210 3|begin=begun;1=7 taken;begin other=Full { used: 173, need: 43, records: 0 };since=0;recorded=3|0 100 3|18
-404 99|begin=begun;1 to 9=7 taken;since=0;recorded=11|0 404 11|50
-403 99|begin=begun;1 to 8=7 taken;since=0;9=7 taken;since=10;recorded=11|1 400 1|60
-400 99|begin=begun;1 to 8=7 taken;since=0;9=7 taken;since=10;recorded=11|1 400 1|60
-399 99|begin=begun;1 to 8=7 taken;9=Full { used: 362, need: 38, records: 0 };since=0;recorded=10;begin=begun|0 380 11|50
+177 9|begin=begun;1=7 taken;checkpoint=Full { used: 178, need: 0, records: 0 };since=0;list=7 listed;1=7 repeat;2=7 taken;recorded=4|0 148 4|22
+178 9|begin=begun;1=7 taken;checkpoint=made;since=3;2=Full { used: 178, need: 43, records: 0 };list=7 listed|1 178 0|28
+999 3|begin=begun;1=7 taken;list=7 listed;1=7 repeat;since=0|0 105 3|18
+105 9|begin=begun;1=7 taken;list=7 listed;1=7 repeat;since=0|0 105 3|18
+105 3|begin=begun;1=7 taken;list=7 listed;1=7 repeat;since=0;2=Full { used: 178, need: 43, records: 0 }|0 105 3|18
+221 3|begin=begun;1=7 taken;2=7 taken;since=3;recorded=4|1 221 1|32
+220 3|begin=begun;1=7 taken;2=Full { used: 178, need: 43, records: 0 };since=0;list=7 listed;1=7 repeat;recorded=3|0 105 3|18
+220 3|begin=begun;1=7 taken;begin=begun;since=3;recorded=4|1 192 1|32
+220 3|begin=begun;1=7 taken;begin other=Full { used: 178, need: 43, records: 0 };since=0;recorded=3|0 105 3|18
+449 99|begin=begun;1 to 9=7 taken;since=0;recorded=11|0 449 11|50
+448 99|begin=begun;1 to 8=7 taken;since=0;9=7 taken;since=10;recorded=11|1 410 1|60
+383 99|begin=begun;1 to 7=7 taken;since=0;8=7 taken;since=9;recorded=10|1 383 1|56
+382 99|begin=begun;1 to 7=7 taken;8=Full { used: 340, need: 43, records: 0 };since=0;recorded=9;begin=begun|0 377 10|46
 999 0|begin=Full { used: 65, need: 31, records: 0 };checkpoint=made;since=0;begin=Full { used: 65, need: 31, records: 0 }|1 65 0|16
-999 1|begin=begun;since=1;recorded=2;1=7 taken;since=2;2=7 taken;since=3;recorded=4;1=7 repeat|3 211 1|54
-999 2|begin=begun;since=0;1=7 taken;since=2;2=7 taken;since=2;3=7 taken;since=4;recorded=5|2 238 1|47
+999 1|begin=begun;since=1;recorded=2;1=7 taken;since=2;2=7 taken;since=3;recorded=4;1=7 repeat|3 221 1|54
+999 2|begin=begun;since=0;1=7 taken;since=2;2=7 taken;since=2;3=7 taken;since=4;recorded=5|2 248 1|47
 96 1|begin=begun;since=1;recorded=2|1 96 1|24
 95 1|begin=Full { used: 82, need: 14, records: 0 };since=0;recorded=1|0 48 1|10
 48 9|begin=Full { used: 82, need: 14, records: 0 };since=0;recorded=1|0 48 1|10
@@ -124,15 +124,15 @@ fn generation_of(rt: &impl Abort, alloc: Global, area: &[u8]) -> String {
 
 // Runs over one disk, each opened with limits of its own, and what they leave.
 const RUNS: &str = "\
-999 9:begin=begun;1=7 taken;checkpoint=made;2=7 taken/999 9:since=3;recorded=4;1=7 repeat;2=7 repeat;begin=begun;since=3;recorded=5|1 225 2
+999 9:begin=begun;1=7 taken;checkpoint=made;2=7 taken/999 9:since=3;recorded=4;1=7 repeat;2=7 repeat;begin=begun;since=3;recorded=5|1 235 2
 999 9:begin=begun;1=7 taken;checkpoint=made/100 9:since=3;recorded=3;checkpoint=made;list=7 listed;1=7 repeat;\
-2=Full { used: 173, need: 38, records: 0 };begin=Full { used: 173, need: 14, records: 0 };recorded=3|1 173 0
-999 9:begin=begun;1=7 taken/999 0:list=7 listed;1=7 repeat;2=Full { used: 173, need: 38, records: 0 };\
-begin=Full { used: 173, need: 14, records: 0 };begin other=Full { used: 173, need: 43, records: 0 };recorded=3;since=0;\
-checkpoint=made;since=3;2=Full { used: 173, need: 38, records: 0 };checkpoint=made|1 173 0
-999 1:begin=begun;1=7 taken;2=7 taken/999 1:since=3;recorded=4;3=7 taken;since=4;recorded=5/999 9:begin=begun;since=4;recorded=6|4 252 2
-999 9:begin=begun;1=7 taken/100 3:2=Full { used: 173, need: 38, records: 0 };checkpoint=Full { used: 173, need: 0, records: 0 };since=0|0 100 3
-999 9:begin=begun;1=7 taken/999 9:checkpoint=made;since=3/999 9:since=3;checkpoint=made/999 9:2=7 taken;checkpoint=made;since=4|2 200 0";
+2=Full { used: 178, need: 43, records: 0 };begin=Full { used: 178, need: 14, records: 0 };recorded=3|1 178 0
+999 9:begin=begun;1=7 taken/999 0:list=7 listed;1=7 repeat;2=Full { used: 178, need: 43, records: 0 };\
+begin=Full { used: 178, need: 14, records: 0 };begin other=Full { used: 178, need: 43, records: 0 };recorded=3;since=0;\
+checkpoint=made;since=3;2=Full { used: 178, need: 43, records: 0 };checkpoint=made|1 178 0
+999 1:begin=begun;1=7 taken;2=7 taken/999 1:since=3;recorded=4;3=7 taken;since=4;recorded=5/999 9:begin=begun;since=4;recorded=6|4 262 2
+999 9:begin=begun;1=7 taken/105 3:2=Full { used: 178, need: 43, records: 0 };checkpoint=Full { used: 178, need: 0, records: 0 };since=0|0 105 3
+999 9:begin=begun;1=7 taken/999 9:checkpoint=made;since=3/999 9:since=3;checkpoint=made/999 9:2=7 taken;checkpoint=made;since=4|2 205 0";
 
 #[test]
 fn checkpoints_over_several_runs(rt: HostRuntime) {
@@ -185,13 +185,13 @@ fn compare_copy(rt: &impl Abort, copy: &Centre) {
 
 // The second message: the gate, the length and the body.
 const SECOND: &[u8] =
-    b"\x01\0\0\0\x21\x03\0\0\0\0\x3b\x9a\xca\0\x041234\0\x010\0\x02\x02\0\x0b1131 01 001";
+    b"\x01\0\0\0\x26\x03\0\0\0\0\x3b\x9a\xca\0\x041234\0\x010\0\x02\x02\0\x0b1131 01 001\x04line";
 
 // The first area is as it was, and the second one has the summary, and the record of the message behind it.
 fn compare_areas(rt: &impl Abort, alloc: Global, disk: MemDisk) {
     same(rt, disk.bytes(Area::A), AREA, "the first area");
     let area = summed_area(rt, alloc);
-    same(rt, area.len(), 211, "the second area's length");
+    same(rt, area.len(), 221, "the second area's length");
     same(rt, disk.bytes(Area::B), area.as_slice(), "the second area");
     same(rt, recorded(alloc, disk), Some(4), "opened again");
 }
@@ -201,7 +201,7 @@ fn summed_area(rt: &impl Abort, alloc: Global) -> Vec<u8> {
     let summary = bytes_of(rt, alloc, &digits);
     let mut area = FRESH.to_vec(alloc).expect(rt, "memory");
     let _ = area.pop();
-    for part in [b"\x01\0\0\0\x97", summary.as_slice(), SECOND, b"\0"] {
+    for part in [b"\x01\0\0\0\x9c", summary.as_slice(), SECOND, b"\0"] {
         area.extend_from_slice(part).expect(rt, "memory");
     }
     area

@@ -53,8 +53,11 @@ fn record_of(letter: char) -> &'static [u8] {
         'o' => {
             b"\x01\0\0\0\x2c\x01\0\0\0\0\x3b\x9a\xca\0\0\0\0\x1faccount 1234\noperator ann 1234\n"
         }
-        // A Message.
+        // A Message, and one without a line, as it is spelled in the first version.
         'm' => {
+            b"\x01\0\0\0\x26\x03\0\0\0\0\x3b\x9a\xca\0\x041234\0\x010\0\x01\x02\0\x0b1131 01 001\x04line"
+        }
+        'v' => {
             b"\x01\0\0\0\x21\x03\0\0\0\0\x3b\x9a\xca\0\x041234\0\x010\0\x01\x02\0\x0b1131 01 001"
         }
         // A Claim of incident 1, and one of incident 7.
@@ -83,15 +86,16 @@ asx;Damaged { at: 61 }
 axm;Damaged { at: 47 }
 axx;Damaged { at: 47 }
 m;Damaged { at: 16 }
-asmm;Damaged { at: 99 }
-asmms;Damaged { at: 99 }
-osmn;Damaged { at: 117 }
-osmnc;Damaged { at: 117 }
-asmc;Damaged { at: 99 }
+asv;Damaged { at: 61 }
+asmm;Damaged { at: 104 }
+asmms;Damaged { at: 104 }
+osmn;Damaged { at: 122 }
+osmnc;Damaged { at: 122 }
+asmc;Damaged { at: 104 }
 ase;Damaged { at: 61 }
 asem;Damaged { at: 61 }
 ax.;Damaged { at: 62 }
-asmm.;Damaged { at: 137 }";
+asmm.;Damaged { at: 147 }";
 
 #[test]
 fn a_body_that_breaks_the_past_is_damage_at_its_gate(rt: HostRuntime) {
@@ -113,8 +117,13 @@ pub(super) fn append(rt: &impl Abort, area: &mut Vec<u8>, bytes: &[u8]) {
 
 // An area that has these records and a closed gate.
 pub(super) fn area_of(rt: &impl Abort, alloc: Global, letters: &str) -> Vec<u8> {
+    area_behind(rt, alloc, b"ARC JOURNAL 0002", letters)
+}
+
+// The same behind this head.
+pub(super) fn area_behind(rt: &impl Abort, alloc: Global, head: &[u8], letters: &str) -> Vec<u8> {
     let mut area = Vec::new(alloc);
-    append(rt, &mut area, b"ARC JOURNAL 0001");
+    append(rt, &mut area, head);
     for letter in letters.chars() {
         append(rt, &mut area, record_of(letter));
     }

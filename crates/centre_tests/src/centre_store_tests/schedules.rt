@@ -33,7 +33,7 @@ const LIMITS: [(u32, u64); 6] = [
     (99_999, 3),
     (99_999, 5),
     (99_999, 99),
-    (560, 99),
+    (590, 99),
 ];
 
 fn limits_of(room: (u32, u64)) -> Limits
@@ -145,7 +145,7 @@ fn last_of(rt: &impl Abort, alloc: Global, centres: &[Centre]) -> Centre {
     last.copy(alloc).expect(rt, "memory")
 }
 
-fn report_of(rt: &impl Abort, alloc: Global, centre: &Centre) -> Vec<u8> {
+pub(super) fn report_of(rt: &impl Abort, alloc: Global, centre: &Centre) -> Vec<u8> {
     let mut sink = MemSink::new(alloc, Vec::new(alloc));
     let written = report(centre, &mut sink);
     same(rt, written.is_ok(), true, "a report");
@@ -273,7 +273,7 @@ fn a_crash_where_every_second_record_makes_a_checkpoint(rt: HostRuntime) {
 
 #[test]
 fn a_crash_where_bytes_make_checkpoints(rt: HostRuntime) {
-    go_through_all(&rt, rt.alloc(), (560, 99));
+    go_through_all(&rt, rt.alloc(), (590, 99));
 }
 
 #[test]

@@ -20,7 +20,7 @@ pub(super) struct Both {
     b: Vec<u8>,
 }
 
-fn copied(rt: &impl Abort, alloc: Global, bytes: &[u8]) -> Vec<u8> {
+pub(super) fn copied(rt: &impl Abort, alloc: Global, bytes: &[u8]) -> Vec<u8> {
     bytes.to_vec(alloc).expect(rt, "memory")
 }
 
@@ -57,13 +57,13 @@ fn stopped_area(rt: &impl Abort, alloc: Global) -> Vec<u8> {
     area
 }
 
-// The areas of a state. But for the last four, area A has three records, and what stands in area B is named.
+// The areas of a state. But for the last six, area A has three records, and what stands in area B is named.
 fn areas_of(rt: &impl Abort, alloc: Global, state: &str) -> Both {
     let b = match state {
         "empty" => Vec::new(alloc),
         "short" => copied(rt, alloc, b"XXXXXXXXXX"),
         "fresh" => copied(rt, alloc, FRESH),
-        "gate" => copied(rt, alloc, b"ARC JOURNAL 0001\x01"),
+        "gate" => copied(rt, alloc, b"ARC JOURNAL 0002\x01"),
         "foreign" => copied(rt, alloc, &[b'X'; 40]),
         "stopped" => stopped_area(rt, alloc),
         _ => return summed_areas_of(rt, alloc, state),
@@ -72,7 +72,8 @@ fn areas_of(rt: &impl Abort, alloc: Global, state: &str) -> Both {
     Both { a, b }
 }
 
-// Summaries in both areas: an older one without records in B or in A; or one with a record in each, the later ones in A or in B.
+// Summaries in both areas: an older one without records in B or in A; or one with a record in each, the later ones in A or in B; or what the
+// first version left, records alone or a summary too, beside what it was summed up in.
 fn summed_areas_of(rt: &impl Abort, alloc: Global, state: &str) -> Both {
     match state {
         "older" => Both {
@@ -93,6 +94,14 @@ fn summed_areas_of(rt: &impl Abort, alloc: Global, state: &str) -> Both {
             alloc,
             "begin=begun;checkpoint=made;1=7 taken;checkpoint=made;2=7 taken;checkpoint=made;3=7 taken",
         ),
+        "moved" => Both {
+            a: area_in_words(rt, alloc, "~asv"),
+            b: area_in_words(rt, alloc, "1:s"),
+        },
+        "moved again" => Both {
+            a: area_in_words(rt, alloc, "3:s"),
+            b: area_in_words(rt, alloc, "~2:"),
+        },
         _ => panic!(rt; "no such state"),
     }
 }
@@ -109,7 +118,9 @@ stopped;3;0;10
 older;4;2;11
 newer;4;2;11
 second;4;2;11
-third;5;3;11";
+third;5;3;11
+moved;4;1;11
+moved again;4;3;11";
 
 // A state of the areas, and what is done over them: a checkpoint, and a record behind it or none.
 #[derive(Drop)]

@@ -55,12 +55,12 @@ fn fill(rt: &impl Abort, alloc: Global, store: &mut Store<MemDisk>) {
     play_parts(rt, alloc, store, "since=263;recorded=264");
 }
 
-// The last 32 of 33 messages of 4,000 bytes stand in a summary of 128,635 bytes; a message of 4,000 bytes would take 4,027.
+// The last 32 of 33 messages of 4,000 bytes stand in a summary of 128,640 bytes; a message of 4,000 bytes would take 4,032.
 #[test]
 fn is_full_of_the_bytes_of_a_summary(rt: HostRuntime) {
     let alloc = rt.alloc();
     let limits = Limits {
-        bytes: 132_683,
+        bytes: 132_693,
         ..SHIPPED
     };
     let disk = MemDisk::new(alloc, Vec::new(alloc));
@@ -74,7 +74,7 @@ fn fill_summary(rt: &impl Abort, alloc: Global, store: &mut Store<MemDisk>) {
     for seq in 1..33u16 {
         compare_filled(rt, alloc, store, seq, "7 taken");
     }
-    let full = "Full { used: 128657, need: 4027, records: 0 }";
+    let full = "Full { used: 128662, need: 4032, records: 0 }";
     compare_filled(rt, alloc, store, 33, full);
     play_parts(rt, alloc, store, "since=0;checkpoint=made;since=34");
     compare_filled(rt, alloc, store, 33, full);

@@ -126,31 +126,44 @@ fn wild_disk_of(rt: &impl Abort, alloc: Global, bytes: &[&[u8]], lengths: &[u64]
 
 // An area in words, the length that the disk says of both, and what it tells.
 const DISKS: &str = "\
-asm;100;3 repeat
+asm;105;3 repeat
 as;62;2 taken
 asm;0;0 taken
 asm;17;0 taken
 asm;18446744073709551615;3 repeat
-asm;99;Damaged { at: 61 }
+asm;104;Damaged { at: 61 }
 asm;61;Damaged { at: 47 }
 asm;47;Damaged { at: 16 }
-asmm;138;Damaged { at: 99 }
+asmm;148;Damaged { at: 104 }
 x;32;Damaged { at: 16 }
-1:;173;3 repeat
+1:;178;3 repeat
 1:;18446744073709551615;3 repeat
-1:s;187;4 repeat
-2*:;393;9 repeat
-1:;172;Damaged { at: 16 }
+1:s;192;4 repeat
+2*:;404;9 repeat
+1:;177;Damaged { at: 16 }
 1:;30;Damaged { at: 16 }
 1:;29;Damaged { at: 16 }
 1:;17;0 taken
 1:;0;0 taken
-1:s;186;Damaged { at: 172 }
-1:s;173;Damaged { at: 172 }
-1:x;189;Damaged { at: 172 }
-1:m;211;Damaged { at: 172 }
-5:;173;Damaged { at: 16 }
-0:;173;Damaged { at: 16 }";
+1:s;191;Damaged { at: 177 }
+1:s;178;Damaged { at: 177 }
+1:x;194;Damaged { at: 177 }
+1:m;221;Damaged { at: 177 }
+6:;178;Damaged { at: 16 }
+0:;178;Damaged { at: 16 }
+~asv;100;3 repeat
+~as;62;2 taken
+~asv;17;0 taken
+~asv;18446744073709551615;3 repeat
+~asv;99;Damaged { at: 61 }
+~asvv;138;Damaged { at: 99 }
+~asm;105;Damaged { at: 61 }
+~1:;173;3 repeat
+~1:;18446744073709551615;3 repeat
+~1:s;187;4 repeat
+~2*:;393;9 repeat
+~1:;172;Damaged { at: 16 }
+~5:;173;Damaged { at: 16 }";
 
 #[test]
 fn a_length_is_believed(rt: HostRuntime) {
@@ -177,36 +190,45 @@ fn compare(rt: &impl Abort, alloc: Global, disk: (&[u8], u64), want: &str, what:
 // tells. A byte below the length that a read does not give counts as 00: a gate there is closed, a length is short or nothing, and a body ends
 // in zeros, so that it spells another event, or none.
 const FRONTS: &str = "\
-asm;100;12 12;WrongVersion { found: [0, 0, 0, 0] }
-asm;100;13 13;WrongVersion { found: [48, 0, 0, 0] }
-asm;100;14 14;WrongVersion { found: [48, 48, 0, 0] }
-asm;100;15 15;WrongVersion { found: [48, 48, 48, 0] }
-asm;100;16 16;0 taken
-asm;100;17 46;Damaged { at: 16 }
-asm;100;47 47;1 taken
-asm;100;48 59;Damaged { at: 47 }
-asm;100;60 61;2 taken
-asm;100;62 98;Damaged { at: 61 }
-asm;100;99 100;3 repeat
+asm;105;12 12;WrongVersion { found: [0, 0, 0, 0] }
+asm;105;13 13;WrongVersion { found: [48, 0, 0, 0] }
+asm;105;14 14;WrongVersion { found: [48, 48, 0, 0] }
+asm;105;15 15;WrongVersion { found: [48, 48, 48, 0] }
+asm;105;16 16;0 taken
+asm;105;17 46;Damaged { at: 16 }
+asm;105;47 47;1 taken
+asm;105;48 59;Damaged { at: 47 }
+asm;105;60 61;2 taken
+asm;105;62 103;Damaged { at: 61 }
+asm;105;104 105;3 repeat
 asm;62;60 61;2 taken
 asm;62;62 62;Damaged { at: 61 }
-asm;99;60 61;2 taken
-asm;99;62 99;Damaged { at: 61 }
+asm;104;60 61;2 taken
+asm;104;62 104;Damaged { at: 61 }
 asm;5000;16 16;0 taken
 asm;5000;17 46;Damaged { at: 16 }
 asm;5000;47 47;1 taken
 asm;5000;60 61;2 taken
-asm;5000;99 100;3 repeat
-1:;173;12 12;WrongVersion { found: [0, 0, 0, 0] }
-1:;173;16 16;0 taken
-1:;173;17 170;Damaged { at: 16 }
-1:;173;171 173;3 repeat
+asm;5000;104 105;3 repeat
+1:;178;12 12;WrongVersion { found: [0, 0, 0, 0] }
+1:;178;16 16;0 taken
+1:;178;17 175;Damaged { at: 16 }
+1:;178;176 178;3 repeat
 1:;5000;16 16;0 taken
-1:;5000;17 170;Damaged { at: 16 }
-1:;5000;171 173;3 repeat
-1:s;187;171 172;3 repeat
-1:s;187;173 184;Damaged { at: 172 }
-1:s;187;185 187;4 repeat";
+1:;5000;17 175;Damaged { at: 16 }
+1:;5000;176 178;3 repeat
+1:s;192;176 177;3 repeat
+1:s;192;178 189;Damaged { at: 177 }
+1:s;192;190 192;4 repeat
+~asv;100;12 12;WrongVersion { found: [0, 0, 0, 0] }
+~asv;100;15 15;WrongVersion { found: [48, 48, 48, 0] }
+~asv;100;16 16;0 taken
+~asv;100;17 46;Damaged { at: 16 }
+~asv;100;60 61;2 taken
+~asv;100;62 98;Damaged { at: 61 }
+~asv;100;99 100;3 repeat
+~1:;173;17 170;Damaged { at: 16 }
+~1:;173;171 173;3 repeat";
 
 #[test]
 fn a_byte_that_no_read_gives_is_zero(rt: HostRuntime) {
@@ -244,7 +266,7 @@ fn a_name_that_no_read_gives_is_another(rt: HostRuntime) {
     let area = area_in_words(&rt, alloc, "1:");
     for count in 0..12usize {
         let want = format!(in alloc; "NotJournal {{ byte: {count} }}").expect(&rt, "memory");
-        compare_front(&rt, alloc, (&area, count), 173, want.as_str());
+        compare_front(&rt, alloc, (&area, count), 178, want.as_str());
     }
 }
 
@@ -277,7 +299,7 @@ fn compare_growing(rt: &impl Abort, alloc: Global, row: &str) {
     let told = told(
         rt,
         alloc,
-        wild_disk_of(rt, alloc, &reads, &[100, 30, length]),
+        wild_disk_of(rt, alloc, &reads, &[105, 30, length]),
     );
     same(rt, told.as_str(), "3 repeat", row);
 }
@@ -301,9 +323,9 @@ fn below(chance: &mut u64, limit: u64) -> u64
 }
 
 // Records that go on from one another, alone and behind summaries, and some that don't.
-const WORDS: [&str; 16] = [
+const WORDS: [&str; 20] = [
     "asm", "osmc", "as", "asmm", "", "osmn", "asx", "ase", "1:", "1:s", "2*:", "2:s", "1*:", "1:x",
-    "5:", "3:sm",
+    "6:", "3:sm", "~asv", "~osvc", "~1:s", "~2*:",
 ];
 
 // An area by chance: records or noise, of whose bytes some are changed, cut behind some byte, and joined with others.
@@ -323,8 +345,8 @@ fn area_by_chance(rt: &impl Abort, alloc: Global, chance: &mut u64) -> Vec<u8> {
 const BEFORE_NOISE: [&[u8]; 4] = [
     b"",
     b"ARC JOURNAL 0001",
-    b"ARC JOURNAL 0001\x01",
-    b"ARC JOURNAL 0001\x01\0\0\0",
+    b"ARC JOURNAL 0002\x01",
+    b"ARC JOURNAL 0002\x01\0\0\0",
 ];
 
 // Bytes by chance, of which three of four stand behind a head.
@@ -344,7 +366,7 @@ fn part_by_chance(rt: &impl Abort, alloc: Global, chance: &mut u64) -> Vec<u8> {
     if below(chance, 4) == 0 {
         return noise_by_chance(rt, alloc, chance);
     }
-    let place = below(chance, 16) as usize;
+    let place = below(chance, 20) as usize;
     let words = WORDS.get(place).copied().unwrap_or("asm");
     area_in_words(rt, alloc, words)
 }

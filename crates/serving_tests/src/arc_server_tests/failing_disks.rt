@@ -11,6 +11,7 @@ use centre_store::Store;
 use disk_journal::{Limits, OpenFault, SHIPPED};
 use std::alloc::Global;
 use std::process::Abort;
+use test_fixtures::messages::via;
 use test_fixtures::ports::port_of;
 use test_fixtures::stores::opened;
 
@@ -50,7 +51,7 @@ fn serve_line<P: Port>(
     let setup = Setup::read(alloc, SETUP).expect(rt, "a setup");
     let clock = port.now();
     match store.begin(alloc, setup, clock) {
-        Ok(()) => Ok(serve(Side::Lines, alloc, store, port)),
+        Ok(()) => Ok(serve(Side::Lines, &via(), alloc, store, port)),
         Err(stop) => Err(stop),
     }
 }

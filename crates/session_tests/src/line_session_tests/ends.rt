@@ -1,6 +1,8 @@
 // How sessions end.
 use super::panel::Panel;
-use super::{ALARM, ALARM_REPLY, BEAT, BEAT_REPLY, Came, SETUP, joined, recorded_of, session};
+use super::{
+    ALARM, ALARM_REPLY, BEAT, BEAT_REPLY, Came, SETUP, joined, line_name, recorded_of, session,
+};
 use crate::same::same;
 use crate::told::Told;
 use arc_io::{MemPort, Source};
@@ -62,7 +64,7 @@ fn a_failed_write_ends_a_line_that_is_fed(rt: HostRuntime) {
     let input = input(&rt, alloc);
     let mut hall = ram_hall(alloc, SETUP).expect(&rt, "a hall");
     let mut port = failing_port(alloc, b"", &[], &[2]).expect(&rt, "memory");
-    let end = LineState::new().take(alloc, &mut hall, &mut port, &input);
+    let end = LineState::new(line_name()).take(alloc, &mut hall, &mut port, &input);
     same(&rt, end, Err(LineEnd::WriteFault), "fed");
     compare_written(&rt, alloc, port.sink.bytes(), 28);
     same(&rt, recorded_of(hall), 4, "entries");
@@ -159,9 +161,9 @@ fn try_stop(rt: &impl Abort, alloc: Global, stop: Stop) {
     let input = joined(rt, alloc, &[ALARM, BEAT]);
     let mut hall = Told::new(rt, alloc, SETUP, Some(stop));
     let mut port = port_of(alloc, &input).expect(rt, "memory");
-    let end = serve_line(alloc, &mut hall, &mut port);
+    let end = serve_line(alloc, &mut hall, &mut port, &line_name());
     same(rt, (end, hall.calls), (LineEnd::Stopped(stop), 1), "served");
-    let end = LineState::new().take(alloc, &mut hall, &mut port, &input);
+    let end = LineState::new(line_name()).take(alloc, &mut hall, &mut port, &input);
     same(
         rt,
         (end, hall.calls),

@@ -2,7 +2,9 @@
 ghost use Rattle.std.specs.Prelude.{◌<◌};
 
 use super::panel::Panel;
-use super::{ALARM, ALARM_REPLY, BEAT, BEAT_REPLY, Came, DUH, SETUP, joined, recorded_of, session};
+use super::{
+    ALARM, ALARM_REPLY, BEAT, BEAT_REPLY, Came, DUH, SETUP, joined, line_name, recorded_of, session,
+};
 use crate::same::same;
 use arc_io::MemPort;
 use centre_core::RamHall;
@@ -55,7 +57,7 @@ fn taken(rt: &impl Abort, alloc: Global, input: &[u8], size: usize, port: &mut M
 fn fed(alloc: Global, hall: &mut RamHall, port: &mut MemPort, input: &[u8], size: usize) -> LineEnd
     requires { 0 < size }
 {
-    let mut state = LineState::new();
+    let mut state = LineState::new(line_name());
     for piece in input.chunks(size) {
         if let Err(early) = state.take(alloc, hall, port, piece) {
             return early;

@@ -28,6 +28,7 @@ fn incident(number: u64) -> Incident
         touched: 0,
         steps: StepList::new(),
         acts: Acts::new(),
+        via: Txt::empty(),
     }
 }
 

@@ -54,6 +54,7 @@ returns-in-Ok-Journal-clause-compiled g c =
     let k' = g.K.Ends.seen c.walk.new.sink in
     let tape = c.open.new.self in
     let all = ap (λ (u : List ℕ). prepend_known u s.left) c.requires.fresh ∙ sym (prepend_none s.left) in
-    let read = (c.in-Ok-Journal.ensures.journal c.in-Ok-Journal.field-0-is).1 in
+    let version = c.in-Ok-Journal.version in
+    let read = (c.in-Ok-Journal.ensures.journal version (ap Ok c.in-Ok-Journal.field-0-is)).1 in
     walked_on c.args.options.now c.walk.result s.left s t s' k k' c.walk.new.page c.open.ensures.others c.open.ensures.later
-    (c.walk.ensures.compiled s.left (subst (λ (o : Option (List ℕ)). IsReadTo o [] tape.gate tape.at (ahead tape.intake t.left)) all read))
+    (c.walk.ensures.compiled s.left (subst (λ (o : Option (List ℕ)). IsReadTo version o [] tape.gate tape.at (ahead tape.intake t.left)) all read))

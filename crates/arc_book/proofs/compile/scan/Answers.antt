@@ -13,8 +13,8 @@ records-preserved g c =
       read = λ all bodies r.
           let old = inv.read all bodies r in (
             old.0 ++ t.body.items ∷ [],
-            subst (λ (l : List (List ℕ)). IsReadTo all l t.gate t.at (ahead t.intake (g.S.Ends.seen c.next.new.source).left)) (append_assoc bodies old.0 (t.body.items ∷ []))
-                (c.in-Ok-Body.ensures.body is all (bodies ++ old.0) old.1),
+            subst (λ (l : List (List ℕ)). IsReadTo c.args.version all l t.gate t.at (ahead t.intake (g.S.Ends.seen c.next.new.source).left)) (append_assoc bodies old.0 (t.body.items ∷ []))
+                (c.in-Ok-Body.ensures.body is c.args.version all (bodies ++ old.0) old.1),
           );
       not_ended = (c.in-Ok-Body.ensures.on is).0;
       faults = omega (arith, inv.faults, c.next.ensures.later);
@@ -44,7 +44,7 @@ pub records-init : goal.records-init
 records-init g c = record {
   read = λ all bodies r. (
     [],
-    subst (λ (l : List (List ℕ)). IsReadTo all l c.args.tape.now.gate c.args.tape.now.at (ahead c.args.tape.now.intake (g.S.Ends.seen c.args.source.now).left))
+    subst (λ (l : List (List ℕ)). IsReadTo c.args.version all l c.args.tape.now.gate c.args.tape.now.at (ahead c.args.tape.now.intake (g.S.Ends.seen c.args.source.now).left))
         (sym (append-nil bodies)) r,
   );
   not_ended = c.requires.ended;

@@ -5,6 +5,7 @@ use Rattle.std.proofs.lemmas.Option.{slice_get_read}
 use Rattle.arc_io.specs.Memory.{clock_calls}
 use Rattle.centre_core.specs.Setting.{IsSetting}
 use Rattle.centre_store.proofs.Halled.{at_open_stays, limits_stay, tells_stays}
+use Rattle.arc_script.specs.Names.{line_name}
 use Rattle.arc_script.specs.declared.script_end.Tally.{Tally}
 use Rattle.arc_script.proofs.Carries.{set_other}
 use Rattle.arc_script.proofs.FedAnswers.{ended_fed, ended_otherwise, ended_stopped, still_set, tallied, took_all}
@@ -35,15 +36,16 @@ returns-in-Ok-end g c =
     tallied _ c.args.store.state c.take-end.new.hall.state c.centre.result.now c.centre-2.result.now script.tally counted c.taken.result
     c.quiet_of-quiet.result c.quiet_of.result c.saturating_sub-repeats.result c.centre.ensures c.centre-2.ensures c.taken.ensures
     c.quiet_of-quiet.ensures c.quiet_of.ensures c.saturating_sub-repeats.ensures c.saturating_add-script.ensures c.saturating_add-script-2.ensures refl in
-    let taking : IsTaking g.D.Disk.seen c.args.store c.take-end.new.hall script.setup c.args.moment place lines
+    let taking : IsTaking g.D.Disk.seen c.args.store c.take-end.new.hall script.setup c.args.moment c.args.line place lines
     was c.in-Ok.frames c.take-end.new.port c.args.bytes.now c.take-end.result = record {
+      at = omega (arith, c.requires.line.low);
       there = there;
       set = c.requires.set;
       setting = subst IsSetting (sym c.requires.set) script.valid;
       empty = c.in-Ok.ensures.blank;
       one = c.take-end.new.port.still;
       silent = c.take-end.new.port.silent;
-      served = (λ base stream h took for. c.take-end.ensures.served stream base h took for);
+      served = (λ base stream h took for. c.take-end.ensures.served (line_name c.args.line) stream base h took for);
     } in
     record {
       fed = ended_fed g.D.Disk.seen c.args.store c.take-end.new.hall script.setup c.args.moment c.args.line place lines was
@@ -72,15 +74,16 @@ returns-in-Err-Stopped g c =
     tallied _ c.args.store.state c.take-end.new.hall.state c.centre.result.now c.centre-2.result.now script.tally counted c.taken.result
     c.quiet_of-quiet.result c.quiet_of.result c.saturating_sub-repeats.result c.centre.ensures c.centre-2.ensures c.taken.ensures
     c.quiet_of-quiet.ensures c.quiet_of.ensures c.saturating_sub-repeats.ensures c.saturating_add-script.ensures c.saturating_add-script-2.ensures refl in
-    let taking : IsTaking g.D.Disk.seen c.args.store c.take-end.new.hall script.setup c.args.moment place lines
+    let taking : IsTaking g.D.Disk.seen c.args.store c.take-end.new.hall script.setup c.args.moment c.args.line place lines
     was c.in-Ok.frames c.take-end.new.port c.args.bytes.now c.take-end.result = record {
+      at = omega (arith, c.requires.line.low);
       there = there;
       set = c.requires.set;
       setting = subst IsSetting (sym c.requires.set) script.valid;
       empty = c.in-Ok.ensures.blank;
       one = c.take-end.new.port.still;
       silent = c.take-end.new.port.silent;
-      served = (λ base stream h took for. c.take-end.ensures.served stream base h took for);
+      served = (λ base stream h took for. c.take-end.ensures.served (line_name c.args.line) stream base h took for);
     } in
     record {
       fed = tt;
@@ -110,15 +113,16 @@ returns g c =
     tallied _ c.args.store.state c.take-end.new.hall.state c.centre.result.now c.centre-2.result.now script.tally counted c.taken.result
     c.quiet_of-quiet.result c.quiet_of.result c.saturating_sub-repeats.result c.centre.ensures c.centre-2.ensures c.taken.ensures
     c.quiet_of-quiet.ensures c.quiet_of.ensures c.saturating_sub-repeats.ensures c.saturating_add-script.ensures c.saturating_add-script-2.ensures refl in
-    let taking : IsTaking g.D.Disk.seen c.args.store c.take-end.new.hall script.setup c.args.moment place lines
+    let taking : IsTaking g.D.Disk.seen c.args.store c.take-end.new.hall script.setup c.args.moment c.args.line place lines
     was c.in-Ok.frames c.take-end.new.port c.args.bytes.now c.take-end.result = record {
+      at = omega (arith, c.requires.line.low);
       there = there;
       set = c.requires.set;
       setting = subst IsSetting (sym c.requires.set) script.valid;
       empty = c.in-Ok.ensures.blank;
       one = c.take-end.new.port.still;
       silent = c.take-end.new.port.silent;
-      served = (λ base stream h took for. c.take-end.ensures.served stream base h took for);
+      served = (λ base stream h took for. c.take-end.ensures.served (line_name c.args.line) stream base h took for);
     } in
     record {
       fed = tt;

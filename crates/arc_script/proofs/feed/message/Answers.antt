@@ -1,4 +1,4 @@
-use Rattle.std.proofs.Common.{◌≡◌, ◌≢◌, ◌≤◌, ◌-◌, ℕ, List, [], Result, Ok, Err, OnOk, ap, set, subst, sym, ◌∙◌, arith}
+use Rattle.std.proofs.Common.{◌≡◌, ◌≢◌, ◌≤◌, ◌+◌, ◌-◌, ℕ, List, [], Result, Ok, Err, OnOk, ap, set, subst, sym, ◌∙◌, arith}
 use Rattle.std.specs.List.{slice_get}
 use Rattle.alarm_rules.specs.Setups.{meaning}
 use Rattle.centre_core.specs.declared.hall.Stop.{Stop}
@@ -7,6 +7,7 @@ use Rattle.desk_session.specs.Desks as Desk
 use Rattle.line_session.specs.Lines as Line
 use Rattle.script_lines.specs.Lines.{Asked, Message}
 use Rattle.arc_script.specs.Carrying.{HaveTakenWith, IsNext}
+use Rattle.arc_script.specs.Names.{line_name}
 use Rattle.arc_script.specs.PageWords.{page_seen}
 use Rattle.arc_script.specs.declared.script.Script.{Script}
 use Rattle.arc_script.proofs.Carries.{message_short, message_taken, set_other, set_there}
@@ -15,15 +16,18 @@ use Rattle.arc_script.proofs.Kept.{lines_kept}
 use Rattle.arc_script.proofs.feed.message.Goals as goal
 
 -- where all was put, the line was made anew
-took_anew : (setup : List ℕ) (moment line : ℕ) (body : List ℕ) (lines fed : List Line.LineValue) (new : Line.LineValue) (desks : List Desk.DeskValue)
-    (r : Result (Unit {0}) Stop) → 1 ≤ line → Line.TookStream [] new → ((k : ℕ) → k ≢ line - 1 → slice_get fed k ≡ slice_get lines k)
+took_anew : (setup : List ℕ) (moment line : ℕ) (body name : List ℕ) (lines fed : List Line.LineValue) (new : Line.LineValue) (desks : List Desk.DeskValue)
+    (r : Result (Unit {0}) Stop) → 1 ≤ line → name ≡ line_name line → Line.TookStream name [] new → ((k : ℕ) → k ≢ line - 1 → slice_get fed k ≡ slice_get lines k)
     → OnOk r ((before : List Asked) (count : ℕ) → IsNext (meaning setup) moment count before (Message line body) lines desks
     → HaveTakenWith (meaning setup) count before (Message line body) (set fed (line - 1) new) desks)
-took_anew setup moment line body lines fed new desks (Ok done) low fresh others =
+took_anew setup moment line body name lines fed new desks (Ok done) low named fresh others =
     λ before count next.
+    let at : line ≡ line - 1 + 1 = omega (arith, low) in
     message_taken (meaning setup) moment count line before body lines (set fed (line - 1) new) desks low next
-    (set_there (Line.TookStream []) fed (line - 1) new fresh) (λ k other. set_other fed (line - 1) k new other ∙ others k other)
-took_anew setup moment line body lines fed new desks (Err stop) low fresh others = tt
+    (set_there (Line.TookStream (line_name (line - 1 + 1)) []) fed (line - 1) new
+    (subst (λ (n : List ℕ). Line.TookStream n [] new) (named ∙ ap (λ (n : ℕ). line_name n) at) fresh))
+    (λ k other. set_other fed (line - 1) k new other ∙ others k other)
+took_anew setup moment line body name lines fed new desks (Err stop) low named fresh others = tt
 
 pub index_mut-requires : goal.index_mut-requires
 index_mut-requires g c = omega (arith, c.fed-store.new.script.sixteen, c.requires.line.low, c.requires.line.high)
@@ -53,8 +57,8 @@ returns-clause-took g c =
     → IsNext (meaning script.setup) c.args.moment count before (Message line body) script.lines.items script.desks.items
     → HaveTakenWith (meaning script.setup) count before (Message line body) (set c.fed-store.new.script.lines.items (line - 1) c.new.result) desks))
     (sym (ap (λ (s : Script). s.desks.items) c.fed-store.ensures.rest))
-    (took_anew script.setup c.args.moment c.args.line c.args.body.now script.lines.items c.fed-store.new.script.lines.items c.new.result script.desks.items
-    c.put_fed.result c.requires.line.low c.new.ensures c.fed-store.ensures.others)
+    (took_anew script.setup c.args.moment c.args.line c.args.body.now c.name_of.result script.lines.items c.fed-store.new.script.lines.items c.new.result
+    script.desks.items c.put_fed.result c.requires.line.low c.name_of.ensures.value c.new.ensures c.fed-store.ensures.others)
 
 pub returns-clause-stop : goal.returns-clause-stop
 returns-clause-stop g c =

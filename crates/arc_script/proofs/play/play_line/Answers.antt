@@ -58,3 +58,7 @@ returns-clause-halted g c =
       opened_before = refl;
       tally = refl;
     }) so)) c.play_asked.ensures.halted
+
+pub returns-clause-number : goal.returns-clause-number
+returns-clause-number g c =
+    IfOk-weaker c.play_asked.result _ _ (λ s ready few. omega (arith, few, c.play_asked.ensures.number, c.saturating_add-script.ensures)) c.play_asked.ensures.ready

@@ -8,7 +8,7 @@ returns-clause-carried g c =
     let seen = g.D.Disk.seen in
     let mid = c.in_ok-store.store in
     let anew = made_anew seen c.args.script.now c.close-disk.new.self c.renew.new.self c.args.store mid c.begin_again-begun.new.store c.close-disk.result
-    c.close-disk.ensures.later c.close-disk.ensures.disk c.close-disk.ensures.tally c.in_ok-store.ensures.opened c.in_ok-store.ensures.spared
+    c.close-disk.ensures.later c.close-disk.ensures.disk c.close-disk.ensures.tally c.in_ok-store.ensures.opened c.in_ok-store.ensures.told
     c.in_ok-store.ensures.limits c.in_ok-store.ensures.at_open c.in_ok-store.ensures.later c.renew.ensures.lines c.renew.ensures.desks
     c.renew.ensures.rest
     c.begin_again-begun.ensures.tells c.begin_again-begun.ensures.at_open c.begin_again-begun.ensures.limits in
@@ -22,7 +22,7 @@ returns-clause-stop g c =
     let seen = g.D.Disk.seen in
     let mid = c.in_ok-store.store in
     let anew = made_anew seen c.args.script.now c.close-disk.new.self c.renew.new.self c.args.store mid c.begin_again-begun.new.store c.close-disk.result
-    c.close-disk.ensures.later c.close-disk.ensures.disk c.close-disk.ensures.tally c.in_ok-store.ensures.opened c.in_ok-store.ensures.spared
+    c.close-disk.ensures.later c.close-disk.ensures.disk c.close-disk.ensures.tally c.in_ok-store.ensures.opened c.in_ok-store.ensures.told
     c.in_ok-store.ensures.limits c.in_ok-store.ensures.at_open c.in_ok-store.ensures.later c.renew.ensures.lines c.renew.ensures.desks
     c.renew.ensures.rest
     c.begin_again-begun.ensures.tells c.begin_again-begun.ensures.at_open c.begin_again-begun.ensures.limits in

@@ -1,7 +1,8 @@
 use Rattle.std.proofs.Common.{◌≤◌, inr, refl, subst, sym}
 use Rattle.arc_script.specs.Begun.{Begun}
 use Rattle.arc_script.proofs.Opening.{store_opened, held_opened, begins_with}
-use Rattle.centre_store.proofs.Readable.{spared_tells}
+use Rattle.centre_store.proofs.Readable.{becomes_told}
+use Rattle.centre_store.specs.Given.{GoesOn}
 use Rattle.arc_script.proofs.run.run_script.Goals as goal
 
 pub returns-in-Ok : goal.returns-in-Ok
@@ -22,7 +23,7 @@ returns-in-Ok g c =
         o.past,
         begins_with seen c.args.disk c.in-Ok.store o,
         c.run_over.ensures.ran b refl refl refl
-            (store_opened seen b c.in-Ok.store o refl (spared_tells c.in-Ok.ensures.spared) c.in-Ok.ensures.limits (subst (λ n. (g.D.Disk.seen c.args.disk).faults ≤ n) (sym c.in-Ok.ensures.at_open) c.in-Ok.ensures.later))
+            (store_opened seen b c.in-Ok.store o refl (becomes_told (seen c.args.disk).told (seen c.in-Ok.store.journal.disk).told GoesOn c.in-Ok.ensures.told) c.in-Ok.ensures.limits (subst (λ n. (g.D.Disk.seen c.args.disk).faults ≤ n) (sym c.in-Ok.ensures.at_open) c.in-Ok.ensures.later))
             (held_opened seen c.args.disk c.in-Ok.store o),
       );
     }

@@ -8,7 +8,7 @@ returns-in-Ok-clause-begun g c =
     if_ok c.begin_over.result
     (λ store begun q q' read.
     begun (record { setup = q; port = g.P.Ends.seen c.args.port.now; disk = c.args.disk }) q' o.base o.past refl c.faults-before.ensures read
-    (record { bodies = o.bodies; given = o.given; is_past = o.is_past; area = o.area }) o.stands)
+    (record { version = o.version; bodies = o.bodies; given = o.given; is_past = o.is_past; area = o.area }) o.stands)
     c.begin_over.ensures.begun
 
 pub returns-in-Ok-clause-stopped : goal.returns-in-Ok-clause-stopped
@@ -17,7 +17,7 @@ returns-in-Ok-clause-stopped g c =
     if_err c.begin_over.result
     (λ stopped shows q q' read.
     inr (inr (shows (record { setup = q; port = g.P.Ends.seen c.args.port.now; disk = c.args.disk }) q' o.base o.past refl c.faults-before.ensures read
-    (record { bodies = o.bodies; given = o.given; is_past = o.is_past; area = o.area }) o.stands)))
+    (record { version = o.version; bodies = o.bodies; given = o.given; is_past = o.is_past; area = o.area }) o.stands)))
     c.begin_over.ensures.stopped
 
 pub returns-in-Err-clause-stopped : goal.returns-in-Err-clause-stopped

@@ -7,7 +7,7 @@ returns-in-Ok-clause-ran g c q =
     let e = c.in-Ok.ensures in
     let o = e.opened in
     inr (c.write_report.ensures.reported q c.args.disk o.base o.past c.faults-before.ensures o.stands
-    (record { bodies = o.bodies; given = o.given; is_past = o.is_past; area = o.area }) (record { area = e.told; images = e.any_moment }))
+    (record { version = o.version; bodies = o.bodies; given = o.given; is_past = o.is_past; area = o.area }) (record { area = e.told; images = e.any_moment }))
 
 pub returns-in-Err-clause-ran : goal.returns-in-Err-clause-ran
 returns-in-Err-clause-ran g c q =

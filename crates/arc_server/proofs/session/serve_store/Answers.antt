@@ -1,6 +1,10 @@
 use Rattle.std.proofs.Common.{◌≤◌, ℕ, List, sym, subst, ◌∙◌}
 use Rattle.centre_rules.specs.History.{Entry}
 use Rattle.centre_store.proofs.Halled.{at_open_stays, limits_stay}
+use Rattle.centre_store.specs.StoreHalls.{store_seen}
+use Rattle.session_rules.specs.Sessions.{changed, Goes}
+use Rattle.arc_serving.specs.Sessions.{Serves}
+use Rattle.arc_server.specs.SessionRuns.{line_name}
 use Rattle.arc_server.proofs.Kept.{kept}
 use Rattle.arc_server.proofs.Over.{over_is}
 use Rattle.arc_server.proofs.Sessions.{stands_by}
@@ -16,7 +20,9 @@ returns-clause-served g c r q' h counted begun =
     let end = c.serve-end.result in
     let e = c.serve-end.ensures in
     let base = begun.asked.base in
-    let went = e.serves.2 base h begun.stands in
+    let went : Goes h (λ w. Serves c.args.side line_name end e.serves.0 base w (changed (store_seen seen first) (store_seen seen last) p p')) =
+    subst (λ (n : List ℕ). Goes h (λ w. Serves c.args.side n end e.serves.0 base w (changed (store_seen seen first) (store_seen seen last) p p'))) c.line-name.ensures
+    (e.serves.2 base h begun.stands) in
     let history : List Entry = went.0 in
     let made : List Entry = went.1 in
     let later : (seen r.disk).faults ≤ last.at_open = subst (λ (n : ℕ). (seen r.disk).faults ≤ n) (sym (at_open_stays e.kept.fixed)) begun.later in record {
@@ -36,7 +42,7 @@ returns-clause-served g c r q' h counted begun =
       later = later;
       handed = c.close-disk.ensures;
       ends = kept last (seen r.disk).faults c.close-disk.result
-          (stands_by seen c.args.side end e.serves.0 base (record { from = h; to = history; made = made }) first last p p' went.2) later c.close-disk.ensures;
+          (stands_by seen c.args.side line_name end e.serves.0 base (record { from = h; to = history; made = made }) first last p p' went.2) later c.close-disk.ensures;
       status_is = over_is c.status_over.result c.status_over.ensures.over counted c.faults.ensures
           (c.status_of_session-status.ensures.made p c.read_faults-reads.ensures c.write_faults-writes.ensures);
     }

@@ -1,5 +1,5 @@
 use Rattle.std.proofs.Common.{ap, map, arith}
-use Rattle.arc_serving.proofs.Seats.{SeatingSoFar, seating_more, seating_still}
+use Rattle.arc_serving.proofs.Seats.{seating_more, seating_still}
 use Rattle.arc_serving.proofs.bench.seat_each.Goals as goal
 
 pub loop-first-preserved : goal.loop-first-preserved

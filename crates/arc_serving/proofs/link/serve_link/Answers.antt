@@ -13,7 +13,8 @@ returns-clause-served g c =
     let left : c.leave-pass.result ≡ c.serve-end.new.hall.pass = c.leave-pass.ensures in record {
       read = one.0;
       reads = one.1;
-      serves = serves_left c.args.side t c.args.pass c.leave-pass.result c.serve-end.new.hall.pass one.0 _ _ c.serve-end.result c.number.ensures.pass left one.2;
+      serves = serves_left c.args.side t c.args.pass c.leave-pass.result c.serve-end.new.hall.pass one.0 _ _ c.tcp-name.result c.serve-end.result c.number.ensures.pass left
+          c.tcp-name.ensures one.2;
       number = ap (λ (k : PassSeen). k.number) left ∙ c.serve-end.ensures.kept.caller;
       count = subst (λ (k : PassSeen). c.args.pass.count ≤ k.count) (sym left) c.serve-end.ensures.kept.count;
       told = subst (λ (k : PassSeen). c.args.pass.told ≤ k.told) (sym left) c.serve-end.ensures.kept.told;

@@ -1,5 +1,5 @@
 -- One account more of those that were found.
-use Rattle.std.proofs.Common.{◌≡◌, ◌<◌, ◌∙◌, ◌∷◌, [], ◌++◌, Some, true, length, sym, ap, arith, slice_get, get_or}
+use Rattle.std.proofs.Common.{◌≡◌, ◌<◌, ◌∙◌, ◌∷◌, [], ◌++◌, ℕ, List, Some, true, length, sym, ap, arith, slice_get, get_or}
 use Rattle.accounts.specs.Accounts.{defined}
 use Rattle.alarm_rules.specs.Setups.{meaning}
 use Rattle.centre_rules.specs.Carrying.{carried, own_signal}
@@ -16,9 +16,11 @@ loop-i-preserved c =
     let x = defined c.account-account.result.now in
     let within : i < length places = omega (arith, c.loop-i-test.true, c.count-i-end.ensures) in
     let here : slice_get setup.accounts (get_or places i 0) ≡ Some x = ap (slice_get setup.accounts) (sym c.at.ensures) ∙ c.account-account.ensures.value in
-    let pushed : c.push.new.carried.items ≡ old ++ carried setup x.number c.args.at true (own_signal c.args.class) ∷ [] =
+    let pushed : c.push.new.carried.items ≡ old ++ carried setup x.number c.args.at true [] (own_signal c.args.class) ∷ [] =
     c.in_ok-push.ensures.pushed
-    ∙ ap (λ (y : Carried). old ++ y ∷ []) (c.carried.ensures ∙ ap (carried setup x.number c.args.at true) c.own_signal-signal.ensures) in
+    ∙ ap (λ (y : Carried). old ++ y ∷ []) (c.carried.ensures
+    ∙ ap (λ (via : List ℕ). carried setup x.number c.args.at true via c.own_signal-signal.result) c.empty-none.ensures
+    ∙ ap (carried setup x.number c.args.at true []) c.own_signal-signal.ensures) in
     let few = c.in_ok-push.ensures.few in
     record {
       so_far = λ found are.

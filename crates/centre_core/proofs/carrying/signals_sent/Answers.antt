@@ -7,7 +7,7 @@ use Rattle.centre_core.proofs.carrying.signals_sent.Goals as goal
 
 pub loop-i-preserved : goal.loop-i-preserved
 loop-i-preserved c =
-    let f = carried_sent (meaning c.args.setup.now) c.args.account.now c.args.at in
+    let f = carried_sent (meaning c.args.setup.now) c.args.account.now c.args.via.now c.args.at in
     let few = c.in_ok-push_sent.ensures.few in
     record {
       so_far = c.in_ok-push_sent.ensures.sent ∙ ap (λ (ys : List Carried). ys ++ f c.at.result) c.loop-i.invariant.so_far

@@ -17,13 +17,13 @@ loop-i-preserved c good =
     let steps : AreGood x.steps × AreActsGood x.acts =
     subst (λ (i : Incident). AreGood i.steps × AreActsGood i.acts) (get_or_from_slice_get xs k x x c.at.ensures)
     (every_get (λ (i : Incident). AreGood i.steps × AreActsGood i.acts) xs k x (slice_get_within xs k x c.at.ensures) good) in
-    texts_more incident_text xs k x _ _ _ (next_of xs k x c.at.ensures) (c.loop-i.invariant good) (c.in_ok-put_incident.ensures steps.0 steps.1)
+    texts_more (incident_text 2) xs k x _ _ _ (next_of xs k x c.at.ensures) (c.loop-i.invariant good) (c.in_ok-put_incident.ensures steps.0 steps.1)
 
 pub returns : goal.returns
 unfolding many_texts
 returns c good =
     let xs = c.args.table.now.incidents in
     let end : length xs ≤ c.loop-i.i = omega (arith, c.count-i-end.ensures) in
-    counted c.args.out.now.items (to_be_bytes w32 (length xs)) (flat_map incident_text xs) _
-    (texts_all incident_text xs c.loop-i.i _ _ end (c.loop-i.invariant good)
-    ∙ ap (λ l. l ++ flat_map incident_text xs) (c.in_ok-put_count.ensures ∙ ap (λ n. c.args.out.now.items ++ to_be_bytes w32 n) c.count.ensures))
+    counted c.args.out.now.items (to_be_bytes w32 (length xs)) (flat_map (incident_text 2) xs) _
+    (texts_all (incident_text 2) xs c.loop-i.i _ _ end (c.loop-i.invariant good)
+    ∙ ap (λ l. l ++ flat_map (incident_text 2) xs) (c.in_ok-put_count.ensures ∙ ap (λ n. c.args.out.now.items ++ to_be_bytes w32 n) c.count.ensures))

@@ -5,4 +5,4 @@ use Rattle.summary_codec.specs.Writing.{HaveGoodSteps}
 use Rattle.centre_core.proofs.summing.put_incidents.Given as goal
 
 abbrev pub invariant-loop-i : goal.invariant-loop-i
-invariant-loop-i l = HaveGoodSteps l.table.incidents → l.out.items ≡ l.initial.out.items ++ flat_map incident_text (take l.i l.table.incidents)
+invariant-loop-i l = HaveGoodSteps l.table.incidents → l.out.items ≡ l.initial.out.items ++ flat_map (incident_text 2) (take l.i l.table.incidents)

@@ -18,7 +18,7 @@ returns c good =
     let s = option_text long_number c.args.rows.now.start in
     let t = option_text long_text (option_map (λ x. x.now) c.args.text) in
     let rows = many_texts row_text (map (account_row (rows_sum c.args.rows.now) []) c.args.accounts.now) in
-    let is = many_texts incident_text c.args.table.now.incidents in
+    let is = many_texts (incident_text 2) c.args.table.now.incidents in
     let head = c.in_ok-put_head.ensures ∙ ap (λ n. old ++ (11 ∷ (g ++ (l ++ (r ++ long_number n))))) c.opened.ensures in
     let start = c.in_ok-put_given.ensures ∙ ap (λ n. c.put_head.new.out.items ++ option_text long_number n) c.last_start.ensures in
     c.in_ok-put_incidents.ensures good

@@ -6,6 +6,6 @@ use Rattle.centre_laws.proofs.restarts.law_restart.Goals as goal
 pub returns : goal.returns
 returns c x ok spaced = record {
   ideal = is_ideal c.law_repeats.ensures x ok spaced;
-  once = λ later earlier n m clock is. stands_once false x x.steps later earlier n m clock true refl is spaced ok.steps;
+  once = λ later earlier n m via clock is. stands_once false x x.steps later earlier n m via clock true refl is spaced ok.steps;
   twice = none_twice x x.steps;
 }

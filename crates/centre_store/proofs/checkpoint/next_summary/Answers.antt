@@ -8,5 +8,5 @@ overflow_add-generation g c =
     omega (
       arith,
       c.generation.ensures,
-      fits_next g.D.Disk.seen c.args.journal.now had.base had.history had.all.holds c.args.centre.now had.all.stands c.requires.few,
+      fits_next g.D.Disk.seen 2 c.args.journal.now had.base had.history had.all.holds (omega arith) c.args.centre.now had.all.stands c.requires.few,
     )

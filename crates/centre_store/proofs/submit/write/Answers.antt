@@ -161,12 +161,12 @@ pub returns-in-Ok-append-clause-tells : goal.returns-in-Ok-append-clause-tells
 returns-in-Ok-append-clause-tells g c =
     let had = some_same g.D.Disk.seen c.args.journal.now c.reserve.new.self c.args.centre.now c.reserve.ensures.same c.requires.had in
     let holds = c.in_ok-make_room.ensures.has had.base had.history had.all in
-    spared_tells (c.append.ensures.spared holds.0 holds.1 holds.3) ∙ c.make_room.ensures.tells
+    spared_tells (c.append.ensures.spared 2 holds.0 holds.1 holds.3) ∙ c.make_room.ensures.tells
     ∙ ap (λ (x : Journal g.row.D.Denot). is_told (g.D.Disk.seen x.disk).told) c.reserve.ensures.same
 
 pub returns-in-Err-DiskFault-clause-tells : goal.returns-in-Err-DiskFault-clause-tells
 returns-in-Err-DiskFault-clause-tells g c =
     let had = some_same g.D.Disk.seen c.args.journal.now c.reserve.new.self c.args.centre.now c.reserve.ensures.same c.requires.had in
     let holds = c.in_ok-make_room.ensures.has had.base had.history had.all in
-    spared_tells (c.append.ensures.spared holds.0 holds.1 holds.3) ∙ c.make_room.ensures.tells
+    spared_tells (c.append.ensures.spared 2 holds.0 holds.1 holds.3) ∙ c.make_room.ensures.tells
     ∙ ap (λ (x : Journal g.row.D.Denot). is_told (g.D.Disk.seen x.disk).told) c.reserve.ensures.same

@@ -20,7 +20,7 @@ pub returns-in_err-body-clause-shown : goal.returns-in_err-body-clause-shown
 returns-in_err-body-clause-shown g c =
     let p = err_from_is_err_and c.from_residual.result c.from_residual.ensures.1 in
     let inv = c.loop-bodies.invariant in
-    rw (p.1, p.2) (read_broken c.args.area (g.D.Disk.seen c.args.disk.now).told c.args.len c.loop-bodies.at c.loop-bodies.bodies c.in_err-body.field-0.0 c.requires.len c.requires.long inv.used inv.read
+    rw (p.1, p.2) (read_broken c.args.version c.args.area (g.D.Disk.seen c.args.disk.now).told c.args.len c.loop-bodies.at c.loop-bodies.bodies c.in_err-body.field-0.0 c.requires.known c.requires.len c.requires.long inv.used inv.read
     (subst (λ (o : Option Areas). IfSome o (λ s. IsBrokenAt c.in_err-body.field-0.0 (part c.args.area s) c.loop-bodies.at)) inv.quiet.same c.in_err-body.ensures.shown))
 
 pub loop-bodies-preserved : goal.loop-bodies-preserved
@@ -39,7 +39,7 @@ loop-bodies-preserved g c =
       met_none = c.in_ok-body.ensures.met_none ∙ inv.met_none;
       within = omega (arith, room.1, long);
       used = omega (arith, inv.used, long, ap size more, size-more c.loop-bodies.bodies body.items);
-      read = subst (ReadTo c.args.area o next) (sym more) (read_more c.args.area o at next c.loop-bodies.bodies body inv.used (ap (λ n. at + (5 + n)) long) inv.read
+      read = subst (ReadTo c.args.version c.args.area o next) (sym more) (read_more c.args.version c.args.area o at next c.loop-bodies.bodies body inv.used (ap (λ n. at + (5 + n)) long) inv.read
           (at_first c.args.area o (g.D.Disk.seen c.loop-bodies.disk).told at c.in_ok-body.field-0 (Some body) inv.quiet.same c.in-Some.is c.in_ok-body.ensures.bytes));
       piece = subst (λ (told : Option Areas). Shows c.args.area told c.read_record.new.window) (sym c.read_record.ensures.quiet.same) c.in_ok-body.ensures.piece;
       quiet = quiet_then (g.D.Disk.seen c.args.disk.now) (g.D.Disk.seen c.loop-bodies.disk) (g.D.Disk.seen c.read_record.new.disk) inv.quiet c.read_record.ensures.quiet;
@@ -49,5 +49,5 @@ pub returns-clause-bytes : goal.returns-clause-bytes
 returns-clause-bytes g c =
     let inv = c.loop-bodies.invariant in
     let o = (g.D.Disk.seen c.args.disk.now).told in
-    read_all c.args.area o c.loop-bodies.at c.loop-bodies.bodies inv.read
+    read_all c.args.version c.args.area o c.loop-bodies.at c.loop-bodies.bodies c.requires.known inv.read
     (at_first c.args.area o (g.D.Disk.seen c.loop-bodies.disk).told c.loop-bodies.at c.in_ok-body.field-0 None inv.quiet.same c.in_default.is c.in_ok-body.ensures.bytes)

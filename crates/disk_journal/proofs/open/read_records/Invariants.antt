@@ -11,7 +11,7 @@ invariant-loop-bodies g l = record {
   met_none : (g.D.Disk.seen l.disk).faults ≡ (g.D.Disk.seen l.initial.disk).faults;
   within : l.at < l.len;
   used : l.at + 1 ≡ size l.bodies;
-  read : ReadTo l.area (g.D.Disk.seen l.initial.disk).told l.at l.bodies;
+  read : ReadTo l.version l.area (g.D.Disk.seen l.initial.disk).told l.at l.bodies;
   piece : Shows l.area (g.D.Disk.seen l.disk).told l.window;
   quiet : IsQuiet (g.D.Disk.seen l.initial.disk) (g.D.Disk.seen l.disk);
 }

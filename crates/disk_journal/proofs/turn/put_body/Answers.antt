@@ -5,7 +5,7 @@ use Rattle.arc_io.specs.Areas.{Areas, part}
 use Rattle.arc_io.specs.Disks.{DiskSeen}
 use Rattle.arc_io.specs.Crashes.{Becomes, IsWritten}
 use Rattle.arc_io.specs.declared.disk.Area.{Area}
-use Rattle.disk_journal.specs.Records.{head}
+use Rattle.disk_journal.specs.Records.{head_of}
 use Rattle.disk_journal.specs.Turning.{Changes, IsBeside, IsShut, IsStaged}
 use Rattle.disk_journal.proofs.Gates.{on_ok}
 use Rattle.disk_journal.proofs.Steps.{told_after, if_map, changes_then, quiet_changes}
@@ -13,7 +13,7 @@ use Rattle.disk_journal.proofs.Turns.{IsLaid, laid_head, laid_more, laid_staged,
 use Rattle.disk_journal.proofs.turn.put_body.Goals as goal
 
 module _ (area : Area) (zero one two three : DiskSeen) (prefix body : List ℕ) (size : ℕ) (sized : size ≡ length body) (spelled : prefix ≡ to_be_bytes w32 (length body))
-    (shut : IfSome zero.told (λ t. IsShut (part area t))) (first : Becomes zero.told one.told (IsWritten area 0 head))
+    (shut : IfSome zero.told (λ t. IsShut (part area t))) (first : Becomes zero.told one.told (IsWritten area 0 (head_of 2)))
     (second : Becomes one.told two.told (IsWritten area 17 prefix)) (third : Becomes two.told three.told (IsWritten area 21 body)) where
   four : length prefix ≡ 4
   four = omega (arith, ap length spelled)
@@ -22,7 +22,7 @@ module _ (area : Area) (zero one two three : DiskSeen) (prefix body : List ℕ) 
   body_laid =
       told_after (IsWritten area 21 body) (λ t. IsLaid prefix (part area t)) (λ t. IsLaid (prefix ++ body) (part area t)) two.told three.told third
       (told_after (IsWritten area 17 prefix) (λ t. IsLaid [] (part area t)) (λ t. IsLaid prefix (part area t)) one.told two.told second
-      (told_after (IsWritten area 0 head) (λ t. IsShut (part area t)) (λ t. IsLaid [] (part area t)) zero.told one.told first shut (laid_head area))
+      (told_after (IsWritten area 0 (head_of 2)) (λ t. IsShut (part area t)) (λ t. IsLaid [] (part area t)) zero.told one.told first shut (laid_head area))
       (λ s t laid written. laid_more area 17 [] prefix s t (omega arith) laid written))
       (λ s t laid written. laid_more area 21 prefix body s t (omega (arith, four)) laid written)
 

@@ -1,4 +1,4 @@
-use Rattle.std.proofs.Common.{◌≤◌, ◌-◌, ◌++◌, [], ℕ, List, length, take, Ok, Err, refl, sym, ◌∙◌, ap, subst, arith, length-take}
+use Rattle.std.proofs.Common.{◌≡◌, ◌≢◌, ◌≤◌, ◌-◌, ◌++◌, [], ℕ, List, length, take, Ok, Err, refl, sym, ◌∙◌, ap, subst, arith, length-append, length-take}
 use Rattle.std.specs.Io.KnownBytes.{prepend_known}
 use Rattle.arc_io.specs.Causes.{Rose}
 use Rattle.arc_io.specs.Seen.{PortSeen}
@@ -23,7 +23,7 @@ pieces-init g c = record {
     not_ended = c.requires.not_ended;
     reads = omega arith;
     writes = omega arith;
-    session = λ b h s. session_none line_turns (line_rules b (g.H.Hall.seen c.args.hall.now) (g.H.Hall.seen c.args.hall.now)) b h refl ([], refl) s (g.met.H.Hall.legal c.args.hall.now b h s) (record { rest = refl });
+    session = λ b h s. session_none line_turns (line_rules c.args.name.now b (g.H.Hall.seen c.args.hall.now) (g.H.Hall.seen c.args.hall.now)) b h refl ([], refl) s (g.met.H.Hall.legal c.args.hall.now b h s) (record { rest = refl });
   };
 }
 
@@ -37,7 +37,7 @@ returns-in-Err-clause-line g c =
         out = not_out (g.P.Ends.seen c.read_piece.new.port).ended ReadFault (told.end ∙ done.not_ended) (λ is. cc);
         cause = (rose_earlier _ _ _ done.reads told.cause.failed, done.took.short);
       },
-      λ b h s. line_rests b h ReadFault done.stream tt c.read_piece.ensures.told.others (done.session b h s),
+      λ b h s. line_rests c.args.name.now b h ReadFault done.stream tt c.read_piece.ensures.told.others (done.session b h s),
     )
 
 pub returns-in-Ok-eq0-clause-line : goal.returns-in-Ok-eq0-clause-line
@@ -52,7 +52,7 @@ returns-in-Ok-eq0-clause-line g c =
         out = (λ out. refl, λ is. told.end.0 none (omega arith));
         cause = (told.bytes.1 none (omega arith), done.took.short);
       },
-      λ b h s. line_rests b h InputEnded done.stream tt c.read_piece.ensures.told.others (done.session b h s),
+      λ b h s. line_rests c.args.name.now b h InputEnded done.stream tt c.read_piece.ensures.told.others (done.session b h s),
     )
 
 pub returns-in-Err-take-clause-line : goal.returns-in-Err-take-clause-line
@@ -70,12 +70,12 @@ returns-in-Err-take-clause-line g c =
       stream ++ piece,
       record {
         taken = read_more _ _ _ stream piece done.taken (told.bytes.0 ∙ ap (prepend_known piece) (sym (ap (λ (p : PortSeen). p.left) port.rest)));
-        out = not_out (g.P.Ends.seen c.take.new.port).ended end (ap (λ (p : PortSeen). p.ended) port.rest ∙ told.end.1 (λ none. absurd (c.in-Ok.count-test.1 none)) ∙ done.not_ended) (taken_not_out end stream piece c.take.new.self (c.in-Err-take.ensures.taken stream done.took));
-        cause = ended_by end stream piece c.take.new.self _ _ (c.in-Err-take.ensures.taken stream done.took) done.took.short fits
+        out = not_out (g.P.Ends.seen c.take.new.port).ended end (ap (λ (p : PortSeen). p.ended) port.rest ∙ told.end.1 (λ none. absurd (c.in-Ok.count-test.1 none)) ∙ done.not_ended) (taken_not_out c.args.name.now end stream piece c.take.new.self (c.in-Err-take.ensures.taken c.args.name.now stream done.took));
+        cause = ended_by c.args.name.now end stream piece c.take.new.self _ _ (c.in-Err-take.ensures.taken c.args.name.now stream done.took) done.took.short fits
             (λ is. rose_earlier _ _ _ done.writes (subst (λ n. Rose n (g.P.Ends.seen c.take.new.port).write_faults) (ap (λ (p : PortSeen). p.write_faults) c.read_piece.ensures.told.others.rest) (port.rose (ap Err is))));
       },
-      λ b h s. line_ends b h stream piece c.pieces.invariant.kept c.read_piece.ensures.told.others (done.session b h s) end short
-          (λ x sx. serves_all (Err end) stream piece b x (all_in_limit stream piece fits) (c.in-Err-take.ensures.served stream b x done.took sx)),
+      λ b h s. line_ends c.args.name.now b h stream piece c.pieces.invariant.kept c.read_piece.ensures.told.others (done.session b h s) end short
+          (λ x sx. serves_all c.args.name.now (Err end) stream piece b x (all_in_limit stream piece fits) (c.in-Err-take.ensures.served c.args.name.now stream b x done.took sx)),
     )
 
 pub pieces-preserved : goal.pieces-preserved
@@ -92,12 +92,25 @@ pieces-preserved g c =
       kept = kept_more c.pieces.invariant.kept c.in_default.ensures.kept;
       done = record {
         stream = stream ++ piece;
-        took = c.in_default.ensures.taken stream done.took;
+        took = c.in_default.ensures.taken c.args.name.now stream done.took;
         taken = read_more _ _ _ stream piece done.taken (told.bytes.0 ∙ ap (prepend_known piece) (sym (ap (λ (p : PortSeen). p.left) port.rest)));
         not_ended = ap (λ (p : PortSeen). p.ended) port.rest ∙ told.end.1 (λ none. absurd (c.in-Ok.count-test.1 none)) ∙ done.not_ended;
         reads = omega (arith, done.reads, told.cause.later, ap (λ (p : PortSeen). p.read_faults) port.rest);
         writes = omega (arith, done.writes, ap (λ (p : PortSeen). p.write_faults) c.read_piece.ensures.told.others.rest, port.later);
-        session = λ b h s. line_goes b h stream piece c.pieces.invariant.kept c.read_piece.ensures.told.others (done.session b h s)
-            (λ x sx. serves_all (Ok tt) stream piece b x (all_in_limit stream piece fits) (c.in_default.ensures.served stream b x done.took sx));
+        session = λ b h s. line_goes c.args.name.now b h stream piece c.pieces.invariant.kept c.read_piece.ensures.told.others (done.session b h s)
+            (λ x sx. serves_all c.args.name.now (Ok tt) stream piece b x (all_in_limit stream piece fits) (c.in_default.ensures.served c.args.name.now stream b x done.took sx));
       };
     }
+
+pub pieces-smaller : goal.pieces-smaller
+pieces-smaller g c =
+    let done = c.pieces.invariant.done in
+    let stream = done.stream in
+    let piece : List ℕ = take c.in-Ok.count c.read_piece.new.buffer in
+    let size : length piece ≡ c.in-Ok.count = omega (arith, length-take c.in-Ok.count c.read_piece.new.buffer, c.in-Ok.ensures.bound, c.min-most.ensures, c.read_piece.array_long) in
+    let some : c.in-Ok.count ≢ 0 = c.in-Ok.count-test.1 in
+    let took = c.in_default.ensures.taken c.args.name.now stream done.took in
+    let count = took.count in
+    let short = took.short in
+    let before = done.took.count in
+    omega (arith, length-append stream piece)

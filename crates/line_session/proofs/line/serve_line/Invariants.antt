@@ -7,7 +7,7 @@ use Rattle.line_session.proofs.line.serve_line.Given as goal
 abbrev pub invariant-pieces : goal.invariant-pieces
 invariant-pieces g l = record {
   kept : IsKept (g.H.Hall.seen l.initial.hall) (g.H.Hall.seen l.hall);
-  done : SoFar l.state (g.H.Hall.seen l.initial.hall) (g.H.Hall.seen l.hall) (g.P.Ends.seen l.initial.port) (g.P.Ends.seen l.port);
+  done : SoFar l.name l.state (g.H.Hall.seen l.initial.hall) (g.H.Hall.seen l.hall) (g.P.Ends.seen l.initial.port) (g.P.Ends.seen l.port);
 }
 
 abbrev pub decreases-pieces : goal.decreases-pieces

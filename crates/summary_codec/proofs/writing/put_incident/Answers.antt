@@ -9,7 +9,7 @@ pub returns : goal.returns
 unfolding incident_text
 returns c steps acts =
     let i = c.args.i.now in
-    let front = long_number i.number ++ (short_text i.account ++ (class_byte i.class ∷ (short_text i.code ++ long_number i.at))) in
+    let front = long_number i.number ++ (short_text i.account ++ (class_byte i.class ∷ (short_text i.code ++ (short_text i.via ++ long_number i.at)))) in
     let b = long_number i.signals in
     let r = truth_byte i.restored ∷ [] in
     let h = holder_text i.holder i.touched in
@@ -23,4 +23,4 @@ returns c steps acts =
     ∙ ap (λ l. l ++ r) (c.in_ok-put_number.ensures
     ∙ ap (λ l. l ++ b) c.in_ok-put_opened.ensures))))
     ∙ six_behind old front b r h s a
-    ∙ ap (λ l. old ++ l) (opened_behind (long_number i.number) (short_text i.account) (short_text i.code) (long_number i.at) (b ++ (r ++ (h ++ (s ++ a)))) (class_byte i.class))
+    ∙ ap (λ l. old ++ l) (opened_behind (long_number i.number) (short_text i.account) (short_text i.code) (short_text i.via) (long_number i.at) (b ++ (r ++ (h ++ (s ++ a)))) (class_byte i.class))

@@ -1,9 +1,8 @@
 -- A Tick raises nothing before the first setup, and else what is silent or late by the setup in force.
-use Rattle.std.proofs.Common.{◌≡◌, ◌≤◌, ◌∙◌, ℕ, Option, None, Some, [], List, length, sym, ap, subst, arith}
+use Rattle.std.proofs.Common.{◌≡◌, ◌∙◌, None, Some, [], length, sym, ap, subst, arith}
 use Rattle.std.specs.Prelude.{IfSome, IsOk}
 use Rattle.std.specs.Option.{option_map}
 use Rattle.arc_data.specs.declared.event.Event.TheVariants.{Tick}
-use Rattle.arc_data.specs.declared.reply.Reply.{Reply}
 use Rattle.arc_data.specs.declared.reply.Reply.TheVariants.{Raised}
 use Rattle.alarm_rules.specs.Setups.{setup_of}
 use Rattle.centre_rules.specs.Summary.{Summary}

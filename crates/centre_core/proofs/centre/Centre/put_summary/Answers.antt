@@ -44,4 +44,4 @@ returns-clause-spelled c b h spelled stands =
     λ a. c.in_ok-accounts.ensures.all a ∙ ap (λ (v : RowsValue). has_row v.rows a) c.rows-rows.ensures in
     let good = steps_good b state.sum h spelled stood.same stood.legal in
     c.in_ok-put_kept.ensures (rw c.table.ensures.incidents good)
-    ∙ ap (λ (t : Summary). c.args.out.now.items ++ summary_text c.args.generation t) (parts ∙ kept_is b state h xs spelled stood all c.in_ok-accounts.ensures.ascend)
+    ∙ ap (λ (t : Summary). c.args.out.now.items ++ summary_text 2 c.args.generation t) (parts ∙ kept_is b state h xs spelled stood all c.in_ok-accounts.ensures.ascend)

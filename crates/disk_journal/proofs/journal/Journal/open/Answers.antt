@@ -15,7 +15,7 @@ returns-in-Ok-clause-works g c =
       used = c.in-Ok.ensures.used;
       few = c.requires.few;
       met_none = refl;
-      file = if_map (IsAtRestIn loaded.area None loaded.bodies) (HasBodies loaded.area loaded.bodies) (g.D.Disk.seen c.load.new.disk).told c.in-Ok.ensures.rest (λ s at. at.at_rest);
+      file = if_map (IsAtRestIn loaded.area loaded.version None loaded.bodies) (HasBodies loaded.area loaded.version loaded.bodies) (g.D.Disk.seen c.load.new.disk).told c.in-Ok.ensures.rest (λ s at. at.at_rest);
       settled = c.in-Ok.ensures.settled;
     }
 
@@ -28,11 +28,14 @@ returns-in-Ok-clause-opened g c =
       summary = summary_in live loaded.bodies;
       bodies = records_in live loaded.bodies;
       all = all_in live loaded.bodies;
-      stands = open_stands loaded.found loaded.bodies o c.in-Ok.ensures.found c.in-Ok.ensures.stands;
+      known = c.in-Ok.ensures.known;
+      version = c.in-Ok.ensures.version;
+      stands = open_stands loaded.version loaded.found loaded.bodies o c.in-Ok.ensures.found c.in-Ok.ensures.stands;
       used = c.in-Ok.ensures.used ∙ ap size (all_in live loaded.bodies);
       count = c.records_of-records.ensures;
-      generation = open_generation loaded.found loaded.bodies c.generation_of-generation.result o c.generation_of-generation.ensures c.in-Ok.ensures.found c.in-Ok.ensures.stands;
+      generation = open_generation loaded.version loaded.found loaded.bodies c.generation_of-generation.result o c.generation_of-generation.ensures c.in-Ok.ensures.found c.in-Ok.ensures.stands;
       holds = λ distinct. record {
+        version_is = refl;
         used = c.in-Ok.ensures.used ∙ ap size (all_in live loaded.bodies);
         count = c.records_of-records.ensures;
         generation = c.generation_of-generation.ensures ∙ generation_held loaded.found loaded.bodies distinct;
@@ -40,7 +43,7 @@ returns-in-Ok-clause-opened g c =
         met_none = refl;
         kept = record {
           distinct = distinct;
-          file = held_file loaded.found loaded.bodies loaded.area (g.D.Disk.seen c.load.new.disk).told c.in-Ok.ensures.rest;
+          file = held_file loaded.version loaded.found loaded.bodies loaded.area (g.D.Disk.seen c.load.new.disk).told c.in-Ok.ensures.rest;
           settled = c.in-Ok.ensures.settled;
         };
       };

@@ -1,4 +1,4 @@
-use Rattle.std.proofs.Common.{◌≡◌, ◌∙◌, [], ◌∷◌, ℕ, List, Option, subst, sym, arith}
+use Rattle.std.proofs.Common.{◌≡◌, ◌∙◌, [], ◌∷◌, ℕ, List, Option, refl, subst, sym, arith}
 use Rattle.arc_io.specs.Disks.{DiskSeen}
 use Rattle.arc_io.specs.declared.disk.Area.{Area}
 use Rattle.disk_journal.specs.Journal.{Keeps}
@@ -9,9 +9,9 @@ use Rattle.disk_journal.proofs.Steps.{changes_weaker}
 use Rattle.disk_journal.proofs.Turns.{other_back, other_rest, next_is}
 use Rattle.disk_journal.proofs.journal.Journal.turn.Goals as goal
 
-keeps_so : (disk : DiskSeen) (area next : Area) (summary : Option (List ℕ)) (bodies : List (List ℕ)) → next ≡ other_of area → Keeps disk area summary bodies
-    → Keeps disk (other_of next) summary bodies
-keeps_so disk area next summary bodies is h = subst (λ (x : Area). Keeps disk x summary bodies) (other_back area next is) h
+keeps_so : (disk : DiskSeen) (area next : Area) (version : ℕ) (summary : Option (List ℕ)) (bodies : List (List ℕ)) → next ≡ other_of area → Keeps disk area version summary bodies
+    → Keeps disk (other_of next) version summary bodies
+keeps_so disk area next version summary bodies is h = subst (λ (x : Area). Keeps disk x version summary bodies) (other_back area next is) h
 
 next_to : (generation : ℕ) (summary : Option (List ℕ)) (body : List ℕ) → generation ≡ generation_in summary → IsNextTo generation body → IsNextTo (generation_in summary) body
 next_to generation summary body is next = subst (λ (n : ℕ). IsNextTo n body) is next
@@ -27,41 +27,42 @@ returns-in-Ok-clause-works g c = record {
 }
 
 pub returns-in-Ok-clause-turned : goal.returns-in-Ok-clause-turned
-returns-in-Ok-clause-turned g c summary bodies h =
+returns-in-Ok-clause-turned g c version summary bodies h =
     let self = c.args.self.now in
     let body = c.args.body.now in
     record {
+      version_is = refl;
       used = omega arith;
       count = omega arith;
       generation = sym (next_is self.generation body c.requires.next);
       few = h.few;
       met_none = h.met_none;
-      kept = c.in-Ok.ensures.turned summary bodies (keeps_so (g.D.Disk.seen self.disk) self.area c.other-next.result summary bodies c.other-next.ensures h.kept)
+      kept = c.in-Ok.ensures.turned version summary bodies (keeps_so (g.D.Disk.seen self.disk) self.area c.other-next.result version summary bodies c.other-next.ensures h.kept)
           (next_to self.generation summary body h.generation c.requires.next);
     }
 
 pub returns-in-Ok-clause-any_moment : goal.returns-in-Ok-clause-any_moment
-returns-in-Ok-clause-any_moment g c summary bodies h =
+returns-in-Ok-clause-any_moment g c version summary bodies h =
     let self = c.args.self.now in
-    c.write_turn.ensures.any_moment summary bodies (keeps_so (g.D.Disk.seen self.disk) self.area c.other-next.result summary bodies c.other-next.ensures h.kept)
+    c.write_turn.ensures.any_moment version summary bodies (keeps_so (g.D.Disk.seen self.disk) self.area c.other-next.result version summary bodies c.other-next.ensures h.kept)
     (next_to self.generation summary c.args.body.now h.generation c.requires.next)
 
 pub returns-in-Ok-clause-told : goal.returns-in-Ok-clause-told
-returns-in-Ok-clause-told g c summary bodies h =
+returns-in-Ok-clause-told g c version summary bodies h =
     let self = c.args.self.now in
-    c.write_turn.ensures.told summary bodies (keeps_so (g.D.Disk.seen self.disk) self.area c.other-next.result summary bodies c.other-next.ensures h.kept)
+    c.write_turn.ensures.told version summary bodies (keeps_so (g.D.Disk.seen self.disk) self.area c.other-next.result version summary bodies c.other-next.ensures h.kept)
     (next_to self.generation summary c.args.body.now h.generation c.requires.next)
 
 pub returns-in-Err-clause-any_moment : goal.returns-in-Err-clause-any_moment
-returns-in-Err-clause-any_moment g c summary bodies h =
+returns-in-Err-clause-any_moment g c version summary bodies h =
     let self = c.args.self.now in
-    c.write_turn.ensures.any_moment summary bodies (keeps_so (g.D.Disk.seen self.disk) self.area c.other-next.result summary bodies c.other-next.ensures h.kept)
+    c.write_turn.ensures.any_moment version summary bodies (keeps_so (g.D.Disk.seen self.disk) self.area c.other-next.result version summary bodies c.other-next.ensures h.kept)
     (next_to self.generation summary c.args.body.now h.generation c.requires.next)
 
 pub returns-in-Err-clause-told : goal.returns-in-Err-clause-told
-returns-in-Err-clause-told g c summary bodies h =
+returns-in-Err-clause-told g c version summary bodies h =
     let self = c.args.self.now in
-    c.write_turn.ensures.told summary bodies (keeps_so (g.D.Disk.seen self.disk) self.area c.other-next.result summary bodies c.other-next.ensures h.kept)
+    c.write_turn.ensures.told version summary bodies (keeps_so (g.D.Disk.seen self.disk) self.area c.other-next.result version summary bodies c.other-next.ensures h.kept)
     (next_to self.generation summary c.args.body.now h.generation c.requires.next)
 
 -- what is beside the other area is the one that was chosen

@@ -1,7 +1,12 @@
 use Rattle.std.proofs.Common.{sym, subst}
 use Rattle.line_gate.specs.Blanks.{Names}
-use Rattle.line_gate.proofs.Carried.{first_seated, pass_from}
+use Rattle.line_gate.proofs.Carried.{first_seated, first_locked, pass_from}
 use Rattle.line_gate.proofs.gate.Gate.new.Goals as goal
+
+pub invariant_of-new : goal.invariant_of-new
+invariant_of-new g c =
+    let t = g.N.GateName.terms in
+    first_locked _ t _ _ _ c.blank.inside.book.me _ _ _ (subst (Names _ t) (sym c.blank.view_is) c.requires) c.blank.invariant
 
 pub invariant_of-pass : goal.invariant_of-pass
 invariant_of-pass g c =

@@ -17,9 +17,9 @@ clash false h is = absurd (cc)
 pub loop-at-init : goal.loop-at-init
 loop-at-init g c = record {
   within = omega arith;
-  kept = kept_self (g.H.Hall.seen c.args.hall.now) c.requires;
+  kept = kept_self (g.H.Hall.seen c.args.hall.now) c.requires.ready;
   fed = λ stream fed. subst (λ (s : List ℕ). WasFed s c.args.self.now.cutter) (sym (append-nil stream)) fed;
-  served = λ stream b h fed s. serves_none stream b h (g.H.Hall.seen c.args.hall.now) (g.P.Ends.seen c.args.port.now) s (g.met.H.Hall.legal c.args.hall.now b h s);
+  served = λ stream b h fed s. serves_none c.args.name.now stream b h (g.H.Hall.seen c.args.hall.now) (g.P.Ends.seen c.args.port.now) s (g.met.H.Hall.legal c.args.hall.now b h s);
   port = answers_none ⊥ (g.P.Ends.seen c.args.port.now) (λ f. f);
 }
 
@@ -37,7 +37,7 @@ loop-at-preserved g c =
       within = omega (arith, c.feed-count.ensures.count);
       kept = old.kept;
       fed = λ stream fed. (fed_by stream fed).fed;
-      served = λ stream b h fed s. serves_same stream b h (Ok tt) (Ok tt) (take at bytes) (take (at + n) bytes) refl
+      served = λ stream b h fed s. serves_same c.args.name.now stream b h (Ok tt) (Ok tt) (take at bytes) (take (at + n) bytes) refl
           ((fed_by stream fed).added ∙ ap (λ (l : List (List ℕ)). bodies (stream ++ take at bytes) ++ l) none ∙ append-nil (bodies (stream ++ take at bytes))) (old.served stream b h fed s);
       port = old.port;
     }
@@ -57,7 +57,7 @@ loop-at-preserved-in-Continue-1 g c =
       within = omega (arith, c.feed-count.ensures.count);
       kept = kept_more old.kept c.in_ok-answer.ensures.kept;
       fed = λ stream fed. (fed_by stream fed).fed;
-      served = λ stream b h fed s. serves_more stream b h (Ok tt) (take at bytes) (take (at + n) bytes) body old.kept
+      served = λ stream b h fed s. serves_more c.args.name.now stream b h (Ok tt) (take at bytes) (take (at + n) bytes) body old.kept
           ((fed_by stream fed).added ∙ ap (λ (l : List (List ℕ)). bodies (stream ++ take at bytes) ++ l) one) (old.served stream b h fed s) (c.in_ok-answer.ensures.session b);
       port = answers_more old.port (unfailed c.in_ok-answer.ensures.port);
     }
@@ -78,6 +78,6 @@ returns-in_err-answer-clause-served g c stream b h fed s =
     let end = c.in_err-answer.field-0.0 in
     let same : c.from_residual.result ≡ Err end = p.1 ∙ ap Err p.2 in
     rw same
-    (serves_wider stream b h (Err end) (take (at + n) bytes) bytes behind.0 (early_err end c.in_err-answer.ensures.ends) behind.1
-    (serves_more stream b h (Err end) (take at bytes) (take (at + n) bytes) body old.kept
+    (serves_wider c.args.name.now stream b h (Err end) (take (at + n) bytes) bytes behind.0 (early_err end c.in_err-answer.ensures.ends) behind.1
+    (serves_more c.args.name.now stream b h (Err end) (take at bytes) (take (at + n) bytes) body old.kept
     (f.added ∙ ap (λ (l : List (List ℕ)). bodies (stream ++ take at bytes) ++ l) one) (old.served stream b h fed s) (c.in_err-answer.ensures.session b)))

@@ -4,6 +4,7 @@ use Rattle.centre_core.specs.Halls.{IsKept}
 use Rattle.centre_rules.specs.Summary.{Summary}
 use Rattle.centre_rules.specs.History.{Entry}
 use Rattle.dc09_frame.specs.Cutting.{WasFed}
+use Rattle.session_rules.specs.Sessions.{changed}
 use Rattle.line_session.specs.Lines.{ServesBytes}
 use Rattle.line_session.proofs.pieces.Pieces.answer_whole.Given as goal
 
@@ -13,7 +14,7 @@ invariant-loop-at g l = record {
   kept : IsKept (g.H.Hall.seen l.initial.hall) (g.H.Hall.seen l.hall);
   fed : (stream : List ℕ) → WasFed stream l.initial.self.cutter → WasFed (stream ++ take l.at l.bytes) l.self.cutter;
   served : (stream : List ℕ) (b : Summary) (h : List Entry) → WasFed stream l.initial.self.cutter → (g.H.Hall.seen l.initial.hall).stands b h
-      → ServesBytes (Ok tt) stream (take l.at l.bytes) b h (g.H.Hall.seen l.initial.hall) (g.H.Hall.seen l.hall) (g.P.Ends.seen l.initial.port) (g.P.Ends.seen l.port);
+      → ServesBytes l.name (Ok tt) stream (take l.at l.bytes) b h (changed (g.H.Hall.seen l.initial.hall) (g.H.Hall.seen l.hall) (g.P.Ends.seen l.initial.port) (g.P.Ends.seen l.port));
   port : Answers ⊥ (g.P.Ends.seen l.initial.port) (g.P.Ends.seen l.port);
 }
 
