@@ -5,7 +5,7 @@ PROGRAM = crates/arc_server/out/arc_server
 OTHER = $(if $(findstring arc_server/out/arc_server,$(PROGRAM)),$(subst arc_server,arc_$1,$(PROGRAM)),$(PROGRAM)-$1)
 BOOK = $(call OTHER,book)
 SCREEN = $(call OTHER,screen)
-UNITS = arc.service arc-lines.service arc-watch.service arc-watch.timer arc-restart.service arc-restart.timer \
+UNITS = arc.service arc-lines.service arc-datagrams.service arc-udp.service arc-watch.service arc-watch.timer arc-restart.service arc-restart.timer \
 	arc-backup.service arc-backup.timer arc-book.service arc-book.timer
 PAGES = man1/arc.1 man1/arc-book.1 man1/arc-screen.1 man5/arc-setup.5 man7/arc-desk.7
 VERSION = $(shell cat VERSION)

@@ -5,7 +5,7 @@ use Rattle.alarm_rules.specs.SetupWords.{number_between}
 use Rattle.arc_data.specs.Digits.{is_capital_hex, is_run}
 use Rattle.arc_serving.specs.declared.side.Side.TheVariants.{Lines, Desks}
 use Rattle.arc_server.specs.declared.form.Form.{Form}
-use Rattle.arc_server.specs.declared.form.Form.TheVariants.{Session, Script, Report, Drill, Serve, Panel}
+use Rattle.arc_server.specs.declared.form.Form.TheVariants.{Session, Script, Report, Drill, Serve, Panel, Udp}
 
 abbrev pub form_named : List ℕ → Option Form
 form_named word =
@@ -28,6 +28,14 @@ drill_named messages = drill_with (number_between 1 100_000 messages)
 abbrev pub panel_named : List ℕ → Option Form
 panel_named account = if is_run is_capital_hex 3 16 account then Some (Panel account) else None
 
+abbrev pub udp_with : Option ℕ → Option Form
+udp_with (Some datagrams) = Some (Udp datagrams)
+udp_with None = None
+
+-- 1 to 1,000,000 datagrams, decimal without leading zeros
+abbrev pub udp_named : List ℕ → Option Form
+udp_named datagrams = udp_with (number_between 1 1_000_000 datagrams)
+
 -- of three numbers, where all of them are given
 abbrev pub crew_with : Option ℕ → Option ℕ → Option ℕ → Option Form
 crew_with (Some lines) (Some desks) (Some sessions) = Some (Serve (record { lines = lines; desks = desks; sessions = sessions }))
@@ -38,12 +46,13 @@ abbrev pub crew_named : List ℕ → List ℕ → List ℕ → Option Form
 crew_named lines desks sessions =
     crew_with (number_between 1 64 lines) (number_between 0 16 desks) (number_between 1 1_000_000 sessions)
 
--- the one word `line`, `desk`, `script` or `report`; `drill` and a number; `panel` and an account; or `serve` and three numbers
+-- the one word `line`, `desk`, `script` or `report`; `drill` or `udp` and a number; `panel` and an account; or `serve` and three numbers
 abbrev pub form_of : List (List ℕ) → Option Form
 form_of (word ∷ []) = form_named word
 form_of (word ∷ argument ∷ []) =
     if bytes_eq word (codes "drill") then drill_named argument
     else if bytes_eq word (codes "panel") then panel_named argument
+    else if bytes_eq word (codes "udp") then udp_named argument
     else None
 form_of (word ∷ lines ∷ desks ∷ sessions ∷ []) = if bytes_eq word (codes "serve") then crew_named lines desks sessions else None
 form_of words = None

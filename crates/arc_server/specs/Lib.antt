@@ -16,6 +16,7 @@ pub mod Made
 pub mod SetupReads
 pub mod Beginnings
 pub mod SessionRuns
+pub mod MailRuns
 pub mod Reports
 pub mod ScriptRuns
 pub mod DrillRuns

@@ -13,10 +13,12 @@ use Rattle.centre_core.specs.declared.hall.Stop.{Stop}
 use Rattle.centre_core.specs.declared.hall.Stop.TheVariants as Hall
 use Rattle.disk_journal.specs.declared.fault.OpenFault.{OpenFault}
 use Rattle.disk_journal.specs.declared.fault.OpenFault.TheVariants as Open
+use Rattle.udp_line.specs.declared.mail_end.MailEnd.{MailEnd}
+use Rattle.udp_line.specs.declared.mail_end.MailEnd.TheVariants as Mail
 use Rattle.arc_server.specs.declared.status.Status.{Status}
 use Rattle.arc_server.specs.declared.status.Status.TheVariants.{Done, ReadFault, WriteFault, DiskFault, Journal, Full, BadScript}
 use Rattle.arc_server.specs.declared.status.Status.TheVariants.{Memory, Spent, Worn}
-use Rattle.arc_server.specs.declared.status.Which.TheVariants.{Input}
+use Rattle.arc_server.specs.declared.status.Which.TheVariants as Which
 
 -- Where the disk has failed, by the counts of its faults at the run's entry and at its end, that is the status; else it is this one.
 abbrev pub status_over : ℕ → ℕ → Status → Status
@@ -36,7 +38,7 @@ status_of_stop (Hall.Worn count) = Worn count
 
 -- of the port's source, and of its sink, by what the port told before and tells now
 abbrev pub read_fault : PortSeen → PortSeen → Status
-read_fault p p' = ReadFault Input p.read_faults p'.read_faults
+read_fault p p' = ReadFault Which.Input p.read_faults p'.read_faults
 
 abbrev pub write_fault : PortSeen → PortSeen → Status
 write_fault p p' = WriteFault p.write_faults p'.write_faults
@@ -70,3 +72,11 @@ status_of_panel Panel.WriteFault p p' = write_fault p p'
 status_of_panel Panel.Spent p p' = Spent
 status_of_panel (Panel.BadLine line) p p' = BadScript line
 status_of_panel Panel.Memory p p' = Memory
+
+-- of datagrams, by what the mailbox told before and tells now
+abbrev pub status_of_mail : MailEnd → PortSeen → PortSeen → Status
+status_of_mail Mail.Quota m m' = Done
+status_of_mail Mail.Ended m m' = Done
+status_of_mail Mail.ReadFault m m' = ReadFault Which.Mail m.read_faults m'.read_faults
+status_of_mail Mail.WriteFault m m' = write_fault m m'
+status_of_mail (Mail.Stopped stop) m m' = status_of_stop stop

@@ -11,7 +11,7 @@ use Rattle.arc_server.specs.declared.status.Status.{Status}
 use Rattle.arc_server.specs.declared.status.Status.TheVariants.{Done, Usage, SetupBad, ReadFault, WriteFault, DiskFault, Journal, Full}
 use Rattle.arc_server.specs.declared.status.Status.TheVariants.{BadScript, DoorFault, Memory, Spent, Worn}
 use Rattle.arc_server.specs.declared.status.Which.{Which}
-use Rattle.arc_server.specs.declared.status.Which.TheVariants.{Setup, Input}
+use Rattle.arc_server.specs.declared.status.Which.TheVariants.{Setup, Input, Mail}
 
 -- what a program's run ends with
 abbrev pub number_of : Status → ℕ
@@ -59,6 +59,7 @@ setup_text NoMemory = codes "out of memory\n"
 abbrev pub read_text : Which → List ℕ
 read_text Setup = codes "read fault on setup\n"
 read_text Input = codes "read fault on input\n"
+read_text Mail = codes "read fault on mail\n"
 
 abbrev pub door_text : Side → List ℕ
 door_text Lines = codes "door fault on lines\n"
@@ -90,7 +91,7 @@ bad_script_text line = codes "script: line " ++ decimal line ++ codes "\n"
 -- the line that it writes on standard error, or nothing
 unfoldable pub text_of_status : Status → List ℕ
 text_of_status Done = []
-text_of_status Usage = codes "usage: line | desk | script | report | drill N | serve LINES DESKS SESSIONS | panel ACCOUNT\n"
+text_of_status Usage = codes "usage: line | desk | script | report | drill N | serve LINES DESKS SESSIONS | panel ACCOUNT | udp N\n"
 text_of_status (SetupBad fault) = setup_text fault
 text_of_status (ReadFault which before now) = read_text which
 text_of_status (WriteFault before now) = codes "write fault\n"

@@ -2,27 +2,35 @@
 use Rattle.std.specs.Prelude.{◌≡◌, ◌≤◌, ℕ, Bool, true, false}
 use Rattle.arc_data.specs.Digits.{is_capital_hex, is_run}
 use Rattle.arc_io.specs.Disks.{DiskSeen}
+use Rattle.arc_io.specs.Seen.{PortSeen}
 use Rattle.arc_serving.specs.Seen.{StationSeen}
 use Rattle.arc_server.specs.DrillRuns.{IsDrillRun}
 use Rattle.arc_server.specs.Handed.{Handed}
+use Rattle.arc_server.specs.MailRuns.{IsMailRun}
 use Rattle.arc_server.specs.PanelRuns.{IsPanelRun}
 use Rattle.arc_server.specs.Reports.{IsReportRun}
 use Rattle.arc_server.specs.ScriptRuns.{IsScriptRun}
 use Rattle.arc_server.specs.ServeRuns.{IsServeRun}
 use Rattle.arc_server.specs.SessionRuns.{IsSessionRun}
 use Rattle.arc_server.specs.declared.form.Form.{Form}
-use Rattle.arc_server.specs.declared.form.Form.TheVariants.{Session, Script, Report, Drill, Serve, Panel}
+use Rattle.arc_server.specs.declared.form.Form.TheVariants.{Session, Script, Report, Drill, Serve, Panel, Udp}
 use Rattle.arc_server.specs.declared.status.Status.{Status}
+
+-- what stands around a journal: doors and a pulse, and a mailbox
+pub record AroundSeen : Type 0 where
+  pub station : StationSeen
+  pub mail : PortSeen
 
 -- there are doors for all that are asked for
 abbrev pub HasDoors : Form → ℕ → ℕ → Type 0
 HasDoors (Serve crew) lines desks = (crew.lines ≤ lines) × (crew.desks ≤ desks)
 HasDoors form lines desks = Unit {0}
 
--- a number of messages that a drill can have, and an account that a panel can have
+-- a number of messages that a drill can have, an account that a panel can have, and a number of datagrams
 abbrev pub IsInRange : Form → Type 0
 IsInRange (Drill messages) = (1 ≤ messages) × (messages ≤ 100_000)
 IsInRange (Panel account) = is_run is_capital_hex 3 16 account ≡ true
+IsInRange (Udp datagrams) = (1 ≤ datagrams) × (datagrams ≤ 1_000_000)
 IsInRange form = Unit {0}
 
 -- the setup is read
@@ -33,7 +41,7 @@ reads_setup (Panel account) = false
 reads_setup form = true
 
 -- Of what a run is handed, as it was and as it is, and of what stands around it.
-abbrev pub IsRun : {D : Type 0} → (D → DiskSeen) → Form → Status → Handed D → Handed D → StationSeen → StationSeen → Type 0
+abbrev pub IsRun : {D : Type 0} → (D → DiskSeen) → Form → Status → Handed D → Handed D → AroundSeen → AroundSeen → Type 0
 IsRun seen (Session side) status r r' around around' = (around' ≡ around) × IsSessionRun seen side status r r'
 IsRun seen Script status r r' around around' = (around' ≡ around) × IsScriptRun seen status r r'
 IsRun seen Report status r r' around around' = (r'.setup ≡ r.setup) × (around' ≡ around) × IsReportRun seen status r r'
@@ -41,4 +49,7 @@ IsRun seen (Drill messages) status r r' around around' =
     (r'.setup ≡ r.setup) × (around' ≡ around) × (r'.disk ≡ r.disk) × IsDrillRun messages status r.port r'.port
 IsRun seen (Panel account) status r r' around around' =
     (r'.setup ≡ r.setup) × (around' ≡ around) × (r'.disk ≡ r.disk) × IsPanelRun account status r.port r'.port
-IsRun seen (Serve crew) status r r' around around' = IsServeRun seen crew status r r' around around'
+IsRun seen (Serve crew) status r r' around around' =
+    (around'.mail ≡ around.mail) × IsServeRun seen crew status r r' around.station around'.station
+IsRun seen (Udp datagrams) status r r' around around' =
+    (around'.station ≡ around.station) × IsMailRun seen datagrams status r r' around.mail around'.mail

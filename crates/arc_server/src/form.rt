@@ -1,6 +1,6 @@
 // The forms of the words that a run is called with.
 ghost use Rattle.std.specs.Prelude.{◌≡◌, IfSome};
-ghost use Rattle.arc_server.specs.Forms.{form_of, form_named, crew_named, drill_named, panel_named};
+ghost use Rattle.arc_server.specs.Forms.{form_of, form_named, crew_named, drill_named, panel_named, udp_named};
 ghost use Rattle.arc_server.specs.WholeRuns.{HasDoors, IsInRange};
 
 use accounts::number_between;
@@ -23,6 +23,8 @@ pub enum Form {
     Serve(Crew),
     /// `panel ACCOUNT`: the lines on the port, played over a panel of this account.
     Panel(Txt),
+    /// `udp N`: so many datagrams, each a line by itself.
+    Udp(u32),
 }
 
 /// The form of the words. None where they are of none.
@@ -35,6 +37,7 @@ pub(crate) fn form_of(words: &[Txt]) -> Option<Form>
         [word] => form_named(word),
         [word, messages] if word.bytes() == b"drill".as_slice() => drill_named(messages),
         [word, account] if word.bytes() == b"panel".as_slice() => panel_named(account),
+        [word, datagrams] if word.bytes() == b"udp".as_slice() => udp_named(datagrams),
         [word, lines, desks, sessions] if word.bytes() == b"serve".as_slice() => {
             crew_named(lines, desks, sessions)
         }
@@ -82,6 +85,16 @@ fn panel_named(account: &Txt) -> Option<Form>
     } else {
         None
     }
+}
+
+// The form of the number behind `udp`.
+fn udp_named(datagrams: &Txt) -> Option<Form>
+    ensures form { result ≡ udp_named datagrams.now }
+    ensures doors { IfSome result (λ form. HasDoors form 64 16) }
+    ensures range { IfSome result IsInRange }
+{
+    let datagrams = number_between(1, 1_000_000, datagrams.bytes())?;
+    Some(Form::Udp(datagrams as u32))
 }
 
 // The form of the three numbers behind `serve`.

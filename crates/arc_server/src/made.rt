@@ -2,15 +2,17 @@
 ghost use Rattle.std.specs.Prelude.{◌≡◌, ◌≢◌, ◌↔◌, IsTrue};
 ghost use Rattle.arc_io.specs.Causes.{Rose};
 ghost use Rattle.arc_io.specs.Seen.{PortSeen};
-ghost use Rattle.arc_server.specs.Made.{status_over, status_of_fault, status_of_stop, status_of_text, status_of_session};
+ghost use Rattle.arc_server.specs.Made.{status_over, status_of_fault, status_of_stop, status_of_text, status_of_session, status_of_mail};
 ghost use Rattle.arc_server.specs.declared.status.Status.TheVariants.{ReadFault, WriteFault};
 ghost use Rattle.arc_server.specs.declared.status.Which.TheVariants.{Input};
 
 use crate::status::{Status, Which};
+use arc_doors::Mailbox;
 use arc_io::{Disk, Failed, Port};
 use arc_serving::SessionEnd;
 use centre_core::Stop;
 use disk_journal::{OpenFault, OpenRefused};
+use udp_line::MailEnd;
 
 /// Where the disk has failed, by the counts of its faults at the run's entry and now, that is the status; else it is this one.
 pub(crate) fn status_over(before: u64, now: u64, status: Status) -> Status
@@ -137,5 +139,30 @@ pub(crate) fn status_of_session<P: Port>(
         SessionEnd::WriteFault => write_fault(writes, port),
         SessionEnd::Spent => Status::Spent,
         SessionEnd::Stopped(stop) => status_of_stop(stop),
+    }
+}
+
+/// The status that the end of so many datagrams makes, over a mailbox that told these counts of faults before.
+pub(crate) fn status_of_mail<M: Mailbox>(
+    end: MailEnd,
+    receives: u64,
+    replies: u64,
+    mail: &M,
+) -> Status
+    ensures usage { result ≢ Status.Usage }
+    ensures made { (m : PortSeen) → receives ≡ m.read_faults → replies ≡ m.write_faults → result ≡ status_of_mail end m (M.seen mail.now) }
+{
+    match end {
+        MailEnd::Quota | MailEnd::Ended => Status::Done,
+        MailEnd::ReadFault => Status::ReadFault {
+            input: Which::Mail,
+            before: receives,
+            now: mail.receive_faults(),
+        },
+        MailEnd::WriteFault => Status::WriteFault {
+            before: replies,
+            now: mail.reply_faults(),
+        },
+        MailEnd::Stopped(stop) => status_of_stop(stop),
     }
 }

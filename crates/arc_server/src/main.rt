@@ -2,7 +2,7 @@
 //! or one operator's desk, on their standard input and output. What they record stands in `journal.a`, beside `journal.b`, and
 //! `arc report` writes what stands there. `arc serve` serves many lines and desks at once, each on a connection. `arc script` runs a
 //! script from standard input over the same journal, and `arc drill` one of its own over a journal in memory. `arc panel` is a panel that a
-//! receiver can be tried with.
+//! receiver can be tried with. `arc udp` serves datagrams of panels.
 #![tactic(auto)]
 
 ghost use Rattle.std.specs.Prelude.{◌≡◌, Some, false};
@@ -10,7 +10,7 @@ ghost use Rattle.arc_server.specs.Forms.{form_of as form_by};
 ghost use Rattle.arc_server.specs.WholeRuns.{HasDoors};
 
 use arc_data::Txt;
-use arc_doors::{Peers, SecondPulse, TcpDoor};
+use arc_doors::{Peers, SecondPulse, TcpDoor, UdpMail};
 use arc_io::{Disk, FileDisk, FileSource, Port, RealClock, RealNoise, Source, StdPort};
 use form::{Form, form_of};
 use run::{Outside, run};
@@ -28,6 +28,7 @@ mod came;
 mod drill;
 mod form;
 mod made;
+mod mail;
 mod panel;
 mod report;
 mod run;
@@ -148,6 +149,7 @@ fn run_at_doors<W: Threads + Wait + Sync, S: Source + Drop, P: Port + Drop, D: D
         lines,
         desks,
         pulse: SecondPulse::new(*rt),
+        mail: UdpMail::new(*rt, 9009),
     };
     run(threads, rt.alloc(), words, outside).status
 }

@@ -5,6 +5,7 @@ ghost use Rattle.arc_server.specs.WholeRuns.{IsRun, HasDoors, IsInRange, reads_s
 
 use crate::drill::run_drill;
 use crate::form::{Form, form_of};
+use crate::mail::run_mailed;
 use crate::panel::run_panelled;
 use crate::report::run_report;
 use crate::script::run_scripted;
@@ -12,30 +13,31 @@ use crate::serving::{Served, run_serve};
 use crate::session::run_session;
 use crate::status::Status;
 use arc_data::Txt;
-use arc_doors::{Door, Pulse};
+use arc_doors::{Door, Mailbox, Pulse};
 use arc_io::{Disk, Port, Source};
 use arc_serving::Station;
 use std::alloc::Global;
 use std::sync::Wait;
 use std::thread::Threads;
 
-/// What a run is handed: the source of the setup text, the port of one line or desk, the disk of the journal; and for `serve` the doors
-/// of lines and of desks, and the pulse that gives the moments at which to tick.
+/// What a run is handed: the source of the setup text, the port of one line or desk, the disk of the journal; for `serve` the doors
+/// of lines and of desks, and the pulse that gives the moments at which to tick; and for `udp` the mailbox.
 #[derive(Drop)]
-pub struct Outside<S, P, D, A, B, T> {
+pub struct Outside<S, P, D, A, B, T, M> {
     pub setup: S,
     pub port: P,
     pub disk: D,
     pub lines: Vec<A>,
     pub desks: Vec<B>,
     pub pulse: T,
+    pub mail: M,
 }
 
 /// What a run hands back: its status, and all that it was handed.
 #[derive(Drop)]
-pub struct Ended<S, P, D, A, B, T> {
+pub struct Ended<S, P, D, A, B, T, M> {
     pub status: Status,
-    pub outside: Outside<S, P, D, A, B, T>,
+    pub outside: Outside<S, P, D, A, B, T, M>,
 }
 
 /// Does what the words say. Of `line` and `desk` the setup is read, the journal is opened with the
@@ -45,7 +47,8 @@ pub struct Ended<S, P, D, A, B, T> {
 /// setup is not read: the journal is opened, and what it has is reported on the port. Of `script` the setup is read, and the script on the
 /// port is run over the journal: it sets the clock. Of `drill N` nothing but the port is touched: a script of so many messages is run over
 /// a disk in memory, and one line of what was counted is written. Of `panel ACCOUNT` nothing but the port is touched, too: its lines say what
-/// happens to a panel of this account, and what it does is written.
+/// happens to a panel of this account, and what it does is written. Of `udp N` a run begins as of `line`, and so many datagrams of the mailbox
+/// are served, each a line by itself.
 pub fn run<
     R: Threads + Wait + Sync,
     S: Source,
@@ -54,12 +57,13 @@ pub fn run<
     A: Door + Send + Drop,
     B: Door + Send + Drop,
     T: Pulse + Send + Drop,
+    M: Mailbox,
 >(
     rt: &R,
     alloc: Global,
     words: &[Txt],
-    outside: Outside<S, P, D, A, B, T>,
-) -> Ended<S, P, D, A, B, T>
+    outside: Outside<S, P, D, A, B, T, M>,
+) -> Ended<S, P, D, A, B, T, M>
     requires setup { (S.seen outside.setup).ended ≡ false }
     requires port { (P.seen outside.port).ended ≡ false }
     requires doors { (form : Form) → form_by words.now ≡ Some form → HasDoors form (length outside.lines.items) (length outside.desks.items) }
@@ -71,14 +75,20 @@ pub fn run<
         (record { setup = S.seen outside.setup; port = P.seen outside.port; disk = outside.disk })
         (record { setup = S.seen result.outside.setup; port = P.seen result.outside.port; disk = result.outside.disk })
         (record {
-          lines = map (λ d. A.seen d) outside.lines.items;
-          desks = map (λ d. B.seen d) outside.desks.items;
-          pulse = T.moments outside.pulse;
+          station = record {
+            lines = map (λ d. A.seen d) outside.lines.items;
+            desks = map (λ d. B.seen d) outside.desks.items;
+            pulse = T.moments outside.pulse;
+          };
+          mail = M.seen outside.mail;
         })
         (record {
-          lines = map (λ d. A.seen d) result.outside.lines.items;
-          desks = map (λ d. B.seen d) result.outside.desks.items;
-          pulse = T.moments result.outside.pulse;
+          station = record {
+            lines = map (λ d. A.seen d) result.outside.lines.items;
+            desks = map (λ d. B.seen d) result.outside.desks.items;
+            pulse = T.moments result.outside.pulse;
+          };
+          mail = M.seen result.outside.mail;
         }) }
 {
     let Some(form) = form_of(words) else {
@@ -94,13 +104,16 @@ pub fn run<
         lines,
         desks,
         pulse,
+        mut mail,
     } = outside;
     let station = Station {
         lines,
         desks,
         pulse,
     };
-    let served = run_form(rt, form, alloc, &mut setup, &mut port, disk, station);
+    let served = run_form(
+        rt, form, alloc, &mut setup, &mut port, disk, station, &mut mail,
+    );
     let Served {
         status,
         disk,
@@ -120,6 +133,7 @@ pub fn run<
             lines,
             desks,
             pulse,
+            mail,
         },
     }
 }
@@ -133,6 +147,7 @@ fn run_form<
     A: Door + Send + Drop,
     B: Door + Send + Drop,
     T: Pulse + Send + Drop,
+    M: Mailbox,
 >(
     rt: &R,
     form: Form,
@@ -141,6 +156,7 @@ fn run_form<
     port: &mut P,
     disk: D,
     station: Station<A, B, T>,
+    mail: &mut M,
 ) -> Served<D, A, B, T>
     requires setup { (S.seen setup.old).ended ≡ false }
     requires port { (P.seen port.old).ended ≡ false }
@@ -150,7 +166,8 @@ fn run_form<
     ensures unread { reads_setup form ≡ false → setup.new ≡ setup.old }
     ensures ran { IsRun D.seen form result.status
         (record { setup = S.seen setup.old; port = P.seen port.old; disk = disk })
-        (record { setup = S.seen setup.new; port = P.seen port.new; disk = result.disk }) station result.station }
+        (record { setup = S.seen setup.new; port = P.seen port.new; disk = result.disk })
+        (record { station = station; mail = M.seen mail.old }) (record { station = result.station; mail = M.seen mail.new }) }
 {
     match form {
         Form::Serve(crew) => run_serve(rt, alloc, crew, setup, port, disk, station),
@@ -159,6 +176,10 @@ fn run_form<
         Form::Report => unserved(run_report(alloc, port, disk), station),
         Form::Drill(messages) => unserved((run_drill(alloc, messages, port), disk), station),
         Form::Panel(account) => unserved((run_panelled(alloc, account, port), disk), station),
+        Form::Udp(datagrams) => unserved(
+            run_mailed(alloc, datagrams, setup, port, disk, mail),
+            station,
+        ),
     }
 }
 

@@ -17,6 +17,8 @@ pub enum Which {
     Setup,
     /// The bytes of the line, of the desk or of the script, or the lines that are played over a panel.
     Input,
+    /// The datagrams of the mailbox.
+    Mail,
 }
 
 /// How a run ended, with the numbers that show its cause. Counts are those of faults at the run's entry and at its end.
@@ -83,7 +85,7 @@ impl Status {
             Status::Done => Ok(()),
             Status::Usage => put(
                 out,
-                b"usage: line | desk | script | report | drill N | serve LINES DESKS SESSIONS | panel ACCOUNT\n",
+                b"usage: line | desk | script | report | drill N | serve LINES DESKS SESSIONS | panel ACCOUNT | udp N\n",
             ),
             Status::SetupBad(fault) => put_setup(out, *fault),
             Status::ReadFault {
@@ -94,6 +96,10 @@ impl Status {
                 input: Which::Input,
                 ..
             } => put(out, b"read fault on input\n"),
+            Status::ReadFault {
+                input: Which::Mail,
+                ..
+            } => put(out, b"read fault on mail\n"),
             Status::WriteFault { .. } => put(out, b"write fault\n"),
             Status::DiskFault { .. } => put(out, b"disk fault\n"),
             Status::Journal(fault) => put_journal(out, *fault),
