@@ -3,9 +3,10 @@
 //! in use, and can't harm it.
 #![tactic(auto)]
 
+use arc_data::Txt;
 use arc_io::{RealClock, RealNoise, StdPort};
 use book::book;
-use book_lines::{Options, Word};
+use book_lines::Options;
 use status::Status;
 use std::process::ExitCode;
 use std::{env, fs, io};
@@ -16,13 +17,13 @@ mod intake;
 mod status;
 mod tape;
 
-// The words behind the program's name. One that is longer than 64 bytes stands as `?`, which nothing is asked for by.
-fn words<R: env::Env + AllocGlobal>(rt: &R) -> io::Result<Vec<Word>> {
+// The words behind the program's name as short texts. One that is longer than 32 bytes stands as `?`, which nothing is asked for by.
+fn words<R: env::Env + AllocGlobal>(rt: &R) -> io::Result<Vec<Txt>> {
     let mut words = Vec::new(rt.alloc());
     for argument in env::args(rt)?.skip(1) {
-        let word = match Word::of(argument.as_bytes()) {
+        let word = match Txt::of(argument.as_bytes()) {
             Some(word) => word,
-            None => Word::question(),
+            None => Txt::question(),
         };
         words.push(word)?;
     }

@@ -1,4 +1,3 @@
 pub mod BookLemmas
 pub mod WordLemmas
 pub mod MomentLemmas
-pub mod LocalLemmas
