@@ -4,7 +4,8 @@ ghost use Rattle.arc_doors.specs.Doors.{DoorSeen, Gives, HasOneOut, IsBackWithin
 ghost use Rattle.arc_doors.specs.Mails.{IsNoStream, Receives, Sends};
 ghost use Rattle.arc_doors.specs.Pulses.{Moments, GivesMoment};
 
-use arc_io::{Clock, Failed, Noise, Port};
+use arc_data::Txt;
+use arc_io::{Clock, Failed, Noise, Port, Refusal};
 use std::sync::Wait;
 use std::sync::atomic::AtomicBool;
 
@@ -50,6 +51,11 @@ pub trait Mailbox: Clock + Noise {
     /// received yet: nothing of them was.
     fn reply(&mut self, bytes: &[u8]) -> Result<(), Failed>
         ensures { Sends (Self.seen self.old) (Self.seen self.new) result bytes.now };
+
+    /// Is told that a message of this account, as it came in the last datagram, was refused, and why. It does with that as a port does.
+    fn refused(&mut self, _account: &Txt, _why: Refusal)
+        ensures { Self.seen self.new ≡ Self.seen self.old }
+    {}
 
     /// How often a call of `receive` has failed. It never falls, and stands still at the last value of `u64`.
     fn receive_faults(&self) -> u64

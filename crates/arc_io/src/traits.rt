@@ -4,6 +4,9 @@ ghost use Rattle.std.specs.Io.{ReadsAtMost, WritesAtMost};
 ghost use Rattle.arc_io.specs.Seen.{PortSeen, untold};
 ghost use Rattle.arc_io.specs.Told.{Reads, Writes, after_reading, after_noise};
 
+use crate::refusal::Refusal;
+use arc_data::Txt;
+
 /// The object did not do what was asked. Its count of faults rose, or stands at the last value of `u64`.
 #[derive(Clone, Copy, Debug, PartialEq, Eq)]
 pub struct Failed;
@@ -58,4 +61,10 @@ pub trait Noise: Ends {
 }
 
 /// All that a session needs.
-pub trait Port: Source + Sink + Clock + Noise {}
+pub trait Port: Source + Sink + Clock + Noise {
+    /// Is told that a message of this account, as it came, was refused, and why. A port may say so to those who look after the station, and
+    /// does nothing where it does not: what clauses know of it stays.
+    fn refused(&mut self, _account: &Txt, _why: Refusal)
+        ensures { Self.seen self.new ≡ Self.seen self.old }
+    {}
+}

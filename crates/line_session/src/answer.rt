@@ -11,14 +11,14 @@ ghost use Rattle.line_session.specs.Sessions.{IsLine, IsCutShort, ending_of};
 
 use crate::buffers::Buffers;
 use crate::line_end::LineEnd;
-use crate::reply::send;
+use crate::reply::refuse;
 use crate::report::{Report, submit_and_acknowledge};
 use arc_data::{Event, Memory, Txt};
-use arc_io::Port;
+use arc_io::{Port, Refusal};
 use centre_core::{Hall, Stop};
 use civil_time::stamp_of;
-use dc09_frame::{Echo, write_echo, write_nak};
-use dc09_message::{Verdict, verdict};
+use dc09_frame::{Echo, Header, write_echo, write_nak};
+use dc09_message::{Verdict, Why, verdict};
 use std::alloc::Global;
 
 /// Answers a whole piece of this body, which takes one reading of the clock, on a line of this name.
@@ -46,11 +46,12 @@ pub(crate) fn answer<H: Hall, P: Port>(
         Ok(Verdict::Silence) => Ok(()),
         Ok(Verdict::Nak) => {
             write_nak(&stamp_of(reading), &mut buffers.reply);
-            send(port, &buffers.reply)
+            let account = account_in(body);
+            refuse(port, &account, Refusal::StaleStamp, &buffers.reply)
         }
-        Ok(Verdict::Duh(header, _)) => {
+        Ok(Verdict::Duh(header, why)) => {
             write_echo(Echo::Duh, &header, &mut buffers.reply);
-            send(port, &buffers.reply)
+            refuse(port, &header.account, refusal_of(why), &buffers.reply)
         }
         Ok(Verdict::Beat(header, account)) => {
             let event = Event::Beat { account };
@@ -73,5 +74,26 @@ pub(crate) fn answer<H: Hall, P: Port>(
             };
             submit_and_acknowledge(alloc, hall, port, report, &mut buffers.reply)
         }
+    }
+}
+
+// The account in the header of a body, as it came, where a header can be read.
+fn account_in(body: &[u8]) -> Txt {
+    match Header::read(body) {
+        Some((header, _)) => header.account,
+        None => Txt::empty(),
+    }
+}
+
+// What a port is told of a message that is answered by DUH.
+fn refusal_of(why: Why) -> Refusal {
+    match why {
+        Why::UnknownToken => Refusal::UnknownToken,
+        Why::UnknownAccount => Refusal::UnknownAccount,
+        Why::PlainButKeyed => Refusal::PlainButKeyed,
+        Why::SealedButKeyless => Refusal::SealedButKeyless,
+        Why::NotCipher => Refusal::NotCipher,
+        Why::NoBar | Why::NoStamp => Refusal::WrongKey,
+        Why::BadBlocks => Refusal::UnreadableData,
     }
 }

@@ -8,7 +8,8 @@ ghost use Rattle.dc09_message.specs.Verdicts.{IsSealedAsKeyed};
 ghost use Rattle.line_session.specs.Replies.{SendsAck};
 
 use crate::line_end::LineEnd;
-use arc_io::{Failed, Port, put};
+use arc_data::Txt;
+use arc_io::{Failed, Port, Refusal, put};
 use centre_core::Hall;
 use civil_time::stamp_of;
 use dc09_crypt::seal_ack;
@@ -23,6 +24,21 @@ pub(crate) fn send<P: Port>(port: &mut P, reply: &FrameBuf) -> Result<(), LineEn
         Ok(()) => Ok(()),
         Err(Failed) => Err(LineEnd::WriteFault),
     }
+}
+
+/// Sends the reply to a message of this account that was refused, and tells the port why.
+pub(crate) fn refuse<P: Port>(
+    port: &mut P,
+    account: &Txt,
+    why: Refusal,
+    reply: &FrameBuf,
+) -> Result<(), LineEnd>
+    ensures told { Puts (P.seen port.old) (P.seen port.new) result reply.now }
+    ensures ends { IfErr result (λ end. end ≡ LineEnd.WriteFault) }
+{
+    let sent = send(port, reply);
+    port.refused(account, why);
+    sent
 }
 
 /// Acknowledges the message of this header at a reading: a sealed one under the key of its account, with ten bytes of noise.

@@ -9,12 +9,13 @@ ghost use Rattle.udp_line.specs.Datagrams.{FeedsDatagram, OnlyTakes, udp_name};
 
 use arc_data::Txt;
 use arc_doors::Mailbox;
-use arc_io::{Clock, Ends, Failed, Noise, Port, Sink, Source};
+use arc_io::{Clock, Ends, Failed, Noise, Port, Refusal, Sink, Source};
 use centre_core::Hall;
 use line_session::{LineEnd, LineState};
 use std::alloc::Global;
 
-/// What the line of one datagram is fed on: its clock and its noise are the mailbox's, and what it writes is put behind a text. A write
+/// What the line of one datagram is fed on: its clock and its noise are the mailbox's, which is told what is refused, and what it writes is
+/// put behind a text. A write
 /// fails for want of memory alone. There is nothing to be read.
 #[derive(Drop)]
 pub(crate) struct Letter<'a, M: Mailbox> {
@@ -89,7 +90,11 @@ impl<'a, M: Mailbox> Noise for Letter<'a, M> {
     }
 }
 
-impl<'a, M: Mailbox> Port for Letter<'a, M> {}
+impl<'a, M: Mailbox> Port for Letter<'a, M> {
+    fn refused(&mut self, account: &Txt, why: Refusal) {
+        self.mail.refused(account, why);
+    }
+}
 
 /// Feeds a new line the bytes of a datagram, on a letter whose text is empty.
 pub(crate) fn feed<H: Hall, M: Mailbox>(

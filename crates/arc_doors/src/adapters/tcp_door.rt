@@ -5,7 +5,7 @@ ghost use Rattle.arc_io.specs.Causes.{HasCause};
 use super::{Peers, TcpPort};
 use crate::Door;
 use arc_data::Memory;
-use arc_io::{Ends, Failed};
+use arc_io::{Ends, Failed, RefusalLines};
 use std::alloc::Global;
 use std::io::ErrorKind;
 use std::net::{Net, OpenListener, SocketAddr, TcpListener};
@@ -32,6 +32,8 @@ pub struct TcpDoor<R: Net + time::Clock + RandomSource + Eprint> {
     rt: R,
     shared: Arc<Shared<R::Listener>, Global>,
     faults: u64,
+    // What its connections say of what is refused: it goes from one to the next.
+    refusals: RefusalLines,
 }
 
 // What the doors share: whom they take, the port, the listener, once one of them has bound it, and a lock round that.
@@ -82,6 +84,7 @@ where
                 rt,
                 shared,
                 faults: 0,
+                refusals: RefusalLines::new(),
             });
         }
         Ok(doors)
@@ -134,11 +137,14 @@ where
     ghost within = { λ _. tt };
 
     fn next<W: Wait>(&mut self, rt: &W) -> Result<Option<TcpPort<R::Stream, R>>, Failed> {
-        let link = take_link(self.rt, rt, &self.shared, &mut self.faults)?;
+        let mut link = take_link(self.rt, rt, &self.shared, &mut self.faults)?;
+        link.refusals = self.refusals;
         Ok(Some(link))
     }
 
-    fn back(&mut self, _link: TcpPort<R::Stream, R>) {}
+    fn back(&mut self, link: TcpPort<R::Stream, R>) {
+        self.refusals = link.refusals;
+    }
 
     fn faults(&self) -> u64 {
         self.faults

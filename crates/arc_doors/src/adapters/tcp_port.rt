@@ -4,9 +4,12 @@ ghost use Rattle.std.specs.Io.{ReadsAtMost, WritesAtMost};
 ghost use Rattle.arc_io.specs.Seen.{untold};
 
 use super::peers::{Patience, Peers};
-use arc_io::{Clock, Ends, Failed, Noise, Port, RealClock, RealNoise, Sink, Source};
+use arc_data::Txt;
+use arc_io::{
+    Clock, Ends, Failed, Noise, Port, RealClock, RealNoise, Refusal, RefusalLines, Sink, Source,
+};
 use std::io::{ErrorKind, Read, Write};
-use std::net::OpenStream;
+use std::net::{OpenStream, SocketAddr};
 use std::random::RandomSource;
 use std::time::Duration;
 use std::{io, time};
@@ -20,11 +23,16 @@ const INTERRUPTIONS: u32 = 1_000;
 
 /// A port over a connection, with the machine's clock and random source. What is written is sent at once.
 /// An error of the connection is a fault, and so is a read for which it was silent for longer than its peers may be, a write of which
-/// nothing was taken for a minute, and a piece of which nothing is taken.
+/// nothing was taken for a minute, and a piece of which nothing is taken. What is refused is told on standard error, with the peer's
+/// address.
 #[derive(Drop)]
 pub struct TcpPort<S: Read + Write, R: time::Clock + RandomSource> {
     stream: S,
+    // The peer, where the connection tells it.
+    peer: Option<SocketAddr>,
     patience: Patience<R>,
+    rt: R,
+    pub(super) refusals: RefusalLines,
     clock: RealClock<R>,
     noise: RealNoise<R>,
     ended: bool,
@@ -43,9 +51,13 @@ impl<S: Read + Write + OpenStream + Drop, R: time::Clock + RandomSource + Copy> 
         stream.set_nodelay(true)?;
         stream.set_write_timeout(Some(Duration::from_secs(STALL)))?;
         let patience = Patience::new(rt, peers)?;
+        let peer = stream.peer_addr().ok();
         Ok(TcpPort {
             stream,
+            peer,
             patience,
+            rt,
+            refusals: RefusalLines::new(),
             clock: RealClock::new(rt),
             noise: RealNoise::new(rt),
             ended: false,
@@ -106,7 +118,11 @@ impl<S: Read + Write, R: time::Clock + RandomSource> Noise for TcpPort<S, R> {
     }
 }
 
-impl<S: Read + Write + OpenStream, R: time::Clock + RandomSource> Port for TcpPort<S, R> {}
+impl<S: Read + Write + OpenStream, R: time::Clock + RandomSource + Eprint> Port for TcpPort<S, R> {
+    fn refused(&mut self, account: &Txt, why: Refusal) {
+        self.refusals.tell(&self.rt, account, self.peer, why);
+    }
+}
 
 // Reads the next bytes, where they come in time.
 fn receive_in_time<S: Read + OpenStream, R: time::Clock>(

@@ -5,7 +5,8 @@ ghost use Rattle.arc_io.specs.Seen.{untold};
 
 use super::tcp_door::{PAUSE, TRIES};
 use crate::{DATAGRAM_ROOM, Mailbox};
-use arc_io::{Clock, Ends, Failed, Noise, RealClock, RealNoise};
+use arc_data::Txt;
+use arc_io::{Clock, Ends, Failed, Noise, RealClock, RealNoise, Refusal, RefusalLines};
 use std::io::ErrorKind;
 use std::net::{Net, SocketAddr, UdpSocket};
 use std::random::RandomSource;
@@ -21,7 +22,9 @@ const INTERRUPTIONS: u32 = 1_000;
 /// An answer of the network that an earlier reply did not arrive, as where its receiver is gone, is no fault: the call goes on. Receiving
 /// may fail for a cause that passes, as another program that has the port: that is counted, said on standard error once in a call, and tried
 /// again after a pause. The call fails where no try of a minute received a datagram. A reply is not tried again: it fails where the system
-/// does not take it, as one that has no way to its receiver, or is longer than 65,507 bytes. Panels send again what is not answered.
+/// does not take it, as one that has no way to its receiver, or is longer than 65,507 bytes, and says so on standard error. Panels send
+/// again what is not answered. A datagram that claims to come from the port 0 can't be answered, and is passed over. What is refused is told
+/// on standard error, with the sender's address.
 #[derive(Drop)]
 pub struct UdpMail<R: Net + time::Clock + RandomSource + Eprint> {
     rt: R,
@@ -31,6 +34,7 @@ pub struct UdpMail<R: Net + time::Clock + RandomSource + Eprint> {
     sender: Option<SocketAddr>,
     clock: RealClock<R>,
     noise: RealNoise<R>,
+    refusals: RefusalLines,
     read_faults: u64,
     write_faults: u64,
 }
@@ -48,6 +52,7 @@ impl<R: Net + time::Clock + RandomSource + Eprint + Copy> UdpMail<R> {
             sender: None,
             clock: RealClock::new(rt),
             noise: RealNoise::new(rt),
+            refusals: RefusalLines::new(),
             read_faults: 0,
             write_faults: 0,
         }
@@ -88,11 +93,16 @@ impl<R: Net + time::Clock + RandomSource + Eprint> Mailbox for UdpMail<R> {
     fn reply(&mut self, bytes: &[u8]) -> Result<(), Failed> {
         match send(&self.socket, self.sender, bytes) {
             Ok(()) => Ok(()),
-            Err(_) => {
+            Err(error) => {
+                tell_unsent(&self.rt, self.sender, error);
                 self.write_faults = self.write_faults.saturating_add(1);
                 Err(Failed)
             }
         }
+    }
+
+    fn refused(&mut self, account: &Txt, why: Refusal) {
+        self.refusals.tell(&self.rt, account, self.sender, why);
     }
 
     fn receive_faults(&self) -> u64 {
@@ -143,6 +153,14 @@ fn tell<R: Eprint>(rt: &R, port: u16, tries: u32, error: io::Error) {
     }
 }
 
+// Says that a reply was not sent.
+fn tell_unsent<R: Eprint>(rt: &R, sender: Option<SocketAddr>, error: io::Error) {
+    let _ = match sender {
+        Some(sender) => eprintln!(rt; "no reply is sent to {sender}: {error}"),
+        None => eprintln!(rt; "no reply is sent, as no datagram was received: {error}"),
+    };
+}
+
 // Receives a datagram at a socket, which is bound first where it is not yet.
 fn receive_at<R: Net + Eprint>(
     rt: &R,
@@ -153,14 +171,30 @@ fn receive_at<R: Net + Eprint>(
     ensures { IfOk result (λ got. got.0 ≤ 8192) }
 {
     if let Some(bound) = socket {
-        return receive(bound, buf);
+        return receive_answerable(bound, buf);
     }
     let address = SocketAddr::from(([127, 0, 0, 1], port));
     let bound = UdpSocket::bind(rt, address)?;
     let _ = eprintln!(rt; "datagrams are received at {address}");
-    let outcome = receive(&bound, buf);
+    let outcome = receive_answerable(&bound, buf);
     *socket = Some(bound);
     outcome
+}
+
+// Receives a datagram that can be answered. One that claims to come from the port 0 can't: it is passed over.
+fn receive_answerable(
+    socket: &UdpSocket,
+    buf: &mut [u8; DATAGRAM_ROOM],
+) -> io::Result<(usize, SocketAddr)>
+    ensures { IfOk result (λ got. got.0 ≤ 8192) }
+{
+    for _ in 0..u64::MAX {
+        match receive(socket, buf) {
+            Ok((_, from)) if from.port() == 0 => {}
+            answer => return answer,
+        }
+    }
+    Err(ErrorKind::Interrupted.into())
 }
 
 // Receives a datagram.

@@ -10,7 +10,7 @@ use std::{io, time};
 /// given again, at first 0.
 #[derive(Drop)]
 pub struct RealClock<R: time::Clock> {
-    rt: R,
+    pub(super) rt: R,
     last: u64,
     ghost in_range: { last < 253_402_300_800 },
 }

@@ -3,21 +3,24 @@ ghost use Rattle.std.specs.Prelude.{◌≡◌, [], false, IfOk};
 ghost use Rattle.std.specs.Io.{WritesAtMost};
 ghost use Rattle.arc_io.specs.Seen.{untold};
 
-use super::{RealClock, RealNoise};
-use crate::{Clock, Ends, Failed, Noise, Port, Sink, Source};
+use super::{RealClock, RealNoise, RefusalLines};
+use crate::{Clock, Ends, Failed, Noise, Port, Refusal, Sink, Source};
+use arc_data::Txt;
 use std::io::{Read, Write};
 use std::random::RandomSource;
 use std::{io, time};
 
 /// A port over a reader and a writer of std, as the process's own standard input and output, with the
 /// machine's clock and random source. A write is passed on at once: it is flushed before the call ends.
-/// An error of the reader, of the writer or of the flush is a fault, and so is a piece of which nothing is taken.
+/// An error of the reader, of the writer or of the flush is a fault, and so is a piece of which nothing is taken. What is refused is told
+/// on standard error.
 #[derive(Drop)]
 pub struct StdPort<I: Read, O: Write, R: time::Clock + RandomSource> {
     input: I,
     output: O,
     clock: RealClock<R>,
     noise: RealNoise<R>,
+    refusals: RefusalLines,
     ended: bool,
     read_faults: u64,
     write_faults: u64,
@@ -35,6 +38,7 @@ impl<I: Read, O: Write, R: time::Clock + RandomSource> StdPort<I, O, R> {
             output,
             clock,
             noise,
+            refusals: RefusalLines::new(),
             ended: false,
             read_faults: 0,
             write_faults: 0,
@@ -93,7 +97,11 @@ impl<I: Read, O: Write, R: time::Clock + RandomSource> Noise for StdPort<I, O, R
     }
 }
 
-impl<I: Read, O: Write, R: time::Clock + RandomSource> Port for StdPort<I, O, R> {}
+impl<I: Read, O: Write, R: time::Clock + RandomSource + Eprint> Port for StdPort<I, O, R> {
+    fn refused(&mut self, account: &Txt, why: Refusal) {
+        self.refusals.tell(&self.clock.rt, account, None, why);
+    }
+}
 
 // Writes some of the bytes, and flushes. It is an error to take nothing of some.
 fn pass_on(output: &mut impl Write, bytes: &[u8]) -> io::Result<usize>

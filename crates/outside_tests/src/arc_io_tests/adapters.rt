@@ -9,6 +9,7 @@ use arc_io::{
 };
 use std::alloc::Global;
 use std::cell::Cell;
+use std::fmt::Display;
 use std::process::Abort;
 use std::random::RandomSource;
 use std::time::Duration;
@@ -45,6 +46,17 @@ impl RandomSource for Machine {
         } else {
             Err(io::ErrorKind::Other.into())
         }
+    }
+}
+
+// It has nobody to tell anything.
+impl Eprint for Machine {
+    fn eprint<D: Display + Drop>(&self, _value: D) -> io::Result<()> {
+        Ok(())
+    }
+
+    fn eprintln<D: Display + Drop>(&self, _value: D) -> io::Result<()> {
+        Ok(())
     }
 }
 

@@ -37,8 +37,8 @@ returns-in-Ok-Nak-clause-session g c b h s =
     let reading = c.now-reading.result in
     let v = verdict_is hall.text c.setup.result.now body reading c.in-Ok-Nak.field-0 Nak c.setup.ensures c.in-Ok-Nak.ensures.exact c.in-Ok-Nak.field-0-is in
     let framed = c.write_nak.ensures.frame ∙ ap (λ (l : List ℕ). frame_of (nak_body l)) c.stamp_of.ensures in
-    session_quiet c.args.name.now b h hall (g.P.Ends.seen c.args.port.now) _ body reading c.send.result (frame_of (nak_body (stamp reading))) Nak v (record { extends = ([], refl); entry = refl; noise = refl; reply = refl })
-    s (g.met.H.Hall.legal c.args.hall.now b h s) c.now-reading.ensures.told (subst (Puts _ _ c.send.result) framed c.send.ensures.told) c.send.ensures.ends
+    session_quiet c.args.name.now b h hall (g.P.Ends.seen c.args.port.now) _ body reading c.refuse.result (frame_of (nak_body (stamp reading))) Nak v (record { extends = ([], refl); entry = refl; noise = refl; reply = refl })
+    s (g.met.H.Hall.legal c.args.hall.now b h s) c.now-reading.ensures.told (subst (Puts _ _ c.refuse.result) framed c.refuse.ensures.told) c.refuse.ensures.ends
 
 pub returns-in-Ok-Duh-clause-session : goal.returns-in-Ok-Duh-clause-session
 returns-in-Ok-Duh-clause-session g c b h s =
@@ -46,9 +46,9 @@ returns-in-Ok-Duh-clause-session g c b h s =
     let body = c.args.body.now in
     let reading = c.now-reading.result in
     let header = c.in-Ok-Duh.header in
-    let sent = c.send-in-Ok-Duh in
-    let v = verdict_is hall.text c.setup.result.now body reading c.in-Ok-Duh.field-0 (Duh header c.in-Ok-Duh.field-0-1) c.setup.ensures c.in-Ok-Duh.ensures.exact c.in-Ok-Duh.field-0-is in
-    session_quiet c.args.name.now b h hall (g.P.Ends.seen c.args.port.now) _ body reading sent.result (frame_of (echo_body DuhWord header)) (Duh header c.in-Ok-Duh.field-0-1) v
+    let sent = c.refuse-in-Ok-Duh in
+    let v = verdict_is hall.text c.setup.result.now body reading c.in-Ok-Duh.field-0 (Duh header c.in-Ok-Duh.why) c.setup.ensures c.in-Ok-Duh.ensures.exact c.in-Ok-Duh.field-0-is in
+    session_quiet c.args.name.now b h hall (g.P.Ends.seen c.args.port.now) _ body reading sent.result (frame_of (echo_body DuhWord header)) (Duh header c.in-Ok-Duh.why) v
     (record { extends = ([], refl); entry = refl; noise = refl; reply = refl })
     s (g.met.H.Hall.legal c.args.hall.now b h s) c.now-reading.ensures.told (subst (Puts _ _ sent.result) c.write_echo.ensures.frame sent.ensures.told) sent.ensures.ends
 
