@@ -3,10 +3,9 @@
 //! in use, and can't harm it.
 #![tactic(auto)]
 
-use arc_data::Txt;
 use arc_io::{RealClock, RealNoise, StdPort};
 use book::book;
-use book_lines::Options;
+use book_lines::{Options, Word};
 use status::Status;
 use std::process::ExitCode;
 use std::{env, fs, io};
@@ -17,13 +16,13 @@ mod intake;
 mod status;
 mod tape;
 
-// The words behind the program's name as short texts. One that is longer than 32 bytes stands as `?`, which nothing is asked for by.
-fn words<R: env::Env + AllocGlobal>(rt: &R) -> io::Result<Vec<Txt>> {
+// The words behind the program's name. One that is longer than 64 bytes stands as `?`, which nothing is asked for by.
+fn words<R: env::Env + AllocGlobal>(rt: &R) -> io::Result<Vec<Word>> {
     let mut words = Vec::new(rt.alloc());
     for argument in env::args(rt)?.skip(1) {
-        let word = match Txt::of(argument.as_bytes()) {
+        let word = match Word::of(argument.as_bytes()) {
             Some(word) => word,
-            None => Txt::question(),
+            None => Word::question(),
         };
         words.push(word)?;
     }

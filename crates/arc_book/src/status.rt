@@ -55,7 +55,7 @@ impl Status {
             Status::Done => Ok(()),
             Status::Usage => put(
                 out,
-                b"usage: arc-book [since PLACE] [until PLACE] [account NUMBER] [incident NUMBER] [operator NAME] [offset MINUTES] [tabs]\n",
+                b"usage: arc-book [since PLACE] [until PLACE] [account NUMBER] [incident NUMBER] [operator NAME] [offset MINUTES | zone RULE] [tabs]\n",
             ),
             Status::ReadFault => put(out, b"read fault on input\n"),
             Status::WriteFault => put(out, b"write fault\n"),

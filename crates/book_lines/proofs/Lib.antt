@@ -1,3 +1,4 @@
 pub mod BookLemmas
 pub mod WordLemmas
 pub mod MomentLemmas
+pub mod LocalLemmas

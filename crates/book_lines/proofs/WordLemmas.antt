@@ -5,11 +5,12 @@ use Rattle.std.specs.Str.{bytes_eq}
 use Rattle.std.proofs.lemmas.Slice.Eq.{bytes_eq-Decides}
 use Rattle.arc_data.specs.Digits.{is_name}
 use Rattle.alarm_rules.specs.SetupWords.{account_named, word_that}
-use Rattle.book_lines.specs.Asked.{asking, clock_named, number_named, options_of, place_named, plain}
-use Rattle.book_lines.specs.Asked.{from_tabs, from_offset, from_operator, from_incident, from_account, from_until, from_since}
+use Rattle.book_lines.specs.Asked.{asking, clock_ahead, clock_ruled, number_named, options_of, place_named, plain}
+use Rattle.book_lines.specs.Asked.{from_tabs, from_zone, from_offset, from_operator, from_incident, from_account, from_until, from_since}
 use Rattle.book_lines.specs.WordsFor.{AreOf, AreOfClock, AreFor}
 use Rattle.book_lines.specs.declared.clock.Clock.{Clock}
-use Rattle.book_lines.specs.declared.clock.Clock.TheVariants.{Gmt}
+use Rattle.book_lines.specs.declared.clock.Clock.TheVariants.{Fixed}
+use Rattle.book_lines.specs.declared.clock.Offset.TheVariants.{Gmt}
 use Rattle.book_lines.specs.declared.options.Options.{Options}
 use Rattle.book_lines.specs.declared.options.Place.{Place}
 
@@ -148,35 +149,25 @@ operator_step [] = refl
 operator_step (a ∷ []) = refl
 operator_step (a ∷ b ∷ ws) = refl
 
-offset_step : (ws : List (List ℕ)) → from_offset ws ≡ step (codes "offset") clock_named put_clock from_tabs ws
-unfolding from_offset
-offset_step [] = refl
-offset_step (a ∷ []) = refl
-offset_step (a ∷ b ∷ ws) = refl
-
 no_since : (b : List ℕ) (ws : List (List ℕ)) → from_until (codes "since" ∷ b ∷ ws) ≡ None
-unfolding from_until from_account from_incident from_operator from_offset from_tabs
+unfolding from_until from_account from_incident from_operator from_offset from_zone from_tabs
 no_since b ws = refl
 
 no_until : (b : List ℕ) (ws : List (List ℕ)) → from_account (codes "until" ∷ b ∷ ws) ≡ None
-unfolding from_account from_incident from_operator from_offset from_tabs
+unfolding from_account from_incident from_operator from_offset from_zone from_tabs
 no_until b ws = refl
 
 no_account : (b : List ℕ) (ws : List (List ℕ)) → from_incident (codes "account" ∷ b ∷ ws) ≡ None
-unfolding from_incident from_operator from_offset from_tabs
+unfolding from_incident from_operator from_offset from_zone from_tabs
 no_account b ws = refl
 
 no_incident : (b : List ℕ) (ws : List (List ℕ)) → from_operator (codes "incident" ∷ b ∷ ws) ≡ None
-unfolding from_operator from_offset from_tabs
+unfolding from_operator from_offset from_zone from_tabs
 no_incident b ws = refl
 
 no_operator : (b : List ℕ) (ws : List (List ℕ)) → from_offset (codes "operator" ∷ b ∷ ws) ≡ None
-unfolding from_offset from_tabs
+unfolding from_offset from_zone from_tabs
 no_operator b ws = refl
-
-no_offset : (b : List ℕ) (ws : List (List ℕ)) → from_tabs (codes "offset" ∷ b ∷ ws) ≡ None
-unfolding from_tabs
-no_offset b ws = refl
 
 -- The last word.
 
@@ -194,69 +185,131 @@ tabs_apart [] o e = (false, refl, sym (some_is (plain false) o e))
 tabs_apart (word ∷ []) o e = tabs_named word o (bytes_eq word (codes "tabs")) refl e
 tabs_apart (word ∷ next ∷ ws) o e = absurd cc
 
-tabs_together : (t : Bool) → from_tabs (tab_words t) ≡ Some (plain t)
-unfolding from_tabs
+-- The clock, and the last word.
+
+-- what words are of a clock and the last word
+record ClockMade (ws : List (List ℕ)) (o : Options) : Type 0 where
+  clock : Clock
+  tabs : Bool
+  part : List (List ℕ)
+  are : ws ≡ part ++ tab_words tabs
+  of : AreOfClock clock part
+  is : o ≡ record (plain tabs) { clock = clock }
+
+bare : (ws : List (List ℕ)) (o : Options) → from_tabs ws ≡ Some o → ClockMade ws o
+bare ws o e =
+    let t = tabs_apart ws o e in
+    record { clock = Fixed Gmt; tabs = t.0; part = []; are = t.1; of = inl (refl, refl); is = t.2 }
+
+-- where the name of a clock, and its word, stand before the last word
+clocked : (name : List ℕ) (read : List ℕ → Option Clock) → ((c : Clock) (part : List (List ℕ)) → AreOf name read (Some c) part → AreOfClock c part)
+    → (a b : List ℕ) (ws : List (List ℕ)) (o : Options) → bytes_eq a name ≡ true → (r : Option Clock) → read b ≡ r → (q : Option Options) → from_tabs ws ≡ q
+    → asking put_clock r q ≡ Some o → ClockMade (a ∷ b ∷ ws) o
+clocked name read of_clock a b ws o same None is q below e = absurd cc
+clocked name read of_clock a b ws o same (Some c) is None below e = absurd cc
+clocked name read of_clock a b ws o same (Some c) is (Some u) below e =
+    let t = tabs_apart ws u below in
+    record {
+      clock = c;
+      tabs = t.0;
+      part = name ∷ b ∷ [];
+      are = ap (λ (x : List ℕ). x ∷ b ∷ ws) ((bytes_eq-Decides a name).0 same) ∙ ap (λ (l : List (List ℕ)). name ∷ b ∷ l) t.1;
+      of = of_clock c (name ∷ b ∷ []) (b, refl, is);
+      is = sym (some_is (put_clock c u) o e) ∙ ap (put_clock c) t.2;
+    }
+
+by_offset : (c : Clock) (part : List (List ℕ)) → AreOf (codes "offset") clock_ahead (Some c) part → AreOfClock c part
+by_offset c part of = inr (inl of)
+
+by_zone : (c : Clock) (part : List (List ℕ)) → AreOf (codes "zone") clock_ruled (Some c) part → AreOfClock c part
+by_zone c part of = inr (inr of)
+
+zone_named : (a b : List ℕ) (ws : List (List ℕ)) (o : Options) (t : Bool) → bytes_eq a (codes "zone") ≡ t
+    → (if t then asking put_clock (clock_ruled b) (from_tabs ws) else from_tabs (a ∷ b ∷ ws)) ≡ Some o → ClockMade (a ∷ b ∷ ws) o
+zone_named a b ws o true is e = clocked (codes "zone") clock_ruled by_zone a b ws o is (clock_ruled b) refl (from_tabs ws) refl e
+zone_named a b ws o false is e = bare (a ∷ b ∷ ws) o e
+
+zone_apart : (ws : List (List ℕ)) (o : Options) → from_zone ws ≡ Some o → ClockMade ws o
+unfolding from_zone
+zone_apart [] o e = bare [] o e
+zone_apart (a ∷ []) o e = bare (a ∷ []) o e
+zone_apart (a ∷ b ∷ ws) o e = zone_named a b ws o (bytes_eq a (codes "zone")) refl e
+
+offset_named : (a b : List ℕ) (ws : List (List ℕ)) (o : Options) (t : Bool) → bytes_eq a (codes "offset") ≡ t
+    → (if t then asking put_clock (clock_ahead b) (from_tabs ws) else from_zone (a ∷ b ∷ ws)) ≡ Some o → ClockMade (a ∷ b ∷ ws) o
+offset_named a b ws o true is e = clocked (codes "offset") clock_ahead by_offset a b ws o is (clock_ahead b) refl (from_tabs ws) refl e
+offset_named a b ws o false is e = zone_apart (a ∷ b ∷ ws) o e
+
+clock_apart : (ws : List (List ℕ)) (o : Options) → from_offset ws ≡ Some o → ClockMade ws o
+unfolding from_offset
+clock_apart [] o e = zone_apart [] o e
+clock_apart (a ∷ []) o e = zone_apart (a ∷ []) o e
+clock_apart (a ∷ b ∷ ws) o e = offset_named a b ws o (bytes_eq a (codes "offset")) refl e
+
+tabs_together : (t : Bool) → from_offset (tab_words t) ≡ Some (plain t)
+unfolding from_offset from_zone from_tabs
 tabs_together true = refl
 tabs_together false = refl
 
+offset_together : (c : Clock) (b : List ℕ) (t : Bool) → clock_ahead b ≡ Some c
+    → from_offset (codes "offset" ∷ b ∷ tab_words t) ≡ Some (record (plain t) { clock = c })
+unfolding from_offset from_tabs
+offset_together c b true is = ap (λ (r : Option Clock). asking put_clock r (Some (plain true))) is
+offset_together c b false is = ap (λ (r : Option Clock). asking put_clock r (Some (plain false))) is
+
+zone_together : (c : Clock) (b : List ℕ) (t : Bool) → clock_ruled b ≡ Some c
+    → from_offset (codes "zone" ∷ b ∷ tab_words t) ≡ Some (record (plain t) { clock = c })
+unfolding from_offset from_zone from_tabs
+zone_together c b true is = ap (λ (r : Option Clock). asking put_clock r (Some (plain true))) is
+zone_together c b false is = ap (λ (r : Option Clock). asking put_clock r (Some (plain false))) is
+
+clock_together : (c : Clock) (part : List (List ℕ)) (t : Bool) → AreOfClock c part → from_offset (part ++ tab_words t) ≡ Some (record (plain t) { clock = c })
+clock_together c part t (inl (is, none)) =
+    ap (λ (p : List (List ℕ)). from_offset (p ++ tab_words t)) none ∙ tabs_together t ∙ ap (λ (x : Clock). Some (record (plain t) { clock = x })) (sym is)
+clock_together c part t (inr (inl of)) = ap (λ (p : List (List ℕ)). from_offset (p ++ tab_words t)) of.1 ∙ offset_together c of.0 t of.2
+clock_together c part t (inr (inr of)) = ap (λ (p : List (List ℕ)). from_offset (p ++ tab_words t)) of.1 ∙ zone_together c of.0 t of.2
+
 -- The options of their parts.
 
-abbrev clock_of : Option Clock → Clock
-clock_of None = Gmt
-clock_of (Some c) = c
+abbrev made : Option Place → Option Place → Option (List ℕ) → Option ℕ → Option (List ℕ) → Clock → Bool → Options
+made s u a i p c t = record { since = s; until = u; account = a; incident = i; operator = p; clock = c; tabs = t }
 
-abbrev made : Option Place → Option Place → Option (List ℕ) → Option ℕ → Option (List ℕ) → Option Clock → Bool → Options
-made s u a i p c t = record { since = s; until = u; account = a; incident = i; operator = p; clock = clock_of c; tabs = t }
-
-made_since : (s u : Option Place) (a : Option (List ℕ)) (i : Option ℕ) (p : Option (List ℕ)) (c : Option Clock) (t : Bool)
+made_since : (s u : Option Place) (a : Option (List ℕ)) (i : Option ℕ) (p : Option (List ℕ)) (c : Clock) (t : Bool)
     → with_value put_since s (made None u a i p c t) ≡ made s u a i p c t
 made_since None u a i p c t = refl
 made_since (Some s) u a i p c t = refl
 
-made_until : (u : Option Place) (a : Option (List ℕ)) (i : Option ℕ) (p : Option (List ℕ)) (c : Option Clock) (t : Bool)
+made_until : (u : Option Place) (a : Option (List ℕ)) (i : Option ℕ) (p : Option (List ℕ)) (c : Clock) (t : Bool)
     → with_value put_until u (made None None a i p c t) ≡ made None u a i p c t
 made_until None a i p c t = refl
 made_until (Some u) a i p c t = refl
 
-made_account : (a : Option (List ℕ)) (i : Option ℕ) (p : Option (List ℕ)) (c : Option Clock) (t : Bool)
+made_account : (a : Option (List ℕ)) (i : Option ℕ) (p : Option (List ℕ)) (c : Clock) (t : Bool)
     → with_value put_account a (made None None None i p c t) ≡ made None None a i p c t
 made_account None i p c t = refl
 made_account (Some a) i p c t = refl
 
-made_incident : (i : Option ℕ) (p : Option (List ℕ)) (c : Option Clock) (t : Bool)
+made_incident : (i : Option ℕ) (p : Option (List ℕ)) (c : Clock) (t : Bool)
     → with_value put_incident i (made None None None None p c t) ≡ made None None None i p c t
 made_incident None p c t = refl
 made_incident (Some i) p c t = refl
 
-made_operator : (p : Option (List ℕ)) (c : Option Clock) (t : Bool) → with_value put_operator p (made None None None None None c t) ≡ made None None None None p c t
+made_operator : (p : Option (List ℕ)) (c : Clock) (t : Bool) → with_value put_operator p (made None None None None None c t) ≡ made None None None None p c t
 made_operator None c t = refl
 made_operator (Some p) c t = refl
-
-made_clock : (c : Option Clock) (t : Bool) → with_value put_clock c (plain t) ≡ made None None None None None c t
-made_clock None t = refl
-made_clock (Some c) t = refl
 
 -- as they are put, one on the other
 abbrev upon : Option Place → Option Place → Option (List ℕ) → Option ℕ → Option (List ℕ) → Options → Options
 upon s u a i p o = with_value put_since s (with_value put_until u (with_value put_account a (with_value put_incident i (with_value put_operator p o))))
 
-made_all : (s u : Option Place) (a : Option (List ℕ)) (i : Option ℕ) (p : Option (List ℕ)) (c : Option Clock) (t : Bool)
-    → upon s u a i p (with_value put_clock c (plain t)) ≡ made s u a i p c t
+made_all : (s u : Option Place) (a : Option (List ℕ)) (i : Option ℕ) (p : Option (List ℕ)) (c : Clock) (t : Bool)
+    → upon s u a i p (made None None None None None c t) ≡ made s u a i p c t
 made_all s u a i p c t =
-    ap (λ (o : Options). upon s u a i p o) (made_clock c t)
-    ∙ ap (λ (o : Options). upon s u a i None o) (made_operator p c t)
+    ap (λ (o : Options). upon s u a i None o) (made_operator p c t)
     ∙ ap (λ (o : Options). upon s u a None None o) (made_incident i p c t)
     ∙ ap (λ (o : Options). upon s u None None None o) (made_account a i p c t)
     ∙ ap (λ (o : Options). upon s None None None None o) (made_until u a i p c t)
     ∙ made_since s u a i p c t
-
-clock_is : (c : Option Clock) (part : List (List ℕ)) → AreOf (codes "offset") clock_named c part → AreOfClock (clock_of c) part
-clock_is None part of = inl (refl, of)
-clock_is (Some c) part of = inr of
-
-clock_was : (clock : Clock) (part : List (List ℕ)) → AreOfClock clock part → (c : Option Clock) × (clock_of c ≡ clock) × AreOf (codes "offset") clock_named c part
-clock_was clock part (inl (is, none)) = (None, sym is, none)
-clock_was clock part (inr of) = (Some clock, refl, of)
 
 -- Words that ask for options are words for them.
 
@@ -275,40 +328,37 @@ OfIncident = Made ℕ (codes "incident") number_named put_incident from_operator
 abbrev OfOperator : List (List ℕ) → Options → Type 0
 OfOperator = Made (List ℕ) (codes "operator") (word_that is_name) put_operator from_offset
 
-abbrev Offset : List (List ℕ) → Options → Type 0
-Offset = Made Clock (codes "offset") clock_named put_clock from_tabs
-
 all_apart : (ws : List (List ℕ)) (o : Options) (s : Since ws o) (u : Until s.behind s.under) (a : OfAccount u.behind u.under) (i : OfIncident a.behind a.under)
-    (p : OfOperator i.behind i.under) (c : Offset p.behind p.under) (t : Bool) → c.behind ≡ tab_words t → c.under ≡ plain t → AreFor o ws
-all_apart ws o s u a i p c t are is =
-    let whole : o ≡ made s.value u.value a.value i.value p.value c.value t =
+    (p : OfOperator i.behind i.under) (c : ClockMade p.behind p.under) → AreFor o ws
+all_apart ws o s u a i p c =
+    let whole : o ≡ made s.value u.value a.value i.value p.value c.clock c.tabs =
     s.is
     ∙ ap (λ (x : Options). with_value put_since s.value x)
     (u.is ∙ ap (λ (x : Options). with_value put_until u.value x)
     (a.is ∙ ap (λ (x : Options). with_value put_account a.value x)
     (i.is ∙ ap (λ (x : Options). with_value put_incident i.value x)
-    (p.is ∙ ap (λ (x : Options). with_value put_operator p.value x) (c.is ∙ ap (λ (x : Options). with_value put_clock c.value x) is)))))
-    ∙ made_all s.value u.value a.value i.value p.value c.value t in
-    let is_for : AreFor (made s.value u.value a.value i.value p.value c.value t) ws = record {
+    (p.is ∙ ap (λ (x : Options). with_value put_operator p.value x) c.is))))
+    ∙ made_all s.value u.value a.value i.value p.value c.clock c.tabs in
+    let is_for : AreFor (made s.value u.value a.value i.value p.value c.clock c.tabs) ws = record {
       first = s.part;
       last = u.part;
       account = a.part;
       incident = i.part;
       operator = p.part;
-      offset = c.part;
+      clock = c.part;
       are =
           s.are
           ∙ ap (λ (l : List (List ℕ)). s.part ++ l)
           (u.are ∙ ap (λ (l : List (List ℕ)). u.part ++ l)
           (a.are ∙ ap (λ (l : List (List ℕ)). a.part ++ l)
           (i.are ∙ ap (λ (l : List (List ℕ)). i.part ++ l)
-          (p.are ∙ ap (λ (l : List (List ℕ)). p.part ++ l) (c.are ∙ ap (λ (l : List (List ℕ)). c.part ++ l) are)))));
+          (p.are ∙ ap (λ (l : List (List ℕ)). p.part ++ l) c.are))));
       of_first = s.of;
       of_last = u.of;
       of_account = a.of;
       of_incident = i.of;
       of_operator = p.of;
-      of_offset = clock_is c.value c.part c.of;
+      of_clock = c.of;
     } in
     subst (λ (x : Options). AreFor x ws) (sym whole) is_for
 
@@ -319,29 +369,26 @@ asked_for ws o e =
     let a : OfAccount u.behind u.under = taken_apart (List ℕ) (codes "account") account_named put_account from_incident from_account u.behind u.under (account_step u.behind) u.below in
     let i : OfIncident a.behind a.under = taken_apart ℕ (codes "incident") number_named put_incident from_operator from_incident a.behind a.under (incident_step a.behind) a.below in
     let p : OfOperator i.behind i.under = taken_apart (List ℕ) (codes "operator") (word_that is_name) put_operator from_offset from_operator i.behind i.under (operator_step i.behind) i.below in
-    let c : Offset p.behind p.under = taken_apart Clock (codes "offset") clock_named put_clock from_tabs from_offset p.behind p.under (offset_step p.behind) p.below in
-    let t = tabs_apart c.behind c.under c.below in
-    all_apart ws o s u a i p c t.0 t.1 t.2
+    all_apart ws o s u a i p (clock_apart p.behind p.under p.below)
 
 -- Words for options ask for them.
 
-module _ (s u : Option Place) (a : Option (List ℕ)) (i : Option ℕ) (p : Option (List ℕ)) (c : Option Clock) (t : Bool) where
+module _ (s u : Option Place) (a : Option (List ℕ)) (i : Option ℕ) (p : Option (List ℕ)) (c : Clock) (t : Bool) where
   all_together : (ws ss us xs is ps cs : List (List ℕ)) → ws ≡ ss ++ (us ++ (xs ++ (is ++ (ps ++ (cs ++ tab_words t))))) → AreOf (codes "since") (place_named false) s ss
       → AreOf (codes "until") (place_named true) u us → AreOf (codes "account") account_named a xs → AreOf (codes "incident") number_named i is
-      → AreOf (codes "operator") (word_that is_name) p ps → AreOf (codes "offset") clock_named c cs → options_of ws ≡ Some (made s u a i p c t)
+      → AreOf (codes "operator") (word_that is_name) p ps → AreOfClock c cs → options_of ws ≡ Some (made s u a i p c t)
   all_together ws ss us xs is ps cs are of_s of_u of_a of_i of_p of_c =
       let behind_p = cs ++ tab_words t in
       let behind_i = ps ++ behind_p in
       let behind_a = is ++ behind_i in
       let behind_u = xs ++ behind_a in
       let behind_s = us ++ behind_u in
-      let o_c = with_value put_clock c (plain t) in
+      let o_c = made None None None None None c t in
       let o_p = with_value put_operator p o_c in
       let o_i = with_value put_incident i o_p in
       let o_a = with_value put_account a o_i in
       let o_u = with_value put_until u o_a in
-      let by_c : from_offset behind_p ≡ Some o_c =
-      offset_step behind_p ∙ together Clock (codes "offset") clock_named put_clock from_tabs no_offset c cs (tab_words t) (plain t) of_c (tabs_together t) in
+      let by_c : from_offset behind_p ≡ Some o_c = clock_together c cs t of_c in
       let by_p : from_operator behind_i ≡ Some o_p =
       operator_step behind_i ∙ together (List ℕ) (codes "operator") (word_that is_name) put_operator from_offset no_operator p ps behind_p o_c of_p by_c in
       let by_i : from_incident behind_a ≡ Some o_i =
@@ -357,10 +404,8 @@ module _ (s u : Option Place) (a : Option (List ℕ)) (i : Option ℕ) (p : Opti
 
 for_asked : (ws : List (List ℕ)) (o : Options) → AreFor o ws → options_of ws ≡ Some o
 for_asked ws o f =
-    let was = clock_was o.clock f.offset f.of_offset in
-    all_together o.since o.until o.account o.incident o.operator was.0 o.tabs ws f.first f.last f.account f.incident f.operator f.offset f.are f.of_first f.of_last
-    f.of_account f.of_incident f.of_operator was.2
-    ∙ ap (λ (clock : Clock). Some (record o { clock = clock })) was.1
+    all_together o.since o.until o.account o.incident o.operator o.clock o.tabs ws f.first f.last f.account f.incident f.operator f.clock f.are f.of_first f.of_last
+    f.of_account f.of_incident f.of_operator f.of_clock
 
 pub words_ask : (ws : List (List ℕ)) (o : Options) → options_of ws ≡ Some o ↔ AreFor o ws
 words_ask ws o = (asked_for ws o, for_asked ws o)

@@ -1,15 +1,17 @@
 -- What a book is asked for, in words.
 use Rattle.std.specs.Prelude.{ℕ, ◌==◌, ◌&&◌, List, [], ◌∷◌, Bool, true, false, if◌then◌else◌, take, drop}
 use Rattle.std.specs.Prelude.{Option, Some, None, IfSome, length, codes, slice_index}
-use Rattle.std.specs.Option.{option_map, option_or}
+use Rattle.std.specs.Option.{option_map, option_or, unwrap_or}
 use Rattle.std.specs.Str.{bytes_eq}
 use Rattle.arc_data.specs.Digits.{is_name}
 use Rattle.arc_data.specs.Moments.{IsMoment}
-use Rattle.alarm_rules.specs.SetupWords.{account_named, number_between, word_that}
+use Rattle.alarm_rules.specs.SetupWords.{account_named, number_between, word_that, zone_spelled}
 use Rattle.civil_time.specs.Stamp.{stamp_time}
 use Rattle.book_lines.specs.Clocks.{IsNear}
 use Rattle.book_lines.specs.declared.clock.Clock.{Clock}
-use Rattle.book_lines.specs.declared.clock.Clock.TheVariants.{Gmt, Ahead, Behind}
+use Rattle.book_lines.specs.declared.clock.Clock.TheVariants.{Fixed, Ruled}
+use Rattle.book_lines.specs.declared.clock.Offset.{Offset}
+use Rattle.book_lines.specs.declared.clock.Offset.TheVariants.{Gmt, Ahead, Behind}
 use Rattle.book_lines.specs.declared.options.Options.{Options}
 use Rattle.book_lines.specs.declared.options.Place.{Place}
 use Rattle.book_lines.specs.declared.options.Place.TheVariants.{Number, Moment}
@@ -21,12 +23,19 @@ abbrev pub number_named : List ℕ → Option ℕ
 number_named word = number_between 1 18_446_744_073_709_551_615 word
 
 -- minutes ahead of GMT, from -840 to 840
-abbrev pub clock_named : List ℕ → Option Clock
-clock_named [] = None
-clock_named (b ∷ digits) =
+abbrev pub offset_named : List ℕ → Option Offset
+offset_named [] = None
+offset_named (b ∷ digits) =
     if bytes_eq (b ∷ digits) (codes "0") then Some Gmt
     else if b == 45 then option_map Behind (number_between 1 840 digits)
     else option_map Ahead (number_between 1 840 (b ∷ digits))
+
+abbrev pub clock_ahead : List ℕ → Option Clock
+clock_ahead word = option_map Fixed (offset_named word)
+
+-- the clock of a zone, by the text of a rule as a setup has it
+abbrev pub clock_ruled : List ℕ → Option Clock
+clock_ruled word = option_map Ruled (unwrap_or (zone_spelled word) None)
 
 -- the moment of a date, as `2026-11-28`, and a time, as `18:19:00`, in the order of a stamp
 unfoldable pub moment_at : List ℕ → List ℕ → Option ℕ
@@ -56,7 +65,7 @@ place_named last word = option_or (option_map Number (number_named word)) (optio
 
 -- all records, by GMT
 abbrev pub plain : Bool → Options
-plain tabs = record { since = None; until = None; account = None; incident = None; operator = None; clock = Gmt; tabs = tabs }
+plain tabs = record { since = None; until = None; account = None; incident = None; operator = None; clock = Fixed Gmt; tabs = tabs }
 
 -- where the word can be read and those behind it as well
 abbrev pub asking : {A : Type 0} → (A → Options → Options) → Option A → Option Options → Option Options
@@ -68,11 +77,18 @@ from_tabs [] = Some (plain false)
 from_tabs (word ∷ []) = if bytes_eq word (codes "tabs") then Some (plain true) else None
 from_tabs (word ∷ next ∷ words) = None
 
+unfoldable pub from_zone : List (List ℕ) → Option Options
+from_zone (name ∷ value ∷ words) =
+    if bytes_eq name (codes "zone") then asking (λ c o. record o { clock = c }) (clock_ruled value) (from_tabs words)
+    else from_tabs (name ∷ value ∷ words)
+from_zone words = from_tabs words
+
+-- one of both at most
 unfoldable pub from_offset : List (List ℕ) → Option Options
 from_offset (name ∷ value ∷ words) =
-    if bytes_eq name (codes "offset") then asking (λ c o. record o { clock = c }) (clock_named value) (from_tabs words)
-    else from_tabs (name ∷ value ∷ words)
-from_offset words = from_tabs words
+    if bytes_eq name (codes "offset") then asking (λ c o. record o { clock = c }) (clock_ahead value) (from_tabs words)
+    else from_zone (name ∷ value ∷ words)
+from_offset words = from_zone words
 
 unfoldable pub from_operator : List (List ℕ) → Option Options
 from_operator (name ∷ value ∷ words) =
@@ -104,8 +120,8 @@ from_since (name ∷ value ∷ words) =
     else from_until (name ∷ value ∷ words)
 from_since words = from_until words
 
--- `since PLACE`, `until PLACE`, `account NUMBER`, `incident NUMBER`, `operator NAME`, `offset MINUTES` and `tabs`: in this order, and each
--- at most once
+-- `since PLACE`, `until PLACE`, `account NUMBER`, `incident NUMBER`, `operator NAME`, `offset MINUTES` or `zone RULE`, and `tabs`: in this
+-- order, and each at most once
 abbrev pub options_of : List (List ℕ) → Option Options
 options_of words = from_since words
 

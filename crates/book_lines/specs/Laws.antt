@@ -1,9 +1,13 @@
--- What words for moments add up to.
-use Rattle.std.specs.Prelude.{◌≡◌, ◌⊎◌, ℕ, ◌+◌, ◌*◌, ◌/◌, ◌++◌, List, Bool, if◌then◌else◌, Some, codes}
+-- What words for moments, and the clocks of zones, add up to.
+use Rattle.std.specs.Prelude.{◌≡◌, ◌⊎◌, ℕ, ◌+◌, ◌*◌, ◌/◌, ◌%◌, ◌++◌, List, Bool, if◌then◌else◌, Some, codes, pos}
 use Rattle.arc_data.specs.Moments.{IsMoment}
 use Rattle.civil_time.specs.Calendar.{date_of}
+use Rattle.zone_rules.specs.Zones.{Zone}
+use Rattle.zone_rules.specs.ZonedTime.{zoned_day, zoned_minute}
 use Rattle.book_lines.specs.Asked.{moment_named}
+use Rattle.book_lines.specs.Clocks.{offset_at, shown}
 use Rattle.book_lines.specs.Dates.{date_text, time_text}
+use Rattle.book_lines.specs.declared.clock.Clock.TheVariants.{Ruled}
 
 -- `2026-11-28T18:19:00`
 abbrev pub moment_word : ℕ → List ℕ
@@ -28,3 +32,13 @@ DatesAreRead =
 -- no other word is read
 abbrev pub OthersAreNotRead : Type 0
 OthersAreNotRead = (last : Bool) (word : List ℕ) (t : ℕ) → moment_named last word ≡ Some t → IsMoment t × IsMomentWord last word t
+
+-- seconds that are local time in a zone: the day and the minute of the day are those of the zone, and the second is the moment's own
+pub record IsLocalTime (zone : Zone) (t seconds : ℕ) : Type 0 where
+  pub day : pos (seconds / 86_400) ≡ zoned_day zone t
+  pub minute : seconds / 60 % 1440 ≡ zoned_minute zone t
+  pub second : seconds % 60 ≡ t % 60
+
+-- what a clock by the rule of a zone shows is local time in it
+abbrev pub ZonesShowLocalTime : Type 0
+ZonesShowLocalTime = (zone : Zone) (t seconds : ℕ) → shown (offset_at (Ruled zone) t) t ≡ Some seconds → IsLocalTime zone t seconds

@@ -4,7 +4,6 @@ use Rattle.std.specs.Prelude.{ℕ, ◌++◌, ◌&&◌, List, [], Bool, true, fal
 use Rattle.centre_rules.specs.Summary.{Summary}
 use Rattle.book_lines.specs.Books.{line_if}
 use Rattle.book_lines.specs.Choices.{is_since, is_until}
-use Rattle.book_lines.specs.Clocks.{moment_text}
 use Rattle.book_lines.specs.Fields.{own_fields, tab}
 use Rattle.book_lines.specs.Telling.{line_of, row_of}
 use Rattle.book_lines.specs.declared.clock.Clock.{Clock}

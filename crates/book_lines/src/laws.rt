@@ -1,6 +1,6 @@
-// The laws of words for moments, and of books.
+// The laws of words for moments, of clocks, and of books.
 ghost use Rattle.book_lines.specs.GoOn.{BooksGoOn};
-ghost use Rattle.book_lines.specs.Laws.{DatesAreRead, MomentsAreRead, OthersAreNotRead};
+ghost use Rattle.book_lines.specs.Laws.{DatesAreRead, MomentsAreRead, OthersAreNotRead, ZonesShowLocalTime};
 ghost use Rattle.book_lines.specs.WordsFor.{WordsAsk};
 
 /// Each moment is read from its own word.
@@ -21,6 +21,11 @@ pub fn law_other_words_are_not_read()
 /// Words ask for options exactly where they are those of each option, one behind the other.
 pub fn law_words_ask()
     ensures { WordsAsk }
+{}
+
+/// What a clock by the rule of a zone shows is local time in it.
+pub fn law_zones_show_local_time()
+    ensures { ZonesShowLocalTime }
 {}
 
 /// A book up to a record, and behind it the book from the next one on, are the whole book.

@@ -10,12 +10,14 @@ mod names;
 mod options;
 mod page;
 mod summary;
+mod word;
 mod words;
 mod writing;
 
 pub use choice::{Verdict, choose};
-pub use clock::Clock;
+pub use clock::{Clock, Offset};
 pub use options::{Options, Place};
 pub use page::Page;
 pub use summary::{Held, put_summary};
+pub use word::Word;
 pub use writing::put_line;

@@ -1,16 +1,18 @@
 // What a book is asked for, in words.
 ghost use Rattle.std.specs.Prelude.{◌≡◌, length, IfSome};
+ghost use Rattle.arc_data.specs.Digits.{is_name};
 ghost use Rattle.arc_data.specs.Moments.{IsMoment};
-ghost use Rattle.alarm_rules.specs.SetupWords.{account_named};
-ghost use Rattle.book_lines.specs.Asked.{AreInRange, IsPlace, clock_named, from_account, from_incident, from_offset, from_operator, from_since, from_tabs, from_until};
-ghost use Rattle.book_lines.specs.Asked.{end_of_day, moment_at, moment_named, number_named, options_of, place_named, plain};
-ghost use Rattle.book_lines.specs.Clocks.{IsNear};
+ghost use Rattle.alarm_rules.specs.SetupWords.{account_named, word_that};
+ghost use Rattle.book_lines.specs.Asked.{AreInRange, IsPlace, clock_ahead, clock_ruled, from_account, from_incident, from_offset, from_operator, from_since, from_tabs, from_until, from_zone};
+ghost use Rattle.book_lines.specs.Asked.{end_of_day, moment_at, moment_named, number_named, offset_named, options_of, place_named, plain};
+ghost use Rattle.book_lines.specs.Clocks.{IsNear, IsSmall};
 
-use crate::clock::Clock;
+use crate::clock::{Clock, Offset};
+use crate::word::Word;
 use accounts::number_between;
 use alarm_rules::{is_account, is_name};
 use arc_data::Txt;
-use civil_time::read_stamp;
+use civil_time::{Zone, read_stamp};
 
 /// Where a book begins or ends.
 #[derive(Clone, Copy)]
@@ -22,7 +24,7 @@ pub enum Place {
 }
 
 /// Which records a book has, those that all of this holds of, and how it tells them.
-#[derive(Clone, Copy)]
+#[derive(Drop)]
 pub struct Options {
     pub since: Option<Place>,
     pub until: Option<Place>,
@@ -36,8 +38,8 @@ pub struct Options {
 
 impl Options {
     /// What these words ask for: in this order, and each only where it is wanted, `since PLACE`, `until PLACE`, `account NUMBER`,
-    /// `incident NUMBER`, `operator NAME`, `offset MINUTES` and `tabs`. None where they are no such words.
-    pub fn read(words: &[Txt]) -> Option<Options>
+    /// `incident NUMBER`, `operator NAME`, `offset MINUTES` or `zone RULE`, and `tabs`. None where they are no such words.
+    pub fn read(words: &[Word]) -> Option<Options>
         ensures asked { result ≡ options_of words.now }
         ensures range { IfSome result AreInRange }
     {
@@ -47,7 +49,7 @@ impl Options {
 
 // What is asked for from `since PLACE` on.
 #[tactic(auto, unfolding(crate::specs::Asked::from_since))]
-fn from_since(words: &[Txt]) -> Option<Options>
+fn from_since(words: &[Word]) -> Option<Options>
     ensures asked { result ≡ from_since words.now }
     ensures range { IfSome result AreInRange }
 {
@@ -64,7 +66,7 @@ fn from_since(words: &[Txt]) -> Option<Options>
 
 // What is asked for from `until PLACE` on.
 #[tactic(auto, unfolding(crate::specs::Asked::from_until))]
-fn from_until(words: &[Txt]) -> Option<Options>
+fn from_until(words: &[Word]) -> Option<Options>
     ensures asked { result ≡ from_until words.now }
     ensures range { IfSome result AreInRange }
 {
@@ -81,13 +83,13 @@ fn from_until(words: &[Txt]) -> Option<Options>
 
 // What is asked for from `account NUMBER` on.
 #[tactic(auto, unfolding(crate::specs::Asked::from_account))]
-fn from_account(words: &[Txt]) -> Option<Options>
+fn from_account(words: &[Word]) -> Option<Options>
     ensures asked { result ≡ from_account words.now }
     ensures range { IfSome result AreInRange }
 {
     match words {
         [name, value, rest @ ..] if name.bytes() == b"account".as_slice() => {
-            let account = account_named(value)?;
+            let account = account_named(value.bytes())?;
             let mut options = from_incident(rest)?;
             options.account = Some(account);
             Some(options)
@@ -98,7 +100,7 @@ fn from_account(words: &[Txt]) -> Option<Options>
 
 // What is asked for from `incident NUMBER` on.
 #[tactic(auto, unfolding(crate::specs::Asked::from_incident))]
-fn from_incident(words: &[Txt]) -> Option<Options>
+fn from_incident(words: &[Word]) -> Option<Options>
     ensures asked { result ≡ from_incident words.now }
     ensures range { IfSome result AreInRange }
 {
@@ -115,32 +117,47 @@ fn from_incident(words: &[Txt]) -> Option<Options>
 
 // What is asked for from `operator NAME` on.
 #[tactic(auto, unfolding(crate::specs::Asked::from_operator))]
-fn from_operator(words: &[Txt]) -> Option<Options>
+fn from_operator(words: &[Word]) -> Option<Options>
     ensures asked { result ≡ from_operator words.now }
     ensures range { IfSome result AreInRange }
 {
     match words {
         [name, value, rest @ ..] if name.bytes() == b"operator".as_slice() => {
-            if !is_name(value.bytes()) {
-                return None;
-            }
+            let operator = operator_named(value.bytes())?;
             let mut options = from_offset(rest)?;
-            options.operator = Some(*value);
+            options.operator = Some(operator);
             Some(options)
         }
         _ => from_offset(words),
     }
 }
 
-// What is asked for from `offset MINUTES` on.
+// What is asked for from `offset MINUTES` or `zone RULE` on.
 #[tactic(auto, unfolding(crate::specs::Asked::from_offset))]
-fn from_offset(words: &[Txt]) -> Option<Options>
+fn from_offset(words: &[Word]) -> Option<Options>
     ensures asked { result ≡ from_offset words.now }
     ensures range { IfSome result AreInRange }
 {
     match words {
         [name, value, rest @ ..] if name.bytes() == b"offset".as_slice() => {
-            let clock = clock_named(value.bytes())?;
+            let clock = clock_ahead(value.bytes())?;
+            let mut options = from_tabs(rest)?;
+            options.clock = clock;
+            Some(options)
+        }
+        _ => from_zone(words),
+    }
+}
+
+// What is asked for from `zone RULE` on.
+#[tactic(auto, unfolding(crate::specs::Asked::from_zone))]
+fn from_zone(words: &[Word]) -> Option<Options>
+    ensures asked { result ≡ from_zone words.now }
+    ensures range { IfSome result AreInRange }
+{
+    match words {
+        [name, value, rest @ ..] if name.bytes() == b"zone".as_slice() => {
+            let clock = clock_ruled(value.bytes())?;
             let mut options = from_tabs(rest)?;
             options.clock = clock;
             Some(options)
@@ -151,7 +168,7 @@ fn from_offset(words: &[Txt]) -> Option<Options>
 
 // What is asked for by `tabs` or no word.
 #[tactic(auto, unfolding(crate::specs::Asked::from_tabs))]
-fn from_tabs(words: &[Txt]) -> Option<Options>
+fn from_tabs(words: &[Word]) -> Option<Options>
     ensures asked { result ≡ from_tabs words.now }
     ensures range { IfSome result AreInRange }
 {
@@ -173,20 +190,27 @@ fn plain(tabs: bool) -> Options
         account: None,
         incident: None,
         operator: None,
-        clock: Clock::Gmt,
+        clock: Clock::Fixed(Offset::Gmt),
         tabs,
     }
 }
 
 // The account, in capitals.
-fn account_named(word: &Txt) -> Option<Txt>
+fn account_named(word: &[u8]) -> Option<Txt>
     ensures { result ≡ account_named word.now }
 {
-    if is_account(word.bytes()) {
-        Some(word.capitals())
-    } else {
-        None
+    if !is_account(word) {
+        return None;
     }
+    let number = Txt::of(word)?;
+    Some(number.capitals())
+}
+
+// The operator's name.
+fn operator_named(word: &[u8]) -> Option<Txt>
+    ensures { result ≡ word_that is_name word.now }
+{
+    if is_name(word) { Txt::of(word) } else { None }
 }
 
 // The number of a record or an incident.
@@ -197,16 +221,35 @@ fn number_named(word: &[u8]) -> Option<u64>
 }
 
 // The clock that is so many minutes ahead of GMT.
-fn clock_named(word: &[u8]) -> Option<Clock>
-    ensures clock { result ≡ clock_named word.now }
+fn clock_ahead(word: &[u8]) -> Option<Clock>
+    ensures clock { result ≡ clock_ahead word.now }
     ensures near { IfSome result IsNear }
+{
+    Some(Clock::Fixed(offset_named(word)?))
+}
+
+// The offset of so many minutes.
+fn offset_named(word: &[u8]) -> Option<Offset>
+    ensures offset { result ≡ offset_named word.now }
+    ensures small { IfSome result IsSmall }
 {
     match word {
         [] => None,
-        b"0" => Some(Clock::Gmt),
-        [b'-', digits @ ..] => Some(Clock::Behind(number_between(1, 840, digits)? as u16)),
-        digits => Some(Clock::Ahead(number_between(1, 840, digits)? as u16)),
+        b"0" => Some(Offset::Gmt),
+        [b'-', digits @ ..] => Some(Offset::Behind(number_between(1, 840, digits)? as u16)),
+        digits => Some(Offset::Ahead(number_between(1, 840, digits)? as u16)),
     }
+}
+
+// The clock by the rule that a text of 1 to 64 bytes is, as a setup names zones.
+fn clock_ruled(word: &[u8]) -> Option<Clock>
+    ensures clock { result ≡ clock_ruled word.now }
+    ensures near { IfSome result IsNear }
+{
+    if word.is_empty() || word.len() > 64 {
+        return None;
+    }
+    Some(Clock::Ruled(Zone::posix(word)?))
 }
 
 // The place of a number or a moment; of a date that stands alone its first second, or the last one.

@@ -2,12 +2,12 @@
 ghost use Rattle.std.specs.Prelude.{◌≡◌, ◌+◌, ◌≤◌, ◌++◌, codes, decimal, length};
 ghost use Rattle.arc_data.specs.Moments.{IsMoment};
 ghost use Rattle.arc_data.specs.WellFormed.{IsWellFormed};
-ghost use Rattle.book_lines.specs.Clocks.{IsNear, hours_text, moment_text, suffix};
+ghost use Rattle.book_lines.specs.Clocks.{IsNear, IsSmall, hours_text, moment_text, suffix, text_at};
 ghost use Rattle.book_lines.specs.Dates.{date_time};
 ghost use Rattle.book_lines.specs.Lines.{words_of};
 ghost use Rattle.book_lines.specs.Telling.{told};
 
-use crate::clock::Clock;
+use crate::clock::{Clock, Offset};
 use crate::fields::put_fields;
 use crate::names::{code_name, outcome_name};
 use crate::options::Options;
@@ -55,7 +55,6 @@ pub fn put_line(
 }
 
 /// Puts the date and the time of a moment by a clock.
-#[tactic(auto, unfolding(crate::specs::Clocks::moment_text))]
 pub(crate) fn put_moment(page: &mut Page, clock: &Clock, at: u64)
     requires near { IsNear clock.now }
     requires moment { IsMoment at }
@@ -63,10 +62,22 @@ pub(crate) fn put_moment(page: &mut Page, clock: &Clock, at: u64)
     ensures text { page.new ≡ page.old ++ moment_text clock.now at }
     ensures size { length page.new ≤ length page.old + 40 }
 {
-    match clock.shown(at) {
+    put_moment_at(page, &clock.offset(at), at);
+}
+
+// Puts the date and the time of a moment by a clock that is so far from GMT then.
+#[tactic(auto, unfolding(crate::specs::Clocks::text_at))]
+fn put_moment_at(page: &mut Page, offset: &Offset, at: u64)
+    requires small { IsSmall offset.now }
+    requires moment { IsMoment at }
+    requires room { length page.old ≤ 66000 }
+    ensures text { page.new ≡ page.old ++ text_at offset.now at }
+    ensures size { length page.new ≤ length page.old + 40 }
+{
+    match offset.shown(at) {
         Some(seconds) => {
             put_date_time(page, seconds);
-            put_suffix(page, clock);
+            put_suffix(page, offset);
         }
         None => {
             put_date_time(page, at);
@@ -76,19 +87,19 @@ pub(crate) fn put_moment(page: &mut Page, clock: &Clock, at: u64)
 }
 
 // Puts how far a clock is from GMT.
-fn put_suffix(page: &mut Page, clock: &Clock)
-    requires near { IsNear clock.now }
+fn put_suffix(page: &mut Page, offset: &Offset)
+    requires small { IsSmall offset.now }
     requires room { length page.old ≤ 66100 }
-    ensures text { page.new ≡ page.old ++ suffix clock.now }
+    ensures text { page.new ≡ page.old ++ suffix offset.now }
     ensures size { length page.new ≤ length page.old + 6 }
 {
-    match clock {
-        Clock::Gmt => {}
-        Clock::Ahead(minutes) => {
+    match offset {
+        Offset::Gmt => {}
+        Offset::Ahead(minutes) => {
             page.put(b"+");
             put_hours(page, *minutes);
         }
-        Clock::Behind(minutes) => {
+        Offset::Behind(minutes) => {
             page.put(b"-");
             put_hours(page, *minutes);
         }
@@ -97,7 +108,7 @@ fn put_suffix(page: &mut Page, clock: &Clock)
 
 // Puts hours and minutes.
 fn put_hours(page: &mut Page, minutes: u16)
-    requires near { minutes ≤ 840 }
+    requires near { minutes ≤ 1560 }
     requires room { length page.old ≤ 66200 }
     ensures text { page.new ≡ page.old ++ hours_text minutes }
     ensures size { length page.new ≤ length page.old + 5 }
@@ -120,13 +131,11 @@ fn put_date_time(page: &mut Page, at: u64)
     ensures size { length page.new ≤ length page.old + 19 }
 {
     let stamp = stamp_of(at);
-    page.put(&stamp[16..20]);
-    page.put(b"-");
-    page.put(&stamp[10..12]);
-    page.put(b"-");
-    page.put(&stamp[13..15]);
-    page.put(b" ");
-    page.put(&stamp[1..9]);
+    page.put(&[
+        stamp[16], stamp[17], stamp[18], stamp[19], b'-', stamp[10], stamp[11], b'-', stamp[13],
+        stamp[14], b' ', stamp[1], stamp[2], stamp[3], stamp[4], stamp[5], stamp[6], stamp[7],
+        stamp[8],
+    ]);
 }
 
 // Puts what a record was, in words.
