@@ -1,22 +1,17 @@
 -- What a run writes to one area alone, in its front.
-use Rattle.std.proofs.Common.{◌≡◌, ◌≤◌, ◌+◌, ◌-◌, ℕ, List, ◌++◌, [], ◌∷◌, length, drop, refl, sym, ap, ◌∙◌, subst, arith, length-append}
+use Rattle.std.proofs.Common.{◌≡◌, ◌≤◌, ◌+◌, ◌-◌, ℕ, List, drop, refl, sym, ap, ◌∙◌, subst, arith}
 use Rattle.std.specs.Prelude.{IfSome}
 use Rattle.std.proofs.lemmas.List.{drop-drop}
 use Rattle.arc_io.specs.Areas.{Areas, part, rest}
 use Rattle.arc_io.specs.Disks.{DiskSeen}
 use Rattle.arc_io.specs.Crashes.{TornIn, IsQuiet}
 use Rattle.arc_io.specs.declared.disk.Area.{Area}
-use Rattle.disk_journal.specs.Records.{bytes_of}
 use Rattle.disk_journal.specs.Journal.{IsSettled}
 use Rattle.disk_journal.specs.Standing.{chosen, IsOtherSame, IsSameBehind}
 use Rattle.disk_journal.specs.OtherArea.{SparesOther}
 use Rattle.disk_journal.specs.Behind.{SparesBehind}
 use Rattle.disk_journal.specs.Turning.{Changes}
 use Rattle.disk_journal.proofs.Steps.{changes_map, changes_then, changes_weaker, quiet_changes, still}
-
--- the bytes of a record with its next gate
-pub laid_length : (body laid : List ℕ) → laid ≡ bytes_of body ++ 0 ∷ [] → length laid ≡ 5 + length body
-laid_length body laid spelled = omega (arith, ap length spelled, length-append (bytes_of body) (0 ∷ []))
 
 further : (at m : ℕ) (d c : List ℕ) → at ≤ m → drop at c ≡ drop at d → drop m c ≡ drop m d
 further at m d c le same =

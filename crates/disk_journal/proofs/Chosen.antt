@@ -198,7 +198,12 @@ rest_again area version summary bodies others t c distinct distinct_others at sa
       at_rest = at_others;
     }
 
--- one body more in an area
+-- bodies more in an area
+pub all_further : (summary : Option (List ℕ)) (bodies further : List (List ℕ)) → all_of summary (bodies ++ further) ≡ all_of summary bodies ++ further
+all_further None bodies further = refl
+all_further (Some summary) bodies further = refl
+
+-- one body more
 pub all_more : (summary : Option (List ℕ)) (bodies : List (List ℕ)) (body : List ℕ) → all_of summary (bodies ++ body ∷ []) ≡ all_of summary bodies ++ body ∷ []
 all_more None bodies body = refl
 all_more (Some summary) bodies body = refl

@@ -8,3 +8,5 @@ pub mod Pieces
 pub mod Windows
 pub mod Once
 pub mod Behind
+pub mod Further
+pub mod Again

@@ -11,12 +11,12 @@ use Rattle.arc_io.specs.declared.disk.Area.{Area}
 use Rattle.arc_io.specs.declared.disk.Area.TheVariants.{A, B}
 use Rattle.arc_io.proofs.Moments.{written_torn, quiet_then}
 use Rattle.arc_io.specs.Disks.{DiskSeen}
-use Rattle.disk_journal.specs.Records.{head_of, bytes_of, AtRest, MayStandAt, most_at}
+use Rattle.disk_journal.specs.Records.{head_of, bytes_of, AtRest, HaveSizes, MayStandAt, most_at}
 use Rattle.disk_journal.specs.Journal.{IsAtRestIn, HasBodies, IsSettled}
 use Rattle.disk_journal.specs.Standing.{is_live, generation_of, generation_in, other_of, all_of, IsDistinct, StandsForTurn}
 use Rattle.disk_journal.specs.Turning.{Changes, IsUndone, IsShut, IsBeside, IsStaged, IsNextTo, IsFirstGate}
 use Rattle.disk_journal.proofs.Chosen.{short_not_live, shut_not_live, shut_chosen, opened_chosen, rest_live, rest_generation, rest_stands}
-use Rattle.disk_journal.proofs.Gates.{Staged, torn_gate, opened}
+use Rattle.disk_journal.proofs.Gates.{Staged, torn_gate, opened, one_spelled}
 use Rattle.disk_journal.proofs.Steps.{changes_map, changes_then, quiet_changes, quiet_settled}
 
 -- the first part: an area so short is not live, and one whose gate is written over is as it was, or not live
@@ -231,12 +231,25 @@ pub other_rest : (area next : Area) (s : Areas) → next ≡ other_of area → r
 other_rest A next s is = ap (λ (x : Area). rest x s) is
 other_rest B next s is = ap (λ (x : Area). rest x s) is
 
--- a body that is staged, whose gate is opened
+-- a body that is staged
+staged_by : (body c : List ℕ) → IsStaged body c → Staged 2 [] (bytes_of body ++ 0 ∷ []) c
+staged_by body c st = record {
+  known = inr refl;
+  gate = st.gate;
+  behind = st.behind;
+  closed = st.closed;
+  is = st.is ∙ ap (λ l. head_of 2 ++ st.gate ∷ l) (sym (append_assoc (bytes_of body) (0 ∷ []) st.behind));
+}
+
+alone : (body : List ℕ) → MayStandAt 16 body → HaveSizes (body ∷ [])
+alone body may = (may, λ k d below. absurd (omega arith))
+
+-- and whose gate is opened
 pub opened_body : (area : Area) (generation : ℕ) (body : List ℕ) → IsNextTo generation body → length body < 2 ^ 32 → (m n : Areas) → IsStaged body (part area m)
     → IsWritten area 16 (1 ∷ []) m n → HasBodies area 2 (body ∷ []) n
 opened_body area generation body next short m n st written =
-    let staged : Staged 2 [] body (part area m) = record { known = inr refl; gate = st.gate; behind = st.behind; closed = st.closed; is = st.is } in
-    opened 2 [] body 16 (part area m) (part area n) tt (body_stands generation body next short) refl staged written.0
+    opened 2 [] (body ∷ []) (bytes_of body ++ 0 ∷ []) tt (alone body (body_stands generation body next short)) (one_spelled body) 16 (part area m) (part area n) refl
+    (staged_by body (part area m) st) written.0
 
 module _ (area : Area) (version : ℕ) (summary : Option (List ℕ)) (bodies : List (List ℕ)) (body : List ℕ) (distinct : IsDistinct summary bodies)
     (next : IsNextTo (generation_in summary) body) (short : length body < 2 ^ 32) where
@@ -249,8 +262,8 @@ module _ (area : Area) (version : ℕ) (summary : Option (List ℕ)) (bodies : L
   may_stand : MayStandAt 16 body
   may_stand = body_stands (generation_in summary) body next short
 
-  staged_body : (m : Areas) → IsReadyIn area version summary bodies body m → Staged 2 [] body (part area m)
-  staged_body m ready = record { known = inr refl; gate = ready.staged_is.gate; behind = ready.staged_is.behind; closed = ready.staged_is.closed; is = ready.staged_is.is }
+  staged_body : (m : Areas) → IsReadyIn area version summary bodies body m → Staged 2 [] (bytes_of body ++ 0 ∷ []) (part area m)
+  staged_body m ready = staged_by body (part area m) ready.staged_is
 
   -- the generation of the area that was chosen, where it is live
   old_generation : (s : Option (List ℕ)) (bytes : List ℕ) → IsDistinct s bodies → AtRest version bytes (all_of s bodies) → is_live bytes ≡ true → generation_of bytes ≡ generation_in s
@@ -285,8 +298,9 @@ module _ (area : Area) (version : ℕ) (summary : Option (List ℕ)) (bodies : L
       ⊎_elim
       (λ (r : AtRest 2 (part area c) []). old_stands c (still_rests area version summary bodies m c ready.rests torn.1 (inr (rest_live 2 None [] (part area c) (λ e. omega (arith, e)) r))))
       (λ (r : AtRest 2 (part area c) (body ∷ [])). inr (rest_stands area 2 (Some body) [] c next_distinct (opened_rests m c ready torn.1 r)))
-      (torn_gate 2 [] body 16 (part area m) (part area c) tt may_stand refl (staged_body m ready) torn.0)
+      (torn_gate 2 [] (body ∷ []) (bytes_of body ++ 0 ∷ []) tt (alone body may_stand) (one_spelled body) 16 (part area m) (part area c) refl (staged_body m ready) torn.0)
 
   pub opened_stands : (m n : Areas) → IsReadyIn area version summary bodies body m → IsWritten area 16 (1 ∷ []) m n → IsAtRestIn area 2 (Some body) [] n
   opened_stands m n ready written =
-      opened_rests m n ready written.1 (opened 2 [] body 16 (part area m) (part area n) tt may_stand refl (staged_body m ready) written.0)
+      opened_rests m n ready written.1
+      (opened 2 [] (body ∷ []) (bytes_of body ++ 0 ∷ []) tt (alone body may_stand) (one_spelled body) 16 (part area m) (part area n) refl (staged_body m ready) written.0)

@@ -6,6 +6,8 @@ use Rattle.disk_journal.specs.Records.{Stands, IsNoJournal, IsOfVersion, IsDamag
 use Rattle.disk_journal.specs.Standing.{AreasStand, chosen_part}
 use Rattle.disk_journal.specs.declared.fault.OpenFault.{OpenFault}
 use Rattle.disk_journal.specs.declared.fault.AppendFault.{AppendFault}
+use Rattle.disk_journal.specs.declared.fault.BodyFault.{BodyFault}
+use Rattle.disk_journal.specs.declared.fault.BodyFault.TheVariants as Reading
 use Rattle.disk_journal.specs.declared.fault.OpenFault.TheVariants as Open
 use Rattle.disk_journal.specs.declared.fault.AppendFault.TheVariants as Append
 
@@ -77,6 +79,10 @@ HasCause fault before now = HasCounts fault before now
 abbrev pub IsOver : ℕ → ℕ → ℕ → ℕ → ℕ → Type 0
 IsOver used need records most_bytes most_records = (most_bytes < used + need) ⊎ (most_records ≤ records)
 
+-- so many bytes or records more are over the limits
+abbrev pub IsOverWithAll : ℕ → ℕ → ℕ → ℕ → ℕ → ℕ → Type 0
+IsOverWithAll used need records count most_bytes most_records = (most_bytes < used + need) ⊎ (most_records < records + count)
+
 -- the answer is Full, with these numbers
 abbrev pub IsFull : ℕ → ℕ → ℕ → AppendFault → Type 0
 IsFull used need records (Append.Full u n r) = (u ≡ used) × (n ≡ need) × (r ≡ records)
@@ -91,3 +97,13 @@ IsDiskFault (Append.DiskFault was is) = Unit {0}
 abbrev pub HasCountsOf : Type 0 → ℕ → ℕ → AppendFault → Type 0
 HasCountsOf over before now (Append.Full u n r) = over
 HasCountsOf over before now (Append.DiskFault was is) = Counts before now was is
+
+-- of the answers to a reading of a body: the disk failed, and these are its counts
+abbrev pub HasReadCounts : ℕ → ℕ → BodyFault → Type 0
+HasReadCounts before now (Reading.DiskFault was is) = Counts before now was is
+HasReadCounts before now Reading.Memory = Unit {0}
+
+-- the disk failed when a body was read
+abbrev pub IsFaultOfReading : BodyFault → Type 0
+IsFaultOfReading (Reading.DiskFault was is) = Unit {0}
+IsFaultOfReading Reading.Memory = ⊥

@@ -3,6 +3,7 @@ pub mod Standing
 pub mod Reading
 pub mod Faults
 pub mod Journal
+pub mod Again
 pub mod OtherArea
 pub mod Behind
 pub mod Turning

@@ -97,10 +97,14 @@ GoesOn before after =
     (version : ℕ) (summary : Option (List ℕ)) (bodies : List (List ℕ)) → AreasStand before version summary bodies
     → AreasStand after version summary bodies
 
+-- the areas stand for this, or for it with these bodies more, all of them
+abbrev pub StandsForSet : ℕ → Option (List ℕ) → List (List ℕ) → List (List ℕ) → Areas → Type 0
+StandsForSet version summary bodies further areas =
+    AreasStand areas version summary bodies ⊎ AreasStand areas version summary (bodies ++ further)
+
 -- the areas stand for this, or for it with one body more
 abbrev pub StandsForEither : ℕ → Option (List ℕ) → List (List ℕ) → List ℕ → Areas → Type 0
-StandsForEither version summary bodies body areas =
-    AreasStand areas version summary bodies ⊎ AreasStand areas version summary (bodies ++ body ∷ [])
+StandsForEither version summary bodies body areas = StandsForSet version summary bodies (body ∷ []) areas
 
 -- the areas stand for this, or for a new summary of the second version and no bodies
 abbrev pub StandsForTurn : ℕ → Option (List ℕ) → List (List ℕ) → List ℕ → Areas → Type 0

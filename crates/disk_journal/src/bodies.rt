@@ -1,5 +1,5 @@
 // The bodies of records.
-ghost use Rattle.std.specs.Prelude.{◌≡◌, ◌<◌, ◌++◌, ◌∷◌, [], length, slice_index_or, MatchResult};
+ghost use Rattle.std.specs.Prelude.{◌≡◌, ◌<◌, ◌++◌, ◌∷◌, [], length, slice_index_or, MatchResult, IfSome, IfNone};
 
 use arc_data::Memory;
 use std::alloc::Global;
@@ -49,6 +49,15 @@ impl Bodies {
             Ok(()) => Ok(()),
             Err(_) => Err(Memory),
         }
+    }
+
+    /// Takes the last body off. None where there is none.
+    pub fn pop(&mut self) -> Option<Vec<u8>>
+        ensures last { IfSome result (λ body. self.old ≡ self.new ++ body.items ∷ []) }
+        ensures none { IfNone result (self.old ≡ []) }
+        ensures still { IfNone result (self.new ≡ []) }
+    {
+        self.bodies.pop()
     }
 
     /// How many there are.

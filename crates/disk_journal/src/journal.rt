@@ -1,19 +1,20 @@
-// The journal: it opens the areas of a disk, appends records to the one that counts, puts a new summary into the other one, and gives the
-// disk back.
-ghost use Rattle.std.specs.Prelude.{◌≡◌, ◌⊎◌, ◌≤◌, ◌<◌, ◌+◌, ◌^◌, ◌++◌, [], ◌∷◌, ℕ, List, Option, Some, true, length, OnOk, OnErr, IfOk, IfErr, IfSome, MatchResult, vec_len};
+// The journal: it opens the areas of a disk, appends records to the one that counts, reads their bodies again, puts a new summary into the
+// other one, and gives the disk back.
+ghost use Rattle.std.specs.Prelude.{◌≡◌, ◌⊎◌, ◌≤◌, ◌<◌, ◌+◌, ◌^◌, ◌↔◌, ◌++◌, [], ◌∷◌, ℕ, List, Option, Some, true, false, length, slice_index_or, OnOk, OnErr, IfOk, IfErr, IfSome, MatchResult, vec_len};
 ghost use Rattle.arc_io.specs.Crashes.{Becomes, IsQuiet, LeavesOnly};
 ghost use Rattle.disk_journal.specs.Records.{MayHave};
 ghost use Rattle.disk_journal.specs.Standing.{chosen_part, other_of, GoesOn, IsDistinct, StandsForEither, StandsForTurn};
 ghost use Rattle.disk_journal.specs.Turning.{Changes, IsNextTo};
 ghost use Rattle.disk_journal.specs.OtherArea.{IsSameIn, SparesOther};
 ghost use Rattle.disk_journal.specs.Behind.{SparesBehind};
-ghost use Rattle.disk_journal.specs.Faults.{IsShown, IsOfContent, HasCause, IsOver, IsFull, IsDiskFault, HasCountsOf};
+ghost use Rattle.disk_journal.specs.Faults.{IsShown, IsOfContent, HasCause, IsOver, IsFull, IsDiskFault, HasCountsOf, HasReadCounts, IsFaultOfReading};
 
 use crate::bodies::Bodies;
-use crate::fault::{AppendFault, OpenFault};
+use crate::fault::{AppendFault, BodyFault, OpenFault};
 use crate::open::{WRITTEN, load};
+use crate::reading::{find_body, is_of_disk};
 use crate::record::{lay, write_record};
-use crate::summary::{generation_of, records_of};
+use crate::summary::{generation_of, place_behind, records_of};
 use crate::turn::{other, write_turn};
 use arc_data::Memory;
 use arc_io::{Area, Disk, Failed};
@@ -34,16 +35,20 @@ pub const SHIPPED: Limits = Limits {
 
 /// The body of a summary, or none, and records, in the area of a disk that counts.
 pub struct Journal<D: Disk> {
-    disk: D,
-    area: Area,
+    pub(crate) disk: D,
+    pub(crate) area: Area,
     version: u8,
     generation: u64,
-    used: u64,
-    records: u64,
-    has_failed: bool,
-    limits: Limits,
+    pub(crate) used: u64,
+    pub(crate) records: u64,
+    pub(crate) has_failed: bool,
+    // The places of the gate of the first record, and of the one behind so many of them, where reading one after another goes on.
+    first: u64,
+    next: u64,
+    place: u64,
+    pub(crate) limits: Limits,
     alloc: Global,
-    room: Vec<u8>,
+    pub(crate) room: Vec<u8>,
 }
 
 // Written out: one call wherever one is dropped, where a derived drop is spelled out at each exit.
@@ -57,6 +62,9 @@ impl<D: Disk + Drop> Drop for Journal<D> {
             used: _,
             records: _,
             has_failed: _,
+            first: _,
+            next: _,
+            place: _,
             limits: _,
             alloc: _,
             room,
@@ -74,7 +82,7 @@ pub struct OpenRefused<D: Disk> {
 }
 
 impl<D: Disk> Journal<D> {
-    ghost use Rattle.disk_journal.specs.Journal.{Works, Holds, IsOpen, room_of, disk_after};
+    ghost use Rattle.disk_journal.specs.Journal.{Works, Holds, IsGateBehind, IsPlaced, IsReadOf, IsOpen, room_of, disk_after};
 
     /// Opens the journal of both areas, and gives the bodies for which they stand, that of the summary first. Where none is live, area A
     /// counts, and with at most 17 bytes it is a new one.
@@ -114,6 +122,7 @@ impl<D: Disk> Journal<D> {
             Ok(loaded) => {
                 let generation = generation_of(loaded.found, &loaded.bodies);
                 let records = records_of(loaded.found, &loaded.bodies);
+                let first = place_behind(loaded.found, &loaded.bodies);
                 let journal = Journal {
                     disk,
                     area: loaded.area,
@@ -122,6 +131,9 @@ impl<D: Disk> Journal<D> {
                     used: loaded.used,
                     records,
                     has_failed: false,
+                    first,
+                    next: 0,
+                    place: first,
                     limits,
                     alloc,
                     room: Vec::new(alloc),
@@ -208,9 +220,9 @@ impl<D: Disk> Journal<D> {
             });
         }
         let before = self.disk.faults();
-        lay(&mut self.room, body);
+        lay(&mut self.room, body, 0);
         let laid = &self.room[..need as usize];
-        match write_record(&mut self.disk, self.area, self.used, body, laid) {
+        match write_record(&mut self.disk, self.area, self.used, laid) {
             Ok(()) => {
                 self.used += need;
                 self.records += 1;
@@ -271,6 +283,9 @@ impl<D: Disk> Journal<D> {
                 self.generation += 1;
                 self.used = 22 + body.len() as u64;
                 self.records = 0;
+                self.first = 21 + body.len() as u64;
+                self.next = 0;
+                self.place = self.first;
                 Ok(())
             }
             Err(Failed) => {
@@ -279,6 +294,71 @@ impl<D: Disk> Journal<D> {
                     before,
                     now: self.disk.faults(),
                 })
+            }
+        }
+    }
+
+    // Where a walk to a record begins: behind how many records, and the place of the gate there.
+    fn start(&self, i: u64) -> (u64, u64)
+        ensures ahead { result.0 ≤ i }
+        ensures place { (summary : Option (List ℕ)) (bodies : List (List ℕ)) → IsPlaced D.seen self.now summary bodies
+            → IsGateBehind (D.seen self.now.disk).told summary bodies result.0 result.1 }
+    {
+        if i < self.next {
+            (0, self.first)
+        } else {
+            (self.next, self.place)
+        }
+    }
+
+    /// Puts the body of the record at a place behind the summary, counted from 0, behind the others in `out`. Records that are asked for one
+    /// after another are found without a walk over those before them; another one is walked to, from the last one or from the first. A byte
+    /// that the disk does not give counts as 00. `DiskFault` comes where a device call failed; open the areas again then.
+    pub fn body(&mut self, i: u64, out: &mut Bodies) -> Result<(), BodyFault>
+        requires works { Works D.seen self.old }
+        requires below { i < self.old.records }
+
+        ensures given { OnOk result ((version : ℕ) (summary : Option (List ℕ)) (bodies : List (List ℕ))
+            → Holds D.seen self.old version summary bodies
+            → IfSome (D.seen self.old.disk).told (λ _. out.new ≡ out.old ++ slice_index_or bodies i [] ∷ [])) }
+        ensures pushed { OnOk result ((body : List ℕ) × (out.new ≡ out.old ++ body ∷ [])) }
+        ensures refused { OnErr result (out.new ≡ out.old) }
+
+        // Nothing is written, and what the journal holds stays.
+        ensures same { IsReadOf self.old self.new }
+        ensures quiet { IsQuiet (D.seen self.old.disk) (D.seen self.new.disk) }
+        ensures works { (self.new.has_failed ≡ true → ⊥) → Works D.seen self.new }
+        ensures holds { (self.new.has_failed ≡ true → ⊥) → (version : ℕ) (summary : Option (List ℕ)) (bodies : List (List ℕ))
+            → Holds D.seen self.old version summary bodies → Holds D.seen self.new version summary bodies }
+
+        ensures up { OnOk result (self.new.has_failed ≡ false) }
+        ensures failed { IfErr result (λ f. (self.new.has_failed ≡ true) ↔ IsFaultOfReading f) }
+        ensures counts { IfErr result (HasReadCounts (D.seen self.old.disk).faults (D.seen self.new.disk).faults) }
+        ensures later { (D.seen self.old.disk).faults ≤ (D.seen self.new.disk).faults }
+        ensures met_none { (self.new.has_failed ≡ true → ⊥) → (D.seen self.new.disk).faults ≡ (D.seen self.old.disk).faults }
+    {
+        let before = self.disk.faults();
+        let (next, place) = self.start(i);
+        match find_body(
+            self.alloc,
+            &mut self.disk,
+            before,
+            self.area,
+            next,
+            place,
+            i,
+        ) {
+            Ok((place, body)) => {
+                self.next = i + 1;
+                self.place = place;
+                match out.push_vec(body) {
+                    Ok(()) => Ok(()),
+                    Err(_) => Err(BodyFault::Memory),
+                }
+            }
+            Err(fault) => {
+                self.has_failed = is_of_disk(fault);
+                Err(fault)
             }
         }
     }
@@ -337,6 +417,9 @@ impl<D: Disk> Journal<D> {
             used: _,
             records: _,
             has_failed: _,
+            first: _,
+            next: _,
+            place: _,
             limits: _,
             alloc: _,
             room,

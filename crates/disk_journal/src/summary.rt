@@ -1,8 +1,9 @@
 // Which of the bodies in an area is that of a summary.
-ghost use Rattle.std.specs.Prelude.{◌≡◌, length, is_some};
+ghost use Rattle.std.specs.Prelude.{◌≡◌, ◌<◌, ◌+◌, ◌^◌, [], length, is_some};
 ghost use Rattle.std.specs.Int.{from_be_bytes, w64};
 ghost use Rattle.disk_journal.specs.Reading.{generation_found};
-ghost use Rattle.disk_journal.specs.Standing.{records_in};
+ghost use Rattle.disk_journal.specs.Records.{size};
+ghost use Rattle.disk_journal.specs.Standing.{records_in, size_of, summary_in};
 
 use crate::bodies::Bodies;
 
@@ -15,6 +16,18 @@ pub fn records_of(found: Option<u64>, bodies: &Bodies) -> u64
         count - 1
     } else {
         count
+    }
+}
+
+// The place of the gate behind the summary, or of the first one where there is none.
+pub fn place_behind(found: Option<u64>, bodies: &Bodies) -> u64
+    requires fits { size bodies.now < 2 ^ 64 }
+    ensures { result + 1 ≡ size_of (summary_in (is_some found) bodies.now) [] }
+{
+    if found.is_some() && bodies.count() > 0 {
+        21 + bodies.at(0).len() as u64
+    } else {
+        16
     }
 }
 

@@ -1,10 +1,11 @@
-use Rattle.std.proofs.Common.{◌≡◌, ◌∙◌, [], ◌∷◌, ℕ, List, Option, refl, subst, sym, arith}
+use Rattle.std.proofs.Common.{◌≡◌, ◌∙◌, [], ℕ, List, Option, Some, refl, subst, sym, arith}
 use Rattle.arc_io.specs.Disks.{DiskSeen}
 use Rattle.arc_io.specs.declared.disk.Area.{Area}
 use Rattle.disk_journal.specs.Journal.{Keeps}
 use Rattle.disk_journal.specs.Standing.{other_of, generation_in}
 use Rattle.disk_journal.specs.OtherArea.{IsSameBeside, IsSameIn}
 use Rattle.disk_journal.specs.Turning.{Changes, IsNextTo}
+use Rattle.disk_journal.proofs.Again.{said_again}
 use Rattle.disk_journal.proofs.Steps.{changes_weaker}
 use Rattle.disk_journal.proofs.Turns.{other_back, other_rest, next_is}
 use Rattle.disk_journal.proofs.journal.Journal.turn.Goals as goal
@@ -18,8 +19,11 @@ next_to generation summary body is next = subst (λ (n : ℕ). IsNextTo n body) 
 
 pub returns-in-Ok-clause-works : goal.returns-in-Ok-clause-works
 returns-in-Ok-clause-works g c = record {
-  bodies = c.args.body.now ∷ [];
+  summary = Some c.args.body.now;
+  records = [];
   used = omega arith;
+  count = omega arith;
+  placed = record { first_is = omega arith; within = omega arith; place_is = said_again _ (g.D.Disk.seen c.write_turn.new.disk).told (omega arith) };
   few = c.requires.works.few;
   met_none = c.requires.works.met_none;
   file = c.in-Ok.ensures.rests;
@@ -34,6 +38,7 @@ returns-in-Ok-clause-turned g c version summary bodies h =
       version_is = refl;
       used = omega arith;
       count = omega arith;
+      placed = record { first_is = omega arith; within = omega arith; place_is = said_again _ (g.D.Disk.seen c.write_turn.new.disk).told (omega arith) };
       generation = sym (next_is self.generation body c.requires.next);
       few = h.few;
       met_none = h.met_none;
