@@ -71,7 +71,7 @@ sent_short m via is = omega (arith, message_short m is.message, run_short _ 1 16
 order_short : (operator : List ℕ) (number : ℕ) → is_name operator ≡ true → length (order_fields operator number) ≤ 25
 order_short operator number is = omega (arith, run_short _ 1 16 operator is, length-append (short_text operator) (to_be_bytes w64 number))
 
-fields_short : (event : Event) → IsWellFormed event → length (fields_in 2 event) ≤ 4_194_308
+pub fields_short : (event : Event) → IsWellFormed event → length (fields_in 2 event) ≤ 4_194_308
 fields_short (Adopt text) is = omega (arith, is.size)
 fields_short Start is = omega arith
 fields_short (Sent m via) is = omega (arith, sent_short m via is)

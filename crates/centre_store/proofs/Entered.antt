@@ -9,7 +9,7 @@ use Rattle.arc_io.specs.Disks.{DiskSeen}
 use Rattle.arc_io.specs.Crashes.{LeavesOnly}
 use Rattle.centre_rules.specs.Summary.{Summary}
 use Rattle.centre_rules.specs.History.{Entry, last, moment_after, is_recorded}
-use Rattle.centre_rules.specs.Answers.{answer}
+use Rattle.centre_rules.specs.Answers.{IsNext, answer}
 use Rattle.centre_rules.specs.State.{State, StandsFor, Plan, entry_of}
 use Rattle.centre_core.specs.declared.hall.Stop.{Stop}
 use Rattle.centre_core.specs.declared.hall.Stop.TheVariants.{Memory, Down, Full, Worn}
@@ -17,7 +17,7 @@ use Rattle.disk_journal.specs.declared.journal.Journal.{Journal}
 use Rattle.event_codec.specs.Spelling.{HasSpelling, spelling}
 use Rattle.centre_store.specs.Bodies.{need_of}
 use Rattle.centre_store.specs.Given.{IsGiven, StandForEither, HoldsRecorded, HasEither}
-use Rattle.centre_store.specs.Stores.{Stored, HasFailed, IsTorn, StoreStands, Takes, IsToRecord, IsSameJournal, IsShownFull, Shows}
+use Rattle.centre_store.specs.Stores.{Stored, HasFailed, IsTorn, StoreStands, Takes, IsToRecord, IsDown, IsSameJournal, IsShownFull, Shows}
 use Rattle.centre_store.specs.Writes.{HaveAll, IsFullAt, IsOverAt, IsOverThen, IsUnwritten}
 use Rattle.centre_store.proofs.Holding.{recorded_quiet, recorded_same, recorded_there, recorded_or, still_stands}
 use Rattle.centre_store.proofs.Written.{run_either, same_back}
@@ -35,6 +35,22 @@ entry_is p caller event at reply event_is at_is reply_is = λ i. record { caller
 pub to_record : (b : Summary) (h : List Entry) (event : Event) (clock : ℕ) (p : Plan) → p.at ≡ moment_after b h clock → p.reply ≡ answer b h event p.at
     → is_recorded p.reply ≡ true → IsToRecord b h event clock
 to_record b h event clock p at reply recorded = ap (λ (m : ℕ). is_recorded (answer b h event m)) (sym at) ∙ ap is_recorded (sym reply) ∙ recorded
+
+-- it goes on from the history
+pub next_of : (b : Summary) (h : List Entry) (event : Event) (clock : ℕ) (p : Plan) → p.event ≡ event → IsWellFormed event → p.at ≡ moment_after b h clock
+    → p.reply ≡ answer b h event p.at → IsNext b h (entry_of 0 p)
+next_of b h event clock p event_is formed at reply =
+    let late : last b h ≤ p.at = omega (arith, at) in
+    record {
+      event = subst IsWellFormed (sym event_is) formed;
+      reply = reply ∙ ap (λ (x : Event). answer b h x p.at) (sym event_is);
+      late = late;
+    }
+
+-- its body
+pub body_is : (b : Summary) (h : List Entry) (clock : ℕ) (event : Event) (p : Plan) → p.event ≡ event → p.at ≡ moment_after b h clock
+    → spelling p.event p.at ≡ spelling event (moment_after b h clock)
+body_is b h clock event p event_is at = ap (λ (x : Event). spelling x p.at) event_is ∙ ap (spelling event) at
 
 module _ {D : Type 0} (seen : D → DiskSeen) where
   -- while the disk has not failed the journal has the recorded entries of the history
@@ -95,74 +111,67 @@ module _ {D : Type 0} (seen : D → DiskSeen) where
         takes b t j n h clock caller event at reply p event_is at_is reply_is (moment kept) was.given (entry kept)
         (recorded_quiet seen j b h (entry_of caller p) quiet holds)
 
-    pub takes_written : (t : State) (k : Journal D) (clock caller : ℕ) (event : Event) (at : ℕ) (reply : Reply) (p : Plan) → p.event ≡ event → at ≡ p.at → reply ≡ p.reply
-        → (StandsFor b r h → p.at ≡ moment_after b h clock) → (StandsFor b r h → StandsFor b t (entry_of caller p ∷ h))
-        → (HaveAll seen j r b h → HoldsRecorded seen k b (entry_of caller p ∷ h))
-        → Takes seen b (stored t k n) h clock (record { caller = caller; event = event; at = at; reply = reply })
-    takes_written t k clock caller event at reply p event_is at_is reply_is moment entry added =
-        takes b t k n h clock caller event at reply p event_is at_is reply_is (moment kept) was.given (entry kept) (added all)
+  -- a store as it stands between, where what the centre stands for stays
+  pub between : (b : Summary) (old : Stored D) (s r : State) (j : Journal D) (n : ℕ) (h : List Entry) → stored s j n ≡ old
+      → (StandsFor b s h → StandsFor b r h) → StoreStands seen b old h → StoreStands seen b (stored r j n) h
+  between b old s r j n h is stays w =
+      let was : StoreStands seen b (stored s j n) h = subst (λ (x : Stored D). StoreStands seen b x h) (sym is) w in
+      record { given = was.given; centre = stays was.centre; journal = was.journal }
 
-    body_is : (clock : ℕ) (event : Event) (p : Plan) → p.event ≡ event → (StandsFor b r h → p.at ≡ moment_after b h clock)
-        → spelling p.event p.at ≡ spelling event (moment_after b h clock)
-    body_is clock event p event_is at = ap (λ (x : Event). spelling x p.at) event_is ∙ ap (spelling event) (at kept)
+  pub up_between : (old : Stored D) (s r : State) (j : Journal D) (n : ℕ) → stored s j n ≡ old → (HasFailed seen old → ⊥) → HasFailed seen (stored r j n) → ⊥
+  up_between old s r j n is up f = up (subst (λ (x : Stored D). HasFailed seen x) is f)
 
-    pub written_moment : (new : D) (clock : ℕ) (event : Event) (p : Plan) → p.event ≡ event
-        → (StandsFor b r h → p.at ≡ moment_after b h clock)
-        → (HaveAll seen j r b h → LeavesOnly (seen j.disk) (seen new) (StandForEither b h (spelling p.event p.at)))
-        → LeavesOnly (seen old.journal.disk) (seen new) (StandForEither b h (spelling event (moment_after b h clock)))
-    written_moment new clock event p event_is at run =
-        subst (λ (d : D). LeavesOnly (seen d) (seen new) (StandForEither b h (spelling event (moment_after b h clock))))
-        (ap (λ (x : Stored D). x.journal.disk) is)
-        (subst (λ (bs : List ℕ). LeavesOnly (seen j.disk) (seen new) (StandForEither b h bs)) (body_is clock event p event_is at) (run all))
+  -- what a crash leaves from there on, by another spelling of the body
+  pub moments_as : (b : Summary) (old : Stored D) (s : State) (j : Journal D) (n : ℕ) (new : D) (h : List Entry) → stored s j n ≡ old
+      → (made body : List ℕ) → made ≡ body → LeavesOnly (seen j.disk) (seen new) (StandForEither b h made)
+      → LeavesOnly (seen old.journal.disk) (seen new) (StandForEither b h body)
+  moments_as b old s j n new h is made body same run =
+      subst (λ (d : D). LeavesOnly (seen d) (seen new) (StandForEither b h body)) (ap (λ (x : Stored D). x.journal.disk) is)
+      (subst (λ (l : List ℕ). LeavesOnly (seen j.disk) (seen new) (StandForEither b h l)) same run)
 
-    -- after the writing the areas have the record or not
-    pub written_either : (new : D) (clock : ℕ) (event : Event) (p : Plan) → p.event ≡ event
-        → (StandsFor b r h → p.at ≡ moment_after b h clock)
-        → (HaveAll seen j r b h → HasEither (seen new) b h (spelling p.event p.at))
-        → HasEither (seen new) b h (spelling event (moment_after b h clock))
-    written_either new clock event p event_is at met =
-        subst (λ (bs : List ℕ). HasEither (seen new) b h bs) (body_is clock event p event_is at) (met all)
+  -- the entry that was made, of which the store stands for the history
+  pub takes_of : (b : Summary) (new : Stored D) (h : List Entry) (clock caller : ℕ) (event : Event) (at : ℕ) (reply : Reply) (p : Plan)
+      → p.event ≡ event → at ≡ p.at → reply ≡ p.reply → p.at ≡ moment_after b h clock → StoreStands seen b new (entry_of caller p ∷ h)
+      → Takes seen b new h clock (record { caller = caller; event = event; at = at; reply = reply })
+  takes_of b new h clock caller event at reply p event_is at_is reply_is moment stands =
+      let e : Entry = record { caller = caller; event = event; at = at; reply = reply } in
+      let more : StoreStands seen b new (e ∷ h) = subst (λ (x : Entry). StoreStands seen b new (x ∷ h)) (entry_is p caller event at reply event_is at_is reply_is) stands in
+      record { stands = more; at = at_is ∙ moment; reply = more.centre.legal.0.reply }
 
-    -- the disk failed when the record was written
-    torn : (k : Journal D) (clock : ℕ) (event : Event) (p : Plan) → p.event ≡ event → IsWellFormed event
-        → (StandsFor b r h → p.at ≡ moment_after b h clock) → (StandsFor b r h → p.reply ≡ answer b h event p.at) → is_recorded p.reply ≡ true
-        → HasSpelling p.event p.at → (HaveAll seen j r b h → HasEither (seen k.disk) b h (spelling p.event p.at))
-        → IsTorn (seen k.disk) b h
-    torn k clock event p event_is formed at reply recorded spelled met =
-        let moment : p.at ≡ moment_after b h clock = at kept in
-        let late : last b h ≤ p.at = omega (arith, moment) in
-        record {
-          entry = entry_of 0 p;
-          goes_on = record {
-            next = record {
-              event = subst IsWellFormed (sym event_is) formed;
-              reply = reply kept ∙ ap (λ (x : Event). answer b h x p.at) (sym event_is);
-              late = late;
-            };
-            recorded = recorded;
-            spelled = spelled;
-          };
-          leaves = met all;
-        }
+  -- The parts of a store while its record is written, where the disk has not failed.
+  module _ (b : Summary) (old : Stored D) (s : State) (j : Journal D) (n : ℕ) (h : List Entry) (is : stored s j n ≡ old) (up : HasFailed seen old → ⊥)
+      (w : StoreStands seen b old h) where
+    pub whole : HaveAll seen j s b h
+    whole = all b old s s j n h is up w (λ x. x)
+
+    pub stands_more : (t : State) (k : Journal D) (e : Entry) → (StandsFor b s h → StandsFor b t (e ∷ h)) → (HaveAll seen j s b h → HoldsRecorded seen k b (e ∷ h))
+        → StoreStands seen b (stored t k n) (e ∷ h)
+    stands_more t k e entry added = record { given = whole.given; centre = entry whole.stands; journal = inl (added whole) }
+
+    pub written_moments : (new : D) (body : List ℕ) → (HaveAll seen j s b h → LeavesOnly (seen j.disk) (seen new) (StandForEither b h body))
+        → LeavesOnly (seen old.journal.disk) (seen new) (StandForEither b h body)
+    written_moments new body run =
+        subst (λ (d : D). LeavesOnly (seen d) (seen new) (StandForEither b h body)) (ap (λ (x : Stored D). x.journal.disk) is) (run whole)
+
+    pub next_now : (e : Entry) → ((b : Summary) (h : List Entry) → StandsFor b old.state h → IsNext b h e) → IsNext b h e
+    next_now e next = next b h (subst (λ (x : Stored D). StandsFor b x.state h) is whole.stands)
 
     -- no record was written, or it is torn: the store stands for what it stood for
-    pub stands_stopped : (k : Journal D) (clock need : ℕ) (event : Event) (p : Plan) → p.event ≡ event → IsWellFormed event
-        → (StandsFor b r h → p.at ≡ moment_after b h clock) → (StandsFor b r h → p.reply ≡ answer b h event p.at) → is_recorded p.reply ≡ true
-        → HasSpelling p.event p.at → (HaveAll seen j r b h → HasEither (seen k.disk) b h (spelling p.event p.at))
-        → (stop : Stop) → IsUnwritten seen n j k r need stop → StoreStands seen b (stored r k n) h
-    stands_stopped k clock need event p event_is formed at reply recorded spelled met Memory same =
-        record { given = was.given; centre = kept; journal = inl (recorded_same seen j k b h same holds) }
-    stands_stopped k clock need event p event_is formed at reply recorded spelled met (Down before now) down = record {
-      given = was.given;
-      centre = kept;
-      journal = inr (
-        subst (λ (m : ℕ). Rose n m) down.1 down.2,
-        inr (torn k clock event p event_is formed at reply recorded spelled met),
-      );
-    }
-    stands_stopped k clock need event p event_is formed at reply recorded spelled met (Full used wanted records) full =
-        record { given = was.given; centre = kept; journal = inl (recorded_same seen j k b h full.0 holds) }
-    stands_stopped k clock need event p event_is formed at reply recorded spelled met (Worn count) never = absurd never
+    pub stands_stopped : (k : Journal D) (need : ℕ) (p : Plan) → IsNext b h (entry_of 0 p) → is_recorded p.reply ≡ true
+        → HasSpelling p.event p.at → (HaveAll seen j s b h → HasEither (seen k.disk) b h (spelling p.event p.at))
+        → (stop : Stop) → IsUnwritten seen n j k s need stop → StoreStands seen b (stored s k n) h
+    stands_stopped k need p next recorded spelled met Memory same =
+        record { given = whole.given; centre = whole.stands; journal = inl (recorded_same seen j k b h same whole.holds) }
+    stands_stopped k need p next recorded spelled met (Down before now) down =
+        let torn : IsTorn (seen k.disk) b h = record {
+          entry = entry_of 0 p;
+          goes_on = record { next = next; recorded = recorded; spelled = spelled };
+          leaves = met whole;
+        } in
+        record { given = whole.given; centre = whole.stands; journal = inr (subst (λ (m : ℕ). Rose n m) down.1 down.2, inr torn) }
+    stands_stopped k need p next recorded spelled met (Full used wanted records) full =
+        record { given = whole.given; centre = whole.stands; journal = inl (recorded_same seen j k b h full.0 whole.holds) }
+    stands_stopped k need p next recorded spelled met (Worn count) never = absurd never
 
   -- Why the event stopped.
 
@@ -208,3 +217,22 @@ module _ {D : Type 0} (seen : D → DiskSeen) where
   shown s j k n clock event p event_is up at reply recorded (Full used need records) is =
       shown_full s j k n clock event p event_is is.0 up used need records is.1 at reply recorded
   shown s j k n clock event p event_is up at reply recorded (Worn count) is = absurd is
+
+  -- of a store whose centre stays
+  pub shown_by : (old new : Stored D) (clock : ℕ) (event : Event) (p : Plan) → new.state ≡ old.state → new.at_open ≡ old.at_open → p.event ≡ event
+      → (HasFailed seen old → ⊥)
+      → ((b : Summary) (h : List Entry) → StandsFor b old.state h → p.at ≡ moment_after b h clock)
+      → ((b : Summary) (h : List Entry) → StandsFor b old.state h → p.reply ≡ answer b h event p.at) → is_recorded p.reply ≡ true
+      → (stop : Stop) → IsUnwritten seen old.at_open old.journal new.journal old.state (need_of p.event) stop → Shows seen new stop event clock
+  shown_by old new clock event p state at_open event_is up at reply recorded stop is =
+      let same : stored old.state new.journal old.at_open ≡ new = λ i. record { state = sym state i; journal = new.journal; at_open = sym at_open i } in
+      subst (λ (x : Stored D). Shows seen x stop event clock) same
+      (shown old.state old.journal new.journal old.at_open clock event p event_is up at reply recorded stop is)
+
+-- what was not written left the journal as it was, unless the disk failed
+pub leaves_same : {D : Type 0} (seen : D → DiskSeen) (at_open need : ℕ) (old new : Journal D) (s : State) (stop : Stop)
+    → IsUnwritten seen at_open old new s need stop → (IsDown stop → ⊥) → IsSameJournal old new
+leaves_same seen at_open need old new s Memory is up = is
+leaves_same seen at_open need old new s (Down before now) is up = absurd (up tt)
+leaves_same seen at_open need old new s (Full used wanted records) is up = is.0
+leaves_same seen at_open need old new s (Worn count) is up = absurd is

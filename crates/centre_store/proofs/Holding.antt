@@ -1,5 +1,5 @@
 -- What a journal has of a history, with one entry more, or summed up, and what its areas stand for.
-use Rattle.std.proofs.Common.{◌≡◌, ◌⊎◌, ◌≤◌, ◌<◌, ◌^◌, ℕ, List, [], ◌∷◌, ◌++◌, Bool, true, false, cond, Option, Some, None, inl, inr, refl, sym, ap, ◌∙◌, subst, arith}
+use Rattle.std.proofs.Common.{◌≡◌, ◌⊎◌, ◌≤◌, ◌<◌, ◌+◌, ◌^◌, ℕ, List, [], ◌∷◌, ◌++◌, Bool, true, false, cond, length, Option, Some, None, inl, inr, refl, sym, ap, ◌∙◌, subst, arith}
 use Rattle.std.specs.Prelude.{IfSome}
 use Rattle.std.proofs.lemmas.List.{append-nil}
 use Rattle.arc_data.specs.declared.event.Event.{Event}
@@ -12,7 +12,7 @@ use Rattle.arc_io.proofs.Moments.{started, weaker}
 use Rattle.centre_rules.specs.Summary.{Summary}
 use Rattle.centre_rules.specs.History.{Entry, is_recorded, recorded}
 use Rattle.centre_rules.specs.Sums.{summary_of}
-use Rattle.disk_journal.specs.Journal.{Holds, Keeps, Works, HasBodies, IsAtRestIn}
+use Rattle.disk_journal.specs.Journal.{Holds, Keeps, Works, HasBodies, IsAtRestIn, IsGateBehind, IsPlaced}
 use Rattle.disk_journal.specs.Standing.{StandsForEither, StandsForTurn, IsDistinct, all_of}
 use Rattle.disk_journal.specs.declared.journal.Journal.{Journal}
 use Rattle.disk_journal.proofs.Chosen.{rest_stands}
@@ -165,13 +165,22 @@ recorded_or disk b h body has = record {
 -- The journal.
 
 module _ {D : Type 0} (seen : D → DiskSeen) where
-  -- one that is the same but for its room holds the same
+  -- one that is the same but for its room reads on at the same place, and holds the same
+  placed_same : (old new : Journal D) (summary : Option (List ℕ)) (bodies : List (List ℕ)) → IsSameJournal old new → IsPlaced seen old summary bodies
+      → IsPlaced seen new summary bodies
+  placed_same old new summary bodies same p = record {
+    first_is = ap (λ (j : Journal D). j.first + 1) same ∙ p.first_is;
+    within = subst (λ (j : Journal D). j.next ≤ length bodies) (sym same) p.within;
+    place_is = subst (λ (j : Journal D). IsGateBehind (seen j.disk).told summary bodies j.next j.place) (sym same) p.place_is;
+  }
+
   pub holds_same : (old new : Journal D) (version : ℕ) (summary : Option (List ℕ)) (bodies : List (List ℕ)) → IsSameJournal old new → Holds seen old version summary bodies
       → Holds seen new version summary bodies
   holds_same old new version summary bodies same h = record {
     version_is = ap (λ (j : Journal D). j.version) same ∙ h.version_is;
     used = ap (λ (j : Journal D). j.used) same ∙ h.used;
     count = ap (λ (j : Journal D). j.records) same ∙ h.count;
+    placed = placed_same old new summary bodies same h.placed;
     generation = ap (λ (j : Journal D). j.generation) same ∙ h.generation;
     few = subst (λ (j : Journal D). j.limits.bytes < 2 ^ 32) (sym same) h.few;
     met_none = ap (λ (j : Journal D). j.has_failed) same ∙ h.met_none;
@@ -184,8 +193,11 @@ module _ {D : Type 0} (seen : D → DiskSeen) where
   -- one that holds bodies works
   pub works : (j : Journal D) (version : ℕ) (summary : Option (List ℕ)) (bodies : List (List ℕ)) → Holds seen j version summary bodies → Works seen j
   works j version summary bodies h = record {
-    bodies = all_of summary bodies;
+    summary = summary;
+    records = bodies;
     used = h.used;
+    count = h.count;
+    placed = h.placed;
     few = h.few;
     met_none = h.met_none;
     file = subst (λ (v : ℕ). IfSome (seen j.disk).told (HasBodies j.area v (all_of summary bodies))) (sym h.version_is)

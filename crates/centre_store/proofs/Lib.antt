@@ -6,6 +6,7 @@ pub mod Holding
 pub mod NextSummary
 pub mod Written
 pub mod Entered
+pub mod Followed
 pub mod Checkpoints
 pub mod Ordered
 pub mod Begun

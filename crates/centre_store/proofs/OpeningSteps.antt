@@ -5,7 +5,7 @@ use Rattle.arc_data.specs.declared.event.Event.{Event}
 use Rattle.arc_data.specs.declared.reply.Reply.{Reply}
 use Rattle.centre_rules.specs.Summary.{Summary}
 use Rattle.centre_rules.specs.History.{Entry, is_recorded, last, moment_after}
-use Rattle.centre_rules.specs.Answers.{answer}
+use Rattle.centre_rules.specs.Answers.{IsNext, answer}
 use Rattle.centre_rules.specs.State.{State, StandsFor}
 use Rattle.event_codec.specs.Spelling.{spelling_in, HasSpellingIn}
 use Rattle.centre_store.specs.Bodies.{body_in}
@@ -51,14 +51,19 @@ pub record GoesOn (at made : ℕ) (reply : Reply) : Type 0 where
   pub moment : made ≡ at
   pub recorded : is_recorded reply ≡ true
 
+pub goes_on_from : (base : Summary) (h : List Entry) (e : Entry) (event : Event) (at made : ℕ) (reply : Reply) → IsNext base h e → is_recorded e.reply ≡ true
+    → (event ≡ e.event) × (at ≡ e.at) → made ≡ moment_after base h at → reply ≡ answer base h event made → GoesOn at made reply
+goes_on_from base h e event at made reply next recorded same is_made is_reply =
+    let late : last base h ≤ e.at = next.late in
+    let moment : made ≡ at = is_made ∙ (omega (arith, late, same.1)) in
+    let there : made ≡ e.at = moment ∙ same.1 in
+    let replied : reply ≡ e.reply = is_reply ∙ (λ i. answer base h (same.0 i) (there i)) ∙ sym next.reply in
+    record { moment = moment; recorded = ap is_recorded replied ∙ recorded }
+
 pub goes_on : (version : ℕ) (base : Summary) (front : List (List ℕ)) (body : List ℕ) (past : List Entry) (e : Entry) (event : Event) (at made : ℕ) (reply : Reply)
     → IsPast version base (front ++ body ∷ []) (e ∷ past) → (event ≡ e.event) × (at ≡ e.at) → made ≡ moment_after base past at → reply ≡ answer base past event made → GoesOn at made reply
 goes_on version base front body past e event at made reply p same is_made is_reply =
-    let late : last base past ≤ e.at = p.legal.0.late in
-    let moment : made ≡ at = is_made ∙ (omega (arith, late, same.1)) in
-    let there : made ≡ e.at = moment ∙ same.1 in
-    let replied : reply ≡ e.reply = is_reply ∙ (λ i. answer base past (same.0 i) (there i)) ∙ sym p.legal.0.reply in
-    record { moment = moment; recorded = ap is_recorded replied ∙ p.kept.0.recorded }
+    goes_on_from base past e event at made reply p.legal.0 p.kept.0.recorded same is_made is_reply
 
 -- what a test of two facts tells
 pub is_taken : (b : Bool) (P Q : Type 0) → (IsTrue b ↔ (P × Q)) → b ≡ true → P × Q

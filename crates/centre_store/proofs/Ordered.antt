@@ -31,6 +31,11 @@ one_of_stops r q stop x y of on (inr is) = inr (one_stop r q stop y of on is)
 no_stop : {A : Type 0} (r : Result A Stop) (a : A) (x : Stop) → r ≡ Ok a → r ≡ Err x → ⊥
 no_stop r a x of is = subst is_stop (sym is ∙ of) tt
 
+-- what was answered was not stopped
+pub never_stopped : {A : Type 0} (r : Result A Stop) (a : A) {x y : Stop} → r ≡ Ok a → (r ≡ Err x) ⊎ (r ≡ Err y) → ⊥
+never_stopped r a {x} {y} of (inl is) = no_stop r a x of is
+never_stopped r a {x} {y} of (inr is) = no_stop r a y of is
+
 module _ {D : Type 0} (seen : D → DiskSeen) (s : Stored D) (event : Event) (clock : ℕ) where
   -- the stop of a call within is that of the call
   pub order_on : {A B : Type 0} (r : Result A Stop) (q : Result B Stop) (stop : Stop) → r ≡ Err stop → q ≡ Err stop

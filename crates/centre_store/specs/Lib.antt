@@ -17,3 +17,4 @@ pub mod Begins
 pub mod StoreHalls
 pub mod Calls
 pub mod Lives
+pub mod Followings

@@ -2,12 +2,14 @@
 #![tactic(auto)]
 
 mod checkpoint;
+mod following;
 mod hall;
 mod laws;
 mod open;
 mod store;
 mod submit;
 
+pub use following::Found;
 pub use laws::{
     law_one_opening, law_recorded_opens, law_restarts_stand, law_runs_leave, law_torn_opens,
 };

@@ -3,6 +3,7 @@
 ghost use Rattle.std.specs.Prelude.{◌≡◌, ◌⊎◌, ◌≤◌, ◌<◌, ◌↔◌, ◌+◌, ◌^◌, ◌++◌, [], ◌∷◌, ℕ, List, Option, true, false, length, take, drop, OnOk, IfOk, IfErr, IfSome, IfNone, IsTrue};
 ghost use Rattle.arc_io.specs.Areas.{Areas};
 ghost use Rattle.arc_io.specs.Crashes.{Becomes, IsQuiet, LeavesOnly};
+ghost use Rattle.centre_rules.specs.Answers.{IsNext};
 ghost use Rattle.centre_rules.specs.Summary.{Summary};
 ghost use Rattle.centre_rules.specs.History.{Entry, is_recorded};
 ghost use Rattle.centre_rules.specs.State.{StandsFor, entry_of};
@@ -13,9 +14,11 @@ ghost use Rattle.disk_journal.specs.Records.{size, front as bytes_before};
 ghost use Rattle.disk_journal.specs.Standing.{all_of, chosen_part, version_now, GoesOn as StandsOn};
 ghost use Rattle.disk_journal.specs.Turning.{Changes};
 ghost use Rattle.event_codec.specs.Spelling.{IsVersion, HasSpellingIn, spelling_in};
+ghost use Rattle.centre_store.specs.Bodies.{body_in};
 ghost use Rattle.centre_store.specs.Given.{GoesOn, HoldsRecorded, written_length};
 ghost use Rattle.centre_store.specs.Pasts.{IsPast, HasNoNext, IsReplayed};
 ghost use Rattle.centre_store.specs.Openings.{IsOpened, CanOpen, IsMoved, IsChosenSame, IsRefused, IsRestored, StandsForMove, IsUnmoved, IsOfReplay, IsOfBodies, disk_of};
+ghost use Rattle.centre_store.specs.Stores.{IsNextKept};
 ghost use Rattle.centre_store.specs.Writes.{HaveAllIn, HaveSomeIn, IsSummedUp};
 
 use crate::store::Store;
@@ -261,6 +264,8 @@ pub fn entry_in(
 ) -> Result<Option<Ready>, Memory>
     requires version { IsVersion version }
     ensures stays { (base : Summary) (h : List Entry) → StandsFor base centre.old h → StandsFor base centre.new h }
+    ensures entries { centre.new.entries ≡ centre.old.entries }
+    ensures sum { centre.new.sum ≡ centre.old.sum }
     ensures made { IfOk result (λ found. IfSome found (λ r. r.of ≡ centre.new)) }
     ensures few { IfOk result (λ found. IfSome found (λ _. centre.new.entries < 2 ^ 48)) }
     ensures recorded { IfOk result (λ found. IfSome found (λ r. is_recorded r.reply ≡ true)) }
@@ -271,6 +276,12 @@ pub fn entry_in(
         → IsPast version base (front ++ body.now ∷ []) (entry_of 0 r ∷ past))) }
     ensures broken { IfOk result (λ found. IfNone found ((base : Summary) (front : List (List ℕ)) (past : List Entry)
         → IsPast version base front past → StandsFor base centre.old past → HasNoNext version base front past body.now)) }
+
+    // Likewise of a history with quiet entries.
+    ensures follows { IfOk result (λ found. IfSome found (λ r. (base : Summary) (h : List Entry)
+        → StandsFor base centre.new h → IsNext base h (entry_of 0 r))) }
+    ensures ends { IfOk result (λ found. IfNone found (centre.old.entries < 2 ^ 48 → (base : Summary) (h : List Entry) (e : Entry)
+        → StandsFor base centre.old h → IsNextKept base h e → HasSpellingIn version e.event e.at → body.now ≡ body_in version e → ⊥)) }
 {
     if centre.entries() >= 1 << 48 {
         return Ok(None);

@@ -1,13 +1,13 @@
 // How an event is submitted: it is prepared, its record is written where it is to be recorded, and then it is applied.
 ghost use Rattle.std.specs.Prelude.{◌≡◌, ◌≤◌, ◌<◌, ◌⊎◌, ◌↔◌, ◌+◌, ◌^◌, ◌++◌, ◌∷◌, [], ℕ, List, true, false};
-ghost use Rattle.std.specs.Prelude.{Option, Some, IfOk, IfErr, IsErr, OnOk, OnErr, IsTrue};
+ghost use Rattle.std.specs.Prelude.{Option, Some, Err, IfOk, IfErr, IsErr, OnOk, OnErr, IsTrue};
 ghost use Rattle.arc_data.specs.WellFormed.{IsWellFormed};
 ghost use Rattle.arc_io.specs.Causes.{Rose};
 ghost use Rattle.arc_io.specs.Crashes.{LeavesOnly};
 ghost use Rattle.centre_rules.specs.Summary.{Summary};
 ghost use Rattle.centre_rules.specs.History.{Entry, moment_after, is_recorded, IsMoment};
-ghost use Rattle.centre_rules.specs.Answers.{answer_over};
-ghost use Rattle.centre_rules.specs.State.{Grows, entry_of};
+ghost use Rattle.centre_rules.specs.Answers.{IsNext, answer_over};
+ghost use Rattle.centre_rules.specs.State.{Grows, StandsFor, entry_of};
 ghost use Rattle.centre_core.specs.Runs.{IsSubmitted};
 ghost use Rattle.centre_core.specs.Setting.{IsSetting};
 ghost use Rattle.event_codec.specs.Spelling.{IsKept, HasSpelling, spelling};
@@ -231,6 +231,45 @@ impl<D: Disk> Store<D> {
         if ready.quiet() {
             return Ok(self.centre.apply(ready));
         }
+        let done = self.commit(alloc, ready)?;
+        Ok(done)
+    }
+
+    // Writes the record of what is ready, which is to be recorded, and then makes its entry. It is given up where it stops.
+    pub(crate) fn commit(&mut self, alloc: Global, ready: Ready) -> Result<Done, Stop>
+        requires up { HasFailed D.seen self.old → ⊥ }
+        requires few { self.old.state.entries < 2 ^ 48 }
+        requires made { ready.of ≡ self.old.state }
+        requires next { (b : Summary) (h : List Entry) → StandsFor b self.old.state h → IsNext b h (entry_of 0 ready) }
+        requires recorded { is_recorded ready.reply ≡ true }
+
+        ensures done { IfOk result (λ d. (d.at ≡ ready.at) × (d.reply ≡ ready.reply)) }
+        ensures taken { OnOk result ((b : Summary) (h : List Entry) (caller : ℕ) → StoreStands D.seen b self.old h
+            → StoreStands D.seen b self.new (entry_of caller ready ∷ h)) }
+        ensures grows { OnOk result (Grows self.old.state self.new.state (entry_of 0 ready)) }
+        ensures written { OnOk result ((b : Summary) (h : List Entry) → StoreStands D.seen b self.old h
+            → IsWrittenOn self.old.journal self.new.journal (summed_size b h) (need_of ready.event)) }
+        ensures spelled { HasSpelling ready.event ready.at }
+
+        ensures stop { OnErr result (StandsOn D.seen self.old self.new) }
+        ensures state { OnErr result (self.new.state ≡ self.old.state) }
+        ensures cause { IfErr result (IsUnwritten D.seen self.old.at_open self.old.journal self.new.journal self.old.state (need_of ready.event)) }
+        ensures unwritten { LeavesJournal self.old.journal self.new.journal result }
+        ensures down { IsDownWhereFailed D.seen self.new result }
+        ensures full { (b : Summary) (h : List Entry) → StoreStands D.seen b self.old h
+            → IsOverAt self.old.journal (need_of ready.event) → IsOverThen self.old.journal (summed_size b h) (need_of ready.event)
+            → (result ≡ Err Stop.Memory) ⊎ (result ≡ Err (Stop.Full (summed_size b h) (need_of ready.event) 0)) }
+
+        ensures any_moment { (b : Summary) (h : List Entry) → StoreStands D.seen b self.old h
+            → LeavesOnly (D.seen self.old.journal.disk) (D.seen self.new.journal.disk) (StandForEither b h (spelling ready.event ready.at)) }
+        ensures met { (b : Summary) (h : List Entry) → StoreStands D.seen b self.old h
+            → HasEither (D.seen self.new.journal.disk) b h (spelling ready.event ready.at) }
+        ensures tells { is_told (D.seen self.new.journal.disk).told ≡ is_told (D.seen self.old.journal.disk).told }
+        ensures at_open { self.new.at_open ≡ self.old.at_open }
+        ensures limits { self.new.journal.limits ≡ self.old.journal.limits }
+        ensures later { (D.seen self.old.journal.disk).faults ≤ (D.seen self.new.journal.disk).faults }
+        ensures met_none { OnOk result ((D.seen self.new.journal.disk).faults ≡ (D.seen self.old.journal.disk).faults) }
+    {
         match write(
             alloc,
             &mut self.journal,
@@ -258,7 +297,7 @@ impl<D: Disk> Store<D> {
     }
 
     // Worn where there are too many entries for another.
-    fn check_count(&self) -> Result<(), Stop>
+    pub(crate) fn check_count(&self) -> Result<(), Stop>
         ensures few { OnOk result (self.now.state.entries < 2 ^ 48) }
         ensures worn { IfErr result (λ s. s ≡ Stop.Worn self.now.state.entries) }
         ensures many { OnErr result (2 ^ 48 ≤ self.now.state.entries) }

@@ -1,6 +1,7 @@
 // What no clause says of the store: that calls succeed, with worked bytes, at its limits, and after each stop and each fault.
 
 mod checkpoints;
+mod following;
 mod moving;
 mod opening;
 mod schedules;

@@ -68,8 +68,8 @@ fn compare_row(rt: &impl Abort, alloc: Global, row: &str) {
     same(rt, (row, found.as_str()), (row, left), "what is left");
 }
 
-// What is told over a disk whose journal has room for so many bytes and records.
-fn play_within(
+/// What is told over a disk whose journal has room for so many bytes and records.
+pub(super) fn play_within(
     rt: &impl Abort,
     alloc: Global,
     disk: MemDisk,

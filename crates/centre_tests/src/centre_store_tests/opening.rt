@@ -43,8 +43,8 @@ fn closed(rt: &impl Abort, alloc: Global, disk: MemDisk) -> MemDisk {
     store.close()
 }
 
-// Records, by a letter: the gate, the length, and the body.
-fn record_of(letter: char) -> &'static [u8] {
+/// Records, by a letter: the gate, the length, and the body.
+pub(super) fn record_of(letter: char) -> &'static [u8] {
     match letter {
         // An Adopt and a Start.
         'a' => b"\x01\0\0\0\x1a\x01\0\0\0\0\x3b\x9a\xca\0\0\0\0\x0daccount 1234\n",
@@ -59,6 +59,10 @@ fn record_of(letter: char) -> &'static [u8] {
         }
         'v' => {
             b"\x01\0\0\0\x21\x03\0\0\0\0\x3b\x9a\xca\0\x041234\0\x010\0\x01\x02\0\x0b1131 01 001"
+        }
+        // Another Message.
+        't' => {
+            b"\x01\0\0\0\x26\x03\0\0\0\0\x3b\x9a\xca\0\x041234\0\x010\0\x02\x02\0\x0b1131 01 001\x04line"
         }
         // A Claim of incident 1, and one of incident 7.
         'c' => b"\x01\0\0\0\x15\x06\0\0\0\0\x3b\x9a\xca\0\x03ann\0\0\0\0\0\0\0\x01",

@@ -4,11 +4,12 @@ ghost use Rattle.arc_data.specs.WellFormed.{IsWellFormed};
 ghost use Rattle.centre_core.specs.Runs.{IsSubmitted};
 ghost use Rattle.centre_core.specs.Setting.{IsSetting};
 
+use super::opening::record_of;
 use crate::same::same;
-use arc_data::{Event, Reply, Token};
+use arc_data::{Blob, Event, Reply, Token};
 use arc_io::MemDisk;
 use centre_core::{Centre, Done, Setup, Stop};
-use centre_store::Store;
+use centre_store::{Found, Store};
 use disk_journal::{Journal, Limits, SHIPPED};
 use std::alloc::Global;
 use std::fmt::Display;
@@ -85,7 +86,8 @@ pub(super) fn alarm(rt: &impl Abort, alloc: Global, seq: u16) -> Event
 }
 
 // What a store says to `begin` and `begin other`, which name a setup; `recorded`, `since`, `checkpoint`, `list`, or a sequence, that of a
-// message; and `faults`, how many its disk had when it was opened, and whether it had more since.
+// message; `body` with a number, or `take` with the letter of a record; and `faults`, how many its disk had when it was opened, and whether
+// it had more since.
 fn told(rt: &impl Abort, alloc: Global, store: &mut Store<MemDisk>, words: &str) -> String {
     match words {
         "begin" => begun(rt, alloc, store, b"account 1234\n"),
@@ -95,10 +97,67 @@ fn told(rt: &impl Abort, alloc: Global, store: &mut Store<MemDisk>, words: &str)
         "checkpoint" => summed(rt, alloc, store),
         "faults" => faults_of(rt, alloc, store),
         "list" => submitted(rt, alloc, store, Event::List),
-        _ => {
-            let seq = words.parse().expect(rt, "a sequence");
-            submitted(rt, alloc, store, alarm(rt, alloc, seq))
+        _ => match words.split_once(' ') {
+            Some((word, which)) => followed(rt, alloc, store, word, which),
+            None => {
+                let seq = words.parse().expect(rt, "a sequence");
+                submitted(rt, alloc, store, alarm(rt, alloc, seq))
+            }
+        },
+    }
+}
+
+fn followed(
+    rt: &impl Abort,
+    alloc: Global,
+    store: &mut Store<MemDisk>,
+    word: &str,
+    which: &str,
+) -> String {
+    match word {
+        "body" => found(rt, alloc, store, number_of(rt, which)),
+        "take" => taken(rt, alloc, store, letter_of(rt, which)),
+        _ => panic!(rt; "no such word"),
+    }
+}
+
+fn number_of(rt: &impl Abort, which: &str) -> u64 {
+    which.parse::<u64>().expect(rt, "a number")
+}
+
+fn letter_of(rt: &impl Abort, which: &str) -> char {
+    which.chars().next().expect(rt, "a letter")
+}
+
+// The letter of the record that has the body of a number, or where there is none. What the body is put into stays then.
+fn found(rt: &impl Abort, alloc: Global, store: &mut Store<MemDisk>, number: u64) -> String {
+    let mut out = Blob::of(alloc, b"before").expect(rt, "memory");
+    let told = match store.body(alloc, number, &mut out) {
+        Ok(Found::Body) => format!(in alloc; "{}", named_body(out.bytes())).expect(rt, "memory"),
+        Ok(Found::InSummary) => text_of(rt, alloc, "summed"),
+        Ok(Found::Ahead) => text_of(rt, alloc, "ahead"),
+        Err(stop) => named(rt, alloc, stop),
+    };
+    let stays = out.bytes() == b"before".as_slice() || told.len() == 1;
+    same(rt, (number, stays), (number, true), "the bytes before");
+    drop(out);
+    told
+}
+
+fn named_body(body: &[u8]) -> char {
+    for letter in "asmt".chars() {
+        if record_of(letter).get(5..) == Some(body) {
+            return letter;
         }
+    }
+    '?'
+}
+
+fn taken(rt: &impl Abort, alloc: Global, store: &mut Store<MemDisk>, letter: char) -> String {
+    let body = record_of(letter).get(5..).expect(rt, "a body");
+    match store.replay(alloc, body) {
+        Ok(taken) => text_of(rt, alloc, taken),
+        Err(stop) => named(rt, alloc, stop),
     }
 }
 

@@ -91,6 +91,9 @@ returns-clause-order g c up = record {
   });
 }
 
+pub returns-in_err-adopt-clause-stop : goal.returns-in_err-adopt-clause-stop
+returns-in_err-adopt-clause-stop g c = on_err c.from_residual.result (λ b h w. inl (c.in_err-adopt.ensures.stop b h w))
+
 pub returns-in_err-enter-clause-stop : goal.returns-in_err-enter-clause-stop
 returns-in_err-enter-clause-stop g c =
     on_err c.from_residual-in_err-enter.result
