@@ -5,7 +5,7 @@ use Rattle.alarm_rules.specs.SetupWords.{number_between}
 use Rattle.arc_data.specs.Digits.{is_capital_hex, is_run}
 use Rattle.arc_serving.specs.declared.side.Side.TheVariants.{Lines, Desks}
 use Rattle.arc_server.specs.declared.form.Form.{Form}
-use Rattle.arc_server.specs.declared.form.Form.TheVariants.{Session, Script, Report, Drill, Serve, Panel, Udp}
+use Rattle.arc_server.specs.declared.form.Form.TheVariants.{Session, Script, Report, Drill, Serve, Panel, Feed, Mirror, Udp}
 
 abbrev pub form_named : List ℕ → Option Form
 form_named word =
@@ -13,6 +13,8 @@ form_named word =
     else if bytes_eq word (codes "desk") then Some (Session Desks)
     else if bytes_eq word (codes "script") then Some Script
     else if bytes_eq word (codes "report") then Some Report
+    else if bytes_eq word (codes "feed") then Some Feed
+    else if bytes_eq word (codes "mirror") then Some Mirror
     else None
 
 -- of a number, where it is given
@@ -46,7 +48,7 @@ abbrev pub crew_named : List ℕ → List ℕ → List ℕ → Option Form
 crew_named lines desks sessions =
     crew_with (number_between 1 64 lines) (number_between 0 16 desks) (number_between 1 1_000_000 sessions)
 
--- the one word `line`, `desk`, `script` or `report`; `drill` or `udp` and a number; `panel` and an account; or `serve` and three numbers
+-- `line`, `desk`, `script`, `report`, `feed` or `mirror`; `drill` or `udp` and a number; `panel` and an account; `serve` and three numbers
 abbrev pub form_of : List (List ℕ) → Option Form
 form_of (word ∷ []) = form_named word
 form_of (word ∷ argument ∷ []) =

@@ -16,6 +16,8 @@ pub mod Made
 pub mod SetupReads
 pub mod Beginnings
 pub mod SessionRuns
+pub mod FeedRuns
+pub mod MirrorRuns
 pub mod MailRuns
 pub mod Reports
 pub mod ScriptRuns

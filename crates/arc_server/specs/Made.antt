@@ -13,11 +13,15 @@ use Rattle.centre_core.specs.declared.hall.Stop.{Stop}
 use Rattle.centre_core.specs.declared.hall.Stop.TheVariants as Hall
 use Rattle.disk_journal.specs.declared.fault.OpenFault.{OpenFault}
 use Rattle.disk_journal.specs.declared.fault.OpenFault.TheVariants as Open
+use Rattle.mirror_centre.specs.declared.feed_end.FeedEnd.{FeedEnd}
+use Rattle.mirror_centre.specs.declared.feed_end.FeedEnd.TheVariants as Feed
+use Rattle.mirror_centre.specs.declared.follow_end.FollowEnd.{FollowEnd}
+use Rattle.mirror_centre.specs.declared.follow_end.FollowEnd.TheVariants as Follow
 use Rattle.udp_line.specs.declared.mail_end.MailEnd.{MailEnd}
 use Rattle.udp_line.specs.declared.mail_end.MailEnd.TheVariants as Mail
 use Rattle.arc_server.specs.declared.status.Status.{Status}
 use Rattle.arc_server.specs.declared.status.Status.TheVariants.{Done, ReadFault, WriteFault, DiskFault, Journal, Full, BadScript}
-use Rattle.arc_server.specs.declared.status.Status.TheVariants.{Memory, Spent, Worn}
+use Rattle.arc_server.specs.declared.status.Status.TheVariants.{Memory, Spent, Worn, Behind, Strange}
 use Rattle.arc_server.specs.declared.status.Which.TheVariants as Which
 
 -- Where the disk has failed, by the counts of its faults at the run's entry and at its end, that is the status; else it is this one.
@@ -72,6 +76,23 @@ status_of_panel Panel.WriteFault p p' = write_fault p p'
 status_of_panel Panel.Spent p p' = Spent
 status_of_panel (Panel.BadLine line) p p' = BadScript line
 status_of_panel Panel.Memory p p' = Memory
+
+abbrev pub status_of_feed : FeedEnd → PortSeen → PortSeen → Status
+status_of_feed Feed.Done p p' = Done
+status_of_feed Feed.ReadFault p p' = read_fault p p'
+status_of_feed Feed.WriteFault p p' = write_fault p p'
+status_of_feed Feed.Spent p p' = Spent
+status_of_feed (Feed.Strange after) p p' = Strange after
+status_of_feed (Feed.Stopped stop) p p' = status_of_stop stop
+
+abbrev pub status_of_follow : FollowEnd → PortSeen → PortSeen → Status
+status_of_follow Follow.Done p p' = Done
+status_of_follow (Follow.Behind have count) p p' = Behind have count
+status_of_follow (Follow.Strange after) p p' = Strange after
+status_of_follow Follow.ReadFault p p' = read_fault p p'
+status_of_follow Follow.WriteFault p p' = write_fault p p'
+status_of_follow Follow.Spent p p' = Spent
+status_of_follow (Follow.Stopped stop) p p' = status_of_stop stop
 
 -- of datagrams, by what the mailbox told before and tells now
 abbrev pub status_of_mail : MailEnd → PortSeen → PortSeen → Status

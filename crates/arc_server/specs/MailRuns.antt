@@ -13,8 +13,8 @@ use Rattle.arc_server.specs.Handed.{Handed}
 use Rattle.arc_server.specs.Made.{status_over, status_of_mail}
 use Rattle.arc_server.specs.declared.status.Status.{Status}
 
--- A run began, and from there the next datagrams of a mailbox, which told m then, were received and answered, at most so many, up to an end.
--- The store stands for the history that they ended with; its disk is handed back, and has the recorded entries.
+-- A run began, and from there the next datagrams of a mailbox, which told m then, were received and answered, at most so many, up to an
+-- end. The store stands for the history that they ended with; its disk is handed back, and has the recorded entries.
 pub record AnswersMail {D : Type 0} (seen : D → DiskSeen) (count : ℕ) (status : Status) (r r' : Handed D) (m m' : PortSeen) : Type 0 where
   pub first : Stored D
   pub h : List Entry

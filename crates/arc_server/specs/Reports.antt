@@ -26,8 +26,8 @@ pub record StandsOn (disk disk' : DiskSeen) : Type 0 where
   pub area : Becomes disk.told disk'.told GoesOn
   pub images : LeavesOnly disk disk' (λ c. (d : Areas) × disk.may_leave d × GoesOn d c)
 
--- The areas stood for a past, and stand for it still. The report of the past was written, or a front of it, and nothing else was done to the
--- port.
+-- The areas stood for a past, and stand for it still. The report of the past was written, or a front of it, and nothing else was done to
+-- the port.
 pub record ReportsPast {D : Type 0} (seen : D → DiskSeen) (status : Status) (r r' : Handed D) : Type 0 where
   pub base : Summary
   pub past : List Entry

@@ -9,7 +9,7 @@ use Rattle.arc_serving.specs.declared.side.Side.{Side}
 use Rattle.arc_serving.specs.declared.side.Side.TheVariants.{Lines, Desks}
 use Rattle.arc_server.specs.declared.status.Status.{Status}
 use Rattle.arc_server.specs.declared.status.Status.TheVariants.{Done, Usage, SetupBad, ReadFault, WriteFault, DiskFault, Journal, Full}
-use Rattle.arc_server.specs.declared.status.Status.TheVariants.{BadScript, DoorFault, Memory, Spent, Worn}
+use Rattle.arc_server.specs.declared.status.Status.TheVariants.{BadScript, DoorFault, Memory, Spent, Worn, Behind, Strange}
 use Rattle.arc_server.specs.declared.status.Which.{Which}
 use Rattle.arc_server.specs.declared.status.Which.TheVariants.{Setup, Input, Mail}
 
@@ -28,6 +28,8 @@ number_of (DoorFault door before now) = 9
 number_of Memory = 10
 number_of Spent = 11
 number_of (Worn count) = 12
+number_of (Behind have count) = 14
+number_of (Strange after) = 15
 
 abbrev pub at_line : ℕ → List ℕ
 at_line line = codes "setup: line " ++ decimal line
@@ -88,10 +90,17 @@ full_text used need records =
 abbrev pub bad_script_text : ℕ → List ℕ
 bad_script_text line = codes "script: line " ++ decimal line ++ codes "\n"
 
+abbrev pub behind_text : ℕ → ℕ → List ℕ
+behind_text have count = codes "mirror behind: " ++ decimal have ++ codes " of " ++ decimal count ++ codes "\n"
+
+abbrev pub strange_text : ℕ → List ℕ
+strange_text after = codes "strange message after " ++ decimal after ++ codes "\n"
+
 -- the line that it writes on standard error, or nothing
 unfoldable pub text_of_status : Status → List ℕ
 text_of_status Done = []
-text_of_status Usage = codes "usage: line | desk | script | report | drill N | serve LINES DESKS SESSIONS | panel ACCOUNT | udp N\n"
+text_of_status Usage =
+    codes "usage: line | desk | script | report | drill N | serve LINES DESKS SESSIONS | panel ACCOUNT | feed | mirror | udp N\n"
 text_of_status (SetupBad fault) = setup_text fault
 text_of_status (ReadFault which before now) = read_text which
 text_of_status (WriteFault before now) = codes "write fault\n"
@@ -103,3 +112,5 @@ text_of_status (DoorFault door before now) = door_text door
 text_of_status Memory = codes "out of memory\n"
 text_of_status Spent = codes "input too long\n"
 text_of_status (Worn count) = codes "count spent\n"
+text_of_status (Behind have count) = behind_text have count
+text_of_status (Strange after) = strange_text after

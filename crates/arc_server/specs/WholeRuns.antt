@@ -5,15 +5,17 @@ use Rattle.arc_io.specs.Disks.{DiskSeen}
 use Rattle.arc_io.specs.Seen.{PortSeen}
 use Rattle.arc_serving.specs.Seen.{StationSeen}
 use Rattle.arc_server.specs.DrillRuns.{IsDrillRun}
+use Rattle.arc_server.specs.FeedRuns.{IsFeedRun}
 use Rattle.arc_server.specs.Handed.{Handed}
 use Rattle.arc_server.specs.MailRuns.{IsMailRun}
+use Rattle.arc_server.specs.MirrorRuns.{IsMirrorRun}
 use Rattle.arc_server.specs.PanelRuns.{IsPanelRun}
 use Rattle.arc_server.specs.Reports.{IsReportRun}
 use Rattle.arc_server.specs.ScriptRuns.{IsScriptRun}
 use Rattle.arc_server.specs.ServeRuns.{IsServeRun}
 use Rattle.arc_server.specs.SessionRuns.{IsSessionRun}
 use Rattle.arc_server.specs.declared.form.Form.{Form}
-use Rattle.arc_server.specs.declared.form.Form.TheVariants.{Session, Script, Report, Drill, Serve, Panel, Udp}
+use Rattle.arc_server.specs.declared.form.Form.TheVariants.{Session, Script, Report, Drill, Serve, Panel, Feed, Mirror, Udp}
 use Rattle.arc_server.specs.declared.status.Status.{Status}
 
 -- what stands around a journal: doors and a pulse, and a mailbox
@@ -38,6 +40,8 @@ abbrev pub reads_setup : Form → Bool
 reads_setup Report = false
 reads_setup (Drill messages) = false
 reads_setup (Panel account) = false
+reads_setup Feed = false
+reads_setup Mirror = false
 reads_setup form = true
 
 -- Of what a run is handed, as it was and as it is, and of what stands around it.
@@ -49,6 +53,8 @@ IsRun seen (Drill messages) status r r' around around' =
     (r'.setup ≡ r.setup) × (around' ≡ around) × (r'.disk ≡ r.disk) × IsDrillRun messages status r.port r'.port
 IsRun seen (Panel account) status r r' around around' =
     (r'.setup ≡ r.setup) × (around' ≡ around) × (r'.disk ≡ r.disk) × IsPanelRun account status r.port r'.port
+IsRun seen Feed status r r' around around' = (r'.setup ≡ r.setup) × (around' ≡ around) × IsFeedRun seen status r r'
+IsRun seen Mirror status r r' around around' = (r'.setup ≡ r.setup) × (around' ≡ around) × IsMirrorRun seen status r r'
 IsRun seen (Serve crew) status r r' around around' =
     (around'.mail ≡ around.mail) × IsServeRun seen crew status r r' around.station around'.station
 IsRun seen (Udp datagrams) status r r' around around' =

@@ -23,6 +23,10 @@ pub enum Form {
     Serve(Crew),
     /// `panel ACCOUNT`: the lines on the port, played over a panel of this account.
     Panel(Txt),
+    /// `feed`: the asks on the port of a centre that follows this one, answered by what the journal has.
+    Feed,
+    /// `mirror`: the answers on the port of another centre, which the journal follows.
+    Mirror,
     /// `udp N`: so many datagrams, each a line by itself.
     Udp(u32),
 }
@@ -59,6 +63,10 @@ fn form_named(word: &Txt) -> Option<Form>
         Some(Form::Script)
     } else if word.bytes() == b"report".as_slice() {
         Some(Form::Report)
+    } else if word.bytes() == b"feed".as_slice() {
+        Some(Form::Feed)
+    } else if word.bytes() == b"mirror".as_slice() {
+        Some(Form::Mirror)
     } else {
         None
     }

@@ -2,7 +2,7 @@
 ghost use Rattle.std.specs.Prelude.{◌≡◌, ◌≢◌, ◌↔◌, IsTrue};
 ghost use Rattle.arc_io.specs.Causes.{Rose};
 ghost use Rattle.arc_io.specs.Seen.{PortSeen};
-ghost use Rattle.arc_server.specs.Made.{status_over, status_of_fault, status_of_stop, status_of_text, status_of_session, status_of_mail};
+ghost use Rattle.arc_server.specs.Made.{status_over, status_of_fault, status_of_stop, status_of_text, status_of_session, status_of_feed, status_of_follow, status_of_mail};
 ghost use Rattle.arc_server.specs.declared.status.Status.TheVariants.{ReadFault, WriteFault};
 ghost use Rattle.arc_server.specs.declared.status.Which.TheVariants.{Input};
 
@@ -12,6 +12,7 @@ use arc_io::{Disk, Failed, Port};
 use arc_serving::SessionEnd;
 use centre_core::Stop;
 use disk_journal::{OpenFault, OpenRefused};
+use mirror_centre::{FeedEnd, FollowEnd};
 use udp_line::MailEnd;
 
 /// Where the disk has failed, by the counts of its faults at the run's entry and now, that is the status; else it is this one.
@@ -139,6 +140,37 @@ pub(crate) fn status_of_session<P: Port>(
         SessionEnd::WriteFault => write_fault(writes, port),
         SessionEnd::Spent => Status::Spent,
         SessionEnd::Stopped(stop) => status_of_stop(stop),
+    }
+}
+
+/// The status that the end of answering asks makes, over a port that told these counts of faults before.
+pub(crate) fn status_of_feed<P: Port>(end: FeedEnd, reads: u64, writes: u64, port: &P) -> Status
+    ensures usage { result ≢ Status.Usage }
+    ensures made { (p : PortSeen) → reads ≡ p.read_faults → writes ≡ p.write_faults → result ≡ status_of_feed end p (P.seen port.now) }
+{
+    match end {
+        FeedEnd::Done => Status::Done,
+        FeedEnd::ReadFault => read_fault(reads, port),
+        FeedEnd::WriteFault => write_fault(writes, port),
+        FeedEnd::Spent => Status::Spent,
+        FeedEnd::Strange { after } => Status::Strange { after },
+        FeedEnd::Stopped(stop) => status_of_stop(stop),
+    }
+}
+
+/// The status that the end of following another centre makes, over a port that told these counts of faults before.
+pub(crate) fn status_of_follow<P: Port>(end: FollowEnd, reads: u64, writes: u64, port: &P) -> Status
+    ensures usage { result ≢ Status.Usage }
+    ensures made { (p : PortSeen) → reads ≡ p.read_faults → writes ≡ p.write_faults → result ≡ status_of_follow end p (P.seen port.now) }
+{
+    match end {
+        FollowEnd::Done => Status::Done,
+        FollowEnd::Behind { have, count } => Status::Behind { have, count },
+        FollowEnd::Strange { after } => Status::Strange { after },
+        FollowEnd::ReadFault => read_fault(reads, port),
+        FollowEnd::WriteFault => write_fault(writes, port),
+        FollowEnd::Spent => Status::Spent,
+        FollowEnd::Stopped(stop) => status_of_stop(stop),
     }
 }
 

@@ -2,7 +2,8 @@
 //! or one operator's desk, on their standard input and output. What they record stands in `journal.a`, beside `journal.b`, and
 //! `arc report` writes what stands there. `arc serve` serves many lines and desks at once, each on a connection. `arc script` runs a
 //! script from standard input over the same journal, and `arc drill` one of its own over a journal in memory. `arc panel` is a panel that a
-//! receiver can be tried with. `arc udp` serves datagrams of panels.
+//! receiver can be tried with. `arc udp` serves datagrams of panels. `arc mirror` follows another centre over standard input and output, where
+//! `arc feed` answers it.
 #![tactic(auto)]
 
 ghost use Rattle.std.specs.Prelude.{◌≡◌, Some, false};
@@ -26,9 +27,11 @@ use threads::can_make;
 mod begin;
 mod came;
 mod drill;
+mod feed;
 mod form;
 mod made;
 mod mail;
+mod mirror;
 mod panel;
 mod report;
 mod run;

@@ -4,8 +4,10 @@ ghost use Rattle.arc_server.specs.Forms.{form_of as form_by};
 ghost use Rattle.arc_server.specs.WholeRuns.{IsRun, HasDoors, IsInRange, reads_setup};
 
 use crate::drill::run_drill;
+use crate::feed::run_feed;
 use crate::form::{Form, form_of};
 use crate::mail::run_mailed;
+use crate::mirror::run_mirror;
 use crate::panel::run_panelled;
 use crate::report::run_report;
 use crate::script::run_scripted;
@@ -47,8 +49,10 @@ pub struct Ended<S, P, D, A, B, T, M> {
 /// setup is not read: the journal is opened, and what it has is reported on the port. Of `script` the setup is read, and the script on the
 /// port is run over the journal: it sets the clock. Of `drill N` nothing but the port is touched: a script of so many messages is run over
 /// a disk in memory, and one line of what was counted is written. Of `panel ACCOUNT` nothing but the port is touched, too: its lines say what
-/// happens to a panel of this account, and what it does is written. Of `udp N` a run begins as of `line`, and so many datagrams of the mailbox
-/// are served, each a line by itself.
+/// happens to a panel of this account, and what it does is written. Of `feed` and `mirror` the setup is not read, and no run begins: the
+/// journal is opened, and the asks on the port of a centre that follows this one are answered by what it has; or the port is asked for
+/// what comes next in the journal, one record after another, and each is recorded there. Of `udp N` a run begins as of `line`, and so many
+/// datagrams of the mailbox are served, each a line by itself.
 pub fn run<
     R: Threads + Wait + Sync,
     S: Source,
@@ -176,6 +180,8 @@ fn run_form<
         Form::Report => unserved(run_report(alloc, port, disk), station),
         Form::Drill(messages) => unserved((run_drill(alloc, messages, port), disk), station),
         Form::Panel(account) => unserved((run_panelled(alloc, account, port), disk), station),
+        Form::Feed => unserved(run_feed(alloc, port, disk), station),
+        Form::Mirror => unserved(run_mirror(alloc, port, disk), station),
         Form::Udp(datagrams) => unserved(
             run_mailed(alloc, datagrams, setup, port, disk, mail),
             station,

@@ -2,7 +2,7 @@
 ghost use Rattle.std.specs.Prelude.{◌≡◌, OnOk, decimal};
 ghost use Rattle.std.specs.Io.KnownBytes.{append_known};
 ghost use Rattle.arc_io.specs.Causes.{HasCause};
-ghost use Rattle.arc_server.specs.Statuses.{number_of, text_of_status, setup_text, bad_line_text, bad_zone_text, no_account_text, two_same_text, too_many_text, at_line, at_place, counted, journal_text, full_text, bad_script_text};
+ghost use Rattle.arc_server.specs.Statuses.{number_of, text_of_status, setup_text, bad_line_text, bad_zone_text, no_account_text, two_same_text, too_many_text, at_line, at_place, counted, journal_text, full_text, bad_script_text, behind_text, strange_text};
 
 use arc_data::{LineKind, SetupFault};
 use arc_io::{Failed, Sink, put};
@@ -51,6 +51,12 @@ pub enum Status {
     Spent,
     /// The centre has 281,474,976,710,656 entries (2^48) or more.
     Worn { count: u64 },
+    /// The centre that is followed has no record of what comes next here: its summary has so many recorded events, and so many are
+    /// recorded here.
+    Behind { have: u64, count: u64 },
+    /// What stands behind so many messages of the input is none, or the input cut it short; or no event goes on with the record that it
+    /// brings.
+    Strange { after: u64 },
 }
 
 impl Status {
@@ -72,6 +78,8 @@ impl Status {
             Status::Memory => 10,
             Status::Spent => 11,
             Status::Worn { .. } => 12,
+            Status::Behind { .. } => 14,
+            Status::Strange { .. } => 15,
         }
     }
 
@@ -85,7 +93,7 @@ impl Status {
             Status::Done => Ok(()),
             Status::Usage => put(
                 out,
-                b"usage: line | desk | script | report | drill N | serve LINES DESKS SESSIONS | panel ACCOUNT | udp N\n",
+                b"usage: line | desk | script | report | drill N | serve LINES DESKS SESSIONS | panel ACCOUNT | feed | mirror | udp N\n",
             ),
             Status::SetupBad(fault) => put_setup(out, *fault),
             Status::ReadFault {
@@ -120,6 +128,8 @@ impl Status {
             Status::Memory => put(out, b"out of memory\n"),
             Status::Spent => put(out, b"input too long\n"),
             Status::Worn { .. } => put(out, b"count spent\n"),
+            Status::Behind { have, count } => put_behind(out, *have, *count),
+            Status::Strange { after } => put_strange(out, *after),
         }
     }
 }
@@ -221,6 +231,30 @@ fn put_bad_script<K: Sink>(out: &mut K, line: u64) -> Result<(), Failed>
 {
     put(out, b"script: line ")?;
     put_number(out, line)?;
+    put(out, b"\n")
+}
+
+// The line that tells what a centre that is followed has no more records of.
+#[tactic(auto, using(arc_io::proofs::KnownMore::known_both))]
+fn put_behind<K: Sink>(out: &mut K, have: u64, count: u64) -> Result<(), Failed>
+    ensures all { OnOk result ((K.seen out.new).written ≡ append_known (K.seen out.old).written (behind_text have count)) }
+    ensures cause { HasCause (K.seen out.old).write_faults (K.seen out.new).write_faults result }
+{
+    put(out, b"mirror behind: ")?;
+    put_number(out, have)?;
+    put(out, b" of ")?;
+    put_number(out, count)?;
+    put(out, b"\n")
+}
+
+// The line that tells behind how many messages none stood.
+#[tactic(auto, using(arc_io::proofs::KnownMore::known_both))]
+fn put_strange<K: Sink>(out: &mut K, after: u64) -> Result<(), Failed>
+    ensures all { OnOk result ((K.seen out.new).written ≡ append_known (K.seen out.old).written (strange_text after)) }
+    ensures cause { HasCause (K.seen out.old).write_faults (K.seen out.new).write_faults result }
+{
+    put(out, b"strange message after ")?;
+    put_number(out, after)?;
     put(out, b"\n")
 }
 

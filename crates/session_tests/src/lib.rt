@@ -1,4 +1,4 @@
-//! Tests of sessions of lines, of desks, of both kinds, of scripts and of panels by their public calls, each in a module of its own.
+//! Tests of sessions of lines, of desks, of both kinds, of scripts, of panels and of a second centre by their public calls, each in a module of its own.
 //! Only the tests are proved here, over the proved libraries.
 #![tactic(auto)]
 
@@ -12,6 +12,8 @@ mod arc_sessions_tests;
 mod desk_session_tests;
 #[cfg(test)]
 mod line_session_tests;
+#[cfg(test)]
+mod mirror_centre_tests;
 #[cfg(test)]
 mod same;
 #[cfg(test)]

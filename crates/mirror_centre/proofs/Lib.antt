@@ -1,0 +1,12 @@
+pub mod Readings
+pub mod Taking
+pub mod Tried
+pub mod Putting
+pub mod Parts
+pub mod Answered
+pub mod Growing
+pub mod Following
+pub mod Mirrored
+pub mod Asks
+pub mod Turns
+pub mod Outcomes

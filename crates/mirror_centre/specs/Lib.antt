@@ -1,0 +1,11 @@
+pub mod Messages
+pub mod Answers
+pub mod Takings
+pub mod Sayings
+pub mod Mirroring
+pub mod Intakes
+pub mod Shown
+pub mod Feeds
+pub mod Feeding
+pub mod Follows
+pub mod Following
