@@ -6,7 +6,7 @@ OTHER = $(if $(findstring arc_server/out/arc_server,$(PROGRAM)),$(subst arc_serv
 BOOK = $(call OTHER,book)
 SCREEN = $(call OTHER,screen)
 UNITS = arc.service arc-lines.service arc-datagrams.service arc-udp.service arc-watch.service arc-watch.timer arc-restart.service arc-restart.timer \
-	arc-backup.service arc-backup.timer arc-book.service arc-book.timer
+	arc-backup.service arc-backup.timer arc-book.service arc-book.timer arc-feed.socket arc-feed@.service arc-mirror.service arc-mirror.timer
 PAGES = man1/arc.1 man1/arc-book.1 man1/arc-screen.1 man5/arc-setup.5 man7/arc-desk.7
 VERSION = $(shell cat VERSION)
 ROOT = $(DESTDIR)$(PREFIX)
@@ -58,7 +58,7 @@ install-files:
 	done
 	install -D -m 644 -t '$(ROOT)/share/arc' tools/panel
 	install -D -m 755 -t '$(ROOT)/share/arc' tools/visible station/watch station/check-setup station/backup station/copy-journal station/book \
-		station/month station/make-sites
+		station/month station/make-sites station/feed station/mirror station/take-over
 	install -D -m 644 -t '$(ROOT)/share/doc/arc' README.md docs/OPERATING.md docs/DESK.md docs/SCREEN.md docs/PANELS.md \
 		example/setup.txt VERSION
 	install -D -m 644 station/arc.sysusers '$(ROOT)/lib/sysusers.d/arc.conf'
