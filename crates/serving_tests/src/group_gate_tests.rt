@@ -1,0 +1,201 @@
+// What no clause says: that frames of one piece share the calls of the disk, what a stop at any of these leaves, and what is answered where
+// the disk fails or a reply can't be written.
+ghost use Rattle.std.specs.Prelude.{◌≡◌, true, false};
+ghost use Rattle.arc_data.specs.Digits.{is_name};
+ghost use Rattle.line_gate.specs.Blanks.{Names};
+
+use crate::same::{holds, same};
+use crate::stores::blank_of;
+use arc_data::Txt;
+use arc_io::{Fill, MemDisk, MemPort, Port};
+use centre_core::Stop;
+use dc09_frame::{FrameBuf, write_frame};
+use disk_journal::{Limits, SHIPPED};
+use group_gate::{AtGroup, GroupBlank, GroupClosed, GroupGate};
+use line_gate::GateName;
+use line_session::{LineEnd, serve_group};
+use std::alloc::Global;
+use std::marker::Brand;
+use std::process::Abort;
+use std::sync::Wait;
+use test_fixtures::ports::failing_port;
+use test_fixtures::stores::recorded;
+
+const SETUP: &[u8] = b"account 1234\noperator ann 1234\n";
+
+// How many calls of the disk an opening and the beginning of a run take.
+const BEGUN: u64 = 14;
+
+// So many alarms of the account, one behind another, or their acknowledgements.
+fn frames(rt: &impl Abort, alloc: Global, count: u64, is_reply: bool) -> Vec<u8> {
+    let mut bytes = Vec::new(alloc);
+    for number in 1..count.saturating_add(1) {
+        let body = if is_reply {
+            format!(in alloc; "\"ACK\"{number:04}L0#1234[]")
+        } else {
+            format!(in alloc; "\"ADM-CID\"{number:04}L0#1234[#1234|1131 01 001]")
+        };
+        let body = body.expect(rt, "memory");
+        let mut frame = FrameBuf::new();
+        write_frame(body.as_bytes(), &mut frame);
+        bytes.extend_from_slice(frame.bytes()).expect(rt, "memory");
+    }
+    bytes
+}
+
+// How a session on a port of a gate of its own ended, and what closing the gate gave.
+fn serve_at<N: GateName, P: Port, R: Wait>(
+    rt: &R,
+    alloc: Global,
+    blank: GroupBlank<MemDisk>,
+    port: &mut P,
+    name: &Txt,
+) -> (LineEnd, GroupClosed<MemDisk>)
+    requires names { Names MemDisk.seen N.terms blank }
+    requires groups { N.terms.groups ≡ true }
+    requires name { is_name name.now ≡ true }
+    requires not_ended { (P.seen port.old).ended ≡ false }
+{
+    let (gate, pass) = GroupGate::<MemDisk, N>::new(blank);
+    let gate_of_hall = &gate;
+    let mut hall = AtGroup {
+        rt,
+        gate: gate_of_hall,
+        pass,
+    };
+    let end = serve_group(alloc, &mut hall, port, name);
+    let pass = hall.leave();
+    (end, gate.close(pass))
+}
+
+// The disk's calls, and the writes of the port, that fail; and how many records the journal has room for.
+#[derive(Clone, Copy)]
+struct Case<'a> {
+    calls: &'a [u64],
+    writes: &'a [u64],
+    records: u64,
+}
+
+const SOUND: Case<'static> = Case {
+    calls: &[],
+    writes: &[],
+    records: 1_000,
+};
+
+// Serves so many frames that stand there at once: how it ended, what closing gave, and what was written.
+fn served<R: Abort + Wait>(
+    rt: &R,
+    alloc: Global,
+    count: u64,
+    case: &Case,
+) -> (LineEnd, GroupClosed<MemDisk>, MemPort) {
+    let failing = case.calls.to_vec(alloc).expect(rt, "memory");
+    let disk = MemDisk::new(alloc, failing);
+    let limits = Limits {
+        records: case.records,
+        ..SHIPPED
+    };
+    let blank = blank_of(rt, alloc, disk, limits, SETUP);
+    let input = frames(rt, alloc, count, false);
+    let mut port = failing_port(alloc, &input, &[], case.writes).expect(rt, "memory");
+    let name = Txt::of(b"tcp").expect(rt, "a name");
+    let (end, closed) = serve_at::<Brand, MemPort, R>(rt, alloc, blank, &mut port, &name);
+    (end, closed, port)
+}
+
+// The replies of the first of the frames, so many, were written.
+fn compare_text(rt: &impl Abort, alloc: Global, port: &MemPort, count: u64) {
+    let due = frames(rt, alloc, count, true);
+    same(rt, port.sink.bytes(), due.as_slice(), "written");
+}
+
+// The disk of a gate that was closed, whole or not.
+fn disk_of(rt: &impl Abort, closed: GroupClosed<MemDisk>, is_whole: bool) -> MemDisk {
+    let (disk, was_whole) = match closed {
+        GroupClosed::Whole(store) => (store.close(), true),
+        GroupClosed::Broken { disk, .. } => (disk, false),
+    };
+    same(rt, was_whole, is_whole, "whole");
+    disk
+}
+
+// What a stop within a call of the disk leaves.
+fn stopped_at(rt: &impl Abort, alloc: Global, disk: &MemDisk, call: u64, fill: Fill) -> MemDisk {
+    assert!(rt; 1 <= call && call <= disk.calls(), "no such call");
+    disk.stopped(alloc, call, fill).expect(rt, "memory")
+}
+
+#[test]
+fn ten_frames_share_two_writes_and_two_syncs(rt: HostRuntime) {
+    let alloc = rt.alloc();
+    let (end, closed, port) = served(&rt, alloc, 10, &SOUND);
+    same(&rt, end, LineEnd::InputEnded, "the end");
+    compare_text(&rt, alloc, &port, 10);
+    let disk = disk_of(&rt, closed, true);
+    same(&rt, disk.calls(), BEGUN + 4, "calls of the disk");
+    for call in BEGUN + 1..BEGUN + 5 {
+        for fill in [Fill::Old, Fill::New] {
+            let stopped = stopped_at(&rt, alloc, &disk, call, fill);
+            let found = recorded(alloc, stopped).expect(&rt, "opened");
+            holds(&rt, found == 2 || found == 12, "none of the ten or all");
+        }
+    }
+}
+
+#[test]
+fn more_frames_than_a_batch_has_take_several(rt: HostRuntime) {
+    let alloc = rt.alloc();
+    // a read gives 83 whole frames: 64 and 19 of them, and then 17
+    let (end, closed, port) = served(&rt, alloc, 100, &SOUND);
+    same(&rt, end, LineEnd::InputEnded, "the end");
+    compare_text(&rt, alloc, &port, 100);
+    let disk = disk_of(&rt, closed, true);
+    same(&rt, disk.calls(), BEGUN + 12, "calls of the disk");
+}
+
+#[test]
+fn a_short_journal_takes_ten_frames(rt: HostRuntime) {
+    let alloc = rt.alloc();
+    let case = Case {
+        records: 5,
+        ..SOUND
+    };
+    let (end, closed, port) = served(&rt, alloc, 10, &case);
+    same(&rt, end, LineEnd::InputEnded, "the end");
+    compare_text(&rt, alloc, &port, 10);
+    drop(disk_of(&rt, closed, true));
+}
+
+#[test]
+fn a_disk_that_fails_acknowledges_none_of_ten(rt: HostRuntime) {
+    let alloc = rt.alloc();
+    for call in BEGUN + 1..BEGUN + 5 {
+        let calls = [call];
+        let case = Case {
+            calls: &calls,
+            ..SOUND
+        };
+        let (end, closed, port) = served(&rt, alloc, 10, &case);
+        let down = Stop::Down { at_open: 0, now: 1 };
+        same(&rt, end, LineEnd::Stopped(down), "the end");
+        compare_text(&rt, alloc, &port, 0);
+        let disk = disk_of(&rt, closed, false);
+        let found = recorded(alloc, disk).expect(&rt, "opened");
+        holds(&rt, found == 2 || found == 12, "none of the ten or all");
+    }
+}
+
+#[test]
+fn a_reply_that_fails_leaves_all_ten_recorded(rt: HostRuntime) {
+    let alloc = rt.alloc();
+    let case = Case {
+        writes: &[4],
+        ..SOUND
+    };
+    let (end, closed, port) = served(&rt, alloc, 10, &case);
+    same(&rt, end, LineEnd::WriteFault, "the end");
+    compare_text(&rt, alloc, &port, 3);
+    let disk = disk_of(&rt, closed, true);
+    let found = recorded(alloc, disk).expect(&rt, "opened");
+    same(&rt, found, 12, "recorded");
+}
