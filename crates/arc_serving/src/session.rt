@@ -1,12 +1,12 @@
 // One session over a hall, of either kind.
-ghost use Rattle.std.specs.Prelude.{◌≡◌, ◌≤◌, [], true, false, Some, List, ℕ};
+ghost use Rattle.std.specs.Prelude.{◌≡◌, ◌≤◌, [], true, false, List, ℕ};
 ghost use Rattle.arc_data.specs.Digits.{is_name};
 ghost use Rattle.arc_io.specs.Causes.{Rose};
 ghost use Rattle.centre_core.specs.Halls.{IsKept};
 ghost use Rattle.centre_rules.specs.Summary.{Summary};
 ghost use Rattle.centre_rules.specs.History.{Entry};
 ghost use Rattle.session_rules.specs.Sessions.{changed, Goes};
-ghost use Rattle.arc_serving.specs.Sessions.{Reads, Serves, ShowsEnd, line_end};
+ghost use Rattle.arc_serving.specs.Sessions.{Reads, Serves, ShowsEnd};
 
 use crate::side::Side;
 use arc_data::Txt;
@@ -76,14 +76,7 @@ fn serve_one_line<H: Hall, P: Port>(
     ensures write { result ≡ SessionEnd.WriteFault → Rose (P.seen port.old).write_faults (P.seen port.new).write_faults }
     ensures kept { IsKept (H.seen hall.old) (H.seen hall.new) }
 {
-    session_end(serve_line(alloc, hall, port, name))
-}
-
-/// The end of a line as that of a session.
-pub(crate) fn session_end(end: LineEnd) -> SessionEnd
-    ensures { line_end result ≡ Some end }
-{
-    match end {
+    match serve_line(alloc, hall, port, name) {
         LineEnd::InputEnded => SessionEnd::InputEnded,
         LineEnd::ReadFault => SessionEnd::ReadFault,
         LineEnd::WriteFault => SessionEnd::WriteFault,

@@ -18,4 +18,3 @@ pub mod Apart
 pub mod RowsPut
 pub mod Tests
 pub mod Decoded
-pub mod Batches

@@ -142,7 +142,7 @@ impl Hall for RamHall {
         }
         match self.centre.prepare(alloc, event, clock) {
             Ok(ready) => Ok(self.centre.apply(ready)),
-            Err(_) => Err(Stop::Memory),
+            Err(Memory) => Err(Stop::Memory),
         }
     }
 

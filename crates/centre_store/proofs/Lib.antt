@@ -6,9 +6,6 @@ pub mod Holding
 pub mod NextSummary
 pub mod Written
 pub mod Entered
-pub mod Groups
-pub mod Together
-pub mod Filled
 pub mod Followed
 pub mod Checkpoints
 pub mod Ordered
@@ -27,5 +24,3 @@ pub mod Remains
 pub mod RunOfCalls
 pub mod Lived
 pub mod Ideal
-pub mod Batches
-pub mod Gathered

@@ -2,7 +2,6 @@
 
 mod checkpoints;
 mod following;
-mod groups;
 mod moving;
 mod opening;
 mod schedules;

@@ -10,4 +10,3 @@ pub mod Passes
 pub mod UnderLock
 pub mod Blanks
 pub mod AtGates
-pub mod Groups

@@ -1,5 +1,4 @@
 // The calls of a gate, in one thread.
-ghost use Rattle.std.specs.Prelude.{◌≡◌, false};
 ghost use Rattle.arc_data.specs.WellFormed.{IsWellFormed};
 ghost use Rattle.centre_core.specs.Runs.{IsSubmitted};
 ghost use Rattle.line_gate.specs.Blanks.{Names};
@@ -58,8 +57,7 @@ fn meet_another<R: Abort + Wait, D: Disk + Drop, N: GateName>(
     alloc: Global,
     blank: Blank<D>,
 ) -> (Done, Done, u64)
-    requires names { Names D.seen N.terms blank }
-    requires single { N.terms.groups ≡ false }
+    requires { Names D.seen N.terms blank }
 {
     let (gate, mut first) = Gate::<D, N>::new(blank);
     let (taken, listed) = split_and_meet(rt, alloc, &gate, &mut first);
@@ -126,8 +124,7 @@ fn submit_two<R: Abort + Wait, D: Disk + Drop, N: GateName>(
     alloc: Global,
     blank: Blank<D>,
 ) -> (Option<Stop>, Option<Stop>, u64)
-    requires names { Names D.seen N.terms blank }
-    requires single { N.terms.groups ≡ false }
+    requires { Names D.seen N.terms blank }
 {
     let (gate, mut first) = Gate::<D, N>::new(blank);
     let (one, other) = submit_both(rt, alloc, &gate, &mut first);

@@ -1,0 +1,16 @@
+use Rattle.line_gate.proofs.Carried.{later_further}
+use Rattle.arc_serving.proofs.Seats.{unseated_later}
+use Rattle.arc_serving.proofs.closing.close.Goals as goal
+
+-- what the pass took in of lines it still has when it has taken in those of desks
+pub returns-clause-closes : goal.returns-clause-closes
+returns-clause-closes g c =
+    let lines = c.unseat-lines in
+    let desks = c.unseat-desks in
+    let closed = c.close.ensures in record {
+      last = desks.new.first;
+      later = later_further c.args.first lines.new.first desks.new.first lines.ensures.later desks.ensures.later;
+      lines_over = unseated_later lines.new.first desks.new.first c.args.lines.jobs.items _ _ desks.ensures.later lines.ensures.unseated;
+      desks_over = desks.ensures.unseated;
+      closed = record { stands = closed.stands; told_is = closed.told; at_open = closed.at_open; limits = closed.limits; text = closed.text };
+    }
