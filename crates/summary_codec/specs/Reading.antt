@@ -168,9 +168,9 @@ incident_of_parts p = record {
 
 unfoldable pub incident_at : ℕ → Reading Incident
 incident_at version = made_at incident_of_parts (pair_at (number_at w64) (λ n. pair_at account_at (λ account.
-    pair_at (coded_at class_of) (λ class. pair_at code_text_at (λ code. pair_at (line_text_at version code) (λ via. pair_at (number_at w64) (λ at.
-    pair_at (number_at w64) (λ signals. pair_at (coded_at truth_of) (λ restored. pair_at holding_at (λ holding.
-    pair_at (few_at 10 (coded_at step_of)) (λ steps. few_at 10 acted_at)))))))))))
+    pair_at (coded_at class_of) (λ class. pair_at code_text_at (λ code. pair_at (line_text_at version code) (λ via.
+    pair_at (number_at w64) (λ at. pair_at (number_at w64) (λ signals. pair_at (coded_at truth_of) (λ restored.
+    pair_at holding_at (λ holding. pair_at (few_at 10 (coded_at step_of)) (λ steps. few_at 10 acted_at)))))))))))
 
 -- The whole.
 
@@ -197,5 +197,6 @@ summary_of_parts p = (
 
 unfoldable pub summary_at : ℕ → Reading (ℕ × Summary)
 summary_at version = made_at summary_of_parts (pair_at tag_at (λ tag. pair_at (number_at w64) (λ generation.
-    pair_at (number_at w64) (λ last. pair_at (number_at w64) (λ recorded. pair_at (number_at w64) (λ opened. pair_at (option_at (number_at w64)) (λ start.
-    pair_at (option_at (long_at w32 4194304)) (λ text. pair_at (many_at row_at) (λ rows. many_at (incident_at version))))))))))
+    pair_at (number_at w64) (λ last. pair_at (number_at w64) (λ recorded. pair_at (number_at w64) (λ opened.
+    pair_at (option_at (number_at w64)) (λ start. pair_at (option_at (long_at w32 4194304)) (λ text.
+    pair_at (many_at row_at) (λ rows. many_at (incident_at version))))))))))

@@ -95,11 +95,12 @@ pub record MaySpell (generation : ℕ) (t : Summary) : Type 0 where
   pub few_rows : length t.rows < 2 ^ 32
   pub few_incidents : length t.incidents < 2 ^ 32
 
--- over one that has a spelling in a version, the summary of a legal history has one in version 2, in which it is written; and the empty one,
--- over which the first history is, has one in both
+-- over one that has a spelling in a version, the summary of a legal history has one in version 2, in which it is written; and the empty
+-- one, over which the first history is, has one in both
 abbrev pub SummariesAreSpelled : Type 0
-SummariesAreSpelled = (version generation other : ℕ) (s : Summary) (h : List Entry) → HasFields generation s → IsSummary version generation s
-    → IsLegal s h → MaySpell other (summary_of s h) → IsSpelling 2 other (summary_of s h) (summary_text 2 other (summary_of s h))
+SummariesAreSpelled = (version generation other : ℕ) (s : Summary) (h : List Entry) → HasFields generation s
+    → IsSummary version generation s → IsLegal s h → MaySpell other (summary_of s h)
+    → IsSpelling 2 other (summary_of s h) (summary_text 2 other (summary_of s h))
 
 -- where its bytes are fewer than 2^32, four bytes hold the counts of its rows and of its incidents
 pub record AreFew (s : Summary) : Type 0 where
