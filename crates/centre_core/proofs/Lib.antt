@@ -18,3 +18,4 @@ pub mod Apart
 pub mod RowsPut
 pub mod Tests
 pub mod Decoded
+pub mod Batches

@@ -10,6 +10,8 @@ pub mod Kept
 pub mod Raised
 pub mod Halls
 pub mod Runs
+pub mod Batches
+pub mod GroupHalls
 pub mod Setting
 pub mod InForce
 pub mod Summing

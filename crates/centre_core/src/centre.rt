@@ -1,15 +1,16 @@
 // What is kept of a history.
-ghost use Rattle.std.specs.Prelude.{◌≡◌, ◌≤◌, ◌<◌, ◌^◌, ◌∷◌, [], List, ℕ, IfOk, max};
+ghost use Rattle.std.specs.Prelude.{◌≡◌, ◌≤◌, ◌<◌, ◌^◌, ◌∷◌, [], List, ℕ, true, IfOk, IfErr, max};
 ghost use Rattle.std.specs.Option.{option_map};
 ghost use Rattle.arc_data.specs.WellFormed.{IsWellFormed};
 ghost use Rattle.centre_rules.specs.Summary.{Summary, nothing};
-ghost use Rattle.centre_rules.specs.History.{Entry, moment_after, IsMoment};
+ghost use Rattle.centre_rules.specs.History.{Entry, moment_after, is_recorded, IsMoment};
 ghost use Rattle.centre_rules.specs.Answers.{answer};
 ghost use Rattle.centre_rules.specs.State.{StandsFor, Grows, entry_of};
-ghost use Rattle.centre_core.specs.Kept.{MayRecord, Records, IsAdopted, NoLess, needed};
+ghost use Rattle.centre_core.specs.Kept.{MayRecord, Records, IsAdopted, IsWorked, HasRoomFor, NoLess, needed};
 
+use crate::answers::Worked;
 use crate::marks::mark;
-use crate::ready::{Done, Ready};
+use crate::ready::{Done, Ready, Unready};
 use accounts::Setup;
 use arc_data::{Carried, Event, Memory, Reply, SetupFault};
 use centre_rules::is_recorded;
@@ -110,8 +111,8 @@ impl Centre {
 
     /// Works out the answer to an event that is submitted at a reading of the clock (seconds since 1970), and takes all
     /// the memory that applying it needs, for no more accounts than lack a row. What is kept stays, and there is never less room
-    /// than before. The error is want of memory.
-    pub fn prepare(&mut self, alloc: Global, event: Event, clock: u64) -> Result<Ready, Memory>
+    /// than before. The error is want of memory, and gives the event back.
+    pub fn prepare(&mut self, alloc: Global, event: Event, clock: u64) -> Result<Ready, Unready>
         requires formed { IsWellFormed event }
         requires clock { IsMoment clock }
         requires few { self.old.entries < 2 ^ 48 }
@@ -124,21 +125,45 @@ impl Centre {
         ensures event { IfOk result (λ r. r.event ≡ event) }
         ensures at { IfOk result (λ r. (b : Summary) (h : List Entry) → StandsFor b self.new h → r.at ≡ moment_after b h clock) }
         ensures reply { IfOk result (λ r. (b : Summary) (h : List Entry) → StandsFor b self.new h → r.reply ≡ answer b h event r.at) }
+        ensures back { IfErr result (λ u. u.event ≡ event) }
     {
         let at = clock.max(self.last);
-        let setup = adopted(alloc, &event)?;
-        let worked = self.work_out(alloc, &event, &setup, at)?;
-        if is_recorded(&worked.reply) {
-            self.reserve(alloc, &event, &worked.carried)?;
+        match self.take_memory(alloc, &event, at) {
+            Ok((setup, worked)) => Ok(Ready {
+                event,
+                at,
+                reply: worked.reply,
+                setup,
+                carried: worked.carried,
+                of: Snapshot::of(self),
+            }),
+            Err(Memory) => Err(Unready { event }),
         }
-        Ok(Ready {
-            event,
-            at,
-            reply: worked.reply,
-            setup,
-            carried: worked.carried,
-            of: Snapshot::of(self),
-        })
+    }
+
+    // Reads the setup of an Adopt, works out the answer to an event at a moment, and takes the memory that applying it needs. The error is
+    // want of memory.
+    fn take_memory(
+        &mut self,
+        alloc: Global,
+        event: &Event,
+        at: u64,
+    ) -> Result<(Option<WatchedSetup>, Worked), Memory>
+        requires { IsMoment at }
+        ensures entries { self.new.entries ≡ self.old.entries }
+        ensures sum { self.new.sum ≡ self.old.sum }
+        ensures rooms { NoLess self.old.rooms self.new.rooms }
+        ensures most { self.new.rooms.accounts ≤ max self.old.rooms.accounts (needed self.old.sum event.now at) }
+        ensures adopted { IfOk result (λ made. IsAdopted event.now made.0) }
+        ensures worked { IfOk result (λ made. IsWorked self.new.sum event.now at made.1.reply made.1.carried.items) }
+        ensures room { IfOk result (λ made. is_recorded made.1.reply ≡ true → HasRoomFor event.now made.1.carried.items self.new) }
+    {
+        let setup = adopted(alloc, event)?;
+        let worked = self.work_out(alloc, event, &setup, at)?;
+        if is_recorded(&worked.reply) {
+            self.reserve(alloc, event, &worked.carried)?;
+        }
+        Ok((setup, worked))
     }
 
     /// Makes the entry that was worked out. What is kept must be as it was then, and there may be more room; so other

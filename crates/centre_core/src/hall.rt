@@ -142,7 +142,7 @@ impl Hall for RamHall {
         }
         match self.centre.prepare(alloc, event, clock) {
             Ok(ready) => Ok(self.centre.apply(ready)),
-            Err(Memory) => Err(Stop::Memory),
+            Err(_) => Err(Stop::Memory),
         }
     }
 

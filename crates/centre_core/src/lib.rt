@@ -3,11 +3,13 @@
 #![tactic(auto)]
 
 mod answers;
+mod batch;
 mod carrying;
 mod centre;
 mod conditions;
 mod copying;
 mod decoding;
+mod group_hall;
 mod hall;
 mod holding;
 mod marks;
@@ -18,8 +20,10 @@ mod summing;
 
 pub use accounts::Setup;
 pub use arc_data::{Blob, Event, Memory, Message, Reply, Token};
+pub use batch::{Batch, Dones, Grouped, Submission};
 pub use centre::Centre;
 pub use decoding::decode_summary;
+pub use group_hall::GroupHall;
 pub use hall::{Hall, RamHall, Stop};
 pub use incidents::Table;
-pub use ready::{Done, Ready};
+pub use ready::{Done, Ready, Unready};

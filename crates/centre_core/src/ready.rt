@@ -4,9 +4,10 @@ ghost use Rattle.centre_rules.specs.Carrying.{carried_by};
 ghost use Rattle.centre_rules.specs.History.{is_recorded, IsMoment};
 
 use crate::centre::Centre;
-use arc_data::{Carried, Event, Reply};
+use arc_data::{Carried, Event, Memory, Reply};
 use centre_rules::is_recorded;
 use known_accounts::WatchedSetup;
+use std::fmt;
 use std::marker::Model;
 use std::snapshot::Snapshot;
 
@@ -73,14 +74,41 @@ impl Ready {
 
     /// Gives the answer up. The centre stays as it was.
     pub fn discard(self) {
+        let _ = self.into_event();
+    }
+
+    /// Gives the answer up, and the event back. The centre stays as it was.
+    pub fn into_event(self) -> Event
+        ensures { result ≡ self.event }
+    {
         let Ready {
-            event: _,
+            event,
             at: _,
             reply: _,
             setup: _,
             carried: _,
             of: _,
         } = self;
+        event
+    }
+}
+
+/// An event for which there was no memory; it comes back.
+#[derive(Drop)]
+pub struct Unready {
+    pub event: Event,
+}
+
+impl fmt::Debug for Unready {
+    fn fmt<W: fmt::Write>(&self, f: &mut fmt::Formatter<W>) -> fmt::Result {
+        f.write_str("Unready")
+    }
+}
+
+// Who has no use for the event is told of the want of memory alone.
+impl From<Unready> for Memory {
+    fn from(_: Unready) -> Memory {
+        Memory
     }
 }
 

@@ -17,7 +17,7 @@ use Rattle.disk_journal.specs.declared.journal.Journal.{Journal}
 use Rattle.event_codec.specs.Spelling.{HasSpelling, spelling}
 use Rattle.centre_store.specs.Bodies.{need_of}
 use Rattle.centre_store.specs.Given.{IsGiven, StandForEither, HoldsRecorded, HasEither}
-use Rattle.centre_store.specs.Stores.{Stored, HasFailed, IsTorn, StoreStands, Takes, IsToRecord, IsDown, IsSameJournal, IsShownFull, Shows}
+use Rattle.centre_store.specs.Stores.{Stored, HasFailed, IsTorn, StoreStands, StandsForSome, IsStored, Takes, IsToRecord, IsDown, IsSameJournal, IsShownFull, Shows}
 use Rattle.centre_store.specs.Writes.{HaveAll, IsFullAt, IsOverAt, IsOverThen, IsUnwritten}
 use Rattle.centre_store.proofs.Holding.{recorded_quiet, recorded_same, recorded_there, recorded_or, still_stands}
 use Rattle.centre_store.proofs.Written.{run_either, same_back}
@@ -110,6 +110,11 @@ module _ {D : Type 0} (seen : D → DiskSeen) where
     takes_quiet t clock caller event at reply p event_is at_is reply_is moment entry quiet =
         takes b t j n h clock caller event at reply p event_is at_is reply_is (moment kept) was.given (entry kept)
         (recorded_quiet seen j b h (entry_of caller p) quiet holds)
+
+  -- what a store in these parts stands for, while the disk has not failed
+  pub some_of : (old : Stored D) (s : State) (j : Journal D) (n : ℕ) → stored s j n ≡ old → IsStored seen (stored s j n) → (HasFailed seen old → ⊥)
+      → StandsForSome seen (stored s j n)
+  some_of old s j n is kept up = kept.some (λ f. up (subst (λ (x : Stored D). HasFailed seen x) is f))
 
   -- a store as it stands between, where what the centre stands for stays
   pub between : (b : Summary) (old : Stored D) (s r : State) (j : Journal D) (n : ℕ) (h : List Entry) → stored s j n ≡ old

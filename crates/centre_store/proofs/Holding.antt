@@ -149,7 +149,7 @@ turned_two b h areas (inr new) = new
 
 -- What is told.
 
-told_map : (P : Areas → Areas → Type 0) (Q : Areas → Type 0) (told now : Option Areas) → Becomes told now P → ((s t : Areas) → P s t → Q t) → IfSome now Q
+pub told_map : (P : Areas → Areas → Type 0) (Q : Areas → Type 0) (told now : Option Areas) → Becomes told now P → ((s t : Areas) → P s t → Q t) → IfSome now Q
 told_map P Q None None is so = tt
 told_map P Q None (Some t) is so = absurd is
 told_map P Q (Some s) None is so = absurd is

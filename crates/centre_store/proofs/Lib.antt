@@ -6,6 +6,9 @@ pub mod Holding
 pub mod NextSummary
 pub mod Written
 pub mod Entered
+pub mod Groups
+pub mod Together
+pub mod Filled
 pub mod Followed
 pub mod Checkpoints
 pub mod Ordered
@@ -24,3 +27,5 @@ pub mod Remains
 pub mod RunOfCalls
 pub mod Lived
 pub mod Ideal
+pub mod Batches
+pub mod Gathered

@@ -10,6 +10,7 @@ use Rattle.centre_rules.specs.Summary.{Summary}
 use Rattle.centre_rules.specs.Answers.{answer}
 use Rattle.centre_rules.specs.History.{Entry, Extends, IsMoment, moment_after}
 use Rattle.event_codec.specs.Spelling.{spelling}
+pub use Rattle.centre_core.specs.declared.batch.Submission.{Submission}
 use Rattle.centre_store.specs.Given.{StandForIn, StandForEither, HasEither}
 use Rattle.centre_store.specs.Stores.{Stored, HasFailed, StoreStands, Takes, IsToRecord, IsSameJournal}
 
@@ -35,11 +36,6 @@ pub record Enters {D : Type 0} (seen : D → DiskSeen) (old new : Stored D) (eve
   pub up : HasFailed seen new → ⊥
 
 -- A run of calls.
-
--- an event that is submitted at a reading of the clock
-pub record Submission : Type 0 where
-  pub event : Event
-  pub clock : ℕ
 
 -- its entry after a history: the answer of one thread
 abbrev pub entry_after : Summary → List Entry → Event → ℕ → Entry

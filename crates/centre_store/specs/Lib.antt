@@ -16,5 +16,7 @@ pub mod Openings
 pub mod Begins
 pub mod StoreHalls
 pub mod Calls
+pub mod Groups
+pub mod Gathered
 pub mod Lives
 pub mod Followings

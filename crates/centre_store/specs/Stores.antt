@@ -1,5 +1,5 @@
 -- What a store stands for, what a call of it does, and what it shows after a stop.
-use Rattle.std.specs.Prelude.{◌≡◌, ◌≤◌, ◌⊎◌, ◌^◌, ℕ, List, ◌∷◌, true, Result, OnErr, IfErr}
+use Rattle.std.specs.Prelude.{◌≡◌, ◌≤◌, ◌⊎◌, ◌^◌, ℕ, List, ◌∷◌, true, Result, Ok, Err, OnErr, IfErr}
 use Rattle.arc_data.specs.declared.event.Event.{Event}
 use Rattle.arc_io.specs.Disks.{DiskSeen}
 use Rattle.arc_io.specs.Causes.{Rose}
@@ -7,6 +7,7 @@ use Rattle.centre_rules.specs.Summary.{Summary}
 use Rattle.centre_rules.specs.History.{Entry, moment_after, is_recorded}
 use Rattle.centre_rules.specs.Answers.{IsNext, answer}
 use Rattle.centre_rules.specs.State.{State, StandsFor}
+pub use Rattle.centre_core.specs.Batches.{IsDown}
 use Rattle.centre_core.specs.declared.hall.Stop.{Stop}
 use Rattle.centre_core.specs.declared.hall.Stop.TheVariants.{Memory, Down, Full, Worn}
 use Rattle.disk_journal.specs.Faults.{IsOver}
@@ -50,12 +51,17 @@ pub record StoreStands {D : Type 0} (seen : D → DiskSeen) (b : Summary) (s : S
 abbrev pub StandsOn : {D : Type 0} → (D → DiskSeen) → Stored D → Stored D → Type 0
 StandsOn seen old new = (b : Summary) (h : List Entry) → StoreStands seen b old h → StoreStands seen b new h
 
--- every store stands for some history over some beginning, has at most 2^48 entries, and the count of the disk's faults is at least that
--- at opening
-pub record IsStored {D : Type 0} (seen : D → DiskSeen) (s : Stored D) : Type 0 where
+-- it stands for some history over some beginning
+pub record StandsForSome {D : Type 0} (seen : D → DiskSeen) (s : Stored D) : Type 0 where
   pub base : Summary
   pub history : List Entry
   pub stands : StoreStands seen base s history
+
+-- Every store stands for some history over some beginning, unless the disk has failed since the opening: its centre may then have entries
+-- whose records, written together, the disk has or not. It has at most 2^48 entries, and the count of the disk's faults is at least that at
+-- opening.
+pub record IsStored {D : Type 0} (seen : D → DiskSeen) (s : Stored D) : Type 0 where
+  pub some : (HasFailed seen s → ⊥) → StandsForSome seen s
   pub few : s.state.entries ≤ 2 ^ 48
   pub later : s.at_open ≤ (seen s.journal.disk).faults
 
@@ -94,10 +100,10 @@ Shows seen s (Down at_open now) event clock =
 Shows seen s (Full used need records) event clock = IsShownFull seen s used need records event clock
 Shows seen s (Worn count) event clock = (count ≡ s.state.entries) × (2 ^ 48 ≤ count)
 
--- the stop is Down
-abbrev pub IsDown : Stop → Type 0
-IsDown (Down at_open now) = Unit {0}
-IsDown stop = ⊥
+-- what is answered, where a stop comes with something that is given back
+abbrev pub stop_of : {A B : Type 0} → Result A (Stop × B) → Result A Stop
+stop_of (Ok x) = Ok x
+stop_of (Err e) = Err e.0
 
 -- the same but for the journal's room
 abbrev pub IsSameJournal : {D : Type 0} → Journal D → Journal D → Type 0

@@ -59,6 +59,15 @@ impl<D: Disk> Store<D> {
         self.at_open
     }
 
+    /// The counts of the disk's faults at the opening and now. It takes no memory.
+    pub fn counts(&self) -> (u64, u64)
+        ensures at_open { result.0 ≡ self.now.at_open }
+        ensures now { result.1 ≡ (D.seen self.now.journal.disk).faults }
+        ensures later { result.0 ≤ result.1 }
+    {
+        (self.at_open, self.journal.disk().faults())
+    }
+
     /// Whether the disk has failed since the opening.
     pub fn has_failed(&self) -> bool
         ensures { IsTrue result ↔ HasFailed D.seen self.now }

@@ -16,7 +16,7 @@ ghost use Rattle.centre_store.specs.Given.{StandForEither, HoldsRecorded, HasEit
 ghost use Rattle.centre_store.specs.Calls.{Submits, Enters};
 ghost use Rattle.centre_store.specs.StoreHalls.{is_told};
 ghost use Rattle.centre_store.specs.Stores.{HasFailed, IsStored, StoreStands, StandsOn, Takes, Shows};
-ghost use Rattle.centre_store.specs.Stores.{IsSameJournal, LeavesJournal, IsAsBefore, IsToRecord};
+ghost use Rattle.centre_store.specs.Stores.{IsSameJournal, LeavesJournal, IsAsBefore, IsToRecord, stop_of};
 ghost use Rattle.centre_store.specs.Orders.{IsDownWhereFailed, IsWornFirst, IsFullThen, StopsInOrder};
 ghost use Rattle.centre_store.specs.Writes.{HaveAll, HaveSome, IsOverAt, IsOverThen, IsWrittenOn, IsUnwritten};
 ghost use Rattle.centre_store.specs.Begins.{begun_after, adopted_after, is_in_force, IsAdoptWritten, LeavesWithin, TellsWithin, ShowsOfBegin, BeginsInOrder};
@@ -31,7 +31,7 @@ use event_codec::encode;
 use std::alloc::Global;
 
 // How many entries a store takes at most.
-const MOST_ENTRIES: u64 = 1 << 48;
+pub(crate) const MOST_ENTRIES: u64 = 1 << 48;
 
 impl<D: Disk> Store<D> {
     /// Begins a run at a reading of the clock (seconds since 1970): an Adopt of the setup's text, where another text is in force or none, and
@@ -270,6 +270,56 @@ impl<D: Disk> Store<D> {
         ensures later { (D.seen self.old.journal.disk).faults ≤ (D.seen self.new.journal.disk).faults }
         ensures met_none { OnOk result ((D.seen self.new.journal.disk).faults ≡ (D.seen self.old.journal.disk).faults) }
     {
+        match self.commit_or_return(alloc, ready) {
+            Ok(done) => Ok(done),
+            Err((stop, event)) => {
+                drop(event);
+                Err(stop)
+            }
+        }
+    }
+
+    // Likewise, and where it stops, it gives the event back.
+    pub(crate) fn commit_or_return(
+        &mut self,
+        alloc: Global,
+        ready: Ready,
+    ) -> Result<Done, (Stop, Event)>
+        requires up { HasFailed D.seen self.old → ⊥ }
+        requires few { self.old.state.entries < 2 ^ 48 }
+        requires made { ready.of ≡ self.old.state }
+        requires next { (b : Summary) (h : List Entry) → StandsFor b self.old.state h → IsNext b h (entry_of 0 ready) }
+        requires recorded { is_recorded ready.reply ≡ true }
+
+        ensures done { IfOk result (λ d. (d.at ≡ ready.at) × (d.reply ≡ ready.reply)) }
+        ensures taken { OnOk result ((b : Summary) (h : List Entry) (caller : ℕ) → StoreStands D.seen b self.old h
+            → StoreStands D.seen b self.new (entry_of caller ready ∷ h)) }
+        ensures grows { OnOk result (Grows self.old.state self.new.state (entry_of 0 ready)) }
+        ensures written { OnOk result ((b : Summary) (h : List Entry) → StoreStands D.seen b self.old h
+            → IsWrittenOn self.old.journal self.new.journal (summed_size b h) (need_of ready.event)) }
+        ensures spelled { HasSpelling ready.event ready.at }
+
+        ensures back { IfErr result (λ e. e.1 ≡ ready.event) }
+        ensures stop { OnErr result (StandsOn D.seen self.old self.new) }
+        ensures state { OnErr result (self.new.state ≡ self.old.state) }
+        ensures cause { IfErr result (λ e. IsUnwritten D.seen self.old.at_open self.old.journal self.new.journal self.old.state
+            (need_of ready.event) e.0) }
+        ensures unwritten { LeavesJournal self.old.journal self.new.journal (stop_of result) }
+        ensures down { IsDownWhereFailed D.seen self.new (stop_of result) }
+        ensures full { (b : Summary) (h : List Entry) → StoreStands D.seen b self.old h
+            → IsOverAt self.old.journal (need_of ready.event) → IsOverThen self.old.journal (summed_size b h) (need_of ready.event)
+            → (stop_of result ≡ Err Stop.Memory) ⊎ (stop_of result ≡ Err (Stop.Full (summed_size b h) (need_of ready.event) 0)) }
+
+        ensures any_moment { (b : Summary) (h : List Entry) → StoreStands D.seen b self.old h
+            → LeavesOnly (D.seen self.old.journal.disk) (D.seen self.new.journal.disk) (StandForEither b h (spelling ready.event ready.at)) }
+        ensures met { (b : Summary) (h : List Entry) → StoreStands D.seen b self.old h
+            → HasEither (D.seen self.new.journal.disk) b h (spelling ready.event ready.at) }
+        ensures tells { is_told (D.seen self.new.journal.disk).told ≡ is_told (D.seen self.old.journal.disk).told }
+        ensures at_open { self.new.at_open ≡ self.old.at_open }
+        ensures limits { self.new.journal.limits ≡ self.old.journal.limits }
+        ensures later { (D.seen self.old.journal.disk).faults ≤ (D.seen self.new.journal.disk).faults }
+        ensures met_none { OnOk result ((D.seen self.new.journal.disk).faults ≡ (D.seen self.old.journal.disk).faults) }
+    {
         match write(
             alloc,
             &mut self.journal,
@@ -280,8 +330,8 @@ impl<D: Disk> Store<D> {
         ) {
             Ok(()) => Ok(self.centre.apply(ready)),
             Err(stop) => {
-                ready.discard();
-                Err(stop)
+                let event = ready.into_event();
+                Err((stop, event))
             }
         }
     }

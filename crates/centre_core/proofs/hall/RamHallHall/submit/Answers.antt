@@ -54,8 +54,8 @@ returns-then-count-clause-stop c b h s = record {
   cause = record { shown = search rules; torn = λ up. tt };
 }
 
-pub returns-in-Err-clause-stop : goal.returns-in-Err-clause-stop
-returns-in-Err-clause-stop c b h s =
+pub returns-clause-stop : goal.returns-clause-stop
+returns-clause-stop c b h s =
     let kept = c.in-Err.ensures.stays b h (subst (λ (x : State). StandsFor b x h) (sym c.self.view_is) s.stands) in
     let text = ap (λ (x : Summary). x.text) c.in-Err.ensures.sum ∙ ap (λ (x : State). x.sum.text) c.self.view_is in
     record {

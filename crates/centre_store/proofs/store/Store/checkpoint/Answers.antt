@@ -4,35 +4,37 @@ use Rattle.centre_core.specs.declared.hall.Stop.TheVariants.{Full}
 use Rattle.centre_store.specs.Stores.{Stored, HasFailed}
 use Rattle.centre_store.specs.Writes.{IsSummedUp, IsSummedSize, IsUnmade}
 use Rattle.centre_store.proofs.Checkpoints.{whole, stands_summed, summed_moments, size_is, unmade}
-use Rattle.centre_store.proofs.Entered.{held}
+use Rattle.centre_store.proofs.Entered.{held, some_of}
 use Rattle.centre_store.proofs.Holding.{recorded_there, still_stands}
 use Rattle.centre_store.proofs.Written.{ok_map}
 use Rattle.centre_store.proofs.store.Store.checkpoint.Goals as goal
 
 pub next_summary-requires-clause-had : goal.next_summary-requires-clause-had
 next_summary-requires-clause-had g c =
-    let b = c.self.invariant.base in
-    let h = c.self.invariant.history in
+    let some = some_of g.D.Disk.seen c.args.self.now c.self.inside.centre c.self.inside.journal c.self.inside.at_open c.self.view_is c.self.invariant c.in_ok-check_disk.ensures.up in
+    let b = some.base in
+    let h = some.history in
     let up = λ (f : HasFailed g.D.Disk.seen (record { state = c.self.inside.centre; journal = c.self.inside.journal; at_open = c.self.inside.at_open })).
     c.in_ok-check_disk.ensures.up (subst (λ (x : Stored g.row.D.Denot). HasFailed g.D.Disk.seen x) c.self.view_is f) in
     record {
       base = b;
       history = h;
       all = whole g.D.Disk.seen (record { state = c.self.inside.centre; journal = c.self.inside.journal; at_open = c.self.inside.at_open })
-          c.self.inside.centre c.self.inside.journal c.self.inside.at_open refl up b h c.self.invariant.stands;
+          c.self.inside.centre c.self.inside.journal c.self.inside.at_open refl up b h some.stands;
     }
 
 pub sum_up-requires-clause-had : goal.sum_up-requires-clause-had
 sum_up-requires-clause-had g c =
-    let b = c.self.invariant.base in
-    let h = c.self.invariant.history in
+    let some = some_of g.D.Disk.seen c.args.self.now c.self.inside.centre c.self.inside.journal c.self.inside.at_open c.self.view_is c.self.invariant c.in_ok-check_disk.ensures.up in
+    let b = some.base in
+    let h = some.history in
     let up = λ (f : HasFailed g.D.Disk.seen (record { state = c.self.inside.centre; journal = c.self.inside.journal; at_open = c.self.inside.at_open })).
     c.in_ok-check_disk.ensures.up (subst (λ (x : Stored g.row.D.Denot). HasFailed g.D.Disk.seen x) c.self.view_is f) in
     record {
       base = b;
       history = h;
       all = whole g.D.Disk.seen (record { state = c.self.inside.centre; journal = c.self.inside.journal; at_open = c.self.inside.at_open })
-          c.self.inside.centre c.self.inside.journal c.self.inside.at_open refl up b h c.self.invariant.stands;
+          c.self.inside.centre c.self.inside.journal c.self.inside.at_open refl up b h some.stands;
     }
 
 pub returns-in_err-summary-clause-any_moment : goal.returns-in_err-summary-clause-any_moment
@@ -64,18 +66,21 @@ returns-clause-stands g c b h w =
 
 pub invariant_of-self : goal.invariant_of-self
 invariant_of-self g c =
-    let b = c.self.invariant.base in
-    let h = c.self.invariant.history in
+    let some = some_of g.D.Disk.seen c.args.self.now c.self.inside.centre c.self.inside.journal c.self.inside.at_open c.self.view_is c.self.invariant c.in_ok-check_disk.ensures.up in
+    let b = some.base in
+    let h = some.history in
     let up = λ (f : HasFailed g.D.Disk.seen (record { state = c.self.inside.centre; journal = c.self.inside.journal; at_open = c.self.inside.at_open })).
     c.in_ok-check_disk.ensures.up (subst (λ (x : Stored g.row.D.Denot). HasFailed g.D.Disk.seen x) c.self.view_is f) in
     let all = whole g.D.Disk.seen (record { state = c.self.inside.centre; journal = c.self.inside.journal; at_open = c.self.inside.at_open })
-    c.self.inside.centre c.self.inside.journal c.self.inside.at_open refl up b h c.self.invariant.stands in
+    c.self.inside.centre c.self.inside.journal c.self.inside.at_open refl up b h some.stands in
     record {
-      base = b;
-      history = h;
-      stands = stands_summed g.D.Disk.seen (record { state = c.self.inside.centre; journal = c.self.inside.journal; at_open = c.self.inside.at_open })
-          c.self.inside.centre c.self.inside.journal c.self.inside.at_open refl up b h c.sum_up.new.journal c.sum_up.result c.self.invariant.stands
-          (c.sum_up.ensures.has b h all) c.sum_up.ensures.down (c.sum_up.ensures.met b h all);
+      some = λ _. record {
+        base = b;
+        history = h;
+        stands = stands_summed g.D.Disk.seen (record { state = c.self.inside.centre; journal = c.self.inside.journal; at_open = c.self.inside.at_open })
+            c.self.inside.centre c.self.inside.journal c.self.inside.at_open refl up b h c.sum_up.new.journal c.sum_up.result some.stands
+            (c.sum_up.ensures.has b h all) c.sum_up.ensures.down (c.sum_up.ensures.met b h all);
+      };
       few = c.self.invariant.few;
       later = omega (arith, c.self.invariant.later, c.sum_up.ensures.later);
     }

@@ -13,7 +13,7 @@ use Rattle.centre_store.specs.Stores.{Stored, HasFailed, StoreStands, Shows, IsO
 use Rattle.centre_store.specs.Given.{HasEither, summed_size}
 use Rattle.centre_store.specs.Writes.{IsWrittenOn}
 use Rattle.centre_store.proofs.Begun.{on_err}
-use Rattle.centre_store.proofs.Entered.{stored, between, up_between, next_of, body_is, moments_as, takes_of, to_record, shown_by, still_either, still_met, takes_quiet}
+use Rattle.centre_store.proofs.Entered.{stored, between, up_between, next_of, body_is, moments_as, takes_of, to_record, shown_by, still_either, still_met, takes_quiet, some_of}
 use Rattle.centre_store.proofs.Ordered.{one_of_stops, never_stopped}
 use Rattle.centre_store.proofs.store.Store.enter.Goals as goal
 
@@ -27,17 +27,20 @@ returns-then-quiet-clause-done g c b h caller w =
 pub invariant_of-self-then-quiet : goal.invariant_of-self-then-quiet
 invariant_of-self-then-quiet g c =
     let p = c.in-Ok.ready in
-    let b = c.self.invariant.base in
-    let h = c.self.invariant.history in
+    let some = some_of g.D.Disk.seen c.args.self.now c.self.inside.centre c.self.inside.journal c.self.inside.at_open c.self.view_is c.self.invariant c.in_ok-check_disk.ensures.up in
+    let b = some.base in
+    let h = some.history in
     let up = λ (f : HasFailed g.D.Disk.seen (record { state = c.self.inside.centre; journal = c.self.inside.journal; at_open = c.self.inside.at_open })).
     c.in_ok-check_disk.ensures.up (subst (λ (x : Stored g.row.D.Denot). HasFailed g.D.Disk.seen x) c.self.view_is f) in
     record {
-      base = b;
-      history = entry_of 0 p ∷ h;
-      stands = (takes_quiet g.D.Disk.seen b (record { state = c.self.inside.centre; journal = c.self.inside.journal; at_open = c.self.inside.at_open })
-          c.self.inside.centre c.prepare.new.self c.self.inside.journal c.self.inside.at_open h refl up c.self.invariant.stands (c.in-Ok.ensures.stays b h)
-          c.apply.new.self c.args.clock 0 p.event p.at p.reply p refl refl refl
-          (c.in-Ok.ensures.at b h) (c.apply.ensures.entry b h 0) (is_quiet _ _ c.quiet.ensures c.if-quiet.true)).stands;
+      some = λ _. record {
+        base = b;
+        history = entry_of 0 p ∷ h;
+        stands = (takes_quiet g.D.Disk.seen b (record { state = c.self.inside.centre; journal = c.self.inside.journal; at_open = c.self.inside.at_open })
+            c.self.inside.centre c.prepare.new.self c.self.inside.journal c.self.inside.at_open h refl up some.stands (c.in-Ok.ensures.stays b h)
+            c.apply.new.self c.args.clock 0 p.event p.at p.reply p refl refl refl
+            (c.in-Ok.ensures.at b h) (c.apply.ensures.entry b h 0) (is_quiet _ _ c.quiet.ensures c.if-quiet.true)).stands;
+      };
       few = omega (arith, c.apply.ensures.grows.entries, c.prepare.ensures.entries, ap (λ (x : Stored g.row.D.Denot). x.state.entries) c.self.view_is, c.in_ok-check_count.ensures.few);
       later = c.self.invariant.later;
     }

@@ -41,9 +41,7 @@ pub invariant_of-result : goal.invariant_of-result
 invariant_of-result g c =
     let x = c.in-Ok.ensures.opened c.args.disk c.faults-at_open.result c.in_ok-journal.ensures.opened in
     record {
-      base = x.base;
-      history = x.past;
-      stands = x.stands;
+      some = λ _. record { base = x.base; history = x.past; stands = x.stands };
       few = (let few = x.is_past.few in omega (arith, few, x.stands.centre.entries));
       later = (let same = ap (λ d. (g.D.Disk.seen d).faults) c.disk.ensures in omega (arith, same, c.faults-at_open.ensures));
     }

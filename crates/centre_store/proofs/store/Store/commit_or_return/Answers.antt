@@ -8,37 +8,40 @@ use Rattle.centre_store.specs.Given.{summed_size}
 use Rattle.centre_store.specs.Stores.{Stored, HasFailed}
 use Rattle.centre_store.specs.Writes.{IsOverAt, IsOverThen, IsUnwritten, IsWrittenOn}
 use Rattle.centre_store.proofs.Bodies.{kept_event}
-use Rattle.centre_store.proofs.Entered.{stored, whole, stands_more, stands_stopped, written_moments, next_now, leaves_same}
+use Rattle.centre_store.proofs.Entered.{stored, whole, stands_more, stands_stopped, written_moments, next_now, leaves_same, some_of}
 use Rattle.centre_store.proofs.Ordered.{one_of_stops}
 use Rattle.centre_store.proofs.Written.{written_over}
-use Rattle.centre_store.proofs.store.Store.commit.Goals as goal
+use Rattle.centre_store.proofs.store.Store.commit_or_return.Goals as goal
 
 -- What the writing asks for.
 
 pub write-requires-clause-had : goal.write-requires-clause-had
 write-requires-clause-had g c =
-    let b = c.self.invariant.base in
-    let h = c.self.invariant.history in
+    let some = some_of g.D.Disk.seen c.args.self.now c.self.inside.centre c.self.inside.journal c.self.inside.at_open c.self.view_is c.self.invariant c.requires.up in
+    let b = some.base in
+    let h = some.history in
     let up = λ (f : HasFailed g.D.Disk.seen (stored c.self.inside.centre c.self.inside.journal c.self.inside.at_open)).
     c.requires.up (subst (λ (x : Stored g.row.D.Denot). HasFailed g.D.Disk.seen x) c.self.view_is f) in
     record {
       base = b;
       history = h;
       all = whole g.D.Disk.seen b (stored c.self.inside.centre c.self.inside.journal c.self.inside.at_open)
-          c.self.inside.centre c.self.inside.journal c.self.inside.at_open h refl up c.self.invariant.stands;
+          c.self.inside.centre c.self.inside.journal c.self.inside.at_open h refl up some.stands;
     }
 
 pub write-requires-clause-formed : goal.write-requires-clause-formed
 write-requires-clause-formed g c =
-    let b = c.self.invariant.base in
-    let h = c.self.invariant.history in
-    (c.requires.next b h (subst (λ (x : Stored g.row.D.Denot). StandsFor b x.state h) c.self.view_is c.self.invariant.stands.centre)).event
+    let some = some_of g.D.Disk.seen c.args.self.now c.self.inside.centre c.self.inside.journal c.self.inside.at_open c.self.view_is c.self.invariant c.requires.up in
+    let b = some.base in
+    let h = some.history in
+    (c.requires.next b h (subst (λ (x : Stored g.row.D.Denot). StandsFor b x.state h) c.self.view_is some.stands.centre)).event
 
 pub write-requires-clause-kept : goal.write-requires-clause-kept
 write-requires-clause-kept g c =
-    let b = c.self.invariant.base in
-    let h = c.self.invariant.history in
-    let next = c.requires.next b h (subst (λ (x : Stored g.row.D.Denot). StandsFor b x.state h) c.self.view_is c.self.invariant.stands.centre) in
+    let some = some_of g.D.Disk.seen c.args.self.now c.self.inside.centre c.self.inside.journal c.self.inside.at_open c.self.view_is c.self.invariant c.requires.up in
+    let b = some.base in
+    let h = some.history in
+    let next = c.requires.next b h (subst (λ (x : Stored g.row.D.Denot). StandsFor b x.state h) c.self.view_is some.stands.centre) in
     kept_event b h c.args.ready.event c.args.ready.at (subst (λ (r : Reply). is_recorded r ≡ true) next.reply c.requires.recorded)
 
 -- It was written, and the entry made.
@@ -50,16 +53,19 @@ returns-in-Ok-clause-taken g c b h caller w =
 
 pub invariant_of-self : goal.invariant_of-self
 invariant_of-self g c =
-    let b = c.self.invariant.base in
-    let h = c.self.invariant.history in
+    let some = some_of g.D.Disk.seen c.args.self.now c.self.inside.centre c.self.inside.journal c.self.inside.at_open c.self.view_is c.self.invariant c.requires.up in
+    let b = some.base in
+    let h = some.history in
     let up = λ (f : HasFailed g.D.Disk.seen (stored c.self.inside.centre c.self.inside.journal c.self.inside.at_open)).
     c.requires.up (subst (λ (x : Stored g.row.D.Denot). HasFailed g.D.Disk.seen x) c.self.view_is f) in
     record {
-      base = b;
-      history = entry_of 0 c.args.ready ∷ h;
-      stands = stands_more g.D.Disk.seen b (stored c.self.inside.centre c.self.inside.journal c.self.inside.at_open)
-          c.self.inside.centre c.self.inside.journal c.self.inside.at_open h refl up c.self.invariant.stands
-          c.apply.new.self c.write.new.journal (entry_of 0 c.args.ready) (c.apply.ensures.entry b h 0) (c.in-Ok.ensures.added b h 0);
+      some = λ _. record {
+        base = b;
+        history = entry_of 0 c.args.ready ∷ h;
+        stands = stands_more g.D.Disk.seen b (stored c.self.inside.centre c.self.inside.journal c.self.inside.at_open)
+            c.self.inside.centre c.self.inside.journal c.self.inside.at_open h refl up some.stands
+            c.apply.new.self c.write.new.journal (entry_of 0 c.args.ready) (c.apply.ensures.entry b h 0) (c.in-Ok.ensures.added b h 0);
+      };
       few = omega (arith, c.apply.ensures.grows.entries, ap (λ (x : Stored g.row.D.Denot). x.state.entries) c.self.view_is, c.requires.few);
       later = omega (arith, c.self.invariant.later, c.write.ensures.later);
     }
@@ -98,17 +104,20 @@ returns-in-Err-clause-stop g c b h w =
 
 pub invariant_of-self-in-Err : goal.invariant_of-self-in-Err
 invariant_of-self-in-Err g c =
-    let b = c.self.invariant.base in
-    let h = c.self.invariant.history in
+    let some = some_of g.D.Disk.seen c.args.self.now c.self.inside.centre c.self.inside.journal c.self.inside.at_open c.self.view_is c.self.invariant c.requires.up in
+    let b = some.base in
+    let h = some.history in
     let up = λ (f : HasFailed g.D.Disk.seen (stored c.self.inside.centre c.self.inside.journal c.self.inside.at_open)).
     c.requires.up (subst (λ (x : Stored g.row.D.Denot). HasFailed g.D.Disk.seen x) c.self.view_is f) in
     record {
-      base = b;
-      history = h;
-      stands = stands_stopped g.D.Disk.seen b (stored c.self.inside.centre c.self.inside.journal c.self.inside.at_open)
-          c.self.inside.centre c.self.inside.journal c.self.inside.at_open h refl up c.self.invariant.stands c.write.new.journal _ c.args.ready
-          (c.requires.next b h (subst (λ (x : Stored g.row.D.Denot). StandsFor b x.state h) c.self.view_is c.self.invariant.stands.centre))
-          c.requires.recorded c.write.ensures.spelled (c.write.ensures.met b h) c.in-Err.stop c.in-Err.ensures.stop;
+      some = λ _. record {
+        base = b;
+        history = h;
+        stands = stands_stopped g.D.Disk.seen b (stored c.self.inside.centre c.self.inside.journal c.self.inside.at_open)
+            c.self.inside.centre c.self.inside.journal c.self.inside.at_open h refl up some.stands c.write.new.journal _ c.args.ready
+            (c.requires.next b h (subst (λ (x : Stored g.row.D.Denot). StandsFor b x.state h) c.self.view_is some.stands.centre))
+            c.requires.recorded c.write.ensures.spelled (c.write.ensures.met b h) c.in-Err.stop c.in-Err.ensures.stop;
+      };
       few = c.self.invariant.few;
       later = omega (arith, c.self.invariant.later, c.write.ensures.later);
     }
