@@ -52,7 +52,7 @@ module _ (name : List ℕ) (b : Summary) (setup : Setup) (caller : ℕ) where
   answers_just : (h x : List Entry) (turns front others : List Turn) (text : List ℕ) → turns ≡ front ++ others → text ≡ text_of line_turns front → AreTurns name b setup caller h x turns → AnswersTurns setup front text
   answers_just h x turns front others text split is all = answers h x turns front others text [] split (is ∙ sym (append-nil (text_of line_turns front))) all
 
-complete_by : (name : List ℕ) (end : Ending) (b : Summary) (hall hall' : HallSeen) (h x : List Entry) (bodies rest : List (List ℕ)) (turns behind : List Turn) (a : Added) → bodies ≡ pieces_of line_turns turns ++ rest
+pub complete_by : (name : List ℕ) (end : Ending) (b : Summary) (hall hall' : HallSeen) (h x : List Entry) (bodies rest : List (List ℕ)) (turns behind : List Turn) (a : Added) → bodies ≡ pieces_of line_turns turns ++ rest
     → IsEnd line_turns (line_rules name b hall hall') end x turns behind a rest → AreTurns name b (meaning hall.text) hall.caller h x turns → IsComplete end (meaning hall.text) turns behind a.text bodies
 complete_by name answered b hall hall' h x bodies rest turns behind a taken e all = (
   taken ∙ ap (λ (l : List (List ℕ)). pieces_of line_turns turns ++ l) e.none_left ∙ append-nil (pieces_of line_turns turns),

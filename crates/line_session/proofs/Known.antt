@@ -26,7 +26,7 @@ both_true : (a b : Bool) → a ≡ true → b ≡ true → (a && b) ≡ true
 both_true a b x y = ap (λ c. c && b) x ∙ y
 
 -- an event that the setup in force knows is not answered Unknown
-answers_known : (b : Summary) (ms : List Mark) (setup : Setup) (event : Event) (at : ℕ) → force b ms ≡ Some setup → IsKnownEvent setup event → answer_over b ms event at ≡ Unknown → ⊥
+pub answers_known : (b : Summary) (ms : List Mark) (setup : Setup) (event : Event) (at : ℕ) → force b ms ≡ Some setup → IsKnownEvent setup event → answer_over b ms event at ≡ Unknown → ⊥
 answers_known b ms setup (Sent m via) at forced known is =
     let account = ap (λ (o : Option Setup). knows_account o m.account) forced ∙ known.account in
     let told = both_true (knows_account (force b ms) m.account) (has_signals m.token m.content) account known.content in

@@ -3,3 +3,5 @@ pub mod Sessions
 pub mod Replies
 pub mod Lines
 pub mod Completeness
+pub mod Dues
+pub mod Groups

@@ -77,16 +77,16 @@ pub(crate) fn answer<H: Hall, P: Port>(
     }
 }
 
-// The account in the header of a body, as it came, where a header can be read.
-fn account_in(body: &[u8]) -> Txt {
+/// The account in the header of a body, as it came, where a header can be read.
+pub(crate) fn account_in(body: &[u8]) -> Txt {
     match Header::read(body) {
         Some((header, _)) => header.account,
         None => Txt::empty(),
     }
 }
 
-// What a port is told of a message that is answered by DUH.
-fn refusal_of(why: Why) -> Refusal {
+/// What a port is told of a message that is answered by DUH.
+pub(crate) fn refusal_of(why: Why) -> Refusal {
     match why {
         Why::UnknownToken => Refusal::UnknownToken,
         Why::UnknownAccount => Refusal::UnknownAccount,

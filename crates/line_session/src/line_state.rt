@@ -8,13 +8,14 @@ ghost use Rattle.centre_rules.specs.History.{Entry};
 ghost use Rattle.session_rules.specs.Inputs.{in_limit, input_limit};
 ghost use Rattle.session_rules.specs.Sessions.{HasShown, changed};
 ghost use Rattle.line_session.specs.Sessions.{ReadsNothing, ending_of};
+ghost use Rattle.line_session.specs.Groups.{ServesGroupBytes};
 ghost use Rattle.line_session.specs.Lines.{TookStream, IsTaken, ServesBytes};
 
 use crate::line_end::LineEnd;
 use crate::pieces::Pieces;
 use arc_data::Txt;
 use arc_io::Port;
-use centre_core::Hall;
+use centre_core::{GroupHall, Hall};
 use session_rules::{room_behind, up_to};
 use std::alloc::Global;
 use std::marker::Model;
@@ -84,6 +85,36 @@ impl LineState {
         self.count += bytes.len() as u64;
         self.pieces
             .answer_whole(alloc, hall, port, &self.name, bytes)?;
+        if room_behind(self.count) == 0 {
+            return Err(LineEnd::Spent);
+        }
+        Ok(())
+    }
+
+    /// Takes the next piece of the line's bytes, as `take` does, but for one thing: the whole frames that end in it take their readings one
+    /// after another, and then their events are submitted together, at most 64 at a time. Each is acknowledged behind its entry, and all
+    /// replies stand in the order of the frames.
+    pub fn take_together<H: GroupHall, P: Port>(
+        &mut self,
+        alloc: Global,
+        hall: &mut H,
+        port: &mut P,
+        piece: &[u8],
+    ) -> Result<(), LineEnd>
+        requires { (H.seen hall.old).ready }
+        ensures taken { (name stream : List ℕ) → TookStream name stream self.old → IsTaken name result stream piece.now self.new }
+        ensures kept { IsKept (H.seen hall.old) (H.seen hall.new) }
+        ensures served { (name stream : List ℕ) (b : Summary) (h : List Entry) → TookStream name stream self.old → (H.seen hall.old).stands b h →
+            ServesGroupBytes name result stream (in_limit stream piece.now) b h
+            (changed (H.seen hall.old) (H.seen hall.new) (P.seen port.old) (P.seen port.new)) }
+        ensures ends { ReadsNothing result }
+        ensures stop { HasShown (H.seen hall.new) (ending_of result) }
+        ensures port { Answers (result ≡ Err LineEnd.WriteFault) (P.seen port.old) (P.seen port.new) }
+    {
+        let bytes = up_to(piece, room_behind(self.count));
+        self.count += bytes.len() as u64;
+        self.pieces
+            .answer_together(alloc, hall, port, &self.name, bytes)?;
         if room_behind(self.count) == 0 {
             return Err(LineEnd::Spent);
         }

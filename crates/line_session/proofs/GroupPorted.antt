@@ -1,0 +1,94 @@
+-- Line sessions over a port whose frames are taken together, read piece by piece.
+use Rattle.std.proofs.Common.{◌≡◌, ◌≤◌, ◌++◌, ℕ, List, [], length, false, Ok, Err, refl, arith}
+use Rattle.std.specs.Io.KnownBytes.{prepend_known}
+use Rattle.arc_io.specs.Added.{Added}
+use Rattle.arc_io.specs.Seen.{PortSeen}
+use Rattle.arc_io.specs.Told.{OnlyReads}
+use Rattle.alarm_rules.specs.Setups.{meaning}
+use Rattle.centre_core.specs.Halls.{HallSeen, IsKept}
+use Rattle.centre_rules.specs.Summary.{Summary}
+use Rattle.centre_rules.specs.History.{Entry}
+use Rattle.dc09_frame.specs.Frames.{bodies}
+use Rattle.session_rules.specs.Sessions.{answered, cut_off, stopped, changed, Ending, Goes, IsEnd, IsSession}
+use Rattle.session_rules.proofs.Ahead.{reads_no_further}
+use Rattle.session_rules.proofs.Joined.{session_read, session_then, all_pieces}
+use Rattle.session_rules.specs.Turns.{entries_of}
+use Rattle.line_session.specs.Completeness.{IsComplete}
+use Rattle.line_session.specs.Groups.{group_rules, ServesGroupBytes, ServesGroup}
+use Rattle.line_session.specs.Lines.{LineValue, TookStream}
+use Rattle.line_session.specs.Sessions.{ending_of, line_rules}
+use Rattle.line_session.specs.Turns.{Turn, line_turns}
+use Rattle.line_session.specs.declared.line_end.LineEnd.{LineEnd}
+use Rattle.line_session.specs.declared.line_end.LineEnd.TheVariants.{InputEnded, ReadFault, WriteFault, Spent, Stopped}
+use Rattle.line_session.proofs.Completed.{complete_by}
+use Rattle.line_session.proofs.Grouped.{IsGroup, group_follows, group_of_answered, reads_none}
+use Rattle.line_session.proofs.Ported.{IsAtRest}
+
+-- this stream was read and served on a line of this name
+pub record GroupSoFar (name : List ℕ) (state : LineValue) (hall hall' : HallSeen) (p p' : PortSeen) : Type 0 where
+  pub stream : List ℕ
+  pub took : TookStream name stream state
+  pub taken : p.left ≡ prepend_known stream p'.left
+  pub not_ended : p'.ended ≡ false
+  pub reads : p.read_faults ≤ p'.read_faults
+  pub writes : p.write_faults ≤ p'.write_faults
+  pub session : (b : Summary) (h : List Entry) → hall.stands b h → IsGroup name answered b (bodies stream) h (changed hall hall' p p')
+
+ends_so : (name : List ℕ) (b : Summary) (hall hall' : HallSeen) (end : Ending) (x : List Entry) (turns behind : List Turn) (a : Added) (rest : List (List ℕ))
+    → IsEnd line_turns (group_rules name b hall hall') end x turns behind a rest → IsEnd line_turns (line_rules name b hall hall') end x turns behind a rest
+ends_so name b hall hall' answered x turns behind a rest e = e
+ends_so name b hall hall' cut_off x turns behind a rest e = e
+ends_so name b hall hall' (stopped stop) x turns behind a rest e = e
+
+-- a session is complete
+pub group_completes : (name : List ℕ) {end : Ending} {b : Summary} {xs : List (List ℕ)} {h : List Entry} {hall hall' : HallSeen} {p p' : PortSeen} (s : IsSession line_turns (group_rules name b hall hall') end b xs h (changed hall hall' p p'))
+    → IsComplete end (meaning hall.text) s.turns s.behind s.added.text xs
+group_completes name {end} {b} {xs} {h} {hall} {hall'} {p} {p'} s =
+    complete_by name end b hall hall' h s.history xs s.left s.turns s.behind s.added s.taken (ends_so name b hall hall' end s.history s.turns s.behind s.added s.left s.ended) s.each
+
+module _ (name : List ℕ) (b : Summary) (h : List Entry) where
+  answered_group : (end : LineEnd) (read : List ℕ) {hall hall' : HallSeen} {p p' : PortSeen} → IsAtRest end → IsGroup name answered b (bodies read) h (changed hall hall' p p') → Goes h (λ w. ServesGroup name end read b w (changed hall hall' p p'))
+  answered_group InputEnded read {hall} {hall'} {p} {p'} rest s = (
+    s.history,
+    entries_of line_turns s.turns,
+    record { line = record { met = p'; session = s; sent = tt; ahead = []; few = omega arith; reads_ahead = reads_none p' }; to = refl; made = refl; ahead = tt; complete = group_completes name s },
+  )
+  answered_group ReadFault read {hall} {hall'} {p} {p'} rest s = (
+    s.history,
+    entries_of line_turns s.turns,
+    record { line = record { met = p'; session = s; sent = tt; ahead = []; few = omega arith; reads_ahead = reads_none p' }; to = refl; made = refl; ahead = tt; complete = group_completes name s },
+  )
+  answered_group Spent read rest s = absurd rest
+  answered_group WriteFault read rest s = absurd rest
+  answered_group (Stopped stop) read rest s = absurd rest
+
+  -- A session ends with what it read.
+  pub group_rests : (end : LineEnd) (read : List ℕ) {hall hall' : HallSeen} {p q r : PortSeen} → IsAtRest end → OnlyReads q r → IsGroup name answered b (bodies read) h (changed hall hall' p q)
+      → Goes h (λ w. ServesGroup name end read b w (changed hall hall' p r))
+  group_rests end read rest only s = answered_group end read rest (session_read line_turns refl only s)
+
+  module _ (stream piece : List ℕ) {hall mid hall' : HallSeen} {p q q' r : PortSeen} (kept : IsKept hall mid) (only : OnlyReads q q') (first : IsGroup name answered b (bodies stream) h (changed hall mid p q)) where
+    -- A session goes on behind a piece.
+    pub group_goes : ((x : List Entry) → mid.stands b x → ServesGroupBytes name (Ok tt) stream piece b x (changed mid hall' q' r)) → IsGroup name answered b (bodies (stream ++ piece)) h (changed hall hall' p r)
+    unfolding session_read
+    group_goes next =
+        let n = next first.history first.holds in
+        session_read line_turns n.ended (record { rest = refl }) (session_then line_turns (group_follows name b kept (first.up tt) hall' h) (session_read line_turns refl only first) (group_of_answered n.session))
+
+    -- A session ends within its last piece.
+    pub group_ends : (end : LineEnd) → length piece ≤ 4096 → ((x : List Entry) → mid.stands b x → ServesGroupBytes name (Err end) stream piece b x (changed mid hall' q' r)) → Goes h (λ w. ServesGroup name end (stream ++ piece) b w (changed hall hall' p r))
+    unfolding session_read session_then
+    group_ends end short next =
+        let n = next first.history first.holds in
+        let line = n.session in
+        let session = session_read line_turns n.ended (record { rest = refl }) (session_then line_turns (group_follows name b kept (first.up tt) hall' h) (session_read line_turns refl only first) line.session) in (
+          session.history,
+          entries_of line_turns session.turns,
+          record {
+            line = record { met = line.met; session = session; sent = line.sent; ahead = line.ahead; few = line.few; reads_ahead = line.reads_ahead };
+            to = refl;
+            made = refl;
+            ahead = reads_no_further line_turns bodies stream piece first.turns short (all_pieces line_turns first) (group_rules name b mid hall') (ending_of (Err end)) line.session.history line.session.turns line.session.behind line.session.added line.session.left line.session.ended;
+            complete = group_completes name session;
+          },
+        )
