@@ -18,10 +18,10 @@ take_front [] b = refl
 take_front (x ∷ a) b = ap (λ (y : List Entry). x ∷ y) (take_front a b)
 
 -- the own part of a history for which the hall stands is what the pass made
-own_at : (t : Terms) (p : PassSeen) (b : Summary) (h : List Entry) → AtSeen t p b h → own_of p h ≡ p.made
+pub own_at : (t : Terms) (p : PassSeen) (b : Summary) (h : List Entry) → AtSeen t p b h → own_of p h ≡ p.made
 own_at t p b h w = ap (λ (l : List Entry). made_by p.number (take (length p.since) l)) w.seen ∙ ap (made_by p.number) (take_front p.since w.base) ∙ w.pass.own
 
-later : (t : Terms) (p : PassSeen) (b : Summary) (h l : List Entry) (w : AtSeen t p b h) → Extends p.since l → Extends h (l ++ w.base)
+pub later : (t : Terms) (p : PassSeen) (b : Summary) (h l : List Entry) (w : AtSeen t p b h) → Extends p.since l → Extends h (l ++ w.base)
 later t p b h l w s = subst (λ (x : List Entry). Extends x (l ++ w.base)) (sym w.seen) (extends_base p.since l w.base s)
 
 -- an answered call

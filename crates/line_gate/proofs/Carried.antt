@@ -1,5 +1,5 @@
 -- What passes and the desk carry from one step of a call to the next.
-use Rattle.std.proofs.Common.{◌≡◌, ℕ, List, [], ◌∷◌, ◌++◌, refl, sym, ap, ◌∙◌, subst, arith, length-append, append_assoc}
+use Rattle.std.proofs.Common.{◌≡◌, ℕ, List, [], ◌∷◌, ◌++◌, inl, refl, sym, ap, ◌∙◌, subst, arith, length-append, append_assoc}
 use Rattle.std.specs.Prelude.{Some, unwrap_or}
 use Rattle.std.proofs.lemmas.List.Elements.{All-nil}
 use Rattle.atomic_table.specs.Seated.{TableId}
@@ -8,15 +8,16 @@ use Rattle.alarm_rules.specs.Setups.{meaning}
 use Rattle.arc_io.specs.Disks.{DiskSeen}
 use Rattle.centre_core.specs.Runs.{IsSubmitted}
 use Rattle.centre_core.specs.InForce.{in_force}
+use Rattle.centre_core.specs.Setting.{IsSetting}
 use Rattle.centre_store.specs.Stores.{Stored}
-use Rattle.line_gate.specs.Entries.{Entry, Extends, made_by, longer}
+use Rattle.line_gate.specs.Entries.{Entry, Extends, made_by, longer, AreBy}
 use Rattle.line_gate.specs.declared.view.View.{View}
-use Rattle.line_gate.specs.Views.{first_view, settled, pass_of}
-use Rattle.line_gate.specs.Terms.{Terms, IsOfGate}
-use Rattle.line_gate.specs.UnderLock.{IsKept, IsUnderLock}
+use Rattle.line_gate.specs.Views.{first_view, settled, pass_of, taking, appended}
+use Rattle.line_gate.specs.Terms.{Terms, IsOfGate, AreSubmitted}
+use Rattle.line_gate.specs.UnderLock.{StandsSince, IsKept, IsUnderLock, IsEntered}
 use Rattle.line_gate.specs.Blanks.{Names, IsBlank}
-use Rattle.line_gate.specs.Passes.{PassSeen, pass_seen, IsLater, IsSeated, IsPass, grown}
-use Rattle.line_gate.proofs.Histories.{extends_self, extends_further, extends_length, longer_right}
+use Rattle.line_gate.specs.Passes.{PassSeen, pass_seen, IsLater, IsSeated, IsPass, Makes, MakesAll, grown}
+use Rattle.line_gate.proofs.Histories.{extends_self, extends_further, extends_length, longer_right, made_by-all}
 
 -- a call in which nothing changed
 pub later_self : (p : PassSeen) → IsLater p p
@@ -31,9 +32,32 @@ later_further p q r a b = record {
   told = let x = a.told in let y = b.told in omega arith;
 }
 
--- a pass that appended an entry
-pub later_grown : (e : Entry) (p q : PassSeen) → q ≡ grown e p → IsLater p q
-later_grown e p q same = subst (IsLater p) (sym same) (record { number = refl; since = (e ∷ [], refl); count = omega arith; told = omega arith })
+-- a pass that appended entries
+pub later_grown : (es : List Entry) (p q : PassSeen) → q ≡ grown es p → IsLater p q
+later_grown es p q same = subst (IsLater p) (sym same) (record { number = refl; since = (es, refl); count = omega arith; told = omega arith })
+
+-- a call that made one entry is the case of a list of one
+pub makes_one : (t : Terms) (p q : PassSeen) (clock : ℕ) (e : Entry) → Makes t p q clock e → MakesAll t p q (clock ∷ []) (e ∷ [])
+makes_one t p q clock e m = record { before = m.before; extends = m.extends; since = m.since; made = m.made; answers = (m.answer, tt) }
+
+pub one_made : (t : Terms) (p q : PassSeen) (clock : ℕ) (e : Entry) → MakesAll t p q (clock ∷ []) (e ∷ []) → Makes t p q clock e
+one_made t p q clock e m = record { before = m.before; extends = m.extends; since = m.since; made = m.made; answer = m.answers.0 }
+
+-- a seated pass that took in a note and appended entries of its own is seated
+pub grown_seated : (t : Terms) (number : ℕ) (es : List Entry) (table from : TableId) (me mid was : Me (Unit {0}) View) (note : View)
+    → mid ≡ (taking was.0 note, was.1) → me ≡ (appended es mid.0, mid.1) → table ≡ from
+    → AreBy number es → IsOfGate t (es ++ was.0.seen) → IsSeated t number from was → IsSeated t number table me
+grown_seated t number es table from me mid was note took grew same by of_gate i =
+    let e : me ≡ (appended es (taking was.0 note), was.1) = grew ∙ ap (λ (m : Me (Unit {0}) View). (appended es m.0, m.1)) took in subst (IsSeated t number table) (sym e) (record {
+      table_is = same ∙ i.table_is;
+      carries = i.carries;
+      is_pass = i.is_pass;
+      number_is = i.number_is;
+      free = refl;
+      below = i.below;
+      own = made_by-all number es was.0.seen by ∙ ap (λ (l : List Entry). es ++ l) i.own;
+      of_gate = of_gate;
+    })
 
 -- the longer of two, where the second begins with the first
 pub longer_all : (a b : List Entry) → Extends a b → longer a b ≡ b
@@ -43,16 +67,16 @@ longer_all a b t = longer_right a b (extends_length a b t)
 pub pass_from : (t : Terms) (number : ℕ) (table : TableId) (me : Me (Unit {0}) View) → IsSeated t number table me → IsPass t (pass_seen number me.0)
 pass_from t number table me i = record { of_gate = i.of_gate; own = i.own; below = i.below }
 
--- what the book has seen is the end of a history of the gate
-pub kept_of_gate : {D : Type 0} (seen : D → DiskSeen)
-    (t : Terms) (since : List Entry) (most : ℕ) (s : Stored D) → IsKept seen t since most s → IsOfGate t since
-kept_of_gate seen t since most s k = record {
+-- what a store stands for over each base is the end of a history of the gate
+pub since_of_gate : {D : Type 0} (seen : D → DiskSeen) (t : Terms) (since : List Entry) (s : Stored D) → StandsSince seen t since s
+    → AreSubmitted since → s.state.sum.text ≡ Some t.text → IsSetting s.state.sum.text → IsOfGate t since
+since_of_gate seen t since s k submitted text setting = record {
   long = λ b base from. let w = (k.stands b base from).centre.entries in let n = k.entries in omega (arith, length-append since base);
   over = λ b base from. let w = k.stands b base from in record {
     legal = w.centre.legal;
-    in_force = in_force s.state b (since ++ base) (record { stands = w.centre; setting = k.setting }) ∙ ap (λ (text : _). Some (meaning (unwrap_or text []))) k.text;
+    in_force = in_force s.state b (since ++ base) (record { stands = w.centre; setting = setting }) ∙ ap (λ (text : _). Some (meaning (unwrap_or text []))) text;
   };
-  submitted = k.submitted;
+  submitted = submitted;
 }
 
 -- a new pass is seated
@@ -74,16 +98,18 @@ first_kept : {D : Type 0} (seen : D → DiskSeen)
     (t : Terms) (table from first_from : TableId) (book first : Me (Unit {0}) View) (s : Stored D) (text : List ℕ)
     → Names seen t (record { table = table; store = s; text = text })
     → IsBlank table from first_from book first s text → IsKept seen t [] 0 s
-first_kept seen t table from first_from book first s text n i = record {
-  stands = n.stood;
-  submitted = All-nil (λ (e : Entry). IsSubmitted e.event);
-  entries = let e = n.entries in omega arith;
-  most_told = omega arith;
-  at_open = n.at_open;
-  limits = n.limits;
-  text = sym i.text_is ∙ ap Some n.text;
-  setting = i.setting;
-}
+first_kept seen t table from first_from book first s text n i =
+    let stood : StandsSince seen t [] s = record { stands = n.stood; entries = let e = n.entries in omega arith } in
+    let none : AreSubmitted [] = All-nil (λ (e : Entry). IsSubmitted e.event) in
+    let text_is = sym i.text_is ∙ ap Some n.text in record {
+      stands = inl stood;
+      of_gate = since_of_gate seen t [] s stood none text_is i.setting;
+      most_told = omega arith;
+      at_open = n.at_open;
+      limits = n.limits;
+      text = text_is;
+      setting = i.setting;
+    }
 
 -- the first pass is seated: it has seen just the base
 pub first_seated : {D : Type 0} (seen : D → DiskSeen)
@@ -92,7 +118,7 @@ pub first_seated : {D : Type 0} (seen : D → DiskSeen)
     → IsBlank table from first_from book first s text → IsSeated t 1 first_from first
 first_seated seen t table from first_from book first s text n i =
     new_seated t 1 first_from table first (first_view, []) i.first_is i.first_at n.table refl refl
-    (kept_of_gate seen t [] 0 s (first_kept seen t table from first_from book first s text n i))
+    (first_kept seen t table from first_from book first s text n i).of_gate
 
 -- what lies under the lock first: the book has seen just the base, too
 pub first_locked : {D : Type 0} (seen : D → DiskSeen)
@@ -109,6 +135,18 @@ first_locked seen t table from first_from book first s text n i = record {
   count_is = ap (λ (m : Me (Unit {0}) View). m.0.count) i.book_is;
   kept = subst (λ (m : Me (Unit {0}) View). IsKept seen t m.0.seen m.0.told s) (sym i.book_is)
       (first_kept seen t table from first_from book first s text n i);
+}
+
+-- the book has seen entries that were entered
+pub entered_locked : {D : Type 0} (seen : D → DiskSeen)
+    (t : Terms) (count : ℕ) (es : List Entry) (table from : TableId) (me was : Me (Unit {0}) View) (s now : Stored D)
+    → IsEntered es table from me was → IsUnderLock seen t count from was s → IsKept seen t (es ++ was.0.seen) was.0.told now
+    → IsUnderLock seen t count table me now
+entered_locked seen t count es table from me was s now e i kept = record {
+  seat = record { table_is = e.table_is ∙ i.seat.table_is; carries = e.carries ∙ i.seat.carries; is_book = e.is_book; free = e.free };
+  count_is = e.count ∙ i.count_is;
+  kept = subst (λ (h : List Entry). IsKept seen t h me.0.told now) (sym e.seen)
+      (subst (λ (k : ℕ). IsKept seen t (es ++ was.0.seen) k now) (sym e.told) kept);
 }
 
 -- one list begins with another, and so with the base behind both

@@ -1,17 +1,20 @@
 -- The kinds of join keep the rule. Each leaves the second seat spent.
-use Rattle.std.proofs.Common.{◌≡◌, ◌≢◌, ℕ, Some, None, true, false, refl, sym, ◌∙◌, arith}
+use Rattle.std.proofs.Common.{◌≡◌, ◌≢◌, ◌⊎◌, ℕ, List, [], true, false, refl, sym, ◌∙◌, subst, inl, ⊎_elim, arith}
 use Rattle.std.proofs.lemmas.Bool.{true≢false, false≢true}
 use Rattle.atomic_table.specs.Table.{Joins}
-use Rattle.line_gate.specs.Entries.{Entry}
+use Rattle.line_gate.specs.Entries.{Entry, longer}
 use Rattle.line_gate.specs.declared.view.View.{View}
-use Rattle.line_gate.specs.Views.{nobody, learned, taking, shown}
-use Rattle.line_gate.specs.Rule.{Core, Fits, Keeps}
-use Rattle.line_gate.proofs.Histories.{extends_self, longer_within}
+use Rattle.line_gate.specs.Views.{nobody, learned, taking, shown, withdrawn}
+use Rattle.line_gate.specs.Rule.{Core, Fits, IsWhole, Keeps}
+use Rattle.line_gate.proofs.Histories.{extends_self, longer_of, longer_within}
 use Rattle.line_gate.proofs.Places.{each_join, other_at}
-use Rattle.line_gate.proofs.Splits.{moved, spent_fits}
+use Rattle.line_gate.proofs.Splits.{moved, one_book, spent_fits}
+
+longer_whole : (c : Core) (a b : List Entry) → (longer a b ≡ a) ⊎ (longer a b ≡ b) → IsWhole c a → IsWhole c b → IsWhole c (longer a b)
+longer_whole c a b either x y = ⊎_elim (λ (e : longer a b ≡ a). subst (IsWhole c) (sym e) x) (λ (e : longer a b ≡ b). subst (IsWhole c) (sym e) y) either
 
 -- A pass takes in a pass or a note that names nothing: it has then seen the longer of both histories, and keeps both as old ones.
-pub learns : (id : ℕ) (v : View) (other : ℕ) (w : View) → v.book ≡ false → v.named ≡ None → Joins Keeps id v other w (learned v w) nobody
+pub learns : (id : ℕ) (v : View) (other : ℕ) (w : View) → v.book ≡ false → v.named ≡ [] → Joins Keeps id v other w (learned v w) nobody
 learns id v other w is_pass free s h at apart there =
     let c = h.core in
     let f = h.each id v at in
@@ -24,6 +27,8 @@ learns id v other w is_pass free s h at apart there =
         seen = longer_within v.seen w.seen c.log f.seen g.seen;
         had = f.seen;
         got = g.seen;
+        seen_whole = longer_whole c v.seen w.seen (longer_of v.seen w.seen c.log f.seen g.seen).either f.seen_whole g.seen_whole;
+        got_whole = g.seen_whole;
         told = let t = f.told in let r = g.told in omega arith;
         got_told = f.got_told;
         count = let t = f.count in let r = g.count in omega arith;
@@ -34,15 +39,15 @@ learns id v other w is_pass free s h at apart there =
       }) (spent_fits c other);
     }
 
--- A pass that has seen as much takes in the note that names the entry, and is then the one that may append it.
-pub takes : (id : ℕ) (v : View) (other : ℕ) (w : View) (e : Entry) → v.book ≡ false → v.named ≡ None → w.book ≡ false → w.named ≡ Some e → v.seen ≡ w.seen → Joins Keeps id v other w (taking v w) nobody
-takes id v other w e is_pass free is_note names same s h at apart there =
+-- A pass that has seen as much takes in the note that names entries, and is then the one that may append of them.
+pub takes : (id : ℕ) (v : View) (other : ℕ) (w : View) → v.book ≡ false → v.named ≡ [] → w.book ≡ false → w.named ≢ [] → v.seen ≡ w.seen → Joins Keeps id v other w (taking v w) nobody
+takes id v other w is_pass free is_note names same s h at apart there =
     let c = h.core in
     let f = h.each id v at in
     let g = h.each other w (other_at s.views id other (taking v w) w apart there) in
-    let namer = g.names is_note (λ none. absurd (cc)) in
+    let namer = g.names is_note names in
     let d : Core = record { log = c.log; known = c.known; next = c.next; told = c.told; count = c.count; keeper = c.keeper; namer = id; owner = c.owner } in
-    let others : (j : ℕ) (u : View) → j ≢ id → j ≢ other → Fits c j u → Fits d j u = λ j u _ not_other t. moved c d j u (extends_self c.log) (omega arith) (omega arith)
+    let others : (j : ℕ) (u : View) → j ≢ id → j ≢ other → Fits c j u → Fits d j u = λ j u _ not_other t. moved c d j u (extends_self c.log) (omega arith) (omega arith) (λ h _ t. t)
     (λ n _ i. record { below = i.below; owner = i.owner; made = i.made })
     (λ is i. record { keeper = i.keeper; seen = i.seen; named = i.named; told = i.told; count = i.count })
     (λ is some_named i. absurd (not_other (i.namer ∙ sym namer.namer)))
@@ -55,6 +60,8 @@ takes id v other w e is_pass free is_note names same s h at apart there =
         seen = f.seen;
         had = f.had;
         got = f.got;
+        seen_whole = f.seen_whole;
+        got_whole = f.got_whole;
         told = f.told;
         got_told = f.got_told;
         count = f.count;
@@ -80,6 +87,8 @@ shows id v other w is_book s h at apart there =
         seen = f.seen;
         had = f.had;
         got = g.seen;
+        seen_whole = f.seen_whole;
+        got_whole = g.seen_whole;
         told = f.told;
         got_told = g.told;
         count = f.count;
@@ -88,4 +97,38 @@ shows id v other w is_book s h at apart there =
         book = λ is. record { keeper = b.keeper; seen = b.seen; named = b.named; told = b.told; count = b.count };
         names = λ is _. absurd (true≢false (sym is_book ∙ is));
       }) (spent_fits c other);
+    }
+
+-- The book takes the note back that names entries, of which none was appended: they are withdrawn.
+pub withdraws : (id : ℕ) (v : View) (other : ℕ) (w : View) → v.book ≡ true → w.book ≡ false → w.named ≢ [] → Joins Keeps id v other w (withdrawn v w) nobody
+withdraws id v other w is_book is_note names s h at apart there =
+    let c = h.core in
+    let f = h.each id v at in
+    let b = f.book is_book in
+    let g = h.each other w (other_at s.views id other (withdrawn v w) w apart there) in
+    let namer = g.names is_note names in
+    let d : Core = record { log = c.log; known = c.known; next = []; told = c.told; count = c.count; keeper = c.keeper; namer = c.namer; owner = c.owner } in
+    let others : (j : ℕ) (u : View) → j ≢ id → j ≢ other → Fits c j u → Fits d j u = λ j u not_id not_other t. moved c d j u (extends_self c.log) (omega arith) (omega arith) (λ h _ k. k)
+    (λ n _ i. record { below = i.below; owner = i.owner; made = i.made })
+    (λ is i. one_book c id j v u b i not_id)
+    (λ is some_named i. absurd (not_other (i.namer ∙ sym namer.namer)))
+    t in record {
+      core = d;
+      words = h.words;
+      known = inl namer.all;
+      free = h.free;
+      each = each_join (Fits c) (Fits d) s.views id other (withdrawn v w) nobody apart h.each others (record {
+        seen = f.seen;
+        had = f.had;
+        got = f.got;
+        seen_whole = f.seen_whole;
+        got_whole = f.got_whole;
+        told = f.told;
+        got_told = f.got_told;
+        count = f.count;
+        got_count = f.got_count;
+        number = λ n e. let i = f.number n e in record { below = i.below; owner = i.owner; made = i.made };
+        book = λ is. record { keeper = b.keeper; seen = b.seen; named = refl; told = b.told; count = b.count };
+        names = λ is _. absurd (true≢false (sym is_book ∙ is));
+      }) (spent_fits d other);
     }

@@ -1,5 +1,5 @@
 -- A gate before it has its name.
-use Rattle.std.specs.Prelude.{◌≡◌, ℕ, List, [], Some}
+use Rattle.std.specs.Prelude.{◌≡◌, ℕ, List, [], Bool, Some}
 use Rattle.atomic_table.specs.Seated.{TableId}
 use Rattle.atomic_table.specs.Table.{Me}
 use Rattle.arc_io.specs.Disks.{DiskSeen}
@@ -37,13 +37,14 @@ pub record Names {D : Type 0} (seen : D → DiskSeen) (t : Terms) (b : BlankSeen
   pub text : b.text ≡ t.text
   pub stood : (s : Summary) (base : List Entry) → t.stood s base → StoreStands seen s b.store base
 
--- the name of the gate that a blank will be: its bases are all histories for which the store stands
-abbrev pub terms_of : {D : Type 0} → (D → DiskSeen) → BlankSeen D → Terms
-terms_of seen b = record {
+-- the name of the gate that a blank will be, with groups or without: its bases are all histories for which the store stands
+abbrev pub terms_of : {D : Type 0} → Bool → (D → DiskSeen) → BlankSeen D → Terms
+terms_of groups seen b = record {
   table = b.table;
   at_open = b.store.at_open;
   limits = b.store.journal.limits;
   entries = b.store.state.entries;
   text = b.text;
+  groups = groups;
   stood = λ s base. StoreStands seen s b.store base;
 }

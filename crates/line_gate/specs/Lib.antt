@@ -10,3 +10,4 @@ pub mod Passes
 pub mod UnderLock
 pub mod Blanks
 pub mod AtGates
+pub mod Groups

@@ -1,5 +1,5 @@
 -- What contracts see of a pass, and what a call of the gate does to it.
-use Rattle.std.specs.Prelude.{◌≡◌, ◌<◌, ◌≤◌, ◌+◌, ◌^◌, ℕ, List, [], ◌∷◌, ◌++◌, false, Some, None, length}
+use Rattle.std.specs.Prelude.{◌≡◌, ◌<◌, ◌≤◌, ◌+◌, ◌^◌, ℕ, List, [], ◌∷◌, ◌++◌, false, Some, length}
 use Rattle.atomic_table.specs.Seated.{TableId}
 use Rattle.atomic_table.specs.Table.{Me}
 use Rattle.arc_data.specs.declared.event.Event.{Event}
@@ -35,7 +35,7 @@ pub record IsSeated (t : Terms) (number : ℕ) (table : TableId) (me : Me (Unit 
   pub carries : me.1 ≡ []
   pub is_pass : me.0.book ≡ false
   pub number_is : me.0.number ≡ Some number
-  pub free : me.0.named ≡ None
+  pub free : me.0.named ≡ []
   pub below : number < me.0.count
   pub own : made_by number me.0.seen ≡ me.0.made
   pub of_gate : IsOfGate t me.0.seen
@@ -68,6 +68,22 @@ pub record Makes (t : Terms) (p q : PassSeen) (clock : ℕ) (e : Entry) : Type 0
   pub made : q.made ≡ e ∷ p.made
   pub answer : IsAnswer t before clock e
 
+-- these entries are the answers of one thread, one after another, the first after this history, each at a reading of the clock of its own
+-- (both lists have the newest first)
+abbrev pub AreAnswers : Terms → List Entry → List ℕ → List Entry → Type 0
+AreAnswers t before [] [] = Unit {0}
+AreAnswers t before [] (e ∷ es) = ⊥
+AreAnswers t before (clock ∷ clocks) [] = ⊥
+AreAnswers t before (clock ∷ clocks) (e ∷ es) = IsAnswer t (es ++ before) clock e × AreAnswers t before clocks es
+
+-- The same of a list of entries, which the pass made in the call, all of them together at the end of what it has seen.
+pub record MakesAll (t : Terms) (p q : PassSeen) (clocks : List ℕ) (es : List Entry) : Type 0 where
+  pub before : List Entry
+  pub extends : Extends p.since before
+  pub since : q.since ≡ es ++ before
+  pub made : q.made ≡ es ++ p.made
+  pub answers : AreAnswers t before clocks es
+
 -- What a pass shows after a stop of an event at a reading of the clock.
 
 -- over this base a checkpoint of what the pass has seen uses so many bytes, and the event would be recorded
@@ -91,9 +107,9 @@ PassShows t p (Full used need records) event clock = IsShownFull t p.since used 
 PassShows t p (Worn count) event clock =
     (2 ^ 48 ≤ count) × ((b : Summary) (base : List Entry) → t.stood b base → count ≡ b.recorded + length (p.since ++ base))
 
--- a pass that has appended an entry
-abbrev pub grown : Entry → PassSeen → PassSeen
-grown e p = record { number = p.number; count = p.count; since = e ∷ p.since; made = e ∷ p.made; told = p.told }
+-- a pass that has appended these entries
+abbrev pub grown : List Entry → PassSeen → PassSeen
+grown es p = record { number = p.number; count = p.count; since = es ++ p.since; made = es ++ p.made; told = p.told }
 
 -- a pass that was told a count of faults
 abbrev pub told_at : ℕ → PassSeen → PassSeen

@@ -1,5 +1,5 @@
 -- What the name of a gate says.
-use Rattle.std.specs.Prelude.{◌≡◌, ◌+◌, ◌++◌, ℕ, List, [], Some, All, length}
+use Rattle.std.specs.Prelude.{◌≡◌, ◌+◌, ◌++◌, ℕ, List, [], Bool, false, Some, All, length}
 use Rattle.atomic_table.specs.Seated.{TableId}
 use Rattle.alarm_rules.specs.Setups.{meaning}
 use Rattle.centre_rules.specs.Summary.{Summary}
@@ -11,14 +11,15 @@ use Rattle.disk_journal.specs.declared.journal.Limits.{Limits}
 use Rattle.line_gate.specs.Entries.{Entry}
 
 -- Its table; the count of the disk's faults when the store was opened, and the limits of its journal; how many entries the store had when
--- the gate was made; and the text of the setup in force. A base is a history for which the store stood then: the name has the relation
--- that says for which it did, and what is said of a gate is said for each of them.
+-- the gate was made; the text of the setup in force; and whether callers may submit events together at it. A base is a history for which
+-- the store stood then: the name has the relation that says for which it did, and what is said of a gate is said for each of them.
 pub record Terms : Type 1 where
   pub table : TableId
   pub at_open : ℕ
   pub limits : Limits
   pub entries : ℕ
   pub text : List ℕ
+  pub groups : Bool
   pub stood : Summary → List Entry → Type 0
 
 -- the table of no gate
@@ -33,6 +34,7 @@ no_terms = record {
   limits = record { bytes = 0; records = 0 };
   entries = 0;
   text = [];
+  groups = false;
   stood = λ b base. ⊥;
 }
 

@@ -1,5 +1,5 @@
 -- The views of seats, and what each kind of step makes of them.
-use Rattle.std.specs.Prelude.{◌≡◌, ◌≤◌, ◌+◌, ℕ, max, [], ◌∷◌, true, false, Some, None}
+use Rattle.std.specs.Prelude.{◌≡◌, ◌≤◌, ◌+◌, ℕ, max, List, [], ◌++◌, length, true, false, Some, None}
 use Rattle.line_gate.specs.Entries.{Entry, Extends, made_by, longer}
 use Rattle.line_gate.specs.declared.view.View.{View}
 
@@ -12,7 +12,7 @@ nobody = record {
   seen = [];
   made = [];
   told = 0;
-  named = None;
+  named = [];
   had = [];
   got = [];
   got_count = 0;
@@ -36,11 +36,11 @@ counting v = record v { count = v.count + 1 }
 abbrev pub pass_of : View → View
 pass_of v = record nobody { number = Some v.count; count = v.count + 1; seen = v.seen; told = v.told; got = v.seen }
 
-abbrev pub naming : Entry → View → View
-naming e v = record v { named = Some e }
+abbrev pub naming : List Entry → View → View
+naming es v = record v { named = es }
 
-abbrev pub named_note : Entry → View → View
-named_note e v = record nobody { count = v.count; seen = v.seen; told = v.told; named = Some e }
+abbrev pub named_note : List Entry → View → View
+named_note es v = record nobody { count = v.count; seen = v.seen; told = v.told; named = es }
 
 -- Joins: what the first view becomes. The second is spent.
 
@@ -52,6 +52,10 @@ taking v w = record v { named = w.named }
 
 abbrev pub shown : View → View → View
 shown v w = record v { got = w.seen; got_count = w.count; got_told = w.told }
+
+-- the book, given back the note of a list of which nothing was appended, names nothing
+abbrev pub withdrawn : View → View → View
+withdrawn v w = record v { named = [] }
 
 -- Steps on a word.
 
@@ -73,16 +77,17 @@ pub record Checked (v w : View) : Type 0 where
   pub count : v.got_count ≤ v.count
   pub told : v.got_told ≤ v.told
 
--- the pass has seen and made the entry that it named, and names nothing
-abbrev pub appended : Entry → View → View
-appended e v = record v { seen = e ∷ v.seen; made = e ∷ v.made; named = None }
+-- the pass has seen and made these entries, and names nothing
+abbrev pub appended : List Entry → View → View
+appended es v = record v { seen = es ++ v.seen; made = es ++ v.made; named = [] }
 
-abbrev pub Appended : View → View → Type 0
-Appended v w = (e : Entry) → v.named ≡ Some e → w ≡ appended e v
+-- they are the first ones of the list that it named, as many as were added to the word
+abbrev pub Appended : ℕ → View → View → Type 0
+Appended n v w = (es : List Entry) → Extends es v.named → length es ≡ n → w ≡ appended es v
 
 -- the book has seen what it was shown, and names nothing
 abbrev pub caught : View → View
-caught v = record v { seen = v.got; named = None; had = []; got = []; got_count = 0; got_told = 0 }
+caught v = record v { seen = v.got; named = []; had = []; got = []; got_count = 0; got_told = 0 }
 
 abbrev pub Caught : View → View → Type 0
 Caught v w = w ≡ caught v

@@ -4,6 +4,7 @@
 
 mod at_gate;
 mod blank;
+mod closed;
 mod gate;
 mod locked_store;
 mod name;
@@ -13,6 +14,7 @@ mod view;
 
 pub use at_gate::AtGate;
 pub use blank::{Blank, GateRefused};
+pub use closed::GroupClosed;
 pub use gate::Gate;
 pub use name::GateName;
 pub use pass::Pass;

@@ -1,6 +1,6 @@
 // What a caller holds.
-ghost use Rattle.std.specs.Prelude.{◌≡◌, ◌≤◌, ◌<◌, ◌^◌, ◌++◌, ◌∷◌, [], Some, None, true, false, max, length};
-ghost use Rattle.line_gate.specs.Entries.{Extends};
+ghost use Rattle.std.specs.Prelude.{◌≡◌, ◌≤◌, ◌<◌, ◌^◌, ◌++◌, [], Some, true, false, max, length};
+ghost use Rattle.line_gate.specs.Entries.{Extends, AreBy};
 ghost use Rattle.line_gate.specs.Views.{settled, note_of};
 ghost use Rattle.line_gate.specs.Terms.{IsOfGate};
 ghost use Rattle.line_gate.specs.Passes.{IsPass, IsLater, grown, told_at};
@@ -39,11 +39,11 @@ impl<N: GateName> Pass<N> {
         self.number
     }
 
-    // A note of it.
+    // Cuts a note off it.
     pub(crate) fn note(&mut self, words: &Words) -> GateSeat
         requires table { (words.now.table_id ≡ N.terms.table) × (N.terms.table.words ≡ 2) }
         ensures pass { self.new ≡ self.old }
-        ensures note { (result.table_id ≡ N.terms.table) × (result.me.1 ≡ []) × (result.me.0.book ≡ false) × (result.me.0.named ≡ None) }
+        ensures note { (result.table_id ≡ N.terms.table) × (result.me.1 ≡ []) × (result.me.0.book ≡ false) × (result.me.0.named ≡ []) }
         ensures knows { (result.me.0.seen ≡ self.old.since) × (result.me.0.count ≡ self.old.count) × (result.me.0.told ≡ self.old.told) }
         ensures of_gate { IsOfGate N.terms result.me.0.seen }
     {
@@ -66,18 +66,20 @@ impl<N: GateName> Pass<N> {
         learn(words, &mut self.seat, other);
     }
 
-    // It takes in the note that names an entry, and appends it.
-    pub(crate) fn append<E: Following>(&mut self, words: &Words, named: GateSeat)
+    // It takes in the note that names entries, and appends the first of them, so many, in one step.
+    pub(crate) fn append<E: Following>(&mut self, words: &Words, named: GateSeat, count: u64)
         requires table { (words.now.table_id ≡ N.terms.table) × (named.table_id ≡ N.terms.table) × (N.terms.table.words ≡ 2) }
-        requires named { (named.me.0.book ≡ false) × (named.me.0.named ≡ Some E.entry) × (named.me.0.seen ≡ self.old.since) × (named.me.1 ≡ []) }
-        requires by { E.entry.caller ≡ self.old.number }
+        requires named { (named.me.0.book ≡ false) × (named.me.0.seen ≡ self.old.since) × (named.me.1 ≡ []) }
+        requires first { Extends E.entries named.me.0.named }
+        requires count { (length E.entries ≡ count) × (0 < count) × (count ≤ 64) }
+        requires by { AreBy self.old.number E.entries }
         requires few { length self.old.since < 2 ^ 48 }
-        requires of_gate { IsOfGate N.terms (E.entry ∷ self.old.since) }
-        ensures appended { self.new ≡ grown E.entry self.old }
+        requires of_gate { IsOfGate N.terms (E.entries ++ self.old.since) }
+        ensures appended { self.new ≡ grown E.entries self.old }
         ensures pass { IsPass N.terms self.new }
     {
-        take::<E>(words, &mut self.seat, named);
-        append::<E>(words, &mut self.seat);
+        take(words, &mut self.seat, named);
+        append::<E>(words, &mut self.seat, self.number, count);
     }
 
     // It reads the greatest count of disk faults that was told.

@@ -24,8 +24,8 @@ pub struct View {
     pub made: LinkedList<Entry>,
     /// The greatest count of disk faults that it was told.
     pub told: u64,
-    /// The entry that may follow next.
-    pub named: Option<Entry>,
+    /// The entries that may follow next, one after another. A view whose list is empty names nothing.
+    pub named: LinkedList<Entry>,
     /// What it had seen itself before the last join, until the next load.
     pub had: LinkedList<Entry>,
     /// What the view that it took in last had seen, known and been told, until the next load.
@@ -74,29 +74,29 @@ impl Split<View> for Numbers {
     ghost right = { pass_of };
 }
 
-/// Names an entry. Each call picks it.
+/// Names entries, the newest first. Each call picks them.
 pub trait Following {
+    ghost use Rattle.std.specs.Prelude.{List};
     ghost use Rattle.arc_data.specs.declared.event.Entry.{Entry};
 
-    ghost entry: { Entry };
+    ghost entries: { List Entry };
 }
 
 impl Following for Brand {
-    ghost use Rattle.arc_data.specs.declared.event.Event.TheVariants.{Start};
-    ghost use Rattle.arc_data.specs.declared.reply.Reply.TheVariants.{Started};
+    ghost use Rattle.std.specs.Prelude.{[]};
 
-    ghost entry = { record { caller = 0; event = Start; at = 0; reply = Started } };
+    ghost entries = { [] };
 }
 
-/// Cuts a note off the book that names the entry, as the book then does too.
+/// Cuts a note off the book that names the entries, as the book then does too.
 pub struct Naming<E: Following>(PhantomData<E>);
 
 impl<E: Following> Split<View> for Naming<E> {
     ghost use Rattle.line_gate.specs.Views.{naming, named_note};
 
-    ghost left = { naming E.entry };
+    ghost left = { naming E.entries };
 
-    ghost right = { named_note E.entry };
+    ghost right = { named_note E.entries };
 }
 
 /// A pass takes in another pass or a note that names nothing.
@@ -110,7 +110,7 @@ impl Join<View> for Learns {
     ghost spent = { nobody };
 }
 
-/// A pass takes in the note that names the entry.
+/// A pass takes in the note that names entries.
 pub struct Takes;
 
 impl Join<View> for Takes {
@@ -128,6 +128,17 @@ impl Join<View> for Shows {
     ghost use Rattle.line_gate.specs.Views.{shown, nobody};
 
     ghost both = { shown };
+
+    ghost spent = { nobody };
+}
+
+/// The book takes the note back that names entries, which are then not named any more.
+pub struct Withdraws;
+
+impl Join<View> for Withdraws {
+    ghost use Rattle.line_gate.specs.Views.{withdrawn, nobody};
+
+    ghost both = { withdrawn };
 
     ghost spent = { nobody };
 }
@@ -150,16 +161,16 @@ impl Play<(), View> for Checks {
     ghost then = { λ s v n w. Checked v.0 w.0 × (w.1 ≡ v.1) };
 }
 
-/// A pass adds one to word 0, and so appends the entry that it names.
+/// A pass adds their number to word 0, and so appends the first entries of those that it names.
 pub struct Appends;
 
 impl Play<(), View> for Appends {
     ghost use Rattle.line_gate.specs.Views.{Appended};
 
-    ghost then = { λ s v n w. Appended v.0 w.0 × (w.1 ≡ v.1) };
+    ghost then = { λ s v n w. Appended s.first v.0 w.0 × (w.1 ≡ v.1) };
 }
 
-/// The book loads word 0 after its named entry was appended, of which it was shown a note.
+/// The book loads word 0 after entries that it names were appended, of which it was shown a note.
 pub struct Catches;
 
 impl Play<(), View> for Catches {

@@ -4,7 +4,7 @@ use Rattle.line_gate.specs.Entries.{Entry, Extends}
 use Rattle.line_gate.specs.Passes.{IsSeated}
 use Rattle.line_gate.specs.UnderLock.{UnderLock}
 use Rattle.line_gate.specs.declared.view.View.{View}
-use Rattle.line_gate.proofs.Carried.{later_further, pass_from, kept_of_gate, new_seated}
+use Rattle.line_gate.proofs.Carried.{later_further, pass_from, new_seated}
 use Rattle.line_gate.proofs.locked_store.LockedStore.split.Given.{Over}
 use Rattle.line_gate.proofs.locked_store.LockedStore.split.Goals as goal
 
@@ -12,7 +12,7 @@ seated : (g : Over) (c : goal.After-learn g) → IsSeated g.N.GateName.terms c.s
 seated g c =
     let i = c.self.invariant in
     let n = c.new_pass-seat.ensures in
-    new_seated g.N.GateName.terms c.self.inside.count _ _ c.new_pass-seat.result.me c.self.inside.book.me n.pass.1 n.pass.0 i.seat.table_is i.count_is n.own (kept_of_gate _ g.N.GateName.terms c.self.inside.book.me.0.seen c.self.inside.book.me.0.told c.self.inside.store i.kept)
+    new_seated g.N.GateName.terms c.self.inside.count _ _ c.new_pass-seat.result.me c.self.inside.book.me n.pass.1 n.pass.0 i.seat.table_is i.count_is n.own i.kept.of_gate
 
 pub invariant_of-result : goal.invariant_of-result
 invariant_of-result g c = seated g c

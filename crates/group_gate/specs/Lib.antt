@@ -1,0 +1,2 @@
+pub use Rattle.line_gate.specs.Groups
+pub use Rattle.line_gate.specs.AtGates
