@@ -1,71 +1,81 @@
 -- What a run shows that began and served all callers.
-use Rattle.std.proofs.Common.{◌≡◌, ◌≤◌, ◌++◌, ℕ, List, [], Result, Ok, Err, IfOk, OnErr, refl, sym, subst}
+use Rattle.std.proofs.Common.{◌≡◌, ◌≤◌, ◌++◌, ℕ, List, [], Bool, true, false, Result, Ok, Err, IfOk, OnErr, inl, inr, refl, sym, subst, ap, ◌∙◌}
 use Rattle.std.specs.Prelude.{is_err}
 use Rattle.std.proofs.lemmas.List.Elements.{All-nil}
 use Rattle.arc_data.specs.declared.blob.Memory.{Memory}
+use Rattle.arc_io.specs.Causes.{Rose}
 use Rattle.arc_io.specs.Disks.{DiskSeen}
 use Rattle.arc_io.specs.Seen.{PortSeen}
-use Rattle.arc_io.specs.Told.{Puts}
-use Rattle.arc_io.specs.declared.traits.Failed.{Failed}
 use Rattle.arc_serving.specs.Seen.{StationSeen, CameSeen}
-use Rattle.arc_serving.specs.Serving.{ServesStore, GoesOnFrom, all_ended}
+use Rattle.arc_serving.specs.Serving.{Serves, ServesStore, GathersStore, GoesOnFrom, GoesOnAt, IsKeptOf, all_ended}
 use Rattle.arc_serving.specs.declared.station.Crew.{Crew}
 use Rattle.centre_rules.specs.Summary.{Summary}
 use Rattle.centre_rules.specs.History.{Entry}
 use Rattle.centre_store.specs.Stores.{Stored, StoreStands}
+use Rattle.line_gate.specs.Blanks.{terms_of}
 use Rattle.line_gate.specs.Entries.{Extends}
 use Rattle.line_gate.specs.Passes.{PassSeen}
+use Rattle.line_gate.specs.Terms.{Terms}
+use Rattle.line_gate.specs.declared.closed.GroupClosed.{GroupClosed}
+use Rattle.line_gate.specs.declared.closed.GroupClosed.TheVariants.{Whole, Broken}
 use Rattle.arc_server.specs.Areas.{shipped}
 use Rattle.arc_server.specs.Beginnings.{HasBegun}
 use Rattle.arc_server.specs.Handed.{Handed}
-use Rattle.arc_server.specs.Made.{status_over, write_fault}
-use Rattle.arc_server.specs.ServeRuns.{ServesAll, summary_line}
-use Rattle.arc_server.specs.Servings.{first_of, met_by, where_so}
+use Rattle.arc_server.specs.ServeRuns.{ServesAll, HasServed, HasGathered, GathersBroken, EndsServing}
 use Rattle.arc_server.specs.declared.status.Status.{Status}
-use Rattle.arc_server.proofs.Kept.{kept}
+use Rattle.arc_server.specs.declared.status.Status.TheVariants.{DiskFault}
+use Rattle.arc_server.proofs.Kept.{kept, rose_from}
 use Rattle.arc_server.proofs.Reported.{puts_line}
 use Rattle.arc_server.proofs.Shown.{shown, rose_put, all_may}
 
--- by whether the callers ran
-pub serves_all : {D : Type 0} {seen : D → DiskSeen} (came : Result CameSeen Memory) (first last : Stored D) (crew : Crew) (status : Status)
-    {r r' : Handed D} {p : PortSeen} {around around' : StationSeen} {h : List Entry} {written : Result (Unit {0}) Failed}
-    → HasBegun seen r r'.setup p first h
-    → IfOk came (λ came. ServesStore seen first crew around around' came last)
-    → OnErr came ((b : Summary) (h : List Entry) → StoreStands seen b first h → GoesOnFrom seen b h last)
-    → OnErr came (around' ≡ around)
+-- where the callers ran, at a gate of this name
+serves_ran : {D : Type 0} {seen : D → DiskSeen} (groups : Bool) (t : Terms) (came : CameSeen) (first last : Stored D) (crew : Crew)
+    (status : Status) {r r' : Handed D} {p : PortSeen} {around around' : StationSeen} {h : List Entry}
+    → (begun : HasBegun seen r r'.setup p first h) → (s : Serves seen t crew around around' came last)
+    → t.stood begun.asked.base h → t.at_open ≡ first.at_open
+    → HasServed seen groups first crew (around, around') (Ok came) last (all_ended s.ran)
     → last.journal.limits ≡ shipped → r'.disk ≡ last.journal.disk → last.at_open ≡ first.at_open
-    → Puts p r'.port written (summary_line last.state.sum)
-    → status ≡ status_over (seen r.disk).faults (seen r'.disk).faults (first_of (met_by came (where_so (is_err written) (write_fault p r'.port))))
-    → ServesAll seen crew status r r' around around'
-serves_all {D} {seen} (Ok came) first last crew status {r} {r'} {p} {around} {around'} {h} {written} begun served refused untouched limits handed opened puts is =
+    → EndsServing (seen r.disk).faults p r'.port (seen r'.disk).faults last.state.sum (Ok came) status
+    → ServesAll seen groups crew status r r' around around'
+serves_ran {D} {seen} groups t came first last crew status {r} {r'} {p} {around} {around'} {h} begun s stood opening served limits handed opened e =
     let base : Summary = begun.asked.base in
-    let stood : StoreStands seen base served.gate.store h =
-    subst (λ (s : Stored D). StoreStands seen base s h) (sym served.from_is) begun.stands.stands in
-    let all = served.serves.stands base h stood in
-    let since : (seen r.disk).faults ≤ last.at_open = subst (λ (n : ℕ). (seen r.disk).faults ≤ n) (sym opened) begun.later in record {
+    let entry : ℕ = (seen r.disk).faults in
+    let all = s.stands base h stood in
+    let since : entry ≤ last.at_open = subst (λ (n : ℕ). entry ≤ n) (sym opened) begun.later in
+    let low : entry ≤ t.at_open = subst (λ (n : ℕ). entry ≤ n) (sym opening) begun.later in record {
       p = p;
       first = first;
       h = h;
       begun = begun;
       last = last;
       came = Ok came;
-      passes = all_ended served.serves.ran;
-      served = (served, refl);
+      passes = all_ended s.ran;
+      served = served;
       stands = all;
       limits = limits;
       handed = handed;
-      ends = kept last (seen r.disk).faults r'.disk all.from.stands since handed;
-      written = written;
-      puts = puts_line last.state base all.from.history all.from.stands.centre puts;
-      status_is = is;
+      ends = kept last entry r'.disk all.from.stands since handed;
+      written = e.written;
+      puts = puts_line last.state base all.from.history all.from.stands.centre e.puts;
+      status_is = e.status_is;
       shows =
-          shown (Ok came) (is_err written) status (seen r.disk).faults (seen r'.disk).faults p r'.port is (rose_put written (summary_line last.state.sum) p r'.port puts)
-          (λ up. all_may first last crew around around' came (seen r.disk).faults r'.disk served begun.later handed up);
+          shown (Ok came) (is_err e.written) status entry (seen r'.disk).faults p r'.port e.status_is
+          (rose_put e.written _ p r'.port e.puts)
+          (λ up. all_may t crew around around' came last entry r'.disk s low handed up);
     }
-serves_all {D} {seen} (Err none) first last crew status {r} {r'} {p} {around} {around'} {h} {written} begun served refused untouched limits handed opened puts is =
+
+-- where all were refused memory before the first began
+serves_none : {D : Type 0} {seen : D → DiskSeen} (groups : Bool) (none : Memory) (first last : Stored D) (crew : Crew)
+    (status : Status) {r r' : Handed D} {p : PortSeen} {around around' : StationSeen} {h : List Entry}
+    → (begun : HasBegun seen r r'.setup p first h) → GoesOnFrom seen begun.asked.base h last
+    → HasServed seen groups first crew (around, around') (Err none) last []
+    → last.journal.limits ≡ shipped → r'.disk ≡ last.journal.disk → last.at_open ≡ first.at_open
+    → EndsServing (seen r.disk).faults p r'.port (seen r'.disk).faults last.state.sum (Err none) status
+    → ServesAll seen groups crew status r r' around around'
+serves_none {D} {seen} groups none first last crew status {r} {r'} {p} {around} {around'} {h} begun from served limits handed opened e =
     let base : Summary = begun.asked.base in
-    let from : GoesOnFrom seen base h last = refused base h begun.stands.stands in
-    let since : (seen r.disk).faults ≤ last.at_open = subst (λ (n : ℕ). (seen r.disk).faults ≤ n) (sym opened) begun.later in record {
+    let entry : ℕ = (seen r.disk).faults in
+    let since : entry ≤ last.at_open = subst (λ (n : ℕ). entry ≤ n) (sym opened) begun.later in record {
       p = p;
       first = first;
       h = h;
@@ -73,15 +83,128 @@ serves_all {D} {seen} (Err none) first last crew status {r} {r'} {p} {around} {a
       last = last;
       came = Err none;
       passes = [];
-      served = (untouched, refl);
+      served = served;
       stands = record { from = from; all_seen = All-nil (λ (p : PassSeen). Extends (p.since ++ h) from.history) };
       limits = limits;
       handed = handed;
-      ends = kept last (seen r.disk).faults r'.disk from.stands since handed;
-      written = written;
-      puts = puts_line last.state base from.history from.stands.centre puts;
-      status_is = is;
+      ends = kept last entry r'.disk from.stands since handed;
+      written = e.written;
+      puts = puts_line last.state base from.history from.stands.centre e.puts;
+      status_is = e.status_is;
       shows =
-          shown (Err none) (is_err written) status (seen r.disk).faults (seen r'.disk).faults p r'.port is (rose_put written (summary_line last.state.sum) p r'.port puts)
-          (λ up. tt);
+          shown (Err none) (is_err e.written) status entry (seen r'.disk).faults p r'.port e.status_is
+          (rose_put e.written _ p r'.port e.puts) (λ up. tt);
     }
+
+-- by whether the callers ran, at a gate without groups
+pub serves_all : {D : Type 0} {seen : D → DiskSeen} (came : Result CameSeen Memory) (first last : Stored D) (crew : Crew) (status : Status)
+    {r r' : Handed D} {p : PortSeen} {around around' : StationSeen} {h : List Entry}
+    → HasBegun seen r r'.setup p first h
+    → IfOk came (λ came. ServesStore seen first crew around around' came last)
+    → OnErr came ((b : Summary) (h : List Entry) → StoreStands seen b first h → GoesOnFrom seen b h last)
+    → OnErr came (around' ≡ around)
+    → last.journal.limits ≡ shipped → r'.disk ≡ last.journal.disk → last.at_open ≡ first.at_open
+    → EndsServing (seen r.disk).faults p r'.port (seen r'.disk).faults last.state.sum came status
+    → ServesAll seen false crew status r r' around around'
+serves_all {D} {seen} (Ok came) first last crew status {r} {r'} {p} {around} {around'} {h} begun served refused untouched limits handed opened e =
+    let stood : StoreStands seen begun.asked.base served.gate.store h =
+    subst (λ (s : Stored D). StoreStands seen begun.asked.base s h) (sym served.from_is) begun.stands.stands in
+    serves_ran false (terms_of false seen served.gate) came first last crew status begun served.serves stood
+    (ap (λ (s : Stored D). s.at_open) served.from_is) (served, refl) limits handed opened e
+serves_all {D} {seen} (Err none) first last crew status {r} {r'} {p} {around} {around'} {h} begun served refused untouched limits handed opened e =
+    serves_none false none first last crew status begun (refused begun.asked.base h begun.stands.stands) (untouched, refl) limits handed opened e
+
+-- and at one with groups that gave the store whole
+pub gathers_whole : {D : Type 0} {seen : D → DiskSeen} (came : Result CameSeen Memory) (first last : Stored D) (crew : Crew) (status : Status)
+    {r r' : Handed D} {p : PortSeen} {around around' : StationSeen} {h : List Entry}
+    → HasBegun seen r r'.setup p first h
+    → IfOk came (λ came. GathersStore seen first crew around around' came (Whole last))
+    → OnErr came ((b : Summary) (h : List Entry) → StoreStands seen b first h → GoesOnAt seen b h (Whole last))
+    → OnErr came (around' ≡ around)
+    → first.journal.limits ≡ shipped → IsKeptOf first (Whole last) → r'.disk ≡ last.journal.disk
+    → EndsServing (seen r.disk).faults p r'.port (seen r'.disk).faults last.state.sum came status
+    → ServesAll seen true crew status r r' around around'
+gathers_whole {D} {seen} (Ok came) first last crew status {r} {r'} {p} {around} {around'} {h} begun served refused untouched limits kept handed e =
+    let stood : StoreStands seen begun.asked.base served.gate.store h =
+    subst (λ (s : Stored D). StoreStands seen begun.asked.base s h) (sym served.from_is) begun.stands.stands in
+    serves_ran true (terms_of true seen served.gate) came first last crew status begun served.serves.0 stood
+    (ap (λ (s : Stored D). s.at_open) served.from_is) (served, refl) (kept.1 ∙ limits) handed kept.0 e
+gathers_whole {D} {seen} (Err none) first last crew status {r} {r'} {p} {around} {around'} {h} begun served refused untouched limits kept handed e =
+    serves_none true none first last crew status begun (refused begun.asked.base h begun.stands.stands) (untouched, refl) (kept.1 ∙ limits) handed kept.0 e
+
+-- by what closing it gave
+pub gathered_whole : {D : Type 0} {seen : D → DiskSeen} (came : Result CameSeen Memory) (first last : Stored D) (crew : Crew) (status : Status)
+    (closed : GroupClosed D) {r r' : Handed D} {p : PortSeen} {around around' : StationSeen} {h : List Entry}
+    → closed ≡ Whole last → HasBegun seen r r'.setup p first h
+    → IfOk came (λ came. GathersStore seen first crew around around' came closed)
+    → OnErr came ((b : Summary) (h : List Entry) → StoreStands seen b first h → GoesOnAt seen b h closed)
+    → OnErr came (around' ≡ around)
+    → first.journal.limits ≡ shipped → IsKeptOf first closed → r'.disk ≡ last.journal.disk
+    → EndsServing (seen r.disk).faults p r'.port (seen r'.disk).faults last.state.sum came status
+    → ServesAll seen true crew status r r' around around'
+gathered_whole {D} {seen} came first last crew status closed {r} {r'} {p} {around} {around'} {h} is begun served refused untouched limits kept handed e =
+    gathers_whole came first last crew status begun
+    (subst (λ (k : GroupClosed D). IfOk came (λ w. GathersStore seen first crew around around' w k)) is served)
+    (subst (λ (k : GroupClosed D). OnErr came ((b : Summary) (h : List Entry) → StoreStands seen b first h → GoesOnAt seen b h k)) is refused)
+    untouched limits (subst (λ (k : GroupClosed D). IsKeptOf first k) is kept) handed e
+
+-- What such a gate shows whose disk had failed since the opening: that it did, by these counts, and who ran.
+record BrokenShows {D : Type 0} (seen : D → DiskSeen)
+    (first : Stored D) (crew : Crew) (around around' : StationSeen) (came : Result CameSeen Memory) (disk : D) (at_open now : ℕ) : Type 0 where
+  pub now_is : now ≡ (seen disk).faults
+  pub rose : Rose at_open now
+  pub gathered : HasGathered seen first crew around around' came (Broken disk at_open now)
+
+broken_shows : {D : Type 0} {seen : D → DiskSeen} (came : Result CameSeen Memory) (first : Stored D) (crew : Crew) (around around' : StationSeen)
+    (disk : D) (at_open now : ℕ) (b : Summary) (h : List Entry) → StoreStands seen b first h
+    → IfOk came (λ came. GathersStore seen first crew around around' came (Broken disk at_open now))
+    → OnErr came ((b : Summary) (h : List Entry) → StoreStands seen b first h → GoesOnAt seen b h (Broken disk at_open now))
+    → OnErr came (around' ≡ around)
+    → BrokenShows seen first crew around around' came disk at_open now
+broken_shows {D} {seen} (Ok came) first crew around around' disk at_open now b h stood served refused untouched =
+    record { now_is = served.serves.0; rose = served.serves.1.rose; gathered = served }
+broken_shows {D} {seen} (Err none) first crew around around' disk at_open now b h stood served refused untouched =
+    let both = refused b h stood in
+    record { now_is = both.0; rose = both.1; gathered = untouched }
+
+-- and at one with groups whose disk came back alone
+pub gathers_broken : {D : Type 0} {seen : D → DiskSeen} (came : Result CameSeen Memory) (first : Stored D) (crew : Crew) (status : Status)
+    (at_open now : ℕ) {r r' : Handed D} {around around' : StationSeen} {h : List Entry}
+    → HasBegun seen r r'.setup r'.port first h
+    → IfOk came (λ came. GathersStore seen first crew around around' came (Broken r'.disk at_open now))
+    → OnErr came ((b : Summary) (h : List Entry) → StoreStands seen b first h → GoesOnAt seen b h (Broken r'.disk at_open now))
+    → OnErr came (around' ≡ around)
+    → IsKeptOf first (Broken r'.disk at_open now)
+    → status ≡ DiskFault (seen r.disk).faults (seen r'.disk).faults
+    → GathersBroken seen crew status r r' around around'
+gathers_broken {D} {seen} came first crew status at_open now {r} {r'} {around} {around'} {h} begun served refused untouched kept is =
+    let entry : ℕ = (seen r.disk).faults in
+    let b = broken_shows came first crew around around' r'.disk at_open now begun.asked.base h begun.stands.stands served refused untouched in
+    let since : entry ≤ at_open = subst (λ (n : ℕ). entry ≤ n) (sym kept) begun.later in record {
+      first = first;
+      h = h;
+      begun = begun;
+      came = came;
+      at_open = at_open;
+      now = now;
+      gathered = b.gathered;
+      now_is = b.now_is;
+      rose = rose_from entry at_open now since b.rose;
+      status_is = is ∙ ap (λ (n : ℕ). DiskFault entry n) (sym b.now_is);
+    }
+
+-- by what closing it gave
+pub gathered_broken : {D : Type 0} {seen : D → DiskSeen} (came : Result CameSeen Memory) (first : Stored D) (crew : Crew) (status : Status)
+    (at_open now : ℕ) (closed : GroupClosed D) {r r' : Handed D} {around around' : StationSeen} {h : List Entry}
+    → closed ≡ Broken r'.disk at_open now → HasBegun seen r r'.setup r'.port first h
+    → IfOk came (λ came. GathersStore seen first crew around around' came closed)
+    → OnErr came ((b : Summary) (h : List Entry) → StoreStands seen b first h → GoesOnAt seen b h closed)
+    → OnErr came (around' ≡ around)
+    → IsKeptOf first closed
+    → status ≡ DiskFault (seen r.disk).faults (seen r'.disk).faults
+    → GathersBroken seen crew status r r' around around'
+gathered_broken {D} {seen} came first crew status at_open now closed {r} {r'} {around} {around'} {h} is begun served refused untouched kept status_is =
+    gathers_broken came first crew status at_open now begun
+    (subst (λ (k : GroupClosed D). IfOk came (λ w. GathersStore seen first crew around around' w k)) is served)
+    (subst (λ (k : GroupClosed D). OnErr came ((b : Summary) (h : List Entry) → StoreStands seen b first h → GoesOnAt seen b h k)) is refused)
+    untouched (subst (λ (k : GroupClosed D). IsKeptOf first k) is kept) status_is

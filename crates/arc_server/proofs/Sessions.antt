@@ -1,5 +1,5 @@
 -- The store after a session stands for the history that the session ended with.
-use Rattle.std.proofs.Common.{ℕ, List}
+use Rattle.std.proofs.Common.{ℕ, List, false}
 use Rattle.arc_io.specs.Disks.{DiskSeen}
 use Rattle.arc_io.specs.Seen.{PortSeen}
 use Rattle.centre_rules.specs.Summary.{Summary}
@@ -14,4 +14,4 @@ use Rattle.arc_serving.specs.declared.session.SessionEnd.{SessionEnd}
 pub stands_by : {D : Type 0} (seen : D → DiskSeen) (side : Side) (name : List ℕ) (end : SessionEnd) (read : List ℕ) (base : Summary) (w : Way) (first last : Stored D)
     (p p' : PortSeen) → Serves side name end read base w (changed (store_seen seen first) (store_seen seen last) p p') → StoreStands seen base last w.to
 stands_by seen side name end read base w first last p p' serves =
-    (is_after side name end read base w (store_seen seen first) (store_seen seen last) p p' serves).holds.stands
+    (is_after false side name end read base w (store_seen seen first) (store_seen seen last) p p' serves).holds.stands

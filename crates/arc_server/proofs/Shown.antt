@@ -15,7 +15,7 @@ use Rattle.arc_io.specs.Causes.{next_count, Rose}
 use Rattle.arc_io.specs.Seen.{PortSeen}
 use Rattle.arc_serving.specs.Ran.{WorkerRan, IsWorkerRan, IsSideServed, ended_in}
 use Rattle.arc_serving.specs.Seen.{StationSeen, CameSeen}
-use Rattle.arc_serving.specs.Serving.{ServesStore}
+use Rattle.arc_serving.specs.Serving.{Serves}
 use Rattle.arc_serving.specs.declared.station.Crew.{Crew}
 use Rattle.arc_serving.specs.declared.session.SessionEnd.{SessionEnd}
 use Rattle.arc_serving.specs.declared.session.SessionEnd.TheVariants as Session
@@ -30,7 +30,6 @@ use Rattle.arc_serving.specs.declared.working.WorkerEnd.TheVariants.{DoorEnded, 
 use Rattle.centre_core.specs.declared.hall.Stop.{Stop}
 use Rattle.centre_core.specs.declared.hall.Stop.TheVariants.{Memory as MemoryWanted, Down, Full as HallFull, Worn as HallWorn}
 use Rattle.centre_store.specs.Stores.{Stored}
-use Rattle.line_gate.specs.Blanks.{terms_of}
 use Rattle.line_gate.specs.Passes.{PassSeen, PassShows}
 use Rattle.line_gate.specs.Terms.{Terms}
 use Rattle.arc_io.specs.Told.{Puts}
@@ -360,14 +359,11 @@ module _ (t : Terms) (entry end : ℕ) (since : entry ≤ t.at_open) (up : Rose 
       subst (λ (ws : List Worked). All (λ w. MayEnd w.end) ws) (sym served.stood.came_is) (All-map (λ (w : Worked). MayEnd w.end) (λ (w : WorkerRan). w.worked) ran each)
 
 pub all_may : {D : Type 0} {seen : D → DiskSeen}
-    (first last : Stored D) (crew : Crew) (around around' : StationSeen) (came : CameSeen) (entry : ℕ) (disk' : D)
-    → ServesStore seen first crew around around' came last → entry ≤ first.at_open → disk' ≡ last.journal.disk
+    (t : Terms) (crew : Crew) (around around' : StationSeen) (came : CameSeen) (last : Stored D) (entry : ℕ) (disk' : D)
+    → Serves seen t crew around around' came last → entry ≤ t.at_open → disk' ≡ last.journal.disk
     → (Rose entry (seen disk').faults → ⊥) → AllMay came
-all_may {D} {seen} first last crew around around' came entry disk' served since handed up =
-    let t : Terms = terms_of seen served.gate in
-    let s = served.serves in
+all_may {D} {seen} t crew around around' came last entry disk' s low handed up =
     let end = (seen disk').faults in
-    let low : entry ≤ t.at_open = subst (λ (store : Stored D). entry ≤ store.at_open) (sym served.from_is) since in
     let tolds : All (λ (p : PassSeen). p.told ≤ end) (ended_in s.ran.lines ++ (ended_in s.ran.desks ++ s.ran.ticker.ended ∷ [])) =
     subst (λ (disk : D). All (λ (p : PassSeen). p.told ≤ (seen disk).faults) (ended_in s.ran.lines ++ (ended_in s.ran.desks ++ s.ran.ticker.ended ∷ []))) (sym handed) s.all_told in
     let IsTold : PassSeen → Type 0 = λ p. p.told ≤ end in

@@ -4,8 +4,9 @@ use Rattle.std.specs.Str.{bytes_eq}
 use Rattle.alarm_rules.specs.SetupWords.{number_between}
 use Rattle.arc_data.specs.Digits.{is_capital_hex, is_run}
 use Rattle.arc_serving.specs.declared.side.Side.TheVariants.{Lines, Desks}
+use Rattle.arc_serving.specs.declared.station.Crew.{Crew}
 use Rattle.arc_server.specs.declared.form.Form.{Form}
-use Rattle.arc_server.specs.declared.form.Form.TheVariants.{Session, Script, Report, Drill, Serve, Panel, Feed, Mirror, Udp}
+use Rattle.arc_server.specs.declared.form.Form.TheVariants.{Session, Script, Report, Drill, Serve, Panel, Feed, Mirror, Udp, Gather}
 
 abbrev pub form_named : List ℕ → Option Form
 form_named word =
@@ -39,16 +40,25 @@ abbrev pub udp_named : List ℕ → Option Form
 udp_named datagrams = udp_with (number_between 1 1_000_000 datagrams)
 
 -- of three numbers, where all of them are given
-abbrev pub crew_with : Option ℕ → Option ℕ → Option ℕ → Option Form
-crew_with (Some lines) (Some desks) (Some sessions) = Some (Serve (record { lines = lines; desks = desks; sessions = sessions }))
+abbrev pub crew_with : Option ℕ → Option ℕ → Option ℕ → Option Crew
+crew_with (Some lines) (Some desks) (Some sessions) = Some (record { lines = lines; desks = desks; sessions = sessions })
 crew_with lines desks sessions = None
 
 -- 1 to 64 lines, no desk to 16, and 1 to 1,000,000 sessions, decimal without leading zeros
-abbrev pub crew_named : List ℕ → List ℕ → List ℕ → Option Form
+abbrev pub crew_named : List ℕ → List ℕ → List ℕ → Option Crew
 crew_named lines desks sessions =
     crew_with (number_between 1 64 lines) (number_between 0 16 desks) (number_between 1 1_000_000 sessions)
 
--- `line`, `desk`, `script`, `report`, `feed` or `mirror`; `drill` or `udp` and a number; `panel` and an account; `serve` and three numbers
+-- of a crew, where it is given
+abbrev pub serve_with : Option Crew → Option Form
+serve_with (Some crew) = Some (Serve crew)
+serve_with None = None
+
+abbrev pub gather_with : Option Crew → Option Form
+gather_with (Some crew) = Some (Gather crew)
+gather_with None = None
+
+-- one of the words above; `drill` or `udp` and a number; `panel` and an account; `serve` or `gather` and three numbers
 abbrev pub form_of : List (List ℕ) → Option Form
 form_of (word ∷ []) = form_named word
 form_of (word ∷ argument ∷ []) =
@@ -56,5 +66,8 @@ form_of (word ∷ argument ∷ []) =
     else if bytes_eq word (codes "panel") then panel_named argument
     else if bytes_eq word (codes "udp") then udp_named argument
     else None
-form_of (word ∷ lines ∷ desks ∷ sessions ∷ []) = if bytes_eq word (codes "serve") then crew_named lines desks sessions else None
+form_of (word ∷ lines ∷ desks ∷ sessions ∷ []) =
+    if bytes_eq word (codes "serve") then serve_with (crew_named lines desks sessions)
+    else if bytes_eq word (codes "gather") then gather_with (crew_named lines desks sessions)
+    else None
 form_of words = None

@@ -12,10 +12,10 @@ use Rattle.arc_server.specs.MirrorRuns.{IsMirrorRun}
 use Rattle.arc_server.specs.PanelRuns.{IsPanelRun}
 use Rattle.arc_server.specs.Reports.{IsReportRun}
 use Rattle.arc_server.specs.ScriptRuns.{IsScriptRun}
-use Rattle.arc_server.specs.ServeRuns.{IsServeRun}
+use Rattle.arc_server.specs.ServeRuns.{IsServeRun, IsGatherRun}
 use Rattle.arc_server.specs.SessionRuns.{IsSessionRun}
 use Rattle.arc_server.specs.declared.form.Form.{Form}
-use Rattle.arc_server.specs.declared.form.Form.TheVariants.{Session, Script, Report, Drill, Serve, Panel, Feed, Mirror, Udp}
+use Rattle.arc_server.specs.declared.form.Form.TheVariants.{Session, Script, Report, Drill, Serve, Panel, Feed, Mirror, Udp, Gather}
 use Rattle.arc_server.specs.declared.status.Status.{Status}
 
 -- what stands around a journal: doors and a pulse, and a mailbox
@@ -26,6 +26,7 @@ pub record AroundSeen : Type 0 where
 -- there are doors for all that are asked for
 abbrev pub HasDoors : Form → ℕ → ℕ → Type 0
 HasDoors (Serve crew) lines desks = (crew.lines ≤ lines) × (crew.desks ≤ desks)
+HasDoors (Gather crew) lines desks = (crew.lines ≤ lines) × (crew.desks ≤ desks)
 HasDoors form lines desks = Unit {0}
 
 -- a number of messages that a drill can have, an account that a panel can have, and a number of datagrams
@@ -57,5 +58,7 @@ IsRun seen Feed status r r' around around' = (r'.setup ≡ r.setup) × (around' 
 IsRun seen Mirror status r r' around around' = (r'.setup ≡ r.setup) × (around' ≡ around) × IsMirrorRun seen status r r'
 IsRun seen (Serve crew) status r r' around around' =
     (around'.mail ≡ around.mail) × IsServeRun seen crew status r r' around.station around'.station
+IsRun seen (Gather crew) status r r' around around' =
+    (around'.mail ≡ around.mail) × IsGatherRun seen crew status r r' around.station around'.station
 IsRun seen (Udp datagrams) status r r' around around' =
     (around'.station ≡ around.station) × IsMailRun seen datagrams status r r' around.mail around'.mail

@@ -1,5 +1,5 @@
 // The forms of the words that a run is called with.
-ghost use Rattle.std.specs.Prelude.{◌≡◌, IfSome};
+ghost use Rattle.std.specs.Prelude.{◌≡◌, ◌≤◌, IfSome};
 ghost use Rattle.arc_server.specs.Forms.{form_of, form_named, crew_named, drill_named, panel_named, udp_named};
 ghost use Rattle.arc_server.specs.WholeRuns.{HasDoors, IsInRange};
 
@@ -29,6 +29,8 @@ pub enum Form {
     Mirror,
     /// `udp N`: so many datagrams, each a line by itself.
     Udp(u32),
+    /// `gather LINES DESKS SESSIONS`: as `serve`, but that the messages that stand complete in one piece of a line are recorded together.
+    Gather(Crew),
 }
 
 /// The form of the words. None where they are of none.
@@ -43,7 +45,10 @@ pub(crate) fn form_of(words: &[Txt]) -> Option<Form>
         [word, account] if word.bytes() == b"panel".as_slice() => panel_named(account),
         [word, datagrams] if word.bytes() == b"udp".as_slice() => udp_named(datagrams),
         [word, lines, desks, sessions] if word.bytes() == b"serve".as_slice() => {
-            crew_named(lines, desks, sessions)
+            Some(Form::Serve(crew_named(lines, desks, sessions)?))
+        }
+        [word, lines, desks, sessions] if word.bytes() == b"gather".as_slice() => {
+            Some(Form::Gather(crew_named(lines, desks, sessions)?))
         }
         _ => None,
     }
@@ -105,18 +110,17 @@ fn udp_named(datagrams: &Txt) -> Option<Form>
     Some(Form::Udp(datagrams as u32))
 }
 
-// The form of the three numbers behind `serve`.
-fn crew_named(lines: &Txt, desks: &Txt, sessions: &Txt) -> Option<Form>
-    ensures form { result ≡ crew_named lines.now desks.now sessions.now }
-    ensures doors { IfSome result (λ form. HasDoors form 64 16) }
-    ensures range { IfSome result IsInRange }
+// The crew of the three numbers behind `serve` or `gather`.
+fn crew_named(lines: &Txt, desks: &Txt, sessions: &Txt) -> Option<Crew>
+    ensures crew { result ≡ crew_named lines.now desks.now sessions.now }
+    ensures doors { IfSome result (λ crew. (crew.lines ≤ 64) × (crew.desks ≤ 16)) }
 {
     let lines = number_between(1, 64, lines.bytes())?;
     let desks = number_between(0, 16, desks.bytes())?;
     let sessions = number_between(1, 1_000_000, sessions.bytes())?;
-    Some(Form::Serve(Crew {
+    Some(Crew {
         lines: lines as usize,
         desks: desks as usize,
         sessions: sessions as u32,
-    }))
+    })
 }

@@ -1,9 +1,9 @@
 //! The alarm receiving centre. `arc line` and `arc desk` read the setup from `setup.txt` in the working folder and serve one line,
 //! or one operator's desk, on their standard input and output. What they record stands in `journal.a`, beside `journal.b`, and
-//! `arc report` writes what stands there. `arc serve` serves many lines and desks at once, each on a connection. `arc script` runs a
-//! script from standard input over the same journal, and `arc drill` one of its own over a journal in memory. `arc panel` is a panel that a
-//! receiver can be tried with. `arc udp` serves datagrams of panels. `arc mirror` follows another centre over standard input and output, where
-//! `arc feed` answers it.
+//! `arc report` writes what stands there. `arc serve` serves many lines and desks at once, each on a connection; `arc gather` does so too,
+//! and records the messages together that come together on a line. `arc script` runs a script from standard input over the same journal,
+//! and `arc drill` one of its own over a journal in memory. `arc panel` is a panel that a receiver can be tried with. `arc udp` serves
+//! datagrams of panels. `arc mirror` follows another centre over standard input and output, where `arc feed` answers it.
 #![tactic(auto)]
 
 ghost use Rattle.std.specs.Prelude.{◌≡◌, Some, false};
@@ -76,12 +76,13 @@ fn main(rt: HostRuntime) -> ExitCode {
     ExitCode::from(status.number())
 }
 
-// How many doors of lines, and how many of desks, are made for these words: enough for the greatest numbers. Only `serve` has doors.
+// How many doors of lines, and how many of desks, are made for these words: enough for the greatest numbers. Only `serve` and `gather` have
+// doors.
 fn doors_for(words: &[Txt]) -> (usize, usize)
     ensures { (form : Form) → form_by words.now ≡ Some form → HasDoors form result.0 result.1 }
 {
     match form_of(words) {
-        Some(Form::Serve(_)) => (64, 16),
+        Some(Form::Serve(_) | Form::Gather(_)) => (64, 16),
         _ => (0, 0),
     }
 }
@@ -90,7 +91,9 @@ fn doors_for(words: &[Txt]) -> (usize, usize)
 // desks, one is begun for them all the same.
 fn threads_for(words: &[Txt]) -> usize {
     match form_of(words) {
-        Some(Form::Serve(crew)) => crew.lines.saturating_add(crew.desks.max(1)),
+        Some(Form::Serve(crew) | Form::Gather(crew)) => crew
+            .lines
+            .saturating_add(crew.desks.max(1)),
         _ => 0,
     }
 }

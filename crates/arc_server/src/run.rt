@@ -11,7 +11,7 @@ use crate::mirror::run_mirror;
 use crate::panel::run_panelled;
 use crate::report::run_report;
 use crate::script::run_scripted;
-use crate::serving::{Served, run_serve};
+use crate::serving::{Served, run_gather, run_serve};
 use crate::session::run_session;
 use crate::status::Status;
 use arc_data::Txt;
@@ -22,8 +22,8 @@ use std::alloc::Global;
 use std::sync::Wait;
 use std::thread::Threads;
 
-/// What a run is handed: the source of the setup text, the port of one line or desk, the disk of the journal; for `serve` the doors
-/// of lines and of desks, and the pulse that gives the moments at which to tick; and for `udp` the mailbox.
+/// What a run is handed: the source of the setup text, the port of one line or desk, the disk of the journal; for `serve` and `gather` the
+/// doors of lines and of desks, and the pulse that gives the moments at which to tick; and for `udp` the mailbox.
 #[derive(Drop)]
 pub struct Outside<S, P, D, A, B, T, M> {
     pub setup: S,
@@ -45,14 +45,15 @@ pub struct Ended<S, P, D, A, B, T, M> {
 /// Does what the words say. Of `line` and `desk` the setup is read, the journal is opened with the
 /// limits that are shipped, a run begins at one reading of the clock, and one session is served on the port, of a line or of a desk.
 /// What it records stands in the journal before it is answered. Of `serve` a run begins in the same way, and then the first doors of each
-/// side have a worker each, all beside each other, and a ticker; when all have ended, a summary is written on the port. Of `report` the
-/// setup is not read: the journal is opened, and what it has is reported on the port. Of `script` the setup is read, and the script on the
-/// port is run over the journal: it sets the clock. Of `drill N` nothing but the port is touched: a script of so many messages is run over
-/// a disk in memory, and one line of what was counted is written. Of `panel ACCOUNT` nothing but the port is touched, too: its lines say what
-/// happens to a panel of this account, and what it does is written. Of `feed` and `mirror` the setup is not read, and no run begins: the
-/// journal is opened, and the asks on the port of a centre that follows this one are answered by what it has; or the port is asked for
-/// what comes next in the journal, one record after another, and each is recorded there. Of `udp N` a run begins as of `line`, and so many
-/// datagrams of the mailbox are served, each a line by itself.
+/// side have a worker each, all beside each other, and a ticker; when all have ended, a summary is written on the port. `gather` does as
+/// `serve`, and records what comes together on a line together; where the disk failed, it writes no summary. Of `report` the setup is not
+/// read: the journal is opened, and what it has is reported on the port. Of `script` the setup is read, and the script on the port is run
+/// over the journal: it sets the clock. Of `drill N` nothing but the port is touched: a script of so many messages is run over a disk in
+/// memory, and one line of what was counted is written. Of `panel ACCOUNT` nothing but the port is touched, too: its lines say what happens
+/// to a panel of this account, and what it does is written. Of `feed` and `mirror` the setup is not read, and no run begins: the journal is
+/// opened, and the asks on the port of a centre that follows this one are answered by what it has; or the port is asked for what comes next
+/// in the journal, one record after another, and each is recorded there. Of `udp N` a run begins as of `line`, and so many datagrams of the
+/// mailbox are served, each a line by itself.
 pub fn run<
     R: Threads + Wait + Sync,
     S: Source,
@@ -175,6 +176,7 @@ fn run_form<
 {
     match form {
         Form::Serve(crew) => run_serve(rt, alloc, crew, setup, port, disk, station),
+        Form::Gather(crew) => run_gather(rt, alloc, crew, setup, port, disk, station),
         Form::Session(side) => unserved(run_session(side, alloc, setup, port, disk), station),
         Form::Script => unserved(run_scripted(alloc, setup, port, disk), station),
         Form::Report => unserved(run_report(alloc, port, disk), station),

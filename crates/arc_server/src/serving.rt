@@ -6,17 +6,19 @@ ghost use Rattle.centre_rules.specs.History.{Entry};
 ghost use Rattle.arc_server.specs.Areas.{shipped};
 ghost use Rattle.arc_server.specs.Beginnings.{HasBegun};
 ghost use Rattle.arc_server.specs.Handed.{Handed};
-ghost use Rattle.arc_server.specs.ServeRuns.{IsServeRun, ServesAll};
+ghost use Rattle.arc_server.specs.ServeRuns.{IsServeRun, IsGatherRun, ServesAll, GathersAll, EndsServing};
 
 use crate::begin::begin_run;
 use crate::came::status_of_serving;
 use crate::made::{StoppedRun, status_over};
 use crate::status::Status;
 use crate::summary::put_summary;
+use arc_data::Memory;
 use arc_doors::{Door, Pulse};
 use arc_io::{Disk, Port, Source};
-use arc_serving::{Crew, ServedStore, Station, serve_store};
+use arc_serving::{Came, Crew, GatheredStore, ServedStore, Station, gather_store, serve_store};
 use centre_store::Store;
+use line_gate::GroupClosed;
 use std::alloc::Global;
 use std::sync::Wait;
 use std::thread::Threads;
@@ -66,7 +68,44 @@ pub(crate) fn run_serve<
     }
 }
 
-// Serves all callers of a run that has begun. The gate is closed then: a summary of the store is written, and the store let go.
+/// Begins a run, and serves as `run_serve` does, but at a gate with groups. Where the disk failed, no summary is written.
+pub(crate) fn run_gather<
+    S: Source,
+    P: Port,
+    D: Disk + Send + Drop,
+    A: Door + Send + Drop,
+    B: Door + Send + Drop,
+    T: Pulse + Send + Drop,
+    R: Threads + Wait + Sync,
+>(
+    rt: &R,
+    alloc: Global,
+    crew: Crew,
+    source: &mut S,
+    port: &mut P,
+    disk: D,
+    station: Station<A, B, T>,
+) -> Served<D, A, B, T>
+    requires setup { (S.seen source.old).ended ≡ false }
+    requires lines { crew.lines ≤ length station.lines }
+    requires desks { crew.desks ≤ length station.desks }
+    ensures usage { result.status ≢ Status.Usage }
+    ensures ran { IsGatherRun D.seen crew result.status
+        (record { setup = S.seen source.old; port = P.seen port.old; disk = disk })
+        (record { setup = S.seen source.new; port = P.seen port.new; disk = result.disk }) station result.station }
+{
+    let before = disk.faults();
+    match begin_run(alloc, source, port, disk) {
+        Ok(store) => gather_begun(rt, alloc, crew, before, port, store, station),
+        Err(StoppedRun { status, disk }) => Served {
+            status,
+            disk,
+            station,
+        },
+    }
+}
+
+// Serves all callers of a run that has begun. The gate is closed then.
 fn serve_begun<
     P: Port,
     D: Disk + Send + Drop,
@@ -90,17 +129,77 @@ fn serve_begun<
     ensures usage { result.status ≢ Status.Usage }
     ensures served { (r : Handed D) (q' : PortSeen) (h : List Entry) → before ≡ (D.seen r.disk).faults
         → HasBegun D.seen r q' (P.seen port.old) store h
-        → ServesAll D.seen crew result.status r (record { setup = q'; port = P.seen port.new; disk = result.disk }) station result.station }
+        → ServesAll D.seen false crew result.status r (record { setup = q'; port = P.seen port.new; disk = result.disk }) station result.station }
 {
     let ServedStore {
         store,
         station,
         came,
     } = serve_store(rt, alloc, store, station, crew);
+    end_serving(before, port, store, station, &came)
+}
+
+// The same at a gate with groups.
+fn gather_begun<
+    P: Port,
+    D: Disk + Send + Drop,
+    A: Door + Send + Drop,
+    B: Door + Send + Drop,
+    T: Pulse + Send + Drop,
+    R: Threads + Wait + Sync,
+>(
+    rt: &R,
+    alloc: Global,
+    crew: Crew,
+    before: u64,
+    port: &mut P,
+    store: Store<D>,
+    station: Station<A, B, T>,
+) -> Served<D, A, B, T>
+    requires ready { IsSetting store.state.sum.text }
+    requires limits { store.journal.limits ≡ shipped }
+    requires lines { crew.lines ≤ length station.lines }
+    requires desks { crew.desks ≤ length station.desks }
+    ensures usage { result.status ≢ Status.Usage }
+    ensures served { (r : Handed D) (q' : PortSeen) (h : List Entry) → before ≡ (D.seen r.disk).faults
+        → HasBegun D.seen r q' (P.seen port.old) store h
+        → GathersAll D.seen crew result.status r (record { setup = q'; port = P.seen port.new; disk = result.disk }) station result.station }
+{
+    let GatheredStore {
+        closed,
+        station,
+        came,
+    } = gather_store(rt, alloc, store, station, crew);
+    match closed {
+        GroupClosed::Whole(store) => end_serving(before, port, store, station, &came),
+        GroupClosed::Broken { disk, .. } => {
+            let now = disk.faults();
+            Served {
+                status: Status::DiskFault { before, now },
+                disk,
+                station,
+            }
+        }
+    }
+}
+
+// Writes a summary of a store that all callers have left, and lets it go.
+fn end_serving<P: Port, D: Disk + Drop, A: Door + Drop, B: Door + Drop, T: Pulse + Drop>(
+    before: u64,
+    port: &mut P,
+    store: Store<D>,
+    station: Station<A, B, T>,
+    came: &Result<Came, Memory>,
+) -> Served<D, A, B, T>
+    ensures usage { result.status ≢ Status.Usage }
+    ensures station { result.station ≡ station }
+    ensures disk { result.disk ≡ store.journal.disk }
+    ensures ends { EndsServing before (P.seen port.old) (P.seen port.new) (D.seen result.disk).faults store.state.sum came.now result.status }
+{
     let writes = port.write_faults();
     let written = put_summary(port, store.centre());
     let disk = store.close();
-    let status = status_of_serving(&came, written, writes, port.write_faults());
+    let status = status_of_serving(came, written, writes, port.write_faults());
     Served {
         status: status_over(before, disk.faults(), status),
         disk,

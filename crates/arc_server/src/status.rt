@@ -93,7 +93,7 @@ impl Status {
             Status::Done => Ok(()),
             Status::Usage => put(
                 out,
-                b"usage: line | desk | script | report | drill N | serve LINES DESKS SESSIONS | panel ACCOUNT | feed | mirror | udp N\n",
+                b"usage: line | desk | script | report | drill N | serve LINES DESKS SESSIONS | panel ACCOUNT | feed | mirror | udp N | gather LINES DESKS SESSIONS\n",
             ),
             Status::SetupBad(fault) => put_setup(out, *fault),
             Status::ReadFault {

@@ -2,7 +2,7 @@
 use Rattle.std.proofs.Common.{◌≡◌, ◌≤◌, ◌<◌, ℕ, List, [], ◌∷◌, ◌++◌, Option, Some, length, refl, sym, ap, ◌∙◌, subst, arith}
 use Rattle.std.proofs.lemmas.List.{map-append}
 use Rattle.std.proofs.lemmas.List.Elements.{All-nil, All-cons, All-append, All-weaker}
-use Rattle.std.specs.Prelude.{All, Result, Ok, Err, IfOk, map, reverse}
+use Rattle.std.specs.Prelude.{All, Result, Ok, Err, IfOk, OnErr, true, false, map, reverse}
 use Rattle.alarm_rules.specs.Setups.{meaning}
 use Rattle.arc_doors.specs.Doors.{DoorSeen}
 use Rattle.arc_io.specs.Disks.{DiskSeen}
@@ -21,12 +21,15 @@ use Rattle.line_gate.specs.Blanks.{BlankSeen, terms_of}
 use Rattle.line_gate.specs.Entries.{Entry, Extends}
 use Rattle.line_gate.specs.Passes.{PassSeen, IsPass}
 use Rattle.line_gate.specs.Terms.{Terms}
-use Rattle.arc_serving.specs.Closing.{IsClosed, ServesSeated}
+use Rattle.line_gate.specs.Groups.{IsClosed, IsClosedBroken, ClosesGroup}
+use Rattle.line_gate.specs.declared.closed.GroupClosed.{GroupClosed}
+use Rattle.line_gate.specs.declared.closed.GroupClosed.TheVariants.{Whole, Broken}
+use Rattle.arc_serving.specs.Closing.{ServesSeated}
 use Rattle.arc_serving.specs.Jobs.{JobSeen, AreSeated, HasTaken, AreUnseated, doors_in, numbers_in, passes_in, worked_in}
 use Rattle.arc_serving.specs.Ran.{IsFresh, WorkerRan, IsSideServed, began_in, ended_in}
 use Rattle.arc_serving.specs.Rising.{AreRising}
 use Rattle.arc_serving.specs.Seen.{StationSeen, CameSeen}
-use Rattle.arc_serving.specs.Serving.{Serves, ServesStore, GoesOnFrom, StandsForAll, all_ended}
+use Rattle.arc_serving.specs.Serving.{Serves, ServesStore, ServesBroken, ServesAt, RanBefore, GathersStore, GoesOnFrom, GoesOnAt, IsKeptAt, IsKeptOf, StandsForAll, all_ended}
 use Rattle.arc_serving.specs.declared.station.Crew.{Crew}
 use Rattle.arc_serving.proofs.Lists.{rising_both}
 use Rattle.arc_serving.proofs.Sides.{SideRan, side_ran}
@@ -79,33 +82,94 @@ numbers_from low one two high lines desks ticker line_ran desk_ran w v le lt lin
     subst (λ (l : List ℕ). AreRising low l high) (sym same)
     (rising_both low (numbers_in lines) (numbers_in desks ++ ticker.number ∷ []) one high w (rising_both one (numbers_in desks) (ticker.number ∷ []) two high v (le, omega (arith, lt))))
 
-pub serves : {D : Type 0} (seen : D → DiskSeen) (t : Terms) (crew : Crew) (first given ticker : PassSeen)
-    (low one two high : ℕ) (lines desks : List JobSeen) (before left after : StationSeen) (came : CameSeen) (s : Stored D)
+-- all that ran, before the pass that took in theirs
+pub ran_before : (t : Terms) (crew : Crew) (first given last ticker : PassSeen)
+    (low one two high : ℕ) (lines desks : List JobSeen) (before left after : StationSeen) (came : CameSeen)
     → IsPass t first → first.since ≡ [] → IsFresh t ticker → two ≤ ticker.number → ticker.number < high
     → AreSeated t before.lines left.lines lines low one → AreSeated t before.desks left.desks desks one two → length lines ≡ crew.lines → length desks ≡ crew.desks
-    → left.pulse ≡ before.pulse → ServesSeated seen t crew.sessions given lines desks ticker left after came s
-    → Serves seen t crew before after came s
-serves seen t crew first given ticker low one two high lines desks before left after came s pass none fresh le lt seated_lines seated_desks line_count desk_count pulse w =
-    let l = side_ran Lines t crew.sessions w.last lines w.lines' seated_lines.ready w.lines_done w.lines_over.taken in
-    let d = side_ran Desks t crew.sessions w.last desks w.desks' seated_desks.ready w.desks_done w.desks_over.taken in
-    let taken = All-append (λ (p : PassSeen). HasTaken w.last p) (ended_in l.ran) (ended_in d.ran ++ w.ticker' ∷ []) l.taken
-    (All-append (λ (p : PassSeen). HasTaken w.last p) (ended_in d.ran) (w.ticker' ∷ []) d.taken (All-cons (λ (p : PassSeen). HasTaken w.last p) w.ticker' [] w.taken (All-nil (λ (p : PassSeen). HasTaken w.last p)))) in record {
-      ran = record { lines = l.ran; desks = d.ran; ticker = record { began = ticker; ended = w.ticker' } };
-      lines = side_served Lines t crew.lines crew.sessions w.last lines w.lines' before.lines left.lines after.lines came.lines seated_lines.parts line_count w.lines_over w.lines_came l;
-      desks = side_served Desks t crew.desks crew.sessions w.last desks w.desks' before.desks left.desks after.desks came.desks seated_desks.parts desk_count w.desks_over w.desks_came d;
-      ticker = record { fresh = fresh; pass = w.is_pass; works = subst (λ (m : Option Moments). WorksTicks t ticker w.ticker' m after.pulse came.ticked) pulse w.ticks };
-      low = low;
-      high = high;
-      numbers = numbers_from low one two high lines desks ticker l.ran d.ran seated_lines.rising seated_desks.rising le lt l.began d.began;
-      stands = stands_for_all seen t w.last s (all_ended (record { lines = l.ran; desks = d.ran; ticker = record { began = ticker; ended = w.ticker' } })) w.closed taken;
-      setup = setup_from t first pass none;
-      all_told = All-weaker (λ (p : PassSeen). HasTaken w.last p) (λ (p : PassSeen). p.told ≤ (seen s.journal.disk).faults) (λ p v. let a = v.told in let b = w.closed.told_is in omega arith)
-          (ended_in l.ran ++ (ended_in d.ran ++ w.ticker' ∷ [])) taken;
+    → left.pulse ≡ before.pulse → ServesSeated t crew.sessions given last lines desks ticker left after came
+    → RanBefore t last crew before after came
+ran_before t crew first given last ticker low one two high lines desks before left after came pass none fresh le lt seated_lines seated_desks line_count desk_count pulse w =
+    let l = side_ran Lines t crew.sessions last lines w.lines' seated_lines.ready w.lines_done w.lines_over.taken in
+    let d = side_ran Desks t crew.sessions last desks w.desks' seated_desks.ready w.desks_done w.desks_over.taken in record {
+      all = record {
+        ran = record { lines = l.ran; desks = d.ran; ticker = record { began = ticker; ended = w.ticker' } };
+        lines = side_served Lines t crew.lines crew.sessions last lines w.lines' before.lines left.lines after.lines came.lines seated_lines.parts line_count w.lines_over w.lines_came l;
+        desks = side_served Desks t crew.desks crew.sessions last desks w.desks' before.desks left.desks after.desks came.desks seated_desks.parts desk_count w.desks_over w.desks_came d;
+        ticker = record { fresh = fresh; pass = w.is_pass; works = subst (λ (m : Option Moments). WorksTicks t ticker w.ticker' m after.pulse came.ticked) pulse w.ticks };
+        low = low;
+        high = high;
+        numbers = numbers_from low one two high lines desks ticker l.ran d.ran seated_lines.rising seated_desks.rising le lt l.began d.began;
+        setup = setup_from t first pass none;
+      };
+      taken = All-append (λ (p : PassSeen). HasTaken last p) (ended_in l.ran) (ended_in d.ran ++ w.ticker' ∷ []) l.taken
+          (All-append (λ (p : PassSeen). HasTaken last p) (ended_in d.ran) (w.ticker' ∷ []) d.taken (All-cons (λ (p : PassSeen). HasTaken last p) w.ticker' [] w.taken (All-nil (λ (p : PassSeen). HasTaken last p))));
     }
+
+-- then the gate was closed with that pass
+pub serves : {D : Type 0} (seen : D → DiskSeen) (t : Terms) (last : PassSeen) (crew : Crew) (before after : StationSeen) (came : CameSeen) (s : Stored D)
+    → IsClosed seen t last s → RanBefore t last crew before after came → Serves seen t crew before after came s
+serves seen t last crew before after came s closed w =
+    let all = w.all in record {
+      ran = all.ran;
+      lines = all.lines;
+      desks = all.desks;
+      ticker = all.ticker;
+      low = all.low;
+      high = all.high;
+      numbers = all.numbers;
+      stands = stands_for_all seen t last s (all_ended all.ran) closed w.taken;
+      setup = all.setup;
+      all_told = All-weaker (λ (p : PassSeen). HasTaken last p) (λ (p : PassSeen). p.told ≤ (seen s.journal.disk).faults) (λ p v. let a = v.told in let b = closed.told_is in omega arith)
+          (all_ended all.ran) w.taken;
+    }
+
+serves_broken : {D : Type 0} (seen : D → DiskSeen) (t : Terms) (last : PassSeen) (crew : Crew) (before after : StationSeen) (came : CameSeen) (disk : D) (at_open now : ℕ)
+    → IsClosedBroken seen t last disk at_open now → RanBefore t last crew before after came → ServesBroken t crew before after came at_open now
+serves_broken seen t last crew before after came disk at_open now closed w = record {
+  all = w.all;
+  at_open_is = closed.at_open_is;
+  rose = closed.rose;
+  all_told = All-weaker (λ (p : PassSeen). HasTaken last p) (λ (p : PassSeen). p.told ≤ now) (λ p v. let a = v.told in let b = closed.told_is in omega arith)
+      (all_ended w.all.ran) w.taken;
+}
+
+pub serves_at : {D : Type 0} (seen : D → DiskSeen) (t : Terms) (last : PassSeen) (crew : Crew) (before after : StationSeen) (came : CameSeen) (c : GroupClosed D)
+    → ClosesGroup seen t last c → RanBefore t last crew before after came → ServesAt seen t crew before after came c
+serves_at seen t last crew before after came (Whole s) closed w = (serves seen t last crew before after came s closed.closed w, closed.up)
+serves_at seen t last crew before after came (Broken disk at_open now) closed w =
+    (closed.now_is, serves_broken seen t last crew before after came disk at_open now closed w)
+
+pub goes_on_at : {D : Type 0} (seen : D → DiskSeen) (t : Terms) (last : PassSeen) (c : GroupClosed D)
+    → ClosesGroup seen t last c → (b : Summary) (base : List Entry) → t.stood b base → GoesOnAt seen b base c
+goes_on_at seen t last (Whole s) closed b base from = goes_on seen t last s closed.closed b base from
+goes_on_at seen t last (Broken disk at_open now) closed b base from = (closed.now_is, closed.rose)
+
+pub kept_at : {D : Type 0} (seen : D → DiskSeen) (t : Terms) (last : PassSeen) (c : GroupClosed D) → ClosesGroup seen t last c → IsKeptAt t c
+kept_at seen t last (Whole s) closed = (closed.closed.at_open, closed.closed.limits)
+kept_at seen t last (Broken disk at_open now) closed = closed.at_open_is
+
+pub if_ok : {A E : Type 0} (P Q : A → Type 0) (r : Result A E) → ((x : A) → P x → Q x) → IfOk r P → IfOk r Q
+if_ok P Q (Ok x) f w = f x w
+if_ok P Q (Err e) f w = tt
 
 -- at the gate that was before the store
 pub of_store : {D E : Type 0} (seen : D → DiskSeen) (gate : BlankSeen D) (from : Stored D) (crew : Crew) (before after : StationSeen)
-    (s : Stored D) (r : Result CameSeen E) → gate.store ≡ from → IfOk r (λ came. Serves seen (terms_of seen gate) crew before after came s)
+    (s : Stored D) (r : Result CameSeen E) → gate.store ≡ from → IfOk r (λ came. Serves seen (terms_of false seen gate) crew before after came s)
     → IfOk r (λ came. ServesStore seen from crew before after came s)
 of_store seen gate from crew before after s (Ok came) is w = record { gate = gate; from_is = is; serves = w }
 of_store seen gate from crew before after s (Err e) is w = tt
+
+pub on_err : {A E : Type 0} (r : Result A E) (P : Type 0) → P → OnErr r P
+on_err (Ok x) P w = tt
+on_err (Err e) P w = w
+
+pub of_group : {D E : Type 0} (seen : D → DiskSeen) (gate : BlankSeen D) (from : Stored D) (crew : Crew) (before after : StationSeen)
+    (c : GroupClosed D) (r : Result CameSeen E) → gate.store ≡ from → IfOk r (λ came. ServesAt seen (terms_of true seen gate) crew before after came c)
+    → IfOk r (λ came. GathersStore seen from crew before after came c)
+of_group seen gate from crew before after c (Ok came) is w = record { gate = gate; from_is = is; serves = w }
+of_group seen gate from crew before after c (Err e) is w = tt
+
+pub kept_of : {D : Type 0} (seen : D → DiskSeen) (gate : BlankSeen D) (from : Stored D) (c : GroupClosed D) → gate.store ≡ from → IsKeptAt (terms_of true seen gate) c → IsKeptOf from c
+kept_of seen gate from (Whole s) is w = (w.0 ∙ ap (λ (x : Stored _). x.at_open) is, w.1 ∙ ap (λ (x : Stored _). x.journal.limits) is)
+kept_of seen gate from (Broken disk at_open now) is w = w ∙ ap (λ (x : Stored _). x.at_open) is

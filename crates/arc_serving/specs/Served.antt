@@ -1,11 +1,12 @@
 -- What a worker did with its links, and what its pass made of them.
-use Rattle.std.specs.Prelude.{◌≡◌, ◌≤◌, ◌-◌, ◌++◌, ℕ, List, [], ◌∷◌, Option, Some, None, All, codes, length, take, map, reverse, flat_map}
+use Rattle.std.specs.Prelude.{◌≡◌, ◌≤◌, ◌-◌, ◌++◌, ℕ, List, [], ◌∷◌, Bool, false, Option, Some, None}
+use Rattle.std.specs.Prelude.{All, codes, length, take, map, reverse, flat_map}
 use Rattle.arc_data.specs.declared.event.Event.{Event}
 use Rattle.arc_data.specs.declared.event.Event.TheVariants.{Message, Beat}
 use Rattle.arc_data.specs.declared.event.Event.TheVariants.{Next, Claim, Act, Release, Close, Show, List as Rows}
 use Rattle.arc_io.specs.Seen.{PortSeen}
 use Rattle.arc_doors.specs.Doors.{Links}
-use Rattle.arc_serving.specs.Sessions.{Reads, Serves}
+use Rattle.arc_serving.specs.Sessions.{Reads, ServesBy}
 use Rattle.arc_serving.specs.declared.session.SessionEnd.{SessionEnd}
 use Rattle.arc_serving.specs.declared.side.Side.{Side}
 use Rattle.arc_serving.specs.declared.side.Side.TheVariants.{Lines, Desks}
@@ -36,7 +37,12 @@ way_at base p q entries = record { from = p.since ++ base; to = q.since ++ base;
 -- after it. The entries are just those of the session.
 abbrev pub ServesAtGate : Side → Terms → Summary → List Entry → PassSeen → PassSeen → List ℕ → Served → Type 0
 ServesAtGate side t b base p q read s =
-    Serves side tcp s.end read b (way_at base p q s.entries) (changed (gate_seen t p) (gate_seen t q) s.given s.back)
+    ServesBy t.groups side tcp s.end read b (way_at base p q s.entries) (changed (gate_seen t p) (gate_seen t q) s.given s.back)
+
+-- a session of this kind submits each event alone, at a gate that takes events together or not
+abbrev pub IsSingle : Side → Bool → Type 0
+IsSingle Lines groups = groups ≡ false
+IsSingle Desks groups = Unit {0}
 
 -- A link was served by a session of the pass, which was p before it and q after it: it read these bytes, ended for its cause, and
 -- the session's clause holds over each base of the gate. The pass keeps its number, and no count of it falls.

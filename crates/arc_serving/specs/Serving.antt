@@ -1,16 +1,20 @@
 -- What serving makes of a store and of what stood around it.
-use Rattle.std.specs.Prelude.{◌≡◌, ◌≤◌, ℕ, List, [], ◌∷◌, ◌++◌, Some, All, map}
+use Rattle.std.specs.Prelude.{◌≡◌, ◌≤◌, ℕ, List, [], ◌∷◌, ◌++◌, true, false, Some, All, map}
 use Rattle.alarm_rules.specs.Setups.{meaning}
+use Rattle.arc_io.specs.Causes.{Rose}
 use Rattle.arc_io.specs.Disks.{DiskSeen}
 use Rattle.arc_serving.specs.declared.side.Side.TheVariants.{Lines, Desks}
 use Rattle.centre_rules.specs.History.{marks}
 use Rattle.centre_rules.specs.Marks.{force}
 use Rattle.centre_rules.specs.Summary.{Summary}
-use Rattle.centre_store.specs.Stores.{Stored, StoreStands}
+use Rattle.centre_store.specs.Stores.{Stored, HasFailed, StoreStands}
 use Rattle.line_gate.specs.Blanks.{BlankSeen, terms_of}
 use Rattle.line_gate.specs.Entries.{Entry, Extends}
 use Rattle.line_gate.specs.Passes.{PassSeen}
 use Rattle.line_gate.specs.Terms.{Terms, IsPastBase}
+use Rattle.line_gate.specs.declared.closed.GroupClosed.{GroupClosed}
+use Rattle.line_gate.specs.declared.closed.GroupClosed.TheVariants.{Whole, Broken}
+use Rattle.arc_serving.specs.Jobs.{HasTaken}
 use Rattle.arc_serving.specs.Ran.{WorkerRan, TickerRan, IsTickerRan, IsSideServed, began_in, ended_in}
 use Rattle.arc_serving.specs.Rising.{AreRising}
 use Rattle.arc_serving.specs.Seen.{StationSeen, CameSeen}
@@ -63,4 +67,63 @@ pub record ServesStore {D : Type 0} (seen : D → DiskSeen)
     (from : Stored D) (crew : Crew) (before after : StationSeen) (came : CameSeen) (s : Stored D) : Type 0 where
   pub gate : BlankSeen D
   pub from_is : gate.store ≡ from
-  pub serves : Serves seen (terms_of seen gate) crew before after came s
+  pub serves : Serves seen (terms_of false seen gate) crew before after came s
+
+-- The callers ran beside each other at a gate of this name, as `Serves` has it, but nothing is said of the store.
+pub record RanAll (t : Terms) (crew : Crew) (before after : StationSeen) (came : CameSeen) : Type 0 where
+  pub ran : Ran
+  pub lines : IsSideServed Lines t crew.lines crew.sessions ran.lines before.lines after.lines came.lines
+  pub desks : IsSideServed Desks t crew.desks crew.sessions ran.desks before.desks after.desks came.desks
+  pub ticker : IsTickerRan t ran.ticker before.pulse after.pulse came.ticked
+  pub low : ℕ
+  pub high : ℕ
+  pub numbers : AreRising low (map (λ p. p.number) (all_began ran)) high
+  pub setup : (b : Summary) (base : List Entry) → t.stood b base → force b (marks b base) ≡ Some (meaning t.text)
+
+-- and this pass has taken in those of all
+pub record RanBefore (t : Terms) (last : PassSeen) (crew : Crew) (before after : StationSeen) (came : CameSeen) : Type 0 where
+  pub all : RanAll t crew before after came
+  pub taken : All (λ p. HasTaken last p) (all_ended all.ran)
+
+-- The callers ran so at a gate with groups, and the disk of the store failed since the opening, as often at least as any of them was told,
+-- by its counts of faults at the opening and now. The store was let go.
+pub record ServesBroken
+    (t : Terms) (crew : Crew) (before after : StationSeen) (came : CameSeen) (at_open now : ℕ) : Type 0 where
+  pub all : RanAll t crew before after came
+  pub at_open_is : at_open ≡ t.at_open
+  pub rose : Rose at_open now
+  pub all_told : All (λ p. p.told ≤ now) (all_ended all.ran)
+
+-- What closing a gate with groups gives: the store where its disk has not failed, else that disk with the counts of its faults at the
+-- opening and now. Of either something holds.
+abbrev pub Gives : {D : Type 0} → (D → DiskSeen) → GroupClosed D → (Stored D → Type 0) → (D → ℕ → ℕ → Type 0) → Type 0
+Gives seen (Whole s) whole broken = whole s × (HasFailed seen s → ⊥)
+Gives seen (Broken disk at_open now) whole broken = broken disk at_open now
+
+-- what serving at a gate with groups gives
+abbrev pub ServesAt : {D : Type 0} → (D → DiskSeen) → Terms → Crew → StationSeen → StationSeen → CameSeen → GroupClosed D → Type 0
+ServesAt seen t crew before after came c = Gives seen c
+    (λ s. Serves seen t crew before after came s)
+    (λ disk at_open now. (now ≡ (seen disk).faults) × ServesBroken t crew before after came at_open now)
+
+-- Where all were refused memory before the first began: a store goes on from what it was, also if its disk had failed before.
+abbrev pub GoesOnAt : {D : Type 0} → (D → DiskSeen) → Summary → List Entry → GroupClosed D → Type 0
+GoesOnAt seen b base (Whole s) = GoesOnFrom seen b base s
+GoesOnAt seen b base (Broken disk at_open now) = (now ≡ (seen disk).faults) × Rose at_open now
+
+-- The callers ran at some gate with groups before the store.
+pub record GathersStore {D : Type 0} (seen : D → DiskSeen)
+    (from : Stored D) (crew : Crew) (before after : StationSeen) (came : CameSeen) (c : GroupClosed D) : Type 0 where
+  pub gate : BlankSeen D
+  pub from_is : gate.store ≡ from
+  pub serves : ServesAt seen (terms_of true seen gate) crew before after came c
+
+-- what comes back was opened at the count of faults that the gate has, and a store has its limits
+abbrev pub IsKeptAt : {D : Type 0} → Terms → GroupClosed D → Type 0
+IsKeptAt t (Whole s) = (s.at_open ≡ t.at_open) × (s.journal.limits ≡ t.limits)
+IsKeptAt t (Broken disk at_open now) = at_open ≡ t.at_open
+
+-- and that this store has
+abbrev pub IsKeptOf : {D : Type 0} → Stored D → GroupClosed D → Type 0
+IsKeptOf from (Whole s) = (s.at_open ≡ from.at_open) × (s.journal.limits ≡ from.journal.limits)
+IsKeptOf from (Broken disk at_open now) = at_open ≡ from.at_open

@@ -1,5 +1,5 @@
 -- What one session over a hall and a port did, by its kind and its end.
-use Rattle.std.specs.Prelude.{◌≡◌, ◌++◌, ℕ, List, reverse, Option, Some, None, MatchOption}
+use Rattle.std.specs.Prelude.{◌≡◌, ◌++◌, ℕ, List, reverse, Bool, true, false, Option, Some, None, MatchOption}
 use Rattle.arc_io.specs.Seen.{PortSeen}
 use Rattle.centre_core.specs.Halls.{HallSeen}
 use Rattle.centre_rules.specs.Summary.{Summary}
@@ -7,6 +7,7 @@ use Rattle.centre_rules.specs.Answers.{IsLegal}
 use Rattle.desk_session.specs.Desks.{ReadsDesk, ServesDesk}
 use Rattle.desk_session.specs.declared.desk_end.DeskEnd.{DeskEnd}
 use Rattle.desk_session.specs.declared.desk_end.DeskEnd.TheVariants as Desk
+use Rattle.line_session.specs.Groups.{ServesGroup}
 use Rattle.line_session.specs.Lines.{ReadsLine, ServesLine}
 use Rattle.line_session.specs.declared.line_end.LineEnd.{LineEnd}
 use Rattle.line_session.specs.declared.line_end.LineEnd.TheVariants as Line
@@ -43,6 +44,12 @@ Reads Desks end read p p' = ReadsDesk (desk_end end) read p p'
 abbrev pub Serves : Side → List ℕ → SessionEnd → List ℕ → Summary → Way → Change → Type 0
 Serves Lines name end read b w c = MatchOption (line_end end) ⊥ (λ e. ServesLine name e read b w c)
 Serves Desks name end read b w c = ServesDesk (desk_end end) read b w c.hall c.hall' c.port c.port'
+
+-- The same at a gate: of one with groups, a line's frames that stand complete in one piece are taken together.
+abbrev pub ServesBy : Bool → Side → List ℕ → SessionEnd → List ℕ → Summary → Way → Change → Type 0
+ServesBy true Lines name end read b w c = MatchOption (line_end end) ⊥ (λ e. ServesGroup name e read b w c)
+ServesBy true Desks name end read b w c = Serves Desks name end read b w c
+ServesBy false side name end read b w c = Serves side name end read b w c
 
 -- a session that a stop ended: the hall showed it for some event, or memory was wanted, whatever is known of the hall's history
 abbrev pub ShowsEnd : SessionEnd → HallSeen → Type 0

@@ -9,11 +9,12 @@ ghost use Rattle.arc_serving.specs.Jobs.{IsJobDone};
 
 use crate::job::Job;
 use crate::side::Side;
+use crate::station_gate::StationGate;
 use crate::ticking::{Ticked, ticker};
 use crate::working::worker;
 use arc_doors::{Door, Pulse};
 use arc_io::Disk;
-use line_gate::{Gate, GateName, Pass};
+use line_gate::{GateName, Pass};
 use std::alloc::Global;
 use std::sync::Wait;
 use std::sync::atomic::{AtomicBool, Ordering};
@@ -37,6 +38,7 @@ pub(crate) struct Ticking<T: Pulse + Drop, N: GateName> {
 /// Runs the workers of both sides, each in a thread of its own, and the ticker beside them. Once all workers have ended, the flag is set,
 /// which tells the pulse to end.
 pub(crate) fn serve_beside<
+    'a,
     A: Door + Send + Drop,
     B: Door + Send + Drop,
     T: Pulse + Send + Drop,
@@ -46,7 +48,7 @@ pub(crate) fn serve_beside<
 >(
     rt: &R,
     alloc: Global,
-    gate: &Gate<D, N>,
+    gate: &StationGate<'a, D, N>,
     sessions: u32,
     workers: Workers<A, B, N>,
     ticking: Ticking<T, N>,
@@ -77,6 +79,7 @@ pub(crate) fn serve_beside<
 
 // Runs the workers of both sides, and then sets the flag.
 fn work_then_stop<
+    'a,
     A: Door + Send + Drop,
     B: Door + Send + Drop,
     D: Disk + Send,
@@ -85,7 +88,7 @@ fn work_then_stop<
 >(
     rt: &R,
     alloc: Global,
-    gate: &Gate<D, N>,
+    gate: &StationGate<'a, D, N>,
     sessions: u32,
     stop: &AtomicBool,
     workers: Workers<A, B, N>,
@@ -100,6 +103,7 @@ fn work_then_stop<
 
 // Runs the workers of both sides beside each other.
 fn work_beside<
+    'a,
     A: Door + Send + Drop,
     B: Door + Send + Drop,
     D: Disk + Send,
@@ -108,7 +112,7 @@ fn work_beside<
 >(
     rt: &R,
     alloc: Global,
-    gate: &Gate<D, N>,
+    gate: &StationGate<'a, D, N>,
     sessions: u32,
     workers: Workers<A, B, N>,
 ) -> Workers<A, B, N>
@@ -133,6 +137,7 @@ fn work_beside<
 
 // Runs the workers of one side, each in a thread of its own.
 fn work_side<
+    'a,
     A: Door + Send + Drop,
     D: Disk + Send,
     R: Threads + Wait + Sync,
@@ -141,7 +146,7 @@ fn work_side<
     side: Side,
     rt: &R,
     alloc: Global,
-    gate: &Gate<D, N>,
+    gate: &StationGate<'a, D, N>,
     sessions: u32,
     jobs: Vec<Job<A, N>>,
 ) -> Vec<Job<A, N>>
@@ -152,6 +157,7 @@ fn work_side<
 
 // The same, of the job at each place.
 fn work_all<
+    'a,
     A: Door + Send + Drop,
     D: Disk + Send,
     R: Threads + Wait + Sync,
@@ -160,7 +166,7 @@ fn work_all<
     side: Side,
     rt: &R,
     alloc: Global,
-    gate: &Gate<D, N>,
+    gate: &StationGate<'a, D, N>,
     sessions: u32,
     jobs: Vec<Job<A, N>>,
 ) -> Vec<Job<A, N>>
@@ -174,11 +180,19 @@ fn work_all<
 }
 
 fn work_each<
+    'a,
     A: Door + Send + Drop,
     D: Disk + Send,
     R: Threads + Wait + Sync,
     N: GateName + Send + Sync,
->(side: Side, rt: &R, alloc: Global, gate: &Gate<D, N>, sessions: u32, jobs: &mut [Job<A, N>])
+>(
+    side: Side,
+    rt: &R,
+    alloc: Global,
+    gate: &StationGate<'a, D, N>,
+    sessions: u32,
+    jobs: &mut [Job<A, N>],
+)
     ensures count { length jobs.new ≡ length jobs.old }
     ensures each { (k : ℕ) (d : _) → k < length jobs.old
         → IsJobDone side N.terms sessions (slice_index_or jobs.old k d) (slice_index_or jobs.new k d) }
@@ -193,11 +207,11 @@ fn work_each<
 }
 
 // Runs one worker.
-fn work<A: Door + Drop, D: Disk, R: Wait, N: GateName>(
+fn work<'a, A: Door + Drop, D: Disk, R: Wait, N: GateName>(
     side: Side,
     rt: &R,
     alloc: Global,
-    gate: &Gate<D, N>,
+    gate: &StationGate<'a, D, N>,
     sessions: u32,
     job: &mut Job<A, N>,
 )
@@ -211,10 +225,10 @@ fn work<A: Door + Drop, D: Disk, R: Wait, N: GateName>(
 }
 
 // Runs the ticker.
-fn tick<T: Pulse + Drop, D: Disk, R: Wait, N: GateName>(
+fn tick<'a, T: Pulse + Drop, D: Disk, R: Wait, N: GateName>(
     rt: &R,
     alloc: Global,
-    gate: &Gate<D, N>,
+    gate: &StationGate<'a, D, N>,
     stop: &AtomicBool,
     ticking: Ticking<T, N>,
 ) -> (Ticking<T, N>, Ticked)
@@ -222,6 +236,6 @@ fn tick<T: Pulse + Drop, D: Disk, R: Wait, N: GateName>(
     ensures ticks { WorksTicks N.terms ticking.pass result.0.pass (T.moments ticking.pulse) (T.moments result.0.pulse) result.1 }
 {
     let Ticking { mut pulse, pass } = ticking;
-    let (pass, ticked) = ticker(rt, alloc, gate, pass, &mut pulse, stop);
+    let (pass, ticked) = ticker(rt, alloc, gate.gate(), pass, &mut pulse, stop);
     (Ticking { pulse, pass }, ticked)
 }

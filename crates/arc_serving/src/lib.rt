@@ -10,12 +10,14 @@ mod serving;
 mod session;
 mod side;
 mod station;
+mod station_gate;
 mod ticking;
 mod working;
 
-pub use serving::serve_store;
+pub use serving::{gather_store, serve_store};
 pub use session::{SessionEnd, serve};
 pub use side::Side;
-pub use station::{Came, Crew, ServedStore, Station};
+pub use station::{Came, Crew, GatheredStore, ServedStore, Station};
+pub use station_gate::{SingleGate, StationGate};
 pub use ticking::{Ticked, ticker};
 pub use working::{Worked, WorkerEnd, desk_worker, line_worker, worker};

@@ -1,12 +1,12 @@
 // One session over a hall, of either kind.
-ghost use Rattle.std.specs.Prelude.{◌≡◌, ◌≤◌, [], true, false, List, ℕ};
+ghost use Rattle.std.specs.Prelude.{◌≡◌, ◌≤◌, [], true, false, Some, List, ℕ};
 ghost use Rattle.arc_data.specs.Digits.{is_name};
 ghost use Rattle.arc_io.specs.Causes.{Rose};
 ghost use Rattle.centre_core.specs.Halls.{IsKept};
 ghost use Rattle.centre_rules.specs.Summary.{Summary};
 ghost use Rattle.centre_rules.specs.History.{Entry};
 ghost use Rattle.session_rules.specs.Sessions.{changed, Goes};
-ghost use Rattle.arc_serving.specs.Sessions.{Reads, Serves, ShowsEnd};
+ghost use Rattle.arc_serving.specs.Sessions.{Reads, Serves, ShowsEnd, line_end};
 
 use crate::side::Side;
 use arc_data::Txt;
@@ -33,7 +33,8 @@ pub enum SessionEnd {
     Stopped(Stop),
 }
 
-/// Serves one session of this kind over the port, to its end. The name, of 1 to 16 bytes as an operator's, is that of a line; a desk has none.
+/// Serves one session of this kind over the port, to its end. The name, of 1 to 16 bytes as an operator's, is that of a line; a desk has
+/// none.
 pub fn serve<H: Hall, P: Port>(
     side: Side,
     name: &Txt,
@@ -76,7 +77,14 @@ fn serve_one_line<H: Hall, P: Port>(
     ensures write { result ≡ SessionEnd.WriteFault → Rose (P.seen port.old).write_faults (P.seen port.new).write_faults }
     ensures kept { IsKept (H.seen hall.old) (H.seen hall.new) }
 {
-    match serve_line(alloc, hall, port, name) {
+    session_end(serve_line(alloc, hall, port, name))
+}
+
+/// The end of a line as that of a session.
+pub(crate) fn session_end(end: LineEnd) -> SessionEnd
+    ensures { line_end result ≡ Some end }
+{
+    match end {
         LineEnd::InputEnded => SessionEnd::InputEnded,
         LineEnd::ReadFault => SessionEnd::ReadFault,
         LineEnd::WriteFault => SessionEnd::WriteFault,

@@ -5,6 +5,7 @@ use arc_data::Memory;
 use arc_doors::{Door, Pulse};
 use arc_io::Disk;
 use centre_store::Store;
+use line_gate::GroupClosed;
 use std::marker::Model;
 
 /// What stands around a store: the doors of lines, the doors of desks, and the pulse that gives the moments at which to tick.
@@ -46,6 +47,14 @@ impl Model for Came {
     ghost Value = { CameSeen };
 
     ghost view = { λ c. record { lines = c.lines.items; desks = c.desks.items; ticked = c.ticked } };
+}
+
+/// What came of closing the gate when all have ended, what stands around it, and what came of it all, or want of memory.
+#[derive(Drop)]
+pub struct GatheredStore<D: Disk + Drop, A: Door + Drop, B: Door + Drop, T: Pulse + Drop> {
+    pub closed: GroupClosed<D>,
+    pub station: Station<A, B, T>,
+    pub came: Result<Came, Memory>,
 }
 
 /// The store when all have ended, what stands around it, and what came of it all, or want of memory.

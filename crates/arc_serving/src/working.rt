@@ -7,10 +7,11 @@ ghost use Rattle.arc_serving.specs.Works.{Works, is_refused, stop_of};
 use crate::link::serve_next;
 use crate::session::SessionEnd;
 use crate::side::Side;
+use crate::station_gate::StationGate;
 use arc_doors::Door;
 use arc_io::Disk;
 use centre_core::Stop;
-use line_gate::{Gate, GateName, Pass};
+use line_gate::{GateName, Pass};
 use std::alloc::Global;
 use std::sync::Wait;
 
@@ -35,10 +36,10 @@ pub struct Worked {
 }
 
 /// Serves lines, as `worker` does.
-pub fn line_worker<A: Door, D: Disk, R: Wait, N: GateName>(
+pub fn line_worker<'a, A: Door, D: Disk, R: Wait, N: GateName>(
     rt: &R,
     alloc: Global,
-    gate: &Gate<D, N>,
+    gate: &StationGate<'a, D, N>,
     pass: Pass<N>,
     door: &mut A,
     sessions: u32,
@@ -50,10 +51,10 @@ pub fn line_worker<A: Door, D: Disk, R: Wait, N: GateName>(
 }
 
 /// Serves desks, as `worker` does.
-pub fn desk_worker<A: Door, D: Disk, R: Wait, N: GateName>(
+pub fn desk_worker<'a, A: Door, D: Disk, R: Wait, N: GateName>(
     rt: &R,
     alloc: Global,
-    gate: &Gate<D, N>,
+    gate: &StationGate<'a, D, N>,
     pass: Pass<N>,
     door: &mut A,
     sessions: u32,
@@ -67,11 +68,11 @@ pub fn desk_worker<A: Door, D: Disk, R: Wait, N: GateName>(
 /// Takes links from the door, one after the other, at most so many, serves each by a session of this kind as the caller of the pass,
 /// and hands it back. A session that ends by want of memory, by `quit`, by a fault of its link or after 2^40 bytes ends alone; each
 /// other stop ends the worker. Nothing is held while the door waits for a link.
-pub fn worker<A: Door, D: Disk, R: Wait, N: GateName>(
+pub fn worker<'a, A: Door, D: Disk, R: Wait, N: GateName>(
     side: Side,
     rt: &R,
     alloc: Global,
-    gate: &Gate<D, N>,
+    gate: &StationGate<'a, D, N>,
     pass: Pass<N>,
     door: &mut A,
     sessions: u32,

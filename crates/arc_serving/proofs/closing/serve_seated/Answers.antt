@@ -3,11 +3,12 @@ use Rattle.arc_serving.proofs.Seats.{taken_later}
 use Rattle.arc_serving.proofs.closing.serve_seated.Goals as goal
 
 -- the pass of the ticker was taken in before those of the workers
-pub returns : goal.returns
-returns g c =
+pub returns-clause-served : goal.returns-clause-served
+returns-clause-served g c =
     let ran = c.serve_beside-workers in
     let ticker = c.take_in in
-    let closed = c.close.ensures.closes in record {
+    let over = c.unseat_both in
+    let unseats = over.ensures.unseats in record {
       lines' = ran.result.0.lines.items;
       desks' = ran.result.0.desks.items;
       ticker' = ran.result.1.0.pass;
@@ -15,12 +16,10 @@ returns g c =
       desks_done = ran.ensures.desks;
       is_pass = ran.ensures.pass;
       ticks = ran.ensures.ticks;
-      last = closed.last;
-      later = later_further c.args.first ticker.new.pass closed.last ticker.ensures.later closed.later;
-      taken = taken_later ticker.new.pass closed.last ran.result.1.0.pass closed.later (record { since = ticker.ensures.since; told = ticker.ensures.told });
-      lines_over = closed.lines_over;
-      desks_over = closed.desks_over;
-      lines_came = c.close.ensures.came.0;
-      desks_came = c.close.ensures.came.1;
-      closed = closed.closed;
+      later = later_further c.args.first.now ticker.new.pass over.new.first ticker.ensures.later unseats.later;
+      taken = taken_later ticker.new.pass over.new.first ran.result.1.0.pass unseats.later (record { since = ticker.ensures.since; told = ticker.ensures.told });
+      lines_over = unseats.lines_over;
+      desks_over = unseats.desks_over;
+      lines_came = over.ensures.came.0;
+      desks_came = over.ensures.came.1;
     }

@@ -1,10 +1,31 @@
-use Rattle.std.proofs.Common.{◌++◌, refl}
-use Rattle.line_gate.proofs.Histories.{extends_further}
+use Rattle.std.proofs.Common.{List}
+use Rattle.centre_rules.specs.History.{Entry}
+use Rattle.centre_rules.specs.Summary.{Summary}
+use Rattle.line_gate.specs.Groups.{IsClosed}
+use Rattle.arc_serving.specs.Seen.{CameSeen}
+use Rattle.arc_serving.specs.Serving.{GoesOnFrom, Serves, RanBefore}
+use Rattle.arc_serving.proofs.Served.{goes_on, if_ok, on_err, serves}
 use Rattle.arc_serving.proofs.serving.serve_blank.Goals as goal
 
--- what the first pass has seen begins with the base
-pub returns-in_default-clause-refused : goal.returns-in_default-clause-refused
-returns-in_default-clause-refused g c = λ b h from.
-    let st = c.close.ensures.stands b h from in
-    let since = c.new-gate.result.1.since in
-    record { history = st.0; stands = st.2; begins = extends_further h (since ++ h) st.0 (since, refl) st.1; past = st.3 }
+-- the gate was closed with the pass that took in those of all
+pub returns-clause-served : goal.returns-clause-served
+returns-clause-served g c =
+    let seen = g.D.Disk.seen in
+    let t = g.N.GateName.terms in
+    let ran = c.serve_alone-station in
+    let last = ran.new.first in
+    let s = c.close.result in
+    let e = c.close.ensures in
+    let closed : IsClosed seen t last s = record { stands = e.stands; told_is = e.told; at_open = e.at_open; limits = e.limits; text = e.text } in
+    if_ok (λ (came : CameSeen). RanBefore t last c.args.crew c.args.station ran.result.0 came) (λ (came : CameSeen). Serves seen t c.args.crew c.args.station ran.result.0 came s) ran.result.1
+    (λ came w. serves seen t last c.args.crew c.args.station ran.result.0 came s closed w) ran.ensures.served
+
+pub returns-clause-refused : goal.returns-clause-refused
+returns-clause-refused g c =
+    let seen = g.D.Disk.seen in
+    let t = g.N.GateName.terms in
+    let last = c.serve_alone-station.new.first in
+    let s = c.close.result in
+    let e = c.close.ensures in
+    let closed : IsClosed seen t last s = record { stands = e.stands; told_is = e.told; at_open = e.at_open; limits = e.limits; text = e.text } in
+    on_err c.serve_alone-station.result.1 ((b : Summary) (h : List Entry) → t.stood b h → GoesOnFrom seen b h s) (goes_on seen t last s closed)

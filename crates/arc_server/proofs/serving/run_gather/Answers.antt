@@ -1,0 +1,12 @@
+use Rattle.std.proofs.Common.{inl, inr, refl}
+use Rattle.arc_server.proofs.serving.run_gather.Goals as goal
+
+pub returns-in-Ok-clause-ran : goal.returns-in-Ok-clause-ran
+returns-in-Ok-clause-ran g c =
+    let begun = c.in-Ok.ensures.begun in
+    inr (c.gather_begun.ensures.served
+    (record { setup = g.S.Ends.seen c.args.source.now; port = g.P.Ends.seen c.args.port.now; disk = c.args.disk })
+    (g.S.Ends.seen c.begin_run.new.source) begun.0 c.faults-before.ensures begun.1)
+
+pub returns-in-Err-clause-ran : goal.returns-in-Err-clause-ran
+returns-in-Err-clause-ran g c = inl (c.in-Err.ensures.stopped, refl)

@@ -1,0 +1,22 @@
+use Rattle.std.proofs.Common.{◌≡◌, ◌≤◌, ap, sym, ◌∙◌, subst}
+use Rattle.line_gate.specs.Passes.{PassSeen}
+use Rattle.arc_serving.specs.declared.side.Side.TheVariants.{Lines}
+use Rattle.arc_serving.proofs.AtGates.{goes_together, reads_together, serves_left}
+use Rattle.arc_serving.proofs.link.serve_at_group.Goals as goal
+
+-- the session's clause is that of the gate as a hall; the pass that it leaves is the hall's
+pub returns-clause-served : goal.returns-clause-served
+returns-clause-served g c =
+    let t = g.N.GateName.terms in
+    let one = c.serve_group.ensures.line in
+    let end = c.session_end-end in
+    let left : c.leave-pass.result ≡ c.serve_group.new.hall.pass = c.leave-pass.ensures in record {
+      read = one.0;
+      reads = reads_together end.result c.serve_group.result one.0 _ _ end.ensures one.1;
+      serves = serves_left Lines t c.args.pass c.leave-pass.result c.serve_group.new.hall.pass one.0 _ _ c.tcp-name.result end.result c.number.ensures.pass left
+          c.tcp-name.ensures (λ b h w. goes_together t.groups c.tcp-name.result end.result c.serve_group.result one.0 b h _ _ _ _ c.requires.named end.ensures (one.2 b h w));
+      number = ap (λ (k : PassSeen). k.number) left ∙ c.serve_group.ensures.kept.caller;
+      count = subst (λ (k : PassSeen). c.args.pass.count ≤ k.count) (sym left) c.serve_group.ensures.kept.count;
+      told = subst (λ (k : PassSeen). c.args.pass.told ≤ k.told) (sym left) c.serve_group.ensures.kept.told;
+      pass = c.number-2.ensures.pass;
+    }
