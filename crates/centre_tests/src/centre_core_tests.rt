@@ -15,7 +15,7 @@ pub(crate) mod words;
 use crate::account_numbers::account_of;
 use crate::same::{holds, same};
 use arc_data::Txt;
-use centre_core::{Centre, Done, Event, Hall, Memory, RamHall, Ready, Reply, Stop};
+use centre_core::{Centre, Done, Event, Hall, RamHall, Ready, Reply, Stop};
 use std::alloc::Global;
 use std::process::Abort;
 use test_fixtures::halls::ram_hall;
@@ -163,7 +163,7 @@ fn given_up(alloc: Global, centre: &mut Centre) -> bool
             ready.discard();
             true
         }
-        Err(Memory) => false,
+        Err(_) => false,
     }
 }
 

@@ -2,6 +2,7 @@
 
 mod checkpoints;
 mod following;
+mod groups;
 mod moving;
 mod opening;
 mod schedules;

@@ -10,9 +10,10 @@ mod turns;
 use crate::stores;
 use arc_doors::{MemDoor, Pulse};
 use arc_io::{Disk, MemDisk, Port};
-use arc_serving::{Came, Crew, ServedStore, Station, serve_store};
+use arc_serving::{Came, Crew, GatheredStore, ServedStore, Station, gather_store, serve_store};
 use centre_store::Store;
 use disk_journal::SHIPPED;
+use group_gate::GroupClosed;
 use std::alloc::Global;
 use std::process::Abort;
 use std::sync::Wait;
@@ -70,4 +71,55 @@ fn serve_in_memory<
     requires desks { crew.desks ≤ length station.desks }
 {
     serve_store(rt, alloc, store, station, crew)
+}
+
+// The same at a gate with groups, which is whole at the end.
+fn gathered<P: Port + Send + Drop, T: Pulse + Send + Drop, R: Abort + Threads + Wait + Sync>(
+    rt: &R,
+    alloc: Global,
+    station: Station<MemDoor<P>, MemDoor<P>, T>,
+    crew: Crew,
+) -> (u64, Station<MemDoor<P>, MemDoor<P>, T>, Came)
+    requires lines { crew.lines ≤ length station.lines }
+    requires desks { crew.desks ≤ length station.desks }
+{
+    let store = begun(rt, alloc);
+    let GatheredStore {
+        closed,
+        station,
+        came,
+    } = gather_in_memory(rt, alloc, store, station, crew);
+    let entries = entries_of(rt, closed);
+    (entries, station, came.expect(rt, "memory"))
+}
+
+fn entries_of(rt: &impl Abort, closed: GroupClosed<MemDisk>) -> u64 {
+    match closed {
+        GroupClosed::Whole(store) => {
+            let entries = store.centre().entries();
+            // Given to `drop`, since its parts needn't be looked at here.
+            drop(store);
+            entries
+        }
+        GroupClosed::Broken { .. } => panic!(rt; "not whole"),
+    }
+}
+
+fn gather_in_memory<
+    P: Port + Send + Drop,
+    T: Pulse + Send + Drop,
+    D: Disk + Send + Drop,
+    R: Threads + Wait + Sync,
+>(
+    rt: &R,
+    alloc: Global,
+    store: Store<D>,
+    station: Station<MemDoor<P>, MemDoor<P>, T>,
+    crew: Crew,
+) -> GatheredStore<D, MemDoor<P>, MemDoor<P>, T>
+    requires begun { IsSetting store.state.sum.text }
+    requires lines { crew.lines ≤ length station.lines }
+    requires desks { crew.desks ≤ length station.desks }
+{
+    gather_store(rt, alloc, store, station, crew)
 }

@@ -8,7 +8,9 @@ use crate::same::same;
 use crate::stores::blank_of;
 use arc_doors::{ListPulse, MemDoor, Pulse};
 use arc_io::{Disk, MemDisk, MemPort, Port};
-use arc_serving::{Side, Ticked, Worked, WorkerEnd, desk_worker, line_worker, ticker};
+use arc_serving::{
+    Side, SingleGate, StationGate, Ticked, Worked, WorkerEnd, desk_worker, line_worker, ticker,
+};
 use centre_core::Stop;
 use disk_journal::Limits;
 use line_gate::{Blank, Gate, GateName};
@@ -86,12 +88,14 @@ fn work_at<P: Port + Send + Drop, R: Wait, D: Disk + Drop, N: GateName>(
     door: &mut MemDoor<P>,
     case: &Case,
 ) -> (Worked, u64)
-    requires { Names D.seen N.terms blank }
+    requires names { Names D.seen N.terms blank }
+    requires single { N.terms.groups ≡ false }
 {
     let (gate, pass) = Gate::<D, N>::new(blank);
+    let at = StationGate::Single(SingleGate { gate: &gate });
     let (pass, worked) = match case.side {
-        Side::Lines => line_worker(rt, alloc, &gate, pass, door, case.sessions),
-        Side::Desks => desk_worker(rt, alloc, &gate, pass, door, case.sessions),
+        Side::Lines => line_worker(rt, alloc, &at, pass, door, case.sessions),
+        Side::Desks => desk_worker(rt, alloc, &at, pass, door, case.sessions),
     };
     let store = gate.close(pass);
     let entries = store.centre().entries();
@@ -289,7 +293,8 @@ fn tick_at<R: Wait, D: Disk + Drop, N: GateName>(
     blank: Blank<D>,
     pulse: &mut ListPulse,
 ) -> (Ticked, u64)
-    requires { Names D.seen N.terms blank }
+    requires names { Names D.seen N.terms blank }
+    requires single { N.terms.groups ≡ false }
 {
     let (gate, pass) = Gate::<D, N>::new(blank);
     let stop = AtomicBool::new(false);

@@ -11,6 +11,8 @@ mod arc_workers_tests;
 #[cfg(test)]
 mod doors;
 #[cfg(test)]
+mod group_gate_tests;
+#[cfg(test)]
 mod line_gate_tests;
 #[cfg(test)]
 mod same;

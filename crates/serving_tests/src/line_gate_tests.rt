@@ -1,6 +1,6 @@
 // What no clause says: that calls succeed, and that what threads are told is what one thread is told.
 
-mod calls;
+pub(crate) mod calls;
 mod events;
 mod replay;
 mod threads;

@@ -1,6 +1,7 @@
 // Checkpoints: when they are made, what they leave, and when there is no room behind them. A summary of nothing has 43 bytes, that of an
 // Adopt 60, of a Start too 68, of one message too 156, and 27 more for each of the next 31; an area uses 22 more. An Adopt takes 31 bytes,
 // another one 43, a Start 14 and a message 43.
+ghost use Rattle.std.specs.Prelude.{◌<◌, ◌^◌};
 
 use super::told::{alarm, left_of, play, play_parts, submitted};
 use super::{AREA, FRESH};
@@ -76,13 +77,20 @@ pub(super) fn play_within(
     limits: &str,
     parts: &str,
 ) -> MemDisk {
+    let limits = limits_of(rt, limits);
+    play(rt, alloc, disk, limits, parts)
+}
+
+/// So many bytes and records.
+pub(super) fn limits_of(rt: &impl Abort, limits: &str) -> Limits
+    ensures { result.bytes < 2 ^ 32 }
+{
     let (bytes, records) = limits.split_once(' ').expect(rt, "limits");
     let bytes = bytes.parse::<u32>().expect(rt, "bytes");
-    let limits = Limits {
+    Limits {
         bytes: u64::from(bytes),
         records: records.parse::<u64>().expect(rt, "records"),
-    };
-    play(rt, alloc, disk, limits, parts)
+    }
 }
 
 // The generation in each area, or `-`, behind each of four checkpoints with a record between.

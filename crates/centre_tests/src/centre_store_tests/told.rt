@@ -207,8 +207,8 @@ fn answered(rt: &impl Abort, alloc: Global, done: &Done) -> String {
     format!(in alloc; "{caller} {word}").expect(rt, "memory")
 }
 
-// The stop with its numbers, and a first fault of the disk as `down`.
-fn named(rt: &impl Abort, alloc: Global, stop: Stop) -> String {
+/// The stop with its numbers, and a first fault of the disk as `down`.
+pub(super) fn named(rt: &impl Abort, alloc: Global, stop: Stop) -> String {
     match stop {
         Stop::Down { at_open: 0, now: 1 } => text_of(rt, alloc, "down"),
         _ => format!(in alloc; "{stop:?}").expect(rt, "memory"),
@@ -228,7 +228,8 @@ pub(super) fn has_begun(store: &Store<MemDisk>) -> bool
     }
 }
 
-fn word_of(reply: &Reply) -> &'static str {
+/// The reply in a word.
+pub(super) fn word_of(reply: &Reply) -> &'static str {
     match reply {
         Reply::Taken => "taken",
         Reply::Repeat { .. } => "repeat",

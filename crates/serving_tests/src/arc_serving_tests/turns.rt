@@ -3,12 +3,12 @@ ghost use Rattle.std.specs.Prelude.{◌≡◌, ◌+◌, length};
 ghost use Rattle.arc_serving.specs.Seen.{StationSeen};
 
 use super::links::{Flag, TurnLink, TurnPulse};
-use super::served;
+use super::{gathered, served};
 use crate::doors::door_of;
 use crate::same::{holds, same};
 use arc_doors::{ListPulse, MemDoor};
 use arc_io::Source;
-use arc_serving::{Crew, Station};
+use arc_serving::{Came, Crew, Station};
 use std::alloc::Global;
 use std::process::Abort;
 use std::sync::atomic::AtomicBool;
@@ -105,6 +105,39 @@ fn serve_two<R: Abort + Threads + Wait + Sync>(
     };
     let station = two_doors(rt, alloc, host, flags.0, flags.1);
     let (entries, station, came) = served(rt, alloc, station, crew);
+    compare_two(rt, entries, station, came);
+}
+
+// The same at a gate with groups.
+#[test]
+fn groups_go_on_beside_each_other(rt: HostRuntime) {
+    let alloc = rt.alloc();
+    let (one, other) = (flag(&rt, alloc), flag(&rt, alloc));
+    gather_two(&rt, alloc, rt, (&one, &other));
+}
+
+fn gather_two<R: Abort + Threads + Wait + Sync>(
+    rt: &R,
+    alloc: Global,
+    host: HostRuntime,
+    flags: (&Flag, &Flag),
+) {
+    let crew = Crew {
+        lines: 2,
+        desks: 0,
+        sessions: 1,
+    };
+    let station = two_doors(rt, alloc, host, flags.0, flags.1);
+    let (entries, station, came) = gathered(rt, alloc, station, crew);
+    compare_two(rt, entries, station, came);
+}
+
+fn compare_two(
+    rt: &impl Abort,
+    entries: u64,
+    station: Station<TurnDoor, TurnDoor, ListPulse>,
+    came: Came,
+) {
     drop(came);
     // An Adopt, a Start and two heartbeats.
     same(rt, entries, 4, "entries");

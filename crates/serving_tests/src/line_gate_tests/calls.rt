@@ -1,4 +1,5 @@
 // The calls of a gate, in one thread.
+ghost use Rattle.std.specs.Prelude.{◌≡◌, false};
 ghost use Rattle.arc_data.specs.WellFormed.{IsWellFormed};
 ghost use Rattle.centre_core.specs.Runs.{IsSubmitted};
 ghost use Rattle.line_gate.specs.Blanks.{Names};
@@ -19,7 +20,7 @@ use test_fixtures::moments::BEGIN;
 const SETUP: &[u8] = b"account 1234\noperator ann 1234\noperator bob 5678\n";
 
 // How many incidents a list says that there are.
-fn total(reply: &Reply) -> u64 {
+pub(crate) fn total(reply: &Reply) -> u64 {
     match reply {
         Reply::Listed(listing) => listing.total,
         _ => 0,
@@ -57,7 +58,8 @@ fn meet_another<R: Abort + Wait, D: Disk + Drop, N: GateName>(
     alloc: Global,
     blank: Blank<D>,
 ) -> (Done, Done, u64)
-    requires { Names D.seen N.terms blank }
+    requires names { Names D.seen N.terms blank }
+    requires single { N.terms.groups ≡ false }
 {
     let (gate, mut first) = Gate::<D, N>::new(blank);
     let (taken, listed) = split_and_meet(rt, alloc, &gate, &mut first);
@@ -124,7 +126,8 @@ fn submit_two<R: Abort + Wait, D: Disk + Drop, N: GateName>(
     alloc: Global,
     blank: Blank<D>,
 ) -> (Option<Stop>, Option<Stop>, u64)
-    requires { Names D.seen N.terms blank }
+    requires names { Names D.seen N.terms blank }
+    requires single { N.terms.groups ≡ false }
 {
     let (gate, mut first) = Gate::<D, N>::new(blank);
     let (one, other) = submit_both(rt, alloc, &gate, &mut first);

@@ -1,5 +1,5 @@
 // Eight callers in threads of their own, of which each submits 2,000 events.
-ghost use Rattle.std.specs.Prelude.{◌≤◌};
+ghost use Rattle.std.specs.Prelude.{◌≤◌, ◌≡◌, false};
 ghost use Rattle.line_gate.specs.Blanks.{Names};
 
 use super::events::{SETUP, STEPS, claimed, clock, event};
@@ -162,7 +162,8 @@ fn serve_eight<R: Abort + Threads + Wait + Sync, D: Disk + Send + Drop, N: GateN
     alloc: Global,
     blank: Blank<D>,
 ) -> (Store<D>, Vec<Caller>)
-    requires { Names D.seen N.terms blank }
+    requires names { Names D.seen N.terms blank }
+    requires single { N.terms.groups ≡ false }
 {
     let (gate, mut first) = Gate::<D, N>::new(blank);
     let callers = call_eight(rt, alloc, &gate, &mut first);
