@@ -161,7 +161,7 @@ impl Centre {
         let setup = adopted(alloc, event)?;
         let worked = self.work_out(alloc, event, &setup, at)?;
         if is_recorded(&worked.reply) {
-            self.reserve(alloc, event, &worked.carried)?;
+            self.reserve(alloc, event, &worked.carried, worked.found)?;
         }
         Ok((setup, worked))
     }
