@@ -77,8 +77,9 @@ impl Centre {
         let Some(signals) = content_signals::signals(message.token, content) else {
             return Ok(alone(alloc, Reply::Unknown));
         };
-        let row = self.accounts.rows().row_of(&message.account);
-        if let Some(first) = self.accounts.rows().repeat_at(row, message, at) {
+        let rows = self.accounts.rows();
+        let row = rows.row_of(&message.account);
+        if let Some(first) = rows.repeat_at(row, message, at) {
             return Ok(alone(alloc, Reply::Repeat { first }));
         }
         let carried = signals_sent(alloc, setup, &message.account, via, place, at, &signals)?;
