@@ -120,13 +120,14 @@ fn sixteen_rows(rt: HostRuntime) {
     );
 }
 
-// A list of 17 incidents with so many rows.
-fn listing_of(rt: &impl Abort, alloc: Global, count: u64) -> Listing
-    requires { count ≤ 16 }
-{
+// A list of 17 incidents with so many rows, at most 16.
+fn listing_of(rt: &impl Abort, alloc: Global, count: u64) -> Listing {
     let mut rows = Vec::new(alloc);
     for number in 0..count {
         rows.push(row_of(number)).expect(rt, "memory");
+    }
+    if rows.len() > 16 {
+        return Listing::of(17, Vec::new(alloc));
     }
     Listing::of(17, rows)
 }
