@@ -109,7 +109,7 @@ fn sixteen_rows(rt: HostRuntime) {
         (listing.total, listing.count()) == (17, 16),
         "the counts",
     );
-    holds(&rt, listing.row(15) == row_of(15), "the last row");
+    holds(&rt, last_row(&listing) == Some(row_of(15)), "the last row");
     let fewer = Reply::Listed(listing_of(&rt, alloc, 15));
     let others = Reply::Listed(listing_of(&rt, alloc, 0));
     holds(&rt, Reply::Listed(listing) != fewer, "other rows");
@@ -118,6 +118,14 @@ fn sixteen_rows(rt: HostRuntime) {
         others == Reply::Listed(listing_of(&rt, alloc, 0)),
         "no rows",
     );
+}
+
+fn last_row(listing: &Listing) -> Option<Row> {
+    let count = listing.count();
+    if count == 0 {
+        return None;
+    }
+    Some(listing.row(count - 1))
 }
 
 // A list of 17 incidents with so many rows, at most 16.
