@@ -32,13 +32,6 @@ impl Lines {
         }
     }
 
-    /// Takes all of them away. Their room is used again.
-    pub(crate) fn clear(&mut self)
-        ensures { self.new ≡ [] }
-    {
-        self.len = 0;
-    }
-
     /// Their bytes.
     pub(crate) fn bytes(&self) -> &[u8]
         ensures { result.now ≡ self.now }

@@ -7,27 +7,29 @@ use crate::lines::Lines;
 /// The moment that the script begins at.
 pub(crate) const BEGINNING: u64 = 1_000_000_000;
 
-// Puts a line that sets the clock, in place of other lines.
-pub(crate) fn put_clock(lines: &mut Lines, moment: u64)
-    ensures text { lines.new ≡ clock_line moment }
-    ensures size { length lines.new ≤ 23 }
+// A line that sets the clock.
+pub(crate) fn clock_line(moment: u64) -> Lines
+    ensures text { result ≡ clock_line moment }
+    ensures size { length result ≤ 23 }
 {
-    lines.clear();
+    let mut lines = Lines::new();
     lines.put(b"T ");
     lines.put_number(moment);
     lines.put(b"\n");
+    lines
 }
 
-// Puts the lines of the message of this number, in place of other lines.
-pub(crate) fn put_messages(lines: &mut Lines, i: u32)
+// The lines of the message of this number.
+pub(crate) fn message_lines(i: u32) -> Lines
     requires { 1 ≤ i }
-    ensures { lines.new ≡ message_lines i }
+    ensures { result ≡ message_lines i }
 {
-    put_clock(lines, BEGINNING + u64::from(i));
-    put_message(lines, i);
+    let mut lines = clock_line(BEGINNING + u64::from(i));
+    put_message(&mut lines, i);
     if i % 7 == 0 {
-        put_message(lines, i);
+        put_message(&mut lines, i);
     }
+    lines
 }
 
 // Puts the line of the message.
@@ -83,20 +85,21 @@ fn data(i: u32) -> &'static [u8]
     }
 }
 
-// Puts the line that logs the operator in, in place of other lines.
-pub(crate) fn put_login(lines: &mut Lines)
-    ensures { lines.new ≡ login_line }
+// The line that logs the operator in.
+pub(crate) fn login_line() -> Lines
+    ensures { result ≡ login_line }
 {
-    lines.clear();
+    let mut lines = Lines::new();
     lines.put(b"D 1 login drill 1234\n");
+    lines
 }
 
-// Puts the lines that close the incident of this number, in place of other lines.
-pub(crate) fn put_closing(lines: &mut Lines, k: u32)
-    ensures { lines.new ≡ closing_lines k }
+// The lines that close the incident of this number.
+pub(crate) fn closing_lines(k: u32) -> Lines
+    ensures { result ≡ closing_lines k }
 {
     let number = u64::from(k);
-    lines.clear();
+    let mut lines = Lines::new();
     lines.put(b"D 1 claim ");
     lines.put_number(number);
     lines.put(b"\nD 1 act ");
@@ -104,4 +107,5 @@ pub(crate) fn put_closing(lines: &mut Lines, k: u32)
     lines.put(b" note done\nD 1 close ");
     lines.put_number(number);
     lines.put(b" real\n");
+    lines
 }

@@ -18,4 +18,3 @@ pub mod Feeding
 pub mod Carrying
 pub mod Between
 pub mod Halting
-pub mod Leaving

@@ -48,10 +48,7 @@ pub(crate) fn submit_and_acknowledge<H: Hall, P: Port>(
         reading,
     } = report;
     match hall.submit(alloc, event, reading) {
-        Ok(done) => {
-            drop(done);
-            acknowledge(hall, port, &header, reading, reply)
-        }
+        Ok(_) => acknowledge(hall, port, &header, reading, reply),
         Err(stop) => Err(LineEnd::Stopped(stop)),
     }
 }
