@@ -53,19 +53,18 @@ impl Eq for Row {
 /// At most 16 rows, in a room of their own. Contracts see them as a list.
 #[derive(Debug, Drop)]
 pub struct Rows {
-    items: [Row; 16],
-    len: usize,
+    items: Vec<Row>,
 }
 
 impl Model for Rows {
-    ghost use Rattle.std.specs.Prelude.{List, take, length, ◌≤◌, ◌≡◌};
+    ghost use Rattle.std.specs.Prelude.{List, length, ◌≤◌};
     ghost use Rattle.arc_data.specs.declared.listing.Row.{Row};
 
     ghost Value = { List Row };
 
-    ghost view = { λ s. take s.len s.items };
+    ghost view = { λ s. s.items.items };
 
-    ghost invariant = { λ s. (s.len ≤ 16) × (length s.items ≡ 16) };
+    ghost invariant = { λ s. length s.items.items ≤ 16 };
 }
 
 impl PartialEq for Rows {
@@ -88,65 +87,39 @@ impl Eq for Rows {
 }
 
 impl Rows {
-    fn new() -> Rows
-        ensures { result ≡ [] }
-    {
-        let unused = Row {
-            number: 0,
-            class: Class::Unlisted,
-            account: Txt::empty(),
-            holder: None,
-        };
-        Rows {
-            items: [unused; 16],
-            len: 0,
-        }
-    }
-
-    fn push(&mut self, row: Row) -> bool
-        ensures room { IsTrue result ↔ (length self.old < 16) }
-        ensures pushed { self.new ≡ (if result then self.old ++ row ∷ [] else self.old) }
-    {
-        if self.len == 16 {
-            return false;
-        }
-        self.items[self.len] = row;
-        self.len += 1;
-        true
-    }
-
     fn items(&self) -> &[Row]
         ensures value { result.now ≡ self.now }
         ensures most { length result.now ≤ 16 }
     {
-        &self.items[..self.len]
+        &self.items
     }
 }
 
-/// How many incidents are open, and rows of the first of them, at most 16. It takes no memory.
-#[derive(Debug, PartialEq, Eq, Drop)]
+/// How many incidents are open, and rows of the first of them, at most 16.
+#[derive(Debug, PartialEq, Eq)]
 pub struct Listing {
     pub total: u64,
     rows: Rows,
 }
 
+// Written out: one call wherever a reply is dropped, where a derived drop is spelled out at each exit.
+impl Drop for Listing {
+    fn drop(self) {
+        let Listing { total: _, rows } = self;
+        drop(rows);
+    }
+}
+
 impl Listing {
-    /// A list without rows.
-    pub fn new(total: u64) -> Listing
-        ensures { result ≡ record { total = total; rows = [] } }
+    /// A list with these rows.
+    pub fn of(total: u64, rows: Vec<Row>) -> Listing
+        requires { length rows.items ≤ 16 }
+        ensures { result ≡ record { total = total; rows = rows.items } }
     {
         Listing {
             total,
-            rows: Rows::new(),
+            rows: Rows { items: rows },
         }
-    }
-
-    /// Puts the row last. False exactly where 16 are there, and then nothing changes.
-    pub fn push(&mut self, row: Row) -> bool
-        ensures room { IsTrue result ↔ (length self.old.rows < 16) }
-        ensures pushed { self.new ≡ record self.old { rows = if result then self.old.rows ++ row ∷ [] else self.old.rows } }
-    {
-        self.rows.push(row)
     }
 
     /// How many rows there are.

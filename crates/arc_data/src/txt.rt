@@ -1,9 +1,11 @@
 // A short text in a fixed field.
 ghost use Rattle.std.specs.Prelude.{◌≡◌, ◌≤◌, ◌↔◌, [], length, IfSome, IsSome, codes};
+ghost use Rattle.std.specs.Str.{bytes_eq};
 ghost use Rattle.arc_data.specs.Digits.{capitals};
 
 use std::hash::{Hash, Hasher};
 use std::marker::Model;
+use std::simd::prelude::*;
 
 /// A text of at most 32 bytes in a field of its own, which takes no memory. Contracts see it as the list of its bytes.
 #[derive(Clone, Copy, Debug)]
@@ -37,7 +39,7 @@ impl PartialEq for Txt {
     ghost laws = { partial_equiv_from_equiv nat_list_eq_equiv };
 
     fn eq(&self, other: &Txt) -> bool {
-        self.bytes() == other.bytes()
+        self.len == other.len && are_same(self.bytes, other.bytes)
     }
 }
 
@@ -116,4 +118,12 @@ impl Txt {
             len: self.len,
         }
     }
+}
+
+// Whether two fields have the same bytes, all of which are compared at once.
+fn are_same(a: [u8; 32], b: [u8; 32]) -> bool
+    ensures { result ≡ bytes_eq a b }
+{
+    let differ = u8x32::from_array(a).simd_ne(u8x32::from_array(b));
+    differ.to_bitmask() == 0
 }

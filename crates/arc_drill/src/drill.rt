@@ -3,7 +3,7 @@ ghost use Rattle.std.specs.Prelude.{◌≡◌, ◌≤◌, ◌+◌, ◌++◌, [],
 ghost use Rattle.arc_drill.specs.Places.{number_of, last_of};
 
 use crate::lines::Lines;
-use crate::place::{Next, part_at};
+use crate::place::{Next, put_part};
 use crate::texts::BEGINNING;
 use arc_io::{Clock, Ends, Failed, Noise, Port, Sink, Source};
 
@@ -71,8 +71,7 @@ operator drill 1234
         if self.at < self.lines.bytes().len() {
             return;
         }
-        if let Some((lines, next)) = part_at(self.messages, self.next) {
-            self.lines = lines;
+        if let Some(next) = put_part(&mut self.lines, self.messages, self.next) {
             self.next = next;
             self.at = 0;
         }

@@ -32,6 +32,13 @@ impl Lines {
         }
     }
 
+    /// Takes all of them away. Their room is used again.
+    pub(crate) fn clear(&mut self)
+        ensures { self.new ≡ [] }
+    {
+        self.len = 0;
+    }
+
     /// Their bytes.
     pub(crate) fn bytes(&self) -> &[u8]
         ensures { result.now ≡ self.now }

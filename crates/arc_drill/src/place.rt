@@ -3,7 +3,7 @@ ghost use Rattle.std.specs.Prelude.{◌≡◌, ◌≤◌, ◌<◌, ◌++◌, [],
 ghost use Rattle.arc_drill.specs.Places.{text_from, number_of, last_of};
 
 use crate::lines::Lines;
-use crate::texts::{BEGINNING, clock_line, closing_lines, login_line, message_lines};
+use crate::texts::{BEGINNING, put_clock, put_closing, put_login, put_messages};
 
 // How many incidents the operator closes.
 const CLOSINGS: u32 = 20;
@@ -19,22 +19,36 @@ pub enum Next {
     Closing(u32),
 }
 
-/// The part of a script of so many messages that stands at this place, and the place behind it. None at the end.
-pub(crate) fn part_at(messages: u32, next: Next) -> Option<(Lines, Next)>
+/// Puts the part of a script of so many messages that stands at this place, in place of other lines, and gives the place behind it. At the
+/// end there is none, and the lines stay.
+pub(crate) fn put_part(lines: &mut Lines, messages: u32, next: Next) -> Option<Next>
     requires few { messages ≤ 100_000 }
     requires from_one { 1 ≤ number_of next }
     requires to_last { number_of next ≤ last_of messages next }
-    ensures split { IfSome result (λ part. text_from messages next ≡ part.0 ++ text_from messages part.1) }
-    ensures some { IfSome result (λ part. 0 < length part.0) }
-    ensures from_one { IfSome result (λ part. 1 ≤ number_of part.1) }
-    ensures to_last { IfSome result (λ part. number_of part.1 ≤ last_of messages part.1) }
+    ensures split { IfSome result (λ behind. text_from messages next ≡ lines.new ++ text_from messages behind) }
+    ensures some { IfSome result (λ behind. 0 < length lines.new) }
+    ensures from_one { IfSome result (λ behind. 1 ≤ number_of behind) }
+    ensures to_last { IfSome result (λ behind. number_of behind ≤ last_of messages behind) }
     ensures end { IfNone result (text_from messages next ≡ []) }
+    ensures same { IfNone result (lines.new ≡ lines.old) }
 {
     match next {
-        Next::Beginning => Some((clock_line(BEGINNING), Next::Message(1))),
-        Next::Message(i) if i <= messages => Some((message_lines(i), Next::Message(i + 1))),
-        Next::Message(_) => Some((login_line(), Next::Closing(1))),
-        Next::Closing(k) if k <= CLOSINGS => Some((closing_lines(k), Next::Closing(k + 1))),
+        Next::Beginning => {
+            put_clock(lines, BEGINNING);
+            Some(Next::Message(1))
+        }
+        Next::Message(i) if i <= messages => {
+            put_messages(lines, i);
+            Some(Next::Message(i + 1))
+        }
+        Next::Message(_) => {
+            put_login(lines);
+            Some(Next::Closing(1))
+        }
+        Next::Closing(k) if k <= CLOSINGS => {
+            put_closing(lines, k);
+            Some(Next::Closing(k + 1))
+        }
         Next::Closing(_) => None,
     }
 }

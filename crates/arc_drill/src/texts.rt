@@ -7,29 +7,27 @@ use crate::lines::Lines;
 /// The moment that the script begins at.
 pub(crate) const BEGINNING: u64 = 1_000_000_000;
 
-// A line that sets the clock.
-pub(crate) fn clock_line(moment: u64) -> Lines
-    ensures text { result ≡ clock_line moment }
-    ensures size { length result ≤ 23 }
+// Puts a line that sets the clock, in place of other lines.
+pub(crate) fn put_clock(lines: &mut Lines, moment: u64)
+    ensures text { lines.new ≡ clock_line moment }
+    ensures size { length lines.new ≤ 23 }
 {
-    let mut lines = Lines::new();
+    lines.clear();
     lines.put(b"T ");
     lines.put_number(moment);
     lines.put(b"\n");
-    lines
 }
 
-// The lines of the message of this number.
-pub(crate) fn message_lines(i: u32) -> Lines
+// Puts the lines of the message of this number, in place of other lines.
+pub(crate) fn put_messages(lines: &mut Lines, i: u32)
     requires { 1 ≤ i }
-    ensures { result ≡ message_lines i }
+    ensures { lines.new ≡ message_lines i }
 {
-    let mut lines = clock_line(BEGINNING + u64::from(i));
-    put_message(&mut lines, i);
+    put_clock(lines, BEGINNING + u64::from(i));
+    put_message(lines, i);
     if i % 7 == 0 {
-        put_message(&mut lines, i);
+        put_message(lines, i);
     }
-    lines
 }
 
 // Puts the line of the message.
@@ -85,21 +83,20 @@ fn data(i: u32) -> &'static [u8]
     }
 }
 
-// The line that logs the operator in.
-pub(crate) fn login_line() -> Lines
-    ensures { result ≡ login_line }
+// Puts the line that logs the operator in, in place of other lines.
+pub(crate) fn put_login(lines: &mut Lines)
+    ensures { lines.new ≡ login_line }
 {
-    let mut lines = Lines::new();
+    lines.clear();
     lines.put(b"D 1 login drill 1234\n");
-    lines
 }
 
-// The lines that close the incident of this number.
-pub(crate) fn closing_lines(k: u32) -> Lines
-    ensures { result ≡ closing_lines k }
+// Puts the lines that close the incident of this number, in place of other lines.
+pub(crate) fn put_closing(lines: &mut Lines, k: u32)
+    ensures { lines.new ≡ closing_lines k }
 {
     let number = u64::from(k);
-    let mut lines = Lines::new();
+    lines.clear();
     lines.put(b"D 1 claim ");
     lines.put_number(number);
     lines.put(b"\nD 1 act ");
@@ -107,5 +104,4 @@ pub(crate) fn closing_lines(k: u32) -> Lines
     lines.put(b" note done\nD 1 close ");
     lines.put_number(number);
     lines.put(b" real\n");
-    lines
 }

@@ -16,6 +16,7 @@ use Rattle.arc_script.specs.Between.{CarriedOut, Carries, CountsSteps, IsClock, 
 use Rattle.arc_script.specs.Carrying.{HaveTaken, IsNext}
 use Rattle.arc_script.specs.Fed.{clock_of}
 use Rattle.arc_script.specs.Halting.{Halts, closing}
+use Rattle.arc_script.specs.Leaving.{IsClosed}
 use Rattle.arc_script.specs.Playing.{IsAskedAt, moment_at}
 use Rattle.arc_script.specs.Steps.{asked_after}
 use Rattle.arc_script.specs.Texts.{IsPlayable, is_passed, line_limit}
@@ -34,11 +35,6 @@ abbrev pub HaltsHere : {D : Type 0} → (D → DiskSeen) → Asked → Script �
 HaltsHere {D} seen a script s p end p' disk tally =
     (b : Begun D) (lines more : List (List ℕ)) (typed : List ℕ) → Asks typed a → MayComeNext lines typed → SoFar seen b lines script s p
     → Halts seen b lines (lines ++ typed ∷ more) end p' disk tally
-
--- a store that was closed with the script's last tally
-pub record IsClosed {D : Type 0} (script : Script) (s : Stored D) (disk : D) (tally : Tally) : Type 0 where
-  pub disk_is : disk ≡ s.journal.disk
-  pub tally_is : tally ≡ closing script.tally script.opened_before s.state.sum
 
 module _ {D : Type 0} (seen : D → DiskSeen) (script : Script) (s : Stored D) (p : PortSeen) (a : Asked) (moment : ℕ)
     (short : length (spelling a) ≤ line_limit) (set : moment_at script.clock a ≡ Some moment) where

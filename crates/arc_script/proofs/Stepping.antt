@@ -239,9 +239,9 @@ reopen_stops seen moment a script script' s (Err e) is out = tt
 pub reopen_shuts : {D T : Type 0} (seen : D → DiskSeen) (moment : ℕ) (a : Asked) (script : Script) (s : Stored D) (r : Result T (OpenRefused D)) → a ≡ Reopen
     → IfErr r (λ e. (b : Begun D) (place : Place) (count : ℕ) (h : List Entry) → Between seen b place count h script s
     → HoldsRecorded seen s.journal place.base h → ShutAt seen b place.base h e.fault e.disk)
-    → IfErr r (λ e. (a ≡ Reopen) × Shuts seen moment a script s e.fault e.disk)
+    → IfErr r (λ e. Shuts seen moment a script s e.fault e.disk)
 reopen_shuts seen moment a script s (Ok x) is out = tt
-reopen_shuts seen moment a script s (Err e) is out = (is, λ b place count h between next holds. out b place count h between holds)
+reopen_shuts seen moment a script s (Err e) is out = λ b place count h between next holds. out b place count h between holds
 
 where_set : {A : Type 0} (o : Option A) (P : Type 0) → P → IfSome o (λ _. P)
 where_set None P holds = tt

@@ -18,3 +18,4 @@ pub mod Feeding
 pub mod Carrying
 pub mod Between
 pub mod Halting
+pub mod Leaving

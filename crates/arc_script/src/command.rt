@@ -31,57 +31,56 @@ const MOST_LINE: usize = 1002;
 /// Feeds a text and the end of a line to a desk, which writes its answer behind the letter and the number. After a `quit` the desk is made anew.
 pub(crate) fn command<D: Disk>(
     alloc: Global,
-    store: Store<D>,
+    store: &mut Store<D>,
     script: &mut Script,
     desk: usize,
     text: &[u8],
     page: &mut Page,
-) -> (Store<D>, Result<(), Stop>)
+) -> Result<(), Stop>
     requires desk { IsNumber 8 desk }
     requires few { length text.now ≤ 1000 }
-    requires set { store.state.sum.text ≡ Some script.old.setup }
-    ensures answered { OnOk result.1 ((base : Summary) (before : List Asked) (clock count number : ℕ) (h : List Entry)
+    requires set { store.old.state.sum.text ≡ Some script.old.setup }
+    ensures answered { OnOk result ((base : Summary) (before : List Asked) (clock count number : ℕ) (h : List Entry)
         → IsNext (meaning script.old.setup) clock count before (Command desk text.now) script.old.lines.items script.old.desks.items
-        → page_seen page.old ≡ blank clock → StoreStands D.seen base store h → IsReadable base h
+        → page_seen page.old ≡ blank clock → StoreStands D.seen base store.old h → IsReadable base h
         → Carried D.seen base (λ x s. Commands (placed base script.old.setup before) desk text.now h x s)
-        number (Command desk text.now) script.old.tally script.new.tally (page_seen page.old) (page_seen page.new) result.0) }
-    ensures took { OnOk result.1 ((before : List Asked) (clock count : ℕ)
+        number (Command desk text.now) script.old.tally script.new.tally (page_seen page.old) (page_seen page.new) store.new) }
+    ensures took { OnOk result ((before : List Asked) (clock count : ℕ)
         → IsNext (meaning script.old.setup) clock count before (Command desk text.now) script.old.lines.items script.old.desks.items
         → HaveTakenWith (meaning script.old.setup) count before (Command desk text.now) script.new.lines.items script.new.desks.items) }
-    ensures stop { IfErr result.1 (λ stop. (base : Summary) (before : List Asked) (clock count : ℕ) (h : List Entry)
+    ensures stop { IfErr result (λ stop. (base : Summary) (before : List Asked) (clock count : ℕ) (h : List Entry)
         → IsNext (meaning script.old.setup) clock count before (Command desk text.now) script.old.lines.items script.old.desks.items
-        → page_seen page.old ≡ blank clock → StoreStands D.seen base store h → IsReadable base h
+        → page_seen page.old ≡ blank clock → StoreStands D.seen base store.old h → IsReadable base h
         → Halted D.seen base (λ x s. ((x ≡ h) × AddedBy base h x s
-        × HasShown D.seen result.0 stop clock (IsOfCommand script.old.setup before desk text.now))
+        × HasShown D.seen store.new stop clock (IsOfCommand script.old.setup before desk text.now))
         ⊎ ((stop ≡ Stop.Memory) × Commands (placed base script.old.setup before) desk text.now h x s))
-        script.old.tally script.new.tally result.0) }
-    ensures set { result.0.state.sum.text ≡ Some script.old.setup }
+        script.old.tally script.new.tally store.new) }
+    ensures set { store.new.state.sum.text ≡ Some script.old.setup }
     ensures rest { script.new ≡ record script.old {
       desks = script.new.desks;
       eight = script.new.eight;
       tally = script.new.tally;
     } }
-    ensures tells { is_told (D.seen result.0.journal.disk).told ≡ is_told (D.seen store.journal.disk).told }
-    ensures at_open { result.0.at_open ≡ store.at_open }
-    ensures limits { result.0.journal.limits ≡ store.journal.limits }
+    ensures tells { is_told (D.seen store.new.journal.disk).told ≡ is_told (D.seen store.old.journal.disk).told }
+    ensures at_open { store.new.at_open ≡ store.old.at_open }
+    ensures limits { store.new.journal.limits ≡ store.old.journal.limits }
 {
     if let Err(stop) = put_asked(page, desk as u64) {
-        return (store, Err(stop));
+        return Err(stop);
     }
     let mut line = [0; MOST_LINE];
     let line = ended(text, &mut line);
-    let mut store = store;
     let open = store.centre().table().count() as u64;
-    let end = script.desks[desk - 1].take(alloc, &mut store, page, line);
+    let end = script.desks[desk - 1].take(alloc, store, page, line);
     let closed = open.saturating_sub(store.centre().table().count() as u64);
     script.tally.closed = script.tally.closed.saturating_add(closed);
     match end {
-        Ok(()) => (store, Ok(())),
+        Ok(()) => Ok(()),
         Err(DeskEnd::Quit) => {
             script.desks[desk - 1] = DeskState::new();
-            (store, Ok(()))
+            Ok(())
         }
-        Err(end) => (store, Err(stop_of(end))),
+        Err(end) => Err(stop_of(end)),
     }
 }
 

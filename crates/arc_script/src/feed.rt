@@ -35,95 +35,95 @@ use std::alloc::Global;
 /// Feeds the bytes that digits spell.
 pub(crate) fn feed<D: Disk>(
     alloc: Global,
-    store: Store<D>,
+    store: &mut Store<D>,
     script: &mut Script,
     moment: u64,
     line: usize,
     digits: &[u8],
     page: &mut Page,
-) -> (Store<D>, Result<(), Stop>)
+) -> Result<(), Stop>
     requires clock { moment < 253_402_300_800 }
     requires line { IsNumber 16 line }
     requires digits { AreDigits digits.now }
     requires few { length digits.now ≤ 16_384 }
-    requires set { store.state.sum.text ≡ Some script.old.setup }
-    ensures fed { OnOk result.1 ((base : Summary) (before : List Asked) (count number : ℕ) (h : List Entry)
+    requires set { store.old.state.sum.text ≡ Some script.old.setup }
+    ensures fed { OnOk result ((base : Summary) (before : List Asked) (count number : ℕ) (h : List Entry)
         → IsNext (meaning script.old.setup) moment count before (Feed line digits.now) script.old.lines.items script.old.desks.items
-        → StoreStands D.seen base store h → IsReadable base h
+        → StoreStands D.seen base store.old h → IsReadable base h
         → Carried D.seen base (λ x s. Feeds (placed base script.old.setup before) 76 line (bytes_spelled digits.now) h x s)
-        number (Feed line digits.now) script.old.tally script.new.tally (page_seen page.old) (page_seen page.new) result.0) }
-    ensures took { OnOk result.1 ((before : List Asked) (count : ℕ)
+        number (Feed line digits.now) script.old.tally script.new.tally (page_seen page.old) (page_seen page.new) store.new) }
+    ensures took { OnOk result ((before : List Asked) (count : ℕ)
         → IsNext (meaning script.old.setup) moment count before (Feed line digits.now) script.old.lines.items script.old.desks.items
         → HaveTakenWith (meaning script.old.setup) count before (Feed line digits.now) script.new.lines.items script.new.desks.items) }
-    ensures stop { IfErr result.1 (λ stop. (base : Summary) (before : List Asked) (count : ℕ) (h : List Entry)
+    ensures stop { IfErr result (λ stop. (base : Summary) (before : List Asked) (count : ℕ) (h : List Entry)
         → IsNext (meaning script.old.setup) moment count before (Feed line digits.now) script.old.lines.items script.old.desks.items
-        → StoreStands D.seen base store h → IsReadable base h
+        → StoreStands D.seen base store.old h → IsReadable base h
         → Halted D.seen base (λ x s.
         ((waiting : List (List ℕ)) × FedUntil stop (placed base script.old.setup before) line (bytes_spelled digits.now) waiting h x s
-        × HasShown D.seen result.0 stop moment (IsOfFrame script.old.setup moment line waiting))
+        × HasShown D.seen store.new stop moment (IsOfFrame script.old.setup moment line waiting))
         ⊎ ((stop ≡ Stop.Memory) × Feeds (placed base script.old.setup before) 76 line (bytes_spelled digits.now) h x s))
-        script.old.tally script.new.tally result.0) }
-    ensures set { result.0.state.sum.text ≡ Some script.old.setup }
+        script.old.tally script.new.tally store.new) }
+    ensures set { store.new.state.sum.text ≡ Some script.old.setup }
     ensures rest { script.new ≡ record script.old {
       lines = script.new.lines;
       sixteen = script.new.sixteen;
       tally = script.new.tally;
     } }
-    ensures tells { is_told (D.seen result.0.journal.disk).told ≡ is_told (D.seen store.journal.disk).told }
-    ensures at_open { result.0.at_open ≡ store.at_open }
-    ensures limits { result.0.journal.limits ≡ store.journal.limits }
+    ensures tells { is_told (D.seen store.new.journal.disk).told ≡ is_told (D.seen store.old.journal.disk).told }
+    ensures at_open { store.new.at_open ≡ store.old.at_open }
+    ensures limits { store.new.journal.limits ≡ store.old.journal.limits }
 {
     let mut bytes = [0; MOST_DIGITS / 2];
     let bytes = spelled(digits, &mut bytes);
-    let (store, frames) = fed(alloc, store, script, moment, line, bytes);
-    (store, put_fed(page, b'L', line as u64, frames))
+    let frames = fed(alloc, store, script, moment, line, bytes);
+    put_fed(page, b'L', line as u64, frames)
 }
 
 /// Feeds the frame of a body, after which the line is made anew.
 pub(crate) fn message<D: Disk>(
     alloc: Global,
-    store: Store<D>,
+    store: &mut Store<D>,
     script: &mut Script,
     moment: u64,
     line: usize,
     body: &[u8],
     page: &mut Page,
-) -> (Store<D>, Result<(), Stop>)
+) -> Result<(), Stop>
     requires clock { moment < 253_402_300_800 }
     requires line { IsNumber 16 line }
     requires body { IsBody body.now }
-    requires set { store.state.sum.text ≡ Some script.old.setup }
-    ensures fed { OnOk result.1 ((base : Summary) (before : List Asked) (count number : ℕ) (h : List Entry)
+    requires set { store.old.state.sum.text ≡ Some script.old.setup }
+    ensures fed { OnOk result ((base : Summary) (before : List Asked) (count number : ℕ) (h : List Entry)
         → IsNext (meaning script.old.setup) moment count before (Message line body.now) script.old.lines.items script.old.desks.items
-        → StoreStands D.seen base store h → IsReadable base h
+        → StoreStands D.seen base store.old h → IsReadable base h
         → Carried D.seen base (λ x s. Feeds (placed base script.old.setup before) 77 line (frame_of body.now) h x s)
-        number (Message line body.now) script.old.tally script.new.tally (page_seen page.old) (page_seen page.new) result.0) }
-    ensures took { OnOk result.1 ((before : List Asked) (count : ℕ)
+        number (Message line body.now) script.old.tally script.new.tally (page_seen page.old) (page_seen page.new) store.new) }
+    ensures took { OnOk result ((before : List Asked) (count : ℕ)
         → IsNext (meaning script.old.setup) moment count before (Message line body.now) script.old.lines.items script.old.desks.items
         → HaveTakenWith (meaning script.old.setup) count before (Message line body.now) script.new.lines.items script.new.desks.items) }
-    ensures stop { IfErr result.1 (λ stop. (base : Summary) (before : List Asked) (count : ℕ) (h : List Entry)
+    ensures stop { IfErr result (λ stop. (base : Summary) (before : List Asked) (count : ℕ) (h : List Entry)
         → IsNext (meaning script.old.setup) moment count before (Message line body.now) script.old.lines.items script.old.desks.items
-        → StoreStands D.seen base store h → IsReadable base h
+        → StoreStands D.seen base store.old h → IsReadable base h
         → Halted D.seen base (λ x s.
         ((waiting : List (List ℕ)) × FedUntil stop (placed base script.old.setup before) line (frame_of body.now) waiting h x s
-        × HasShown D.seen result.0 stop moment (IsOfFrame script.old.setup moment line waiting))
+        × HasShown D.seen store.new stop moment (IsOfFrame script.old.setup moment line waiting))
         ⊎ ((stop ≡ Stop.Memory) × Feeds (placed base script.old.setup before) 77 line (frame_of body.now) h x s))
-        script.old.tally script.new.tally result.0) }
-    ensures set { result.0.state.sum.text ≡ Some script.old.setup }
+        script.old.tally script.new.tally store.new) }
+    ensures set { store.new.state.sum.text ≡ Some script.old.setup }
     ensures rest { script.new ≡ record script.old {
       lines = script.new.lines;
       sixteen = script.new.sixteen;
       tally = script.new.tally;
     } }
-    ensures tells { is_told (D.seen result.0.journal.disk).told ≡ is_told (D.seen store.journal.disk).told }
-    ensures at_open { result.0.at_open ≡ store.at_open }
-    ensures limits { result.0.journal.limits ≡ store.journal.limits }
+    ensures tells { is_told (D.seen store.new.journal.disk).told ≡ is_told (D.seen store.old.journal.disk).told }
+    ensures at_open { store.new.at_open ≡ store.old.at_open }
+    ensures limits { store.new.journal.limits ≡ store.old.journal.limits }
 {
     let mut frame = FrameBuf::new();
     write_frame(body, &mut frame);
-    let (store, frames) = fed(alloc, store, script, moment, line, frame.bytes());
+    let frames = fed(alloc, store, script, moment, line, frame.bytes());
     script.lines[line - 1] = LineState::new(name_of(line));
-    (store, put_fed(page, b'M', line as u64, frames))
+    put_fed(page, b'M', line as u64, frames)
 }
 
 // Puts the replies of what was fed, unless the line was stopped.
@@ -140,51 +140,50 @@ fn put_fed(page: &mut Page, letter: u8, number: u64, frames: Result<Page, Stop>)
 // Feeds bytes to a line, and gives what it wrote. It is counted whether the line was stopped or not.
 fn fed<D: Disk>(
     alloc: Global,
-    store: Store<D>,
+    store: &mut Store<D>,
     script: &mut Script,
     moment: u64,
     line: usize,
     bytes: &[u8],
-) -> (Store<D>, Result<Page, Stop>)
+) -> Result<Page, Stop>
     requires clock { moment < 253_402_300_800 }
     requires line { IsNumber 16 line }
-    requires set { store.state.sum.text ≡ Some script.old.setup }
-    ensures fed { IfOk result.1 (λ frames. (base : Summary) (before : List Asked) (h : List Entry) → clock_of before ≡ Some moment
+    requires set { store.old.state.sum.text ≡ Some script.old.setup }
+    ensures fed { IfOk result (λ frames. (base : Summary) (before : List Asked) (h : List Entry) → clock_of before ≡ Some moment
         → TookAt (line_fed line before) script.old.lines.items (line - 1) → length (line_fed line before ++ bytes.now) < input_limit
-        → StoreStands D.seen base store h → IsReadable base h
+        → StoreStands D.seen base store.old h → IsReadable base h
         → HasFed D.seen (placed base script.old.setup before) line bytes.now h script.old.tally script.new.tally
-        (sink_bytes frames.port.sink) result.0) }
-    ensures took { OnOk result.1 ((stream : List ℕ) → TookAt stream script.old.lines.items (line - 1)
+        (sink_bytes frames.port.sink) store.new) }
+    ensures took { OnOk result ((stream : List ℕ) → TookAt stream script.old.lines.items (line - 1)
         → length (stream ++ bytes.now) < input_limit → TookAt (stream ++ bytes.now) script.new.lines.items (line - 1)) }
-    ensures stop { IfErr result.1 (λ stop. (base : Summary) (before : List Asked) (h : List Entry) → clock_of before ≡ Some moment
+    ensures stop { IfErr result (λ stop. (base : Summary) (before : List Asked) (h : List Entry) → clock_of before ≡ Some moment
         → TookAt (line_fed line before) script.old.lines.items (line - 1) → length (line_fed line before ++ bytes.now) < input_limit
-        → StoreStands D.seen base store h → IsReadable base h
-        → FeedStops D.seen (placed base script.old.setup before) moment line bytes.now h script.old.tally script.new.tally stop result.0) }
-    ensures set { result.0.state.sum.text ≡ Some script.old.setup }
+        → StoreStands D.seen base store.old h → IsReadable base h
+        → FeedStops D.seen (placed base script.old.setup before) moment line bytes.now h script.old.tally script.new.tally stop store.new) }
+    ensures set { store.new.state.sum.text ≡ Some script.old.setup }
     ensures others { (i : ℕ) → i ≢ line - 1 → slice_get script.new.lines.items i ≡ slice_get script.old.lines.items i }
     ensures rest { script.new ≡ record script.old {
       lines = script.new.lines;
       sixteen = script.new.sixteen;
       tally = script.new.tally;
     } }
-    ensures tells { is_told (D.seen result.0.journal.disk).told ≡ is_told (D.seen store.journal.disk).told }
-    ensures at_open { result.0.at_open ≡ store.at_open }
-    ensures limits { result.0.journal.limits ≡ store.journal.limits }
+    ensures tells { is_told (D.seen store.new.journal.disk).told ≡ is_told (D.seen store.old.journal.disk).told }
+    ensures at_open { store.new.at_open ≡ store.old.at_open }
+    ensures limits { store.new.journal.limits ≡ store.old.journal.limits }
 {
     let Ok(mut frames) = Page::new(alloc, moment) else {
-        return (store, Err(Stop::Memory));
+        return Err(Stop::Memory);
     };
-    let mut store = store;
     let quiet = quiet_of(store.centre());
-    let end = script.lines[line - 1].take(alloc, &mut store, &mut frames, bytes);
+    let end = script.lines[line - 1].take(alloc, store, &mut frames, bytes);
     let repeats = quiet_of(store.centre()).saturating_sub(quiet);
     script.tally.sent = script.tally.sent.saturating_add(frames.taken());
     script.tally.repeats = script.tally.repeats.saturating_add(repeats);
     match end {
-        Ok(()) => (store, Ok(frames)),
-        Err(LineEnd::Stopped(stop)) => (store, Err(stop)),
+        Ok(()) => Ok(frames),
+        Err(LineEnd::Stopped(stop)) => Err(stop),
         // A page takes all that is written unless memory is wanted, and no line is fed as many bytes as a session may take.
-        Err(_) => (store, Err(Stop::Memory)),
+        Err(_) => Err(Stop::Memory),
     }
 }
 

@@ -1,5 +1,5 @@
 // What a line of a script writes for its output.
-ghost use Rattle.std.specs.Prelude.{◌≡◌, ◌∷◌, [], ◌++◌, Ok, Err, OnOk, OnErr, decimal};
+ghost use Rattle.std.specs.Prelude.{◌≡◌, ◌<◌, ◌≤◌, ◌∷◌, [], ◌++◌, Ok, Err, IfOk, OnOk, OnErr, decimal, length, take};
 ghost use Rattle.std.specs.Io.KnownBytes.{append_known};
 ghost use Rattle.arc_io.specs.Told.{OnlyWrites};
 ghost use Rattle.arc_script.specs.Pages.{head_of, replied, spaced, counted_line};
@@ -67,15 +67,45 @@ fn put_frames<K: Sink>(out: &mut K, frames: &[u8]) -> Result<(), Failed>
     }
 }
 
-// Each line feed becomes a space, and carriage returns are left out.
+// Each line feed becomes a space, and carriage returns are left out. What stands between them is put at once.
 fn put_spaced<K: Sink>(out: &mut K, frames: &[u8]) -> Result<(), Failed>
     ensures all { OnOk result ((K.seen out.new).written ≡ append_known (K.seen out.old).written (spaced frames.now)) }
     ensures only { OnlyWrites (K.seen out.old) (K.seen out.new) }
 {
-    for byte in frames {
-        put_byte(out, *byte)?;
+    let mut at = 0;
+    while at < frames.len() {
+        at += put_piece(out, &frames[at..])?;
     }
     Ok(())
+}
+
+// Puts the bytes up to the first line feed or carriage return, and that one, and answers how many they are.
+fn put_piece<K: Sink>(out: &mut K, bytes: &[u8]) -> Result<usize, Failed>
+    requires { 0 < length bytes.now }
+    ensures some { IfOk result (λ count. 0 < count) }
+    ensures within { IfOk result (λ count. count ≤ length bytes.now) }
+    ensures all { IfOk result (λ count. (K.seen out.new).written ≡ append_known (K.seen out.old).written (spaced (take count bytes.now))) }
+    ensures only { OnlyWrites (K.seen out.old) (K.seen out.new) }
+{
+    let count = plain_count(bytes);
+    put(out, &bytes[..count])?;
+    if count == bytes.len() {
+        return Ok(count);
+    }
+    put_byte(out, bytes[count])?;
+    Ok(count + 1)
+}
+
+// How many bytes stand before the first line feed or carriage return.
+fn plain_count(bytes: &[u8]) -> usize
+    ensures within { result ≤ length bytes.now }
+    ensures plain { spaced (take result bytes.now) ≡ take result bytes.now }
+{
+    let mut count = 0;
+    while count < bytes.len() && bytes[count] != b'\n' && bytes[count] != b'\r' {
+        count += 1;
+    }
+    count
 }
 
 // A byte of a frame.

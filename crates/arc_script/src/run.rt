@@ -12,7 +12,7 @@ ghost use Rattle.arc_script.specs.Ends.{IsScript, IsTranscript, IsUnread};
 ghost use Rattle.arc_script.specs.Halting.{Finishes};
 ghost use Rattle.arc_script.specs.Texts.{line_limit};
 
-use crate::play::{Halted, play_ended, play_line};
+use crate::play::{Halted, play_ended, play_last};
 use crate::script::{Script, tally_of};
 use crate::script_end::{ScriptEnd, ScriptEnded, Tally};
 use accounts::Setup;
@@ -146,7 +146,7 @@ fn finish<D: Disk, P: Port>(
     let Some(cut) = cutter.finish() else {
         return (ScriptEnd::Done, script.close(store));
     };
-    match play_line(alloc, store, script, port, cut, cutter.line()) {
+    match play_last(alloc, store, script, port, cut, cutter.line()) {
         Ok(store) => (ScriptEnd::Done, script.close(store)),
         Err(Halted { end, disk }) => (end, disk),
     }

@@ -8,6 +8,7 @@ use Rattle.arc_data.specs.declared.incident.Incident.{Incident}
 use Rattle.arc_data.specs.declared.reply.Reply.{Reply}
 use Rattle.arc_data.specs.declared.reply.Reply.TheVariants.{Adopted}
 use Rattle.arc_data.specs.declared.setup_fault.SetupFault.{SetupFault}
+use Rattle.known_accounts.specs.declared.supervised_accounts.FoundAccount.{FoundAccount}
 use Rattle.known_accounts.specs.Rows.{RowsValue, lacking}
 use Rattle.alarm_rules.specs.Setups.{Setup, setup_of}
 use Rattle.centre_rules.specs.Summary.{Summary}
@@ -17,7 +18,7 @@ use Rattle.centre_rules.specs.History.{is_recorded, marks_of, onto}
 use Rattle.centre_rules.specs.Answers.{answer_over, if_known}
 use Rattle.centre_rules.specs.State.{Same, State, Plan}
 use Rattle.centre_rules.proofs.Marked.{marked_same}
-use Rattle.centre_core.specs.Taken.{sum_of, marks_with, Takes, MayTake, Fits, accounts_of, IsNoAdopt}
+use Rattle.centre_core.specs.Taken.{sum_of, marks_with, Takes, MayTake, Fits, accounts_of, IsFoundFor, IsNoAdopt}
 use Rattle.centre_core.proofs.Taking.{few_more}
 use Rattle.open_incidents.specs.Marked.{IsFew, marked_table}
 use Rattle.incidents.specs.Tables.{TableValue}
@@ -57,9 +58,9 @@ carries_setup s event at r setup e q is = tt
 
 -- What was worked out can be kept.
 
-pub may_record : (p : Plan) (setup : Option (List ℕ)) (s t : State) → IsReady p setup → s.sum ≡ p.of.sum → NoLess p.of.rooms s.rooms → t.entries ≡ s.entries + 1 → t.sum ≡ s.sum → NoLess s.rooms t.rooms
+pub may_record : (p : Plan) (setup : Option (List ℕ)) (found : FoundAccount) (s t : State) → IsReady p setup found → s.sum ≡ p.of.sum → NoLess p.of.rooms s.rooms → t.entries ≡ s.entries + 1 → t.sum ≡ s.sum → NoLess s.rooms t.rooms
     → s.sum.recorded ≤ s.entries → is_recorded p.reply ≡ true → MayRecord t p.event p.at p.reply setup p.carried
-may_record p setup s t ready sum rooms entries same more few recorded =
+may_record p setup found s t ready sum rooms entries same more few recorded =
     let both : t.sum ≡ p.of.sum = same ∙ sum in
     let room = ready.room recorded in
     record {
@@ -77,6 +78,12 @@ may_record p setup s t ready sum rooms entries same more few recorded =
         incidents = omega (arith, room.incidents, rooms.incidents, more.incidents, ap (λ (x : Summary). length x.incidents) both);
       };
     }
+
+-- and the account that was looked up is found there still
+pub found_still : (p : Plan) (setup : Option (List ℕ)) (found : FoundAccount) (s t : State) → IsReady p setup found → s.sum ≡ p.of.sum → t.sum ≡ s.sum
+    → is_recorded p.reply ≡ true → IsFoundFor p.event found t.sum.text t.sum.rows
+found_still p setup found s t ready sum same recorded =
+    subst (λ (x : Summary). IsFoundFor p.event found x.text x.rows) (sym (same ∙ sum)) (ready.looked_up recorded)
 
 -- Taken up.
 

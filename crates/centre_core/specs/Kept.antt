@@ -10,9 +10,10 @@ use Rattle.centre_rules.specs.Carrying.{carried_by}
 use Rattle.centre_rules.specs.History.{is_recorded, marks_of, onto, IsMoment}
 use Rattle.centre_rules.specs.Answers.{answer_over}
 use Rattle.centre_rules.specs.State.{State, Rooms, Same, Plan, IsSound}
-use Rattle.centre_core.specs.Taken.{accounts_of}
+use Rattle.centre_core.specs.Taken.{IsFoundFor, accounts_of}
 use Rattle.open_incidents.specs.Marked.{IsFew, HaveActRoom}
 use Rattle.incidents.specs.Tables.{TableValue}
+use Rattle.known_accounts.specs.declared.supervised_accounts.FoundAccount.{FoundAccount}
 use Rattle.known_accounts.specs.Rows.{lacking}
 
 -- a setup that is kept is the one that its text means, and a recorded entry raises no count by more than 4,000
@@ -70,11 +71,12 @@ pub record IsWorked (s : Summary) (event : Event) (at : ℕ) (reply : Reply) (si
   pub carried : is_recorded reply ≡ true → signals ≡ carried_by s [] event at
   pub few : length signals ≤ 4000
 
--- it is sound, the setup of an Adopt was read, and there is room
-pub record IsReady (p : Plan) (setup : Option (List ℕ)) : Type 0 where
+-- it is sound, the setup of an Adopt was read, the account of a message looked up, and there is room
+pub record IsReady (p : Plan) (setup : Option (List ℕ)) (found : FoundAccount) : Type 0 where
   pub sound : IsSound p
   pub adopted : IsAdopted p.event setup
   pub few : length p.carried ≤ 4000
+  pub looked_up : is_recorded p.reply ≡ true → IsFoundFor p.event found p.of.sum.text p.of.sum.rows
   pub room : is_recorded p.reply ≡ true → HasRoomFor p.event p.carried p.of
 
 -- a recorded entry of this event can be kept, once it is counted

@@ -8,8 +8,10 @@ use Rattle.arc_data.specs.declared.event.Event.TheVariants.{Release, Close, Show
 use Rattle.arc_data.specs.declared.incident.Incident.{Incident}
 use Rattle.arc_data.specs.declared.reply.Reply.{Reply}
 use Rattle.arc_data.specs.declared.reply.Reply.TheVariants.{Recorded, Closed}
+use Rattle.known_accounts.specs.declared.supervised_accounts.FoundAccount.{FoundAccount}
 use Rattle.known_accounts.specs.Rows.{RowsValue, HasRoom}
-use Rattle.centre_rules.specs.Summary.{Summary}
+use Rattle.known_accounts.specs.Supervised.{IsFoundOf}
+use Rattle.centre_rules.specs.Summary.{Summary, AccountRow}
 use Rattle.centre_rules.specs.Marks.{Mark, Adopts, Starts, Sends, Hears, Carries, Carried}
 use Rattle.centre_rules.specs.History.{IsMoment, onto, acted_by, claim_marks, act_marks, release_marks, close_marks}
 use Rattle.centre_rules.specs.State.{Same}
@@ -47,6 +49,11 @@ AreOf account xs = All (λ (x : Carried). x.account ≡ account) xs
 abbrev pub AreOwn : Event → List Carried → Type 0
 AreOwn (Sent m via) xs = AreOf m.account xs
 AreOwn event xs = Unit {0}
+
+-- the account of a message was looked up in this setup and these rows
+abbrev pub IsFoundFor : Event → FoundAccount → Option (List ℕ) → List AccountRow → Type 0
+IsFoundFor (Sent m via) found text rows = IsFoundOf m.account found text rows
+IsFoundFor event found text rows = Unit {0}
 
 -- the marks of a recorded event that carries these signals
 abbrev pub marks_with : List Carried → Event → ℕ → Reply → List Mark

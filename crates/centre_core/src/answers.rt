@@ -1,24 +1,32 @@
 // What a centre works out for an event: its reply, and the signals that it carries.
-ghost use Rattle.std.specs.Prelude.{◌≡◌, [], IfOk};
+ghost use Rattle.std.specs.Prelude.{◌≡◌, [], true, IfOk};
 ghost use Rattle.arc_data.specs.declared.event.Event.TheVariants.{Message as Sent, Tick};
 ghost use Rattle.centre_rules.specs.Answers.{answer_over};
-ghost use Rattle.centre_rules.specs.History.{IsMoment};
+ghost use Rattle.centre_rules.specs.History.{IsMoment, is_recorded};
 ghost use Rattle.centre_core.specs.Kept.{IsAdopted, IsWorked, IsPlain};
+ghost use Rattle.centre_core.specs.Taken.{IsFoundFor};
 
 use crate::carrying::{found, raise, signals_sent};
 use crate::centre::Centre;
 use crate::orders::on_adopt;
 use arc_data::{Acted, Carried, Event, Memory, Message, Reply, Txt};
-use known_accounts::WatchedSetup;
+use known_accounts::{FoundAccount, WatchedSetup};
 use open_incidents::listing::list;
 use open_incidents::orders::show;
 use std::alloc::Global;
 
-/// The reply to an event, and where it is recorded, the signals that it carries.
+// Of all events but messages no account is looked up.
+const NOT_FOUND: FoundAccount = FoundAccount {
+    row: None,
+    setup: None,
+};
+
+/// The reply to an event, and where it is recorded, the signals that it carries, and where the account of a message stands.
 #[derive(Drop)]
 pub(crate) struct Worked {
     pub reply: Reply,
     pub carried: Vec<Carried>,
+    pub found: FoundAccount,
 }
 
 impl Centre {
@@ -33,7 +41,8 @@ impl Centre {
     ) -> Result<Worked, Memory>
         requires adopted { IsAdopted event.now setup.now }
         requires moment { IsMoment at }
-        ensures { IfOk result (λ w. IsWorked self.now.sum event.now at w.reply w.carried.items) }
+        ensures worked { IfOk result (λ w. IsWorked self.now.sum event.now at w.reply w.carried.items) }
+        ensures found { IfOk result (λ w. is_recorded w.reply ≡ true → IsFoundFor event.now w.found self.now.sum.text self.now.sum.rows) }
     {
         match event {
             Event::Message { message, via } => self.on_message(alloc, message, via, at),
@@ -54,7 +63,8 @@ impl Centre {
         at: u64,
     ) -> Result<Worked, Memory>
         requires { IsMoment at }
-        ensures { IfOk result (λ w. IsWorked self.now.sum (Sent message.now via.now) at w.reply w.carried.items) }
+        ensures worked { IfOk result (λ w. IsWorked self.now.sum (Sent message.now via.now) at w.reply w.carried.items) }
+        ensures found { IfOk result (λ w. is_recorded w.reply ≡ true → IsFoundFor (Sent message.now via.now) w.found self.now.sum.text self.now.sum.rows) }
     {
         let Some(setup) = self.accounts.setup() else {
             return Ok(alone(alloc, Reply::Unknown));
@@ -67,13 +77,16 @@ impl Centre {
         let Some(signals) = content_signals::signals(message.token, content) else {
             return Ok(alone(alloc, Reply::Unknown));
         };
-        if let Some(first) = self.accounts.rows().repeat(message, at) {
+        let rows = self.accounts.rows();
+        let row = rows.row_of(&message.account);
+        if let Some(first) = rows.repeat_at(row, message, at) {
             return Ok(alone(alloc, Reply::Repeat { first }));
         }
         let carried = signals_sent(alloc, setup, &message.account, via, place, at, &signals)?;
         Ok(Worked {
             reply: Reply::Taken,
             carried,
+            found: FoundAccount { row, setup: place },
         })
     }
 
@@ -90,6 +103,7 @@ impl Centre {
         Ok(Worked {
             reply: Reply::Raised { count },
             carried,
+            found: NOT_FOUND,
         })
     }
 
@@ -145,5 +159,6 @@ fn alone(alloc: Global, reply: Reply) -> Worked
     Worked {
         reply,
         carried: Vec::new(alloc),
+        found: NOT_FOUND,
     }
 }

@@ -7,6 +7,7 @@ ghost use Rattle.centre_rules.specs.History.{Entry, moment_after, is_recorded, I
 ghost use Rattle.centre_rules.specs.Answers.{answer};
 ghost use Rattle.centre_rules.specs.State.{StandsFor, Grows, entry_of};
 ghost use Rattle.centre_core.specs.Kept.{MayRecord, Records, IsAdopted, IsWorked, HasRoomFor, NoLess, needed};
+ghost use Rattle.centre_core.specs.Taken.{IsFoundFor};
 
 use crate::answers::Worked;
 use crate::marks::mark;
@@ -15,7 +16,7 @@ use accounts::Setup;
 use arc_data::{Carried, Event, Memory, Reply, SetupFault};
 use centre_rules::is_recorded;
 use incidents::Table;
-use known_accounts::{SupervisedAccounts, WatchedSetup};
+use known_accounts::{FoundAccount, SupervisedAccounts, WatchedSetup};
 use open_incidents::QueuedTable;
 use std::alloc::Global;
 use std::marker::Model;
@@ -135,6 +136,7 @@ impl Centre {
                 reply: worked.reply,
                 setup,
                 carried: worked.carried,
+                found: worked.found,
                 of: Snapshot::of(self),
             }),
             Err(Memory) => Err(Unready { event }),
@@ -156,12 +158,13 @@ impl Centre {
         ensures most { self.new.rooms.accounts ≤ max self.old.rooms.accounts (needed self.old.sum event.now at) }
         ensures adopted { IfOk result (λ made. IsAdopted event.now made.0) }
         ensures worked { IfOk result (λ made. IsWorked self.new.sum event.now at made.1.reply made.1.carried.items) }
+        ensures found { IfOk result (λ made. is_recorded made.1.reply ≡ true → IsFoundFor event.now made.1.found self.new.sum.text self.new.sum.rows) }
         ensures room { IfOk result (λ made. is_recorded made.1.reply ≡ true → HasRoomFor event.now made.1.carried.items self.new) }
     {
         let setup = adopted(alloc, event)?;
         let worked = self.work_out(alloc, event, &setup, at)?;
         if is_recorded(&worked.reply) {
-            self.reserve(alloc, event, &worked.carried)?;
+            self.reserve(alloc, event, &worked.carried, worked.found)?;
         }
         Ok((setup, worked))
     }
@@ -185,6 +188,7 @@ impl Centre {
             reply,
             setup,
             carried,
+            found,
             of: _,
         } = ready;
         self.entries += 1;
@@ -195,7 +199,7 @@ impl Centre {
                 reply,
             };
         }
-        self.record(event, at, &reply, setup, &carried);
+        self.record(event, at, &reply, setup, &carried, found);
         Done {
             caller: 0,
             at,
@@ -211,8 +215,10 @@ impl Centre {
         reply: &Reply,
         setup: Option<WatchedSetup>,
         carried: &[Carried],
+        found: FoundAccount,
     )
-        requires { MayRecord self.old event at reply.now setup carried.now }
+        requires may { MayRecord self.old event at reply.now setup carried.now }
+        requires found { IsFoundFor event found self.old.sum.text self.old.sum.rows }
         ensures { Records self.old self.new event at reply.now }
     {
         self.recorded += 1;
@@ -230,6 +236,7 @@ impl Centre {
             at,
             reply,
             carried,
+            found,
         );
     }
 }

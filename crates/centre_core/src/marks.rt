@@ -4,18 +4,19 @@ ghost use Rattle.std.specs.List.{find};
 ghost use Rattle.arc_data.specs.Incidents.{has_number};
 ghost use Rattle.arc_data.specs.declared.reply.Reply.TheVariants.{Recorded, Closed};
 ghost use Rattle.known_accounts.specs.Rows.{RowsValue, HasRoom};
-ghost use Rattle.known_accounts.specs.Supervised.{IsPlaceOf};
+ghost use Rattle.known_accounts.specs.Supervised.{IsFoundOf, IsPlaceOf};
 ghost use Rattle.centre_rules.specs.Marks.{Starts, Hears, Sends, Carries, Carried};
 ghost use Rattle.centre_rules.specs.History.{acted_by, claim_marks, act_marks, release_marks, close_marks};
 ghost use Rattle.open_incidents.specs.Marked.{IsFew, HaveActRoom, FitsAct};
 ghost use Rattle.incidents.specs.Tables.{TableValue};
-ghost use Rattle.centre_core.specs.Taken.{Takes, MayTake, AreOf, AreOfMoments, IsNoAdopt, marks_with};
+ghost use Rattle.centre_core.specs.Taken.{Takes, MayTake, AreOf, AreOfMoments, IsFoundFor, IsNoAdopt, marks_with};
 
 use arc_data::{Carried, Event, Message, Outcome, Reply, Step, Txt};
-use known_accounts::{AccountPlace, SupervisedAccounts};
+use known_accounts::{AccountPlace, FoundAccount, SupervisedAccounts};
 use open_incidents::QueuedTable;
 
-/// Takes up the marks of a recorded event that is no Adopt, with its reply and the signals that it carries.
+/// Takes up the marks of a recorded event that is no Adopt, with its reply and the signals that it carries. The account of a message was
+/// looked up.
 pub(crate) fn mark(
     accounts: &mut SupervisedAccounts,
     table: &mut QueuedTable,
@@ -23,15 +24,17 @@ pub(crate) fn mark(
     at: u64,
     reply: &Reply,
     carried: &[Carried],
+    found: FoundAccount,
 )
     requires other { IsNoAdopt event }
     requires may { MayTake event at reply.now carried.now accounts.old.rows table.old }
+    requires found { IsFoundFor event found accounts.old.text accounts.old.rows.rows }
     ensures text { accounts.new.text ≡ accounts.old.text }
     ensures taken { Takes (marks_with carried.now event at reply.now) accounts.old.rows accounts.new.rows table.old table.new }
 {
     match event {
         Event::Start => start(accounts, table, at),
-        Event::Message { message, .. } => send(accounts, table, message, at, carried),
+        Event::Message { message, .. } => send(accounts, table, message, at, carried, found),
         Event::Beat { account } => {
             let place = accounts.place(&account);
             accounts.hear(place, at);
@@ -62,24 +65,26 @@ fn start(accounts: &mut SupervisedAccounts, table: &mut QueuedTable, at: u64)
     table.start();
 }
 
-// A message is recorded, and its signals are taken up, which are of its account.
+// A message is recorded, and its signals are taken up, which are of its account. It was looked up.
 fn send(
     accounts: &mut SupervisedAccounts,
     table: &mut QueuedTable,
     message: Message,
     at: u64,
     carried: &[Carried],
+    found: FoundAccount,
 )
     requires bound { IsFew (2 ^ 61) table.old.opened table.old.incidents }
     requires few { length carried.now ≤ 4000 }
     requires moments { AreOfMoments carried.now }
     requires own { AreOf message.account carried.now }
+    requires found { IsFoundOf message.account found accounts.old.text accounts.old.rows.rows }
     requires accounts { HasRoom (message.account ∷ []) accounts.old.rows }
     requires incidents { length table.old.incidents + length carried.now ≤ table.old.room }
     ensures text { accounts.new.text ≡ accounts.old.text }
     ensures taken { Takes (Sends message at ∷ map Carries carried.now) accounts.old.rows accounts.new.rows table.old table.new }
 {
-    let place = accounts.place(&message.account);
+    let place = accounts.place_from(found, &message.account);
     accounts.send(place, message, at);
     carry_own(accounts, table, place, carried);
 }

@@ -6,7 +6,7 @@ ghost use Rattle.centre_rules.specs.History.{is_recorded, IsMoment};
 use crate::centre::Centre;
 use arc_data::{Carried, Event, Memory, Reply};
 use centre_rules::is_recorded;
-use known_accounts::WatchedSetup;
+use known_accounts::{FoundAccount, WatchedSetup};
 use std::fmt;
 use std::marker::Model;
 use std::snapshot::Snapshot;
@@ -20,6 +20,8 @@ pub struct Ready {
     pub(crate) setup: Option<WatchedSetup>,
     // The signals that the entry carries, where it is recorded, each with the steps of the incident that it would open.
     pub(crate) carried: Vec<Carried>,
+    // Where the account of a message that is recorded stands.
+    pub(crate) found: FoundAccount,
     pub(crate) of: Snapshot<Centre>,
 }
 
@@ -31,7 +33,7 @@ impl Model for Ready {
 
     ghost view = { λ r. record { event = r.event; at = r.at; reply = r.reply; carried = r.carried.items; of = r.of.value } };
 
-    ghost invariant = { λ r. IsReady (record { event = r.event; at = r.at; reply = r.reply; carried = r.carried.items; of = r.of.value }) r.setup };
+    ghost invariant = { λ r. IsReady (record { event = r.event; at = r.at; reply = r.reply; carried = r.carried.items; of = r.of.value }) r.setup r.found };
 }
 
 impl Ready {
@@ -87,6 +89,7 @@ impl Ready {
             reply: _,
             setup: _,
             carried: _,
+            found: _,
             of: _,
         } = self;
         event

@@ -1,7 +1,7 @@
 //! What a message reports: the signals of its content, by the kind of its data (Contact ID: DC-05; SIA: DC-03).
 #![tactic(auto)]
 
-ghost use Rattle.std.specs.Prelude.{◌≡◌, [], ◌∷◌};
+ghost use Rattle.std.specs.Prelude.{◌≡◌, [], ◌∷◌, is_some};
 ghost use Rattle.alarm_rules.specs.Signals.{signals};
 
 use arc_data::{Signal, Token};
@@ -14,6 +14,16 @@ pub fn signals(token: Token, content: &[u8]) -> Option<arc_data::Signals>
     match token {
         Token::AdmCid => contact_id::read(content).map(alone),
         Token::SiaDcs => sia_codes::read(content),
+    }
+}
+
+/// Whether a message's content has signals, as `signals` reads them, none of which is kept. Takes no memory.
+pub fn has_signals(token: Token, content: &[u8]) -> bool
+    ensures { result ≡ is_some (signals token content.now) }
+{
+    match token {
+        Token::AdmCid => contact_id::read(content).is_some(),
+        Token::SiaDcs => sia_codes::read(content).is_some(),
     }
 }
 

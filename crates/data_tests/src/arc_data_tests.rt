@@ -3,6 +3,7 @@ use crate::checks::{cut, holds, same, same_bytes, short};
 use arc_data::{
     Acted, Acts, Blob, Class, Listing, Outcome, PlanWord, Reply, Row, Step, StepList, Txt,
 };
+use std::alloc::Global;
 use std::process::Abort;
 
 // Whether bytes fit into a text, and the bytes.
@@ -101,19 +102,42 @@ fn add_act(steps: &mut StepList, acts: &mut Acts, number: u8) -> (bool, bool) {
 
 #[test]
 fn sixteen_rows(rt: HostRuntime) {
-    let mut listing = Listing::new(17);
-    for number in 0..17u64 {
-        let added = listing.push(row_of(number));
-        holds(&rt, added == (number < 16), "the room");
-    }
+    let alloc = rt.alloc();
+    let listing = listing_of(&rt, alloc, 16);
     holds(
         &rt,
         (listing.total, listing.count()) == (17, 16),
         "the counts",
     );
-    let others = Reply::Listed(Listing::new(17));
-    holds(&rt, Reply::Listed(listing) != others, "other rows");
-    holds(&rt, others == Reply::Listed(Listing::new(17)), "no rows");
+    holds(&rt, last_row(&listing) == Some(row_of(15)), "the last row");
+    let fewer = Reply::Listed(listing_of(&rt, alloc, 15));
+    let others = Reply::Listed(listing_of(&rt, alloc, 0));
+    holds(&rt, Reply::Listed(listing) != fewer, "other rows");
+    holds(
+        &rt,
+        others == Reply::Listed(listing_of(&rt, alloc, 0)),
+        "no rows",
+    );
+}
+
+fn last_row(listing: &Listing) -> Option<Row> {
+    let count = listing.count();
+    if count == 0 {
+        return None;
+    }
+    Some(listing.row(count - 1))
+}
+
+// A list of 17 incidents with so many rows, at most 16.
+fn listing_of(rt: &impl Abort, alloc: Global, count: u64) -> Listing {
+    let mut rows = Vec::new(alloc);
+    for number in 0..count {
+        rows.push(row_of(number)).expect(rt, "memory");
+    }
+    if rows.len() > 16 {
+        return Listing::of(17, Vec::new(alloc));
+    }
+    Listing::of(17, rows)
 }
 
 fn row_of(number: u64) -> Row {

@@ -1,12 +1,13 @@
 // The pieces of a stream that comes bit by bit.
 ghost use Rattle.std.specs.Prelude.{◌≡◌, ◌<◌, ◌≤◌, ◌++◌, ◌∷◌, [], ℕ, List, length, take, IfNone, OnSome, None, Some, false};
-ghost use Rattle.std.specs.List.{list_any, position, position_or_len};
+ghost use Rattle.std.specs.List.{list_any, position_or_len};
 ghost use Rattle.dc09_frame.specs.Cutting.{is_end, WasFed, Feeds};
 ghost use Rattle.dc09_frame.specs.Holding.{cut_of_kept};
 ghost use Rattle.dc09_frame.specs.Frames.{IsBody};
 
 use crate::cut::Cut;
 use crate::limits::PIECE_LIMIT;
+use memchr::memchr2;
 use std::marker::Model;
 
 // Where the stream stands: outside of pieces, in one whose bytes are kept, or in one that is too long for a frame.
@@ -139,19 +140,5 @@ fn run_length(bytes: &[u8]) -> usize
     ensures value { result ≡ position_or_len is_end bytes.now }
     ensures within { result ≤ length bytes.now }
 {
-    first_end(bytes).unwrap_or(bytes.len())
-}
-
-// Where the first line feed or carriage return stands.
-fn first_end(bytes: &[u8]) -> Option<usize>
-    ensures { result ≡ position is_end bytes.now }
-{
-    bytes.iter().position(|byte| is_end(*byte))
-}
-
-// A line feed or a carriage return.
-fn is_end(byte: u8) -> bool
-    ensures { result ≡ is_end byte }
-{
-    byte == b'\n' || byte == b'\r'
+    memchr2(b'\n', b'\r', bytes).unwrap_or(bytes.len())
 }

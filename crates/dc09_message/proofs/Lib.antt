@@ -4,4 +4,5 @@ pub mod KeptLemmas
 pub mod ContentLaws
 pub mod ContentLemmas
 pub mod ContentSignals
+pub mod AccountLemmas
 pub mod GoodVerdicts

@@ -9,7 +9,7 @@ ghost use Rattle.dc09_message.specs.Reading.{data_in};
 use crate::blocks::Blocks;
 use crate::kind::MessageKind;
 use arc_data::{Token, Txt};
-use content_signals::signals;
+use content_signals::has_signals;
 use dc09_frame::{Alphabet, Header, after_byte, run_at};
 
 // How many bytes a tail has behind its `_`.
@@ -63,7 +63,9 @@ fn data_in<'a>(token: Token, header: &Header, first: &'a [u8]) -> Option<&'a [u8
 {
     let rest = after_bar(header, first)?;
     let contents = data_behind(header, rest)?;
-    signals(token, contents)?;
+    if !has_signals(token, contents) {
+        return None;
+    }
     Some(contents)
 }
 

@@ -1,8 +1,9 @@
 // The verdict on a body.
 ghost use Rattle.std.specs.Prelude.{◌≡◌, ◌≤◌, ◌-◌, IfOk, IfErr, length, true};
+ghost use Rattle.std.specs.Option.{option_map};
 ghost use Rattle.arc_data.specs.Digits.{dec_value, is_run, is_digit};
 ghost use Rattle.arc_data.specs.WellFormed.{IsMessage};
-ghost use Rattle.alarm_rules.specs.Setups.{meaning, key_of};
+ghost use Rattle.alarm_rules.specs.Setups.{meaning};
 ghost use Rattle.arc_data.specs.Digits.{capitals};
 ghost use Rattle.civil_time.specs.Stamp.{IsMoment};
 ghost use Rattle.dc09_frame.specs.Frames.{IsBody};
@@ -22,6 +23,13 @@ use civil_time::fresh;
 use dc09_crypt::{Opening, open_body};
 use dc09_frame::{BODY_LIMIT, FrameBuf, Header};
 use std::alloc::Global;
+
+// What a header tells of a message, where its token is read and its account known: the kind, and the account in capitals.
+#[derive(Drop)]
+struct Known {
+    kind: MessageKind,
+    account: Txt,
+}
 
 /// The verdict on the body of an undamaged frame, at a reading of the clock in seconds since 1970: the first case that holds.
 /// The text of a sealed message is decrypted into `room`. The error is want of memory, which only a numbered message takes.
@@ -48,6 +56,7 @@ pub fn verdict(
 }
 
 // The verdict on a message with this header, by its token and account.
+#[tactic(auto, using(crate::proofs::AccountLemmas::no_account))]
 fn by_token(
     alloc: Global,
     setup: &Setup,
@@ -66,34 +75,38 @@ fn by_token(
     let Some(kind) = kind_of(&header.token) else {
         return Ok(Verdict::Duh(*header, Why::UnknownToken));
     };
-    if !setup.knows(&account_of(header)) {
+    let account = header.account.capitals();
+    let Some(place) = setup.place(&account) else {
         return Ok(Verdict::Duh(*header, Why::UnknownAccount));
-    }
-    by_key(alloc, setup, now, header, kind, rest, room)
+    };
+    let key = setup.account(place).key.as_ref();
+    let known = Known { kind, account };
+    by_key(alloc, now, header, &known, rest, key, room)
 }
 
-// The verdict on a message of a known account, by its key.
+// The verdict on a message of a known account, by the key of the account.
 fn by_key(
     alloc: Global,
-    setup: &Setup,
     now: u64,
     header: &Header,
-    kind: MessageKind,
+    known: &Known,
     rest: &[u8],
+    key: Option<&Key>,
     room: &mut FrameBuf,
 ) -> Result<Verdict, Memory>
     requires header { IsHeader header.now }
+    requires account { known.now.account ≡ capitals header.now.account }
     requires size { length rest.now ≤ BODY_LIMIT }
     requires now { IsMoment now }
-    ensures exact { IfOk result (λ v. v ≡ on_key now header.now kind rest.now (key_of (meaning setup.now) (capitals header.now.account))) }
-    ensures memory { IfErr result (λ _. TakesMemory (on_key now header.now kind rest.now (key_of (meaning setup.now) (capitals header.now.account)))) }
+    ensures exact { IfOk result (λ v. v ≡ on_key now header.now known.now.kind rest.now (option_map (λ k. k.now) key.entry)) }
+    ensures memory { IfErr result (λ _. TakesMemory (on_key now header.now known.now.kind rest.now (option_map (λ k. k.now) key.entry))) }
     ensures good { IfOk result IsGood }
 {
-    match setup.key(&account_of(header)) {
-        Some(key) if header.sealed => by_opening(alloc, now, header, kind, rest, key, room),
+    match key {
+        Some(key) if header.sealed => by_opening(alloc, now, header, known, rest, key, room),
         Some(_) => Ok(Verdict::Duh(*header, Why::PlainButKeyed)),
         None if header.sealed => Ok(Verdict::Duh(*header, Why::SealedButKeyless)),
-        None => by_blocks(alloc, header, kind, rest),
+        None => by_blocks(alloc, header, known, rest),
     }
 }
 
@@ -102,16 +115,17 @@ fn by_opening(
     alloc: Global,
     now: u64,
     header: &Header,
-    kind: MessageKind,
+    known: &Known,
     digits: &[u8],
     key: &Key,
     room: &mut FrameBuf,
 ) -> Result<Verdict, Memory>
     requires header { IsHeader header.now }
+    requires account { known.now.account ≡ capitals header.now.account }
     requires size { length digits.now ≤ BODY_LIMIT }
     requires now { IsMoment now }
-    ensures exact { IfOk result (λ v. v ≡ on_opening now header.now kind (text_under key.now digits.now) (opening_of key.now digits.now)) }
-    ensures memory { IfErr result (λ _. TakesMemory (on_opening now header.now kind (text_under key.now digits.now) (opening_of key.now digits.now))) }
+    ensures exact { IfOk result (λ v. v ≡ on_opening now header.now known.now.kind (text_under key.now digits.now) (opening_of key.now digits.now)) }
+    ensures memory { IfErr result (λ _. TakesMemory (on_opening now header.now known.now.kind (text_under key.now digits.now) (opening_of key.now digits.now))) }
     ensures good { IfOk result IsGood }
 {
     match open_body(key, digits, room) {
@@ -122,31 +136,27 @@ fn by_opening(
             if !fresh(stamp, now) {
                 return Ok(Verdict::Nak);
             }
-            by_blocks(alloc, header, kind, &room.bytes()[from..to])
+            by_blocks(alloc, header, known, &room.bytes()[from..to])
         }
     }
 }
 
 // The verdict on a message whose blocks are to be read, of a known account and, where it is sealed, fresh.
-fn by_blocks(
-    alloc: Global,
-    header: &Header,
-    kind: MessageKind,
-    bytes: &[u8],
-) -> Result<Verdict, Memory>
+fn by_blocks(alloc: Global, header: &Header, known: &Known, bytes: &[u8]) -> Result<Verdict, Memory>
     requires header { IsHeader header.now }
+    requires account { known.now.account ≡ capitals header.now.account }
     requires size { length bytes.now ≤ BODY_LIMIT }
-    ensures exact { IfOk result (λ v. v ≡ on_blocks header.now kind (content_found kind header.now bytes.now)) }
-    ensures memory { IfErr result (λ _. TakesMemory (on_blocks header.now kind (content_found kind header.now bytes.now))) }
+    ensures exact { IfOk result (λ v. v ≡ on_blocks header.now known.now.kind (content_found known.now.kind header.now bytes.now)) }
+    ensures memory { IfErr result (λ _. TakesMemory (on_blocks header.now known.now.kind (content_found known.now.kind header.now bytes.now))) }
     ensures good { IfOk result IsGood }
 {
-    let Some(content) = content_in(kind, header, bytes) else {
+    let Some(content) = content_in(known.kind, header, bytes) else {
         return Ok(Verdict::Duh(*header, Why::BadBlocks));
     };
-    match kind {
-        MessageKind::Heartbeat => Ok(Verdict::Beat(*header, account_of(header))),
+    match known.kind {
+        MessageKind::Heartbeat => Ok(Verdict::Beat(*header, known.account)),
         MessageKind::Report(token) => {
-            let message = message_from(alloc, token, header, content)?;
+            let message = message_from(alloc, token, header, &known.account, content)?;
             Ok(Verdict::Numbered(*header, message))
         }
     }
@@ -168,27 +178,22 @@ fn kind_of(token: &Txt) -> Option<MessageKind>
     }
 }
 
-// The account of a header in capitals, as setups and messages have it.
-fn account_of(header: &Header) -> Txt
-    ensures { result ≡ capitals header.now.account }
-{
-    header.account.capitals()
-}
-
-// The message of a header and what it keeps.
+// The message of a header and what it keeps. The account is that of the header, in capitals.
 fn message_from(
     alloc: Global,
     token: Token,
     header: &Header,
+    account: &Txt,
     content: &[u8],
 ) -> Result<Message, Memory>
     requires header { IsHeader header.now }
+    requires account { account.now ≡ capitals header.now.account }
     requires size { length content.now ≤ BODY_LIMIT }
     ensures exact { IfOk result (λ m. m ≡ message_of token header.now content.now) }
     ensures good { IfOk result IsMessage }
 {
     Ok(Message {
-        account: account_of(header),
+        account: *account,
         receiver: header.receiver,
         line: header.line,
         seq: sequence_of(&header.seq),

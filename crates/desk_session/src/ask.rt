@@ -37,8 +37,14 @@ pub(crate) fn ask<H: Hall, P: Port>(
     let reading = port.now();
     match hall.submit(alloc, event, reading) {
         Ok(done) => match print(&done.reply, port) {
-            Ok(()) => Ok(()),
-            Err(Failed) => Err(DeskEnd::WriteFault),
+            Ok(()) => {
+                drop(done);
+                Ok(())
+            }
+            Err(Failed) => {
+                drop(done);
+                Err(DeskEnd::WriteFault)
+            }
         },
         Err(stop) => Err(DeskEnd::Stopped(stop)),
     }

@@ -1,5 +1,5 @@
 -- Which accounts have a row, and where it stands.
-use Rattle.std.proofs.Common.{◌≡◌, ◌<◌, ◌≤◌, ◌+◌, ◌++◌, ◌∙◌, ℕ, zero, suc, List, [], ◌∷◌, map, length, Bool, true, false, cond, Option, Some, None, refl, sym, ap, subst, slice_get, arith}
+use Rattle.std.proofs.Common.{◌≡◌, ◌<◌, ◌≤◌, ◌+◌, ◌++◌, ◌∙◌, ℕ, zero, suc, List, [], ◌∷◌, map, length, Bool, true, false, cond, Option, Some, None, refl, sym, ap, slice_get, arith}
 use Rattle.std.specs.Prelude.{is_some, not, ◌||◌, if◌then◌else◌}
 use Rattle.std.specs.List.{find, filter, list_any, position}
 use Rattle.std.specs.Map.{keys_of, values_of, lookup}
@@ -18,8 +18,8 @@ use Rattle.accounts.proofs.StandLemmas.{place-there}
 use Rattle.centre_rules.specs.Marks.{Mark, has_row, keeps_row_at}
 use Rattle.centre_rules.specs.Summary.{AccountRow}
 use Rattle.known_accounts.specs.declared.row.Row.{Row}
-use Rattle.known_accounts.specs.Rows.{RowsValue, row_at, known, blank, numbers, lacking, HasRoom, StandsAt, MakesRow, KeepsRows, Marked}
-use Rattle.known_accounts.proofs.Found.{from_row, known_is, known_blank}
+use Rattle.known_accounts.specs.Rows.{RowsValue, row_at, known, blank, numbers, lacking, HasRoom, IsRowOf, StandsAt, MakesRow, KeepsRows, Marked}
+use Rattle.known_accounts.proofs.Found.{from_row, known_is, known_blank, has_is}
 use Rattle.known_accounts.proofs.Written.{WritesAt, remade}
 
 -- the accounts of the rows are the keys of the map
@@ -49,11 +49,17 @@ find_own a [] found = absurd (false≢true found)
 find_own a (e ∷ es) found = own_if a e es (bytes_eq a e.0) refl found (find_own a es)
 
 -- at the place that was found
-pub stands_found : (es : List (List ℕ × Row)) (a : List ℕ) (i : ℕ) → Some i ≡ position (bytes_eq a) (keys_of es) → is_some (lookup (bytes_eq a) es) ≡ true
+stands_found : (es : List (List ℕ × Row)) (a : List ℕ) (i : ℕ) → Some i ≡ position (bytes_eq a) (keys_of es) → is_some (lookup (bytes_eq a) es) ≡ true
     → StandsAt a i (map row_at es)
 stands_found es a i at found =
     ap (λ l. slice_get l i) (numbers_are es) ∙ place-there (bytes_eq a) (keys_of es) (Some i) at
     ∙ find_own a es found
+
+-- which is the place of its row, where it has one
+pub row_found : (es : List (List ℕ × Row)) (a : List ℕ) (row : Option ℕ) → row ≡ position (bytes_eq a) (keys_of es) → is_some row ≡ is_some (lookup (bytes_eq a) es)
+    → IsRowOf a row (map row_at es)
+row_found es a None at found = record { there = tt; found = found ∙ sym (has_is es a) }
+row_found es a (Some i) at found = record { there = stands_found es a i at (sym found); found = found ∙ sym (has_is es a) }
 
 last_of : (es : List (List ℕ × Row)) (a : List ℕ) (r : Row) → slice_get (keys_of (es ++ (a, r) ∷ [])) (length es) ≡ Some a
 last_of [] a r = refl

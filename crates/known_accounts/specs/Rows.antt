@@ -1,7 +1,7 @@
 -- What is known of accounts.
 use Rattle.std.specs.Prelude.{◌≡◌, ◌≤◌, ◌+◌, ◌++◌, ℕ, List, [], ◌∷◌, map}
-use Rattle.std.specs.Prelude.{take, length, slice_get, Bool, false, not, if◌then◌else◌, Option, Some, None}
-use Rattle.std.specs.List.{find, filter, list_any}
+use Rattle.std.specs.Prelude.{take, length, slice_get, false, not, if◌then◌else◌, Option, Some, None, IfSome, is_some}
+use Rattle.std.specs.List.{find, filter}
 use Rattle.std.specs.Str.{bytes_eq}
 use Rattle.known_accounts.specs.declared.row.Known.{Known}
 use Rattle.known_accounts.specs.declared.row.Row.{Row}
@@ -63,6 +63,11 @@ HasRoom accounts v = length (lacking v.rows accounts) ≤ v.room
 -- the row of the account stands at this place
 abbrev pub StandsAt : List ℕ → ℕ → List AccountRow → Type 0
 StandsAt account place rows = slice_get (numbers rows) place ≡ Some account
+
+-- the place of the account's row, or none where it has no row
+pub record IsRowOf (account : List ℕ) (row : Option ℕ) (rows : List AccountRow) : Type 0 where
+  pub there : IfSome row (λ place. StandsAt account place rows)
+  pub found : is_some row ≡ has_row rows account
 
 -- an account that had no row has one, behind the others, and room for one is taken; what is known stays
 pub record MakesRow (account : List ℕ) (v w : RowsValue) : Type 0 where

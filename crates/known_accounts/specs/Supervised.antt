@@ -10,7 +10,8 @@ use Rattle.arc_data.specs.declared.signal.Kind.TheVariants.{Opening, Closing}
 use Rattle.alarm_rules.specs.Setups.{Account, setup_of, meaning, has_number}
 use Rattle.alarm_rules.specs.Weeks.{Week, next_close}
 use Rattle.known_accounts.specs.declared.supervised_accounts.AccountPlace.{AccountPlace}
-use Rattle.known_accounts.specs.Rows.{RowsValue, StandsAt, row_in}
+use Rattle.known_accounts.specs.declared.supervised_accounts.FoundAccount.{FoundAccount}
+use Rattle.known_accounts.specs.Rows.{RowsValue, IsRowOf, StandsAt, row_in}
 use Rattle.centre_rules.specs.History.{IsMoment}
 use Rattle.centre_rules.specs.Summary.{Summary, AccountRow, Opened}
 
@@ -38,6 +39,11 @@ pub record IsPlaceIn (account : List ℕ) (place : Option ℕ) (text : Option (L
 pub record IsPlaceOf (account : List ℕ) (place : AccountPlace) (s : SupervisedValue) : Type 0 where
   pub row : StandsAt account place.row s.rows.rows
   pub setup : IsPlaceIn account place.setup s.text
+
+-- what was looked up of the account: its row, and its place in this setup, where it has them
+pub record IsFoundOf (account : List ℕ) (found : FoundAccount) (text : Option (List ℕ)) (rows : List AccountRow) : Type 0 where
+  pub row : IsRowOf account found.row rows
+  pub setup : IsPlaceIn account found.setup text
 
 -- Deadlines. An account is overdue once its deadline is passed. A moment that no u64 holds is put off to the last one, which no
 -- clock reaches.

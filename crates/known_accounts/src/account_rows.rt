@@ -6,7 +6,7 @@ ghost use Rattle.std.specs.Str.{bytes_eq};
 ghost use Rattle.indexmap.specs.IndexMap.{get, spare as spare_of};
 ghost use Rattle.centre_rules.specs.Answers.{repeats};
 ghost use Rattle.centre_rules.specs.Marks.{Starts, Hears, Sends, Carries};
-ghost use Rattle.known_accounts.specs.Rows.{row_at, row_in, now_heard, blank, HasRoom, StandsAt, MakesRow, KeepsRows, Marked, Tells};
+ghost use Rattle.known_accounts.specs.Rows.{row_at, row_in, now_heard, blank, HasRoom, IsRowOf, StandsAt, MakesRow, KeepsRows, Marked, Tells};
 
 use crate::row::{Known, Row};
 use arc_data::{Carried, Memory, Message, Txt};
@@ -84,6 +84,13 @@ impl AccountRows {
         hear_all(&mut self.by_account, at);
     }
 
+    /// The place of the row of an account, where it has one.
+    pub fn row_of(&self, account: &Txt) -> Option<usize>
+        ensures { IsRowOf account.now result self.now.rows }
+    {
+        self.by_account.get_index_of(account)
+    }
+
     /// The place of the row of an account, which is made where it has none: then it is known that the account was heard at the last
     /// Start, and nothing more.
     pub fn place(&mut self, account: &Txt) -> usize
@@ -91,7 +98,18 @@ impl AccountRows {
         ensures there { StandsAt account.now result self.new.rows }
         ensures made { MakesRow account.now self.old self.new }
     {
-        match self.by_account.get_index_of(account) {
+        let row = self.row_of(account);
+        self.place_from(row, account)
+    }
+
+    /// The same of an account whose row was looked up already.
+    pub fn place_from(&mut self, row: Option<usize>, account: &Txt) -> usize
+        requires room { HasRoom (account.now ∷ []) self.old }
+        requires row { IsRowOf account.now row self.old.rows }
+        ensures there { StandsAt account.now result self.new.rows }
+        ensures made { MakesRow account.now self.old self.new }
+    {
+        match row {
             Some(place) => place,
             None => {
                 let place = self.by_account.len();
@@ -173,8 +191,21 @@ impl AccountRows {
     pub fn repeat(&self, message: &Message, at: u64) -> Option<u64>
         ensures { result ≡ option_map (λ p. p.at) (find (repeats message.now at) (take 32 (row_in self.now message.now.account).messages)) }
     {
-        match self.by_account.get(&message.account) {
-            Some(row) => row.window.holds(message, at),
+        self.repeat_at(self.row_of(&message.account), message, at)
+    }
+
+    /// The same of a message whose account's row was looked up already.
+    pub fn repeat_at(&self, row: Option<usize>, message: &Message, at: u64) -> Option<u64>
+        requires { IsRowOf message.now.account row self.now.rows }
+        ensures { result ≡ option_map (λ p. p.at) (find (repeats message.now at) (take 32 (row_in self.now message.now.account).messages)) }
+    {
+        match row {
+            Some(place) => {
+                let Some((_, row)) = self.by_account.get_index(place) else {
+                    unreachable!()
+                };
+                row.window.holds(message, at)
+            }
             None => None,
         }
     }

@@ -17,6 +17,6 @@ pub use accounts::Setup;
 pub use arc_data::{Carried, Memory, Message, Opened, Txt};
 pub use repeat_window::{Seen, Window};
 pub use row::{Known, Row};
-pub use supervised_accounts::{AccountPlace, SupervisedAccounts};
+pub use supervised_accounts::{AccountPlace, FoundAccount, SupervisedAccounts};
 pub use supervision::Places;
 pub use watched_setup::WatchedSetup;

@@ -6,7 +6,7 @@ ghost use Rattle.known_accounts.specs.Rows.{HasRoom, KeepsRows, MakesRow, Marked
 ghost use Rattle.centre_rules.specs.Carrying.{is_silent, is_late};
 ghost use Rattle.centre_rules.specs.History.{IsMoment};
 ghost use Rattle.centre_rules.specs.Marks.{Starts, Hears, Sends, Carries};
-ghost use Rattle.known_accounts.specs.Supervised.{ArePlacesOf, IsPlaceIn, IsPlaceOf, accounts_in, rows_sum};
+ghost use Rattle.known_accounts.specs.Supervised.{ArePlacesOf, IsFoundOf, IsPlaceIn, IsPlaceOf, accounts_in, rows_sum};
 
 use crate::account_rows::AccountRows;
 use crate::deadlines::Deadlines;
@@ -23,6 +23,13 @@ use supervision::Places;
 #[derive(Clone, Copy)]
 pub struct AccountPlace {
     pub row: usize,
+    pub setup: Option<usize>,
+}
+
+/// What was looked up of an account: the place of its row, and its place in the setup in force, where it has them.
+#[derive(Clone, Copy)]
+pub struct FoundAccount {
+    pub row: Option<usize>,
     pub setup: Option<usize>,
 }
 
@@ -143,6 +150,16 @@ impl SupervisedAccounts {
         }
     }
 
+    /// Looks an account up.
+    pub fn find(&self, account: &Txt) -> FoundAccount
+        ensures { IsFoundOf account.now result self.now.text self.now.rows.rows }
+    {
+        FoundAccount {
+            row: self.rows.row_of(account),
+            setup: place_in(&self.setup, account),
+        }
+    }
+
     /// Where an account stands. Its row is made where it has none.
     pub fn place(&mut self, account: &Txt) -> AccountPlace
         requires { HasRoom (account.now ∷ []) self.old.rows }
@@ -150,9 +167,23 @@ impl SupervisedAccounts {
         ensures there { IsPlaceOf account.now result self.new }
         ensures made { MakesRow account.now self.old.rows self.new.rows }
     {
-        let row = self.rows.place(account);
-        let setup = place_in(&self.setup, account);
-        AccountPlace { row, setup }
+        let found = self.find(account);
+        self.place_from(found, account)
+    }
+
+    /// The same of an account that was looked up already.
+    pub fn place_from(&mut self, found: FoundAccount, account: &Txt) -> AccountPlace
+        requires room { HasRoom (account.now ∷ []) self.old.rows }
+        requires found { IsFoundOf account.now found self.old.text self.old.rows.rows }
+        ensures text { self.new.text ≡ self.old.text }
+        ensures there { IsPlaceOf account.now result self.new }
+        ensures made { MakesRow account.now self.old.rows self.new.rows }
+    {
+        let row = self.rows.place_from(found.row, account);
+        AccountPlace {
+            row,
+            setup: found.setup,
+        }
     }
 
     /// The account that stands here is heard.

@@ -48,7 +48,10 @@ pub(crate) fn submit_and_acknowledge<H: Hall, P: Port>(
         reading,
     } = report;
     match hall.submit(alloc, event, reading) {
-        Ok(_) => acknowledge(hall, port, &header, reading, reply),
+        Ok(done) => {
+            drop(done);
+            acknowledge(hall, port, &header, reading, reply)
+        }
         Err(stop) => Err(LineEnd::Stopped(stop)),
     }
 }

@@ -4,12 +4,13 @@ use Rattle.std.specs.Prelude.{not, nat_lt, IsTrue, Option, Some, None}
 use Rattle.std.specs.List.{insert, position, position_or_len}
 use Rattle.std.proofs.lemmas.Bool.{false≢true}
 use Rattle.std.proofs.lemmas.Bool.Decides.{nat_tests}
-use Rattle.std.proofs.lemmas.List.{take_more, length-take, length-map}
+use Rattle.std.proofs.lemmas.List.{length-take, length-map}
 use Rattle.std.proofs.lemmas.List.Sums.{prefix_len-le-length}
 use Rattle.arc_data.specs.declared.incident.Incident.{Incident}
 use Rattle.arc_data.specs.declared.listing.Listing.{Listing}
 use Rattle.arc_data.specs.declared.listing.Row.{Row}
-use Rattle.centre_rules.specs.Desks.{row_of, is_before, inserted, sorted}
+use Rattle.arc_data.specs.declared.reply.Reply.TheVariants.{Listed}
+use Rattle.centre_rules.specs.Desks.{on_list, row_of, is_before, inserted, sorted}
 use Rattle.centre_rules.specs.Standing.{stands_at, standing_of}
 use Rattle.open_incidents.specs.Listings.{comes_before, put_in}
 
@@ -103,14 +104,12 @@ as_many lapse at is = length-map is (stands_at lapse at)
 pub few_rows : (is : List Incident) (rows : List Row) → rows ≡ first_rows is → length rows ≤ 16
 few_rows is rows e = omega (arith, ap length e, length-map (take 16 (sorted is)) row_of, length-take 16 (sorted is))
 
-listing_if : (b : Bool) (x : Row) (l l' : Listing) → IsTrue b → l' ≡ record l { rows = cond b (l.rows ++ x ∷ []) l.rows } → l' ≡ record l { rows = l.rows ++ x ∷ [] }
-listing_if true x l l' t e = e
-listing_if false x l l' t e = absurd (false≢true t)
-
-pub row_pushed : (rows : List Row) (n : ℕ) (x : Row) (total : ℕ) (l l' : Listing) (b : Bool) → length rows ≤ 16 → n < length rows → x ≡ get_or rows n x → l ≡ record { total = total; rows = take n rows }
-    → (length l.rows < 16 → IsTrue b) → l' ≡ record l { rows = cond b (l.rows ++ x ∷ []) l.rows } → l' ≡ record { total = total; rows = take (n + 1) rows }
-row_pushed rows n x total l l' b few lt at before room after =
-    let count : length (take n rows) ≤ n = omega (arith, length-take n rows) in
-    let short : length l.rows < 16 = omega (arith, few, lt, count, ap (λ (y : Listing). length y.rows) before) in
-    let next : take n rows ++ x ∷ [] ≡ take (n + 1) rows = ap (λ (y : Row). take n rows ++ y ∷ []) at ∙ sym (take_more rows n x lt) in
-    listing_if b x l l' (room short) after ∙ ap (λ (y : Listing). record y { rows = y.rows ++ x ∷ [] }) before ∙ (λ t. record { total = total; rows = next t })
+-- with none left before them, they are the rows of the whole list
+pub listed_all : (lapse : Option ℕ) (at k : ℕ) (is : List Incident) (rows : List Row) (l : Listing) → k ≡ 0
+    → rows ≡ first_rows (standing_of lapse at (drop k is)) → l ≡ record { total = length is; rows = rows }
+    → Listed l ≡ on_list (standing_of lapse at is)
+listed_all lapse at k is rows l none before e =
+    ap Listed (e ∙ (λ t. record {
+      total = sym (as_many lapse at is) t;
+      rows = (before ∙ ap (λ (n : ℕ). first_rows (standing_of lapse at (drop n is))) none) t;
+    }))

@@ -17,11 +17,7 @@ pub fn list(alloc: Global, items: &[Incident], at: u64, lapse: Option<u64>) -> R
     for k in (0..items.len()).rev() {
         put(&mut first, row(&items[k], at, lapse))?;
     }
-    let mut listing = Listing::new(items.len() as u64);
-    for row in &first {
-        let _ = listing.push(*row);
-    }
-    Ok(Reply::Listed(listing))
+    Ok(Reply::Listed(Listing::of(items.len() as u64, first)))
 }
 
 // The row of an incident.

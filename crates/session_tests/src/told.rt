@@ -46,12 +46,12 @@ impl Hall for Told {
 
     ghost in_force = { λ s b h w. absurd w };
 
-    fn submit(&mut self, _alloc: Global, event: Event, clock: u64) -> Result<Done, Stop> {
+    fn submit(&mut self, alloc: Global, event: Event, clock: u64) -> Result<Done, Stop> {
         self.calls = self.calls.saturating_add(1);
         if let Some(stop) = self.stop {
             return Err(stop);
         }
-        let reply = reply_to(&event);
+        let reply = reply_to(alloc, &event);
         Ok(Done {
             caller: 0,
             at: clock,
@@ -65,7 +65,7 @@ impl Hall for Told {
 }
 
 // A reply that shows what was asked.
-fn reply_to(event: &Event) -> Reply {
+fn reply_to(alloc: Global, event: &Event) -> Reply {
     match event {
         Event::Next { operator } => Reply::HeldBy {
             operator: *operator,
@@ -83,7 +83,7 @@ fn reply_to(event: &Event) -> Reply {
         Event::Release { number, .. } => Reply::Released { number: *number },
         Event::Close { number, .. } => Reply::Closed { number: *number },
         Event::Show { number } => Reply::NotOpen { number: *number },
-        Event::List => Reply::Listed(Listing::new(7)),
+        Event::List => Reply::Listed(Listing::of(7, Vec::new(alloc))),
         _ => Reply::Unknown,
     }
 }

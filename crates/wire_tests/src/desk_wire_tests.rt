@@ -254,24 +254,35 @@ fn row(number: u64, class: Class, account: &[u8], holder: Option<Txt>) -> Row {
 #[test]
 fn prints_lists(rt: HostRuntime) {
     let alloc = rt.alloc();
-    prints(&rt, alloc, &Reply::Listed(Listing::new(0)), "list 0\n");
-    let mut listing = Listing::new(2);
-    let _ = listing.push(row(1, Class::Fire, b"12345A", None));
-    let _ = listing.push(row(2, Class::Unlisted, b"12345A", Some(text(b"ann"))));
+    prints(&rt, alloc, &listed(0, Vec::new(alloc)), "list 0\n");
+    let mut rows = Vec::new(alloc);
+    rows.push(row(1, Class::Fire, b"12345A", None))
+        .expect(&rt, "memory");
+    rows.push(row(2, Class::Unlisted, b"12345A", Some(text(b"ann"))))
+        .expect(&rt, "memory");
     let want = "list 2 1/fire/12345A/- 2/unlisted/12345A/ann\n";
-    prints(&rt, alloc, &Reply::Listed(listing), want);
+    prints(&rt, alloc, &listed(2, rows), want);
+}
+
+// The reply with these rows, at most 16.
+fn listed(total: u64, rows: Vec<Row>) -> Reply {
+    if rows.len() > 16 {
+        return Reply::Unknown;
+    }
+    Reply::Listed(Listing::of(total, rows))
 }
 
 // The longest line: 16 incidents whose numbers and names are as long as they can be.
 #[test]
 fn prints_the_longest_list(rt: HostRuntime) {
     let name = b"abcdefghijklmnopqrstuvwxyzabcdef";
-    let mut listing = Listing::new(u64::MAX);
-    for _ in 0..17u8 {
-        let _ = listing.push(row(u64::MAX, Class::Environment, name, Some(text(name))));
+    let mut rows = Vec::new(rt.alloc());
+    for _ in 0..16u8 {
+        rows.push(row(u64::MAX, Class::Environment, name, Some(text(name))))
+            .expect(&rt, "memory");
     }
     let mut out = MemSink::new(rt.alloc(), Vec::new(rt.alloc()));
-    let end = print(&Reply::Listed(listing), &mut out);
+    let end = print(&listed(u64::MAX, rows), &mut out);
     same(&rt, &end, &Ok(()), "the longest list");
     same(
         &rt,

@@ -18,7 +18,7 @@ use Rattle.arc_script.proofs.command.command.Goals as goal
 pub returns-in-Err-clause-stop : goal.returns-in-Err-clause-stop
 returns-in-Err-clause-stop g c =
     λ base before clock count h next empty stands readable.
-    halted_first g.D.Disk.seen c.args.store base c.args.script.now.setup clock c.args.desk before c.args.text.now h
+    halted_first g.D.Disk.seen c.args.store.now base c.args.script.now.setup clock c.args.desk before c.args.text.now h
     c.args.script.now.tally c.in-Err.stop c.put_asked.result c.in-Err.is (c.in-Err.is ∙ c.in-Err.ensures.stop) stands readable
 
 pub take-end-requires : goal.take-end-requires
@@ -34,11 +34,11 @@ returns-in-Ok g c =
     slice_get_read desks 8 place was (omega (arith, script.eight, script.desks.ok.0)) (omega (arith, c.requires.desk.low, c.requires.desk.high))
     c.index_mut.ensures.value in
     let counted : Tally = record script.tally { closed = c.saturating_add-script.result } in
-    let sums : Closings c.args.store.state c.take-end.new.hall.state script.tally counted =
-    closings c.args.store.state c.take-end.new.hall.state c.centre.result.now c.centre-2.result.now script.tally counted c.count-open.result
+    let sums : Closings c.args.store.now.state c.take-end.new.hall.state script.tally counted =
+    closings c.args.store.now.state c.take-end.new.hall.state c.centre.result.now c.centre-2.result.now script.tally counted c.count-open.result
     c.count.result c.saturating_sub-closed.result c.centre.ensures c.centre-2.ensures (c.count-open.ensures ∙ ap length c.table.ensures.incidents)
     (c.count.ensures ∙ ap length c.table-2.ensures.incidents) c.saturating_sub-closed.ensures c.saturating_add-script.ensures refl in
-    let given : IsGiven g.D.Disk.seen c.args.store c.take-end.new.hall script.setup c.args.desk
+    let given : IsGiven g.D.Disk.seen c.args.store.now c.take-end.new.hall script.setup c.args.desk
     c.args.text.now
     desks was c.take-end.new.self (page_seen c.args.page.now) c.put_asked.new.page c.take-end.new.port c.ended-line.result.now
     c.take-end.result = record {
@@ -54,16 +54,16 @@ returns-in-Ok g c =
       taken = c.take-end.ensures.taken;
       served = (λ base stream h took for. c.take-end.ensures.served stream base h took for);
     } in
-    let at = given_as g.D.Disk.seen c.args.store c.take-end.new.hall script.setup c.args.desk
+    let at = given_as g.D.Disk.seen c.args.store.now c.take-end.new.hall script.setup c.args.desk
     c.args.text.now
     script.lines.items desks was c.take-end.new.self script.tally counted (page_seen c.args.page.now) c.put_asked.new.page
     c.take-end.new.port c.ended-line.result.now
     c.take-end.result given (Ok tt) c.in-Ok.is in
     record {
-      answered = λ base. goes_on g.D.Disk.seen c.args.store c.take-end.new.hall base script.setup c.args.desk c.args.text.now
+      answered = λ base. goes_on g.D.Disk.seen c.args.store.now c.take-end.new.hall base script.setup c.args.desk c.args.text.now
           script.lines.items desks was c.take-end.new.self script.tally counted (page_seen c.args.page.now) c.put_asked.new.page
           c.take-end.new.port c.ended-line.result.now at sums;
-      took = took_on g.D.Disk.seen c.args.store c.take-end.new.hall script.setup c.args.desk c.args.text.now
+      took = took_on g.D.Disk.seen c.args.store.now c.take-end.new.hall script.setup c.args.desk c.args.text.now
           script.lines.items desks _ was c.take-end.new.self (page_seen c.args.page.now) c.put_asked.new.page c.take-end.new.port
           c.ended-line.result.now at
           (set_at desks place c.take-end.new.self was there) (λ k other. set_other desks place k c.take-end.new.self other);
@@ -86,11 +86,11 @@ returns-in-Err-Quit g c =
     slice_get_read desks 8 place was (omega (arith, script.eight, script.desks.ok.0)) (omega (arith, c.requires.desk.low, c.requires.desk.high))
     c.index_mut.ensures.value in
     let counted : Tally = record script.tally { closed = c.saturating_add-script.result } in
-    let sums : Closings c.args.store.state c.take-end.new.hall.state script.tally counted =
-    closings c.args.store.state c.take-end.new.hall.state c.centre.result.now c.centre-2.result.now script.tally counted c.count-open.result
+    let sums : Closings c.args.store.now.state c.take-end.new.hall.state script.tally counted =
+    closings c.args.store.now.state c.take-end.new.hall.state c.centre.result.now c.centre-2.result.now script.tally counted c.count-open.result
     c.count.result c.saturating_sub-closed.result c.centre.ensures c.centre-2.ensures (c.count-open.ensures ∙ ap length c.table.ensures.incidents)
     (c.count.ensures ∙ ap length c.table-2.ensures.incidents) c.saturating_sub-closed.ensures c.saturating_add-script.ensures refl in
-    let given : IsGiven g.D.Disk.seen c.args.store c.take-end.new.hall script.setup c.args.desk
+    let given : IsGiven g.D.Disk.seen c.args.store.now c.take-end.new.hall script.setup c.args.desk
     c.args.text.now
     desks was c.take-end.new.self (page_seen c.args.page.now) c.put_asked.new.page c.take-end.new.port c.ended-line.result.now
     c.take-end.result = record {
@@ -106,17 +106,17 @@ returns-in-Err-Quit g c =
       taken = c.take-end.ensures.taken;
       served = (λ base stream h took for. c.take-end.ensures.served stream base h took for);
     } in
-    let at = given_as g.D.Disk.seen c.args.store c.take-end.new.hall script.setup c.args.desk
+    let at = given_as g.D.Disk.seen c.args.store.now c.take-end.new.hall script.setup c.args.desk
     c.args.text.now
     script.lines.items desks was c.take-end.new.self script.tally counted (page_seen c.args.page.now) c.put_asked.new.page
     c.take-end.new.port c.ended-line.result.now
     c.take-end.result given (Err Quit) (c.in-Err-Quit.is ∙ ap Err (rw c.in-Err-Quit.is at c.in-Err-Quit.field-0-is)) in
     let now = c.take-end.new.self in
     record {
-      answered = λ base. quits_on g.D.Disk.seen c.args.store c.take-end.new.hall base script.setup c.args.desk c.args.text.now
+      answered = λ base. quits_on g.D.Disk.seen c.args.store.now c.take-end.new.hall base script.setup c.args.desk c.args.text.now
           script.lines.items desks was c.take-end.new.self script.tally counted (page_seen c.args.page.now) c.put_asked.new.page
           c.take-end.new.port c.ended-line.result.now at sums;
-      took = took_quit g.D.Disk.seen c.args.store c.take-end.new.hall script.setup c.args.desk c.args.text.now
+      took = took_quit g.D.Disk.seen c.args.store.now c.take-end.new.hall script.setup c.args.desk c.args.text.now
           script.lines.items desks _ was now c.new.result (page_seen c.args.page.now) c.put_asked.new.page c.take-end.new.port
           c.ended-line.result.now at c.new.ensures
           (set_at (set desks place now) place c.new.result now (set_at desks place now was there))
@@ -140,11 +140,11 @@ returns-in-Err-end g c =
     slice_get_read desks 8 place was (omega (arith, script.eight, script.desks.ok.0)) (omega (arith, c.requires.desk.low, c.requires.desk.high))
     c.index_mut.ensures.value in
     let counted : Tally = record script.tally { closed = c.saturating_add-script.result } in
-    let sums : Closings c.args.store.state c.take-end.new.hall.state script.tally counted =
-    closings c.args.store.state c.take-end.new.hall.state c.centre.result.now c.centre-2.result.now script.tally counted c.count-open.result
+    let sums : Closings c.args.store.now.state c.take-end.new.hall.state script.tally counted =
+    closings c.args.store.now.state c.take-end.new.hall.state c.centre.result.now c.centre-2.result.now script.tally counted c.count-open.result
     c.count.result c.saturating_sub-closed.result c.centre.ensures c.centre-2.ensures (c.count-open.ensures ∙ ap length c.table.ensures.incidents)
     (c.count.ensures ∙ ap length c.table-2.ensures.incidents) c.saturating_sub-closed.ensures c.saturating_add-script.ensures refl in
-    let given : IsGiven g.D.Disk.seen c.args.store c.take-end.new.hall script.setup c.args.desk
+    let given : IsGiven g.D.Disk.seen c.args.store.now c.take-end.new.hall script.setup c.args.desk
     c.args.text.now
     desks was c.take-end.new.self (page_seen c.args.page.now) c.put_asked.new.page c.take-end.new.port c.ended-line.result.now
     c.take-end.result = record {
@@ -163,7 +163,7 @@ returns-in-Err-end g c =
     record {
       answered = tt;
       took = tt;
-      stop = ended_as g.D.Disk.seen c.args.store c.take-end.new.hall script.setup c.args.desk
+      stop = ended_as g.D.Disk.seen c.args.store.now c.take-end.new.hall script.setup c.args.desk
           c.args.text.now script.lines.items desks was c.take-end.new.self script.tally counted (page_seen c.args.page.now) c.put_asked.new.page
           c.take-end.new.port c.ended-line.result.now c.take-end.result given c.in-Err-end.end c.stop_of.result c.in-Err-end.is
           c.stop_of.ensures

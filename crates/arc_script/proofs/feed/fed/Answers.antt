@@ -20,7 +20,7 @@ take-end-requires g c = subst IsSetting (sym c.requires.set) c.args.script.now.v
 pub returns-in_default-clause-stop : goal.returns-in_default-clause-stop
 returns-in_default-clause-stop g c =
     λ base before h set took short stands readable.
-    none_fed g.D.Disk.seen c.args.store base c.args.script.now.setup c.args.moment c.args.line before c.args.bytes.now h
+    none_fed g.D.Disk.seen c.args.store.now base c.args.script.now.setup c.args.moment c.args.line before c.args.bytes.now h
     c.args.script.now.tally set stands readable
 
 pub returns-in-Ok-end : goal.returns-in-Ok-end
@@ -32,11 +32,11 @@ returns-in-Ok-end g c =
     let there : slice_get lines place ≡ Some was =
     slice_get_read lines 16 place was (omega (arith, script.sixteen, script.lines.ok.0)) (omega (arith, c.requires.line.low, c.requires.line.high)) c.index_mut.ensures.value in
     let counted : Tally = record script.tally { sent = c.saturating_add-script.result; repeats = c.saturating_add-script-2.result } in
-    let sums : Tallied (clock_calls c.take-end.new.port.port.clock) c.args.store.state c.take-end.new.hall.state script.tally counted =
-    tallied _ c.args.store.state c.take-end.new.hall.state c.centre.result.now c.centre-2.result.now script.tally counted c.taken.result
+    let sums : Tallied (clock_calls c.take-end.new.port.port.clock) c.args.store.now.state c.take-end.new.hall.state script.tally counted =
+    tallied _ c.args.store.now.state c.take-end.new.hall.state c.centre.result.now c.centre-2.result.now script.tally counted c.taken.result
     c.quiet_of-quiet.result c.quiet_of.result c.saturating_sub-repeats.result c.centre.ensures c.centre-2.ensures c.taken.ensures
     c.quiet_of-quiet.ensures c.quiet_of.ensures c.saturating_sub-repeats.ensures c.saturating_add-script.ensures c.saturating_add-script-2.ensures refl in
-    let taking : IsTaking g.D.Disk.seen c.args.store c.take-end.new.hall script.setup c.args.moment c.args.line place lines
+    let taking : IsTaking g.D.Disk.seen c.args.store.now c.take-end.new.hall script.setup c.args.moment c.args.line place lines
     was c.in-Ok.frames c.take-end.new.port c.args.bytes.now c.take-end.result = record {
       at = omega (arith, c.requires.line.low);
       there = there;
@@ -48,7 +48,7 @@ returns-in-Ok-end g c =
       served = (λ base stream h took for. c.take-end.ensures.served (line_name c.args.line) stream base h took for);
     } in
     record {
-      fed = ended_fed g.D.Disk.seen c.args.store c.take-end.new.hall script.setup c.args.moment c.args.line place lines was
+      fed = ended_fed g.D.Disk.seen c.args.store.now c.take-end.new.hall script.setup c.args.moment c.args.line place lines was
           c.in-Ok.frames c.take-end.new.port c.args.bytes.now script.tally counted sums c.take-end.result taking c.in-Ok-end.is;
       took = took_all place lines was c.take-end.new.self c.args.bytes.now c.take-end.result there c.in-Ok-end.is c.take-end.ensures.taken;
       stop = tt;
@@ -70,11 +70,11 @@ returns-in-Err-Stopped g c =
     let there : slice_get lines place ≡ Some was =
     slice_get_read lines 16 place was (omega (arith, script.sixteen, script.lines.ok.0)) (omega (arith, c.requires.line.low, c.requires.line.high)) c.index_mut.ensures.value in
     let counted : Tally = record script.tally { sent = c.saturating_add-script.result; repeats = c.saturating_add-script-2.result } in
-    let sums : Tallied (clock_calls c.take-end.new.port.port.clock) c.args.store.state c.take-end.new.hall.state script.tally counted =
-    tallied _ c.args.store.state c.take-end.new.hall.state c.centre.result.now c.centre-2.result.now script.tally counted c.taken.result
+    let sums : Tallied (clock_calls c.take-end.new.port.port.clock) c.args.store.now.state c.take-end.new.hall.state script.tally counted =
+    tallied _ c.args.store.now.state c.take-end.new.hall.state c.centre.result.now c.centre-2.result.now script.tally counted c.taken.result
     c.quiet_of-quiet.result c.quiet_of.result c.saturating_sub-repeats.result c.centre.ensures c.centre-2.ensures c.taken.ensures
     c.quiet_of-quiet.ensures c.quiet_of.ensures c.saturating_sub-repeats.ensures c.saturating_add-script.ensures c.saturating_add-script-2.ensures refl in
-    let taking : IsTaking g.D.Disk.seen c.args.store c.take-end.new.hall script.setup c.args.moment c.args.line place lines
+    let taking : IsTaking g.D.Disk.seen c.args.store.now c.take-end.new.hall script.setup c.args.moment c.args.line place lines
     was c.in-Ok.frames c.take-end.new.port c.args.bytes.now c.take-end.result = record {
       at = omega (arith, c.requires.line.low);
       there = there;
@@ -88,7 +88,7 @@ returns-in-Err-Stopped g c =
     record {
       fed = tt;
       took = tt;
-      stop = ended_stopped g.D.Disk.seen c.args.store c.take-end.new.hall script.setup c.args.moment c.args.line place lines was
+      stop = ended_stopped g.D.Disk.seen c.args.store.now c.take-end.new.hall script.setup c.args.moment c.args.line place lines was
           c.in-Ok.frames c.take-end.new.port c.args.bytes.now script.tally counted sums c.take-end.result taking
           c.in-Err-Stopped.stop (c.in-Err-Stopped.is ∙ ap Err (rw c.in-Err-Stopped.is at c.in-Err-Stopped.field-0-is));
       set = still_set c.take-end.new.hall.state.sum.text c.args.script.now.setup c.take-end.ensures.kept.ready
@@ -109,11 +109,11 @@ returns g c =
     let there : slice_get lines place ≡ Some was =
     slice_get_read lines 16 place was (omega (arith, script.sixteen, script.lines.ok.0)) (omega (arith, c.requires.line.low, c.requires.line.high)) c.index_mut.ensures.value in
     let counted : Tally = record script.tally { sent = c.saturating_add-script.result; repeats = c.saturating_add-script-2.result } in
-    let sums : Tallied (clock_calls c.take-end.new.port.port.clock) c.args.store.state c.take-end.new.hall.state script.tally counted =
-    tallied _ c.args.store.state c.take-end.new.hall.state c.centre.result.now c.centre-2.result.now script.tally counted c.taken.result
+    let sums : Tallied (clock_calls c.take-end.new.port.port.clock) c.args.store.now.state c.take-end.new.hall.state script.tally counted =
+    tallied _ c.args.store.now.state c.take-end.new.hall.state c.centre.result.now c.centre-2.result.now script.tally counted c.taken.result
     c.quiet_of-quiet.result c.quiet_of.result c.saturating_sub-repeats.result c.centre.ensures c.centre-2.ensures c.taken.ensures
     c.quiet_of-quiet.ensures c.quiet_of.ensures c.saturating_sub-repeats.ensures c.saturating_add-script.ensures c.saturating_add-script-2.ensures refl in
-    let taking : IsTaking g.D.Disk.seen c.args.store c.take-end.new.hall script.setup c.args.moment c.args.line place lines
+    let taking : IsTaking g.D.Disk.seen c.args.store.now c.take-end.new.hall script.setup c.args.moment c.args.line place lines
     was c.in-Ok.frames c.take-end.new.port c.args.bytes.now c.take-end.result = record {
       at = omega (arith, c.requires.line.low);
       there = there;
@@ -127,7 +127,7 @@ returns g c =
     record {
       fed = tt;
       took = tt;
-      stop = ended_otherwise g.D.Disk.seen c.args.store c.take-end.new.hall script.setup c.args.moment c.args.line place
+      stop = ended_otherwise g.D.Disk.seen c.args.store.now c.take-end.new.hall script.setup c.args.moment c.args.line place
           lines was c.in-Ok.frames c.take-end.new.port c.args.bytes.now script.tally counted sums c.take-end.result taking c.in-Err.field-0
           c.take-end.new.self c.in-Err.is c.take-end.ensures.ends c.take-end.ensures.taken;
       set = still_set c.take-end.new.hall.state.sum.text c.args.script.now.setup c.take-end.ensures.kept.ready

@@ -15,16 +15,16 @@ returns-clause-fed g c =
     let script = c.args.script.now in
     let line = c.args.line in
     let digits = c.args.digits.now in
-    fed_ok g.D.Disk.seen c.args.store c.fed-store.result.0 script.setup c.args.moment 76 line (Feed line digits)
-    c.spelled-bytes.result.now (bytes_spelled digits) script.lines.items script.desks.items script.tally c.fed-store.new.script.tally
-    (page_seen c.args.page.now) (page_seen c.put_fed.new.page) c.put_fed.result c.fed-store.result.1 c.spelled-bytes.ensures
+    fed_ok g.D.Disk.seen c.args.store.now c.fed-frames.new.store script.setup c.args.moment 76 line (Feed line digits)
+    c.spelled-bytes.result.now (bytes_spelled digits) script.lines.items script.desks.items script.tally c.fed-frames.new.script.tally
+    (page_seen c.args.page.now) (page_seen c.put_fed.new.page) c.put_fed.result c.fed-frames.result c.spelled-bytes.ensures
     (record {
       at = c.requires.clock;
       low = c.requires.line.low;
       set = λ before count next. next.set;
       short = λ before count next.
           feed_short (meaning script.setup) c.args.moment count line before digits script.lines.items script.desks.items next;
-    }) c.put_fed.ensures.fed c.put_fed.ensures.put c.fed-store.ensures.fed
+    }) c.put_fed.ensures.fed c.put_fed.ensures.put c.fed-frames.ensures.fed
 
 pub returns-clause-took : goal.returns-clause-took
 returns-clause-took g c =
@@ -33,27 +33,27 @@ returns-clause-took g c =
     let digits = c.args.digits.now in
     subst (λ (desks : List Desk.DeskValue). OnOk c.put_fed.result ((before : List Asked) (count : ℕ)
     → IsNext (meaning script.setup) c.args.moment count before (Feed line digits) script.lines.items script.desks.items
-    → HaveTakenWith (meaning script.setup) count before (Feed line digits) c.fed-store.new.script.lines.items desks))
-    (sym (ap (λ (s : Script). s.desks.items) c.fed-store.ensures.rest))
-    (took_ok script.setup c.args.moment line (Feed line digits) c.spelled-bytes.result.now (bytes_spelled digits) script.lines.items c.fed-store.new.script.lines.items
-    script.desks.items c.put_fed.result c.fed-store.result.1 c.spelled-bytes.ensures
+    → HaveTakenWith (meaning script.setup) count before (Feed line digits) c.fed-frames.new.script.lines.items desks))
+    (sym (ap (λ (s : Script). s.desks.items) c.fed-frames.ensures.rest))
+    (took_ok script.setup c.args.moment line (Feed line digits) c.spelled-bytes.result.now (bytes_spelled digits) script.lines.items c.fed-frames.new.script.lines.items
+    script.desks.items c.put_fed.result c.fed-frames.result c.spelled-bytes.ensures
     (record {
       at = c.requires.clock;
       low = c.requires.line.low;
       set = λ before count next. next.set;
       short = λ before count next.
           feed_short (meaning script.setup) c.args.moment count line before digits script.lines.items script.desks.items next;
-    }) c.put_fed.ensures.fed c.fed-store.ensures.took
-    (λ before count next took. feed_taken (meaning script.setup) c.args.moment count line before digits script.lines.items c.fed-store.new.script.lines.items
-    script.desks.items c.requires.line.low next took c.fed-store.ensures.others))
+    }) c.put_fed.ensures.fed c.fed-frames.ensures.took
+    (λ before count next took. feed_taken (meaning script.setup) c.args.moment count line before digits script.lines.items c.fed-frames.new.script.lines.items
+    script.desks.items c.requires.line.low next took c.fed-frames.ensures.others))
 
 pub returns-clause-stop : goal.returns-clause-stop
 returns-clause-stop g c =
     let script = c.args.script.now in
     let line = c.args.line in
     let digits = c.args.digits.now in
-    fed_stops g.D.Disk.seen c.args.store c.fed-store.result.0 script.setup c.args.moment 76 line (Feed line digits)
-    c.spelled-bytes.result.now (bytes_spelled digits) script.lines.items script.desks.items script.tally c.fed-store.new.script.tally c.put_fed.result c.fed-store.result.1
+    fed_stops g.D.Disk.seen c.args.store.now c.fed-frames.new.store script.setup c.args.moment 76 line (Feed line digits)
+    c.spelled-bytes.result.now (bytes_spelled digits) script.lines.items script.desks.items script.tally c.fed-frames.new.script.tally c.put_fed.result c.fed-frames.result
     c.spelled-bytes.ensures
     (record {
       at = c.requires.clock;
@@ -61,4 +61,4 @@ returns-clause-stop g c =
       set = λ before count next. next.set;
       short = λ before count next.
           feed_short (meaning script.setup) c.args.moment count line before digits script.lines.items script.desks.items next;
-    }) c.put_fed.ensures.stop c.fed-store.ensures.fed c.fed-store.ensures.stop
+    }) c.put_fed.ensures.stop c.fed-frames.ensures.fed c.fed-frames.ensures.stop

@@ -30,23 +30,23 @@ took_anew setup moment line body name lines fed new desks (Ok done) low named fr
 took_anew setup moment line body name lines fed new desks (Err stop) low named fresh others = tt
 
 pub index_mut-requires : goal.index_mut-requires
-index_mut-requires g c = omega (arith, c.fed-store.new.script.sixteen, c.requires.line.low, c.requires.line.high)
+index_mut-requires g c = omega (arith, c.fed-frames.new.script.sixteen, c.requires.line.low, c.requires.line.high)
 
 pub returns-clause-fed : goal.returns-clause-fed
 returns-clause-fed g c =
     let script = c.args.script.now in
     let line = c.args.line in
     let body = c.args.body.now in
-    fed_ok g.D.Disk.seen c.args.store c.fed-store.result.0 script.setup c.args.moment 77 line (Message line body)
-    c.bytes.result.now (frame_of body) script.lines.items script.desks.items script.tally c.fed-store.new.script.tally
-    (page_seen c.args.page.now) (page_seen c.put_fed.new.page) c.put_fed.result c.fed-store.result.1 (c.bytes.ensures.value ∙ c.write_frame.ensures)
+    fed_ok g.D.Disk.seen c.args.store.now c.fed-frames.new.store script.setup c.args.moment 77 line (Message line body)
+    c.bytes.result.now (frame_of body) script.lines.items script.desks.items script.tally c.fed-frames.new.script.tally
+    (page_seen c.args.page.now) (page_seen c.put_fed.new.page) c.put_fed.result c.fed-frames.result (c.bytes.ensures.value ∙ c.write_frame.ensures)
     (record {
       at = c.requires.clock;
       low = c.requires.line.low;
       set = λ before count next. next.set;
       short = λ before count next.
           message_short (meaning script.setup) c.args.moment count line before body script.lines.items script.desks.items c.requires.body next;
-    }) c.put_fed.ensures.fed c.put_fed.ensures.put c.fed-store.ensures.fed
+    }) c.put_fed.ensures.fed c.put_fed.ensures.put c.fed-frames.ensures.fed
 
 pub returns-clause-took : goal.returns-clause-took
 returns-clause-took g c =
@@ -55,29 +55,29 @@ returns-clause-took g c =
     let body = c.args.body.now in
     subst (λ (desks : List Desk.DeskValue). OnOk c.put_fed.result ((before : List Asked) (count : ℕ)
     → IsNext (meaning script.setup) c.args.moment count before (Message line body) script.lines.items script.desks.items
-    → HaveTakenWith (meaning script.setup) count before (Message line body) (set c.fed-store.new.script.lines.items (line - 1) c.new.result) desks))
-    (sym (ap (λ (s : Script). s.desks.items) c.fed-store.ensures.rest))
-    (took_anew script.setup c.args.moment c.args.line c.args.body.now c.name_of.result script.lines.items c.fed-store.new.script.lines.items c.new.result
-    script.desks.items c.put_fed.result c.requires.line.low c.name_of.ensures.value c.new.ensures c.fed-store.ensures.others)
+    → HaveTakenWith (meaning script.setup) count before (Message line body) (set c.fed-frames.new.script.lines.items (line - 1) c.new.result) desks))
+    (sym (ap (λ (s : Script). s.desks.items) c.fed-frames.ensures.rest))
+    (took_anew script.setup c.args.moment c.args.line c.args.body.now c.name_of.result script.lines.items c.fed-frames.new.script.lines.items c.new.result
+    script.desks.items c.put_fed.result c.requires.line.low c.name_of.ensures.value c.new.ensures c.fed-frames.ensures.others)
 
 pub returns-clause-stop : goal.returns-clause-stop
 returns-clause-stop g c =
     let script = c.args.script.now in
     let line = c.args.line in
     let body = c.args.body.now in
-    fed_stops g.D.Disk.seen c.args.store c.fed-store.result.0 script.setup c.args.moment 77 line (Message line body)
-    c.bytes.result.now (frame_of body) script.lines.items script.desks.items script.tally c.fed-store.new.script.tally c.put_fed.result
-    c.fed-store.result.1 (c.bytes.ensures.value ∙ c.write_frame.ensures)
+    fed_stops g.D.Disk.seen c.args.store.now c.fed-frames.new.store script.setup c.args.moment 77 line (Message line body)
+    c.bytes.result.now (frame_of body) script.lines.items script.desks.items script.tally c.fed-frames.new.script.tally c.put_fed.result
+    c.fed-frames.result (c.bytes.ensures.value ∙ c.write_frame.ensures)
     (record {
       at = c.requires.clock;
       low = c.requires.line.low;
       set = λ before count next. next.set;
       short = λ before count next.
           message_short (meaning script.setup) c.args.moment count line before body script.lines.items script.desks.items c.requires.body next;
-    }) c.put_fed.ensures.stop c.fed-store.ensures.fed c.fed-store.ensures.stop
+    }) c.put_fed.ensures.stop c.fed-frames.ensures.fed c.fed-frames.ensures.stop
 
 pub returns-clause-rest : goal.returns-clause-rest
 returns-clause-rest g c =
-    let is = c.fed-store.ensures.rest in
+    let is = c.fed-frames.ensures.rest in
     lines_kept c.args.script.now _ (ap (λ (s : Script). s.setup) is) (ap (λ (s : Script). s.limits) is) (ap (λ (s : Script). s.desks) is)
     (ap (λ (s : Script). s.clock) is) (ap (λ (s : Script). s.number) is) (ap (λ (s : Script). s.opened_before) is)

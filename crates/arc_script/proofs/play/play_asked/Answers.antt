@@ -1,93 +1,59 @@
-use Rattle.std.proofs.Common.{Some, ap, sym, subst}
-use Rattle.std.proofs.lemmas.Result.{IfErr-at_err, IfOk-at_ok}
+use Rattle.std.proofs.Common.{Some, ap, sym}
 use Rattle.arc_io.specs.Seen.{PortSeen}
-use Rattle.centre_core.specs.declared.hall.Stop.{Stop}
-use Rattle.centre_store.specs.Stores.{HasFailed}
 use Rattle.script_lines.specs.Reading.{asked}
-use Rattle.arc_script.specs.Between.{Carries, Stops}
 use Rattle.arc_script.specs.PageWords.{page_seen}
-use Rattle.arc_script.specs.declared.script.Script.{Script}
-use Rattle.arc_script.specs.declared.script_end.ScriptEnd.{ScriptEnd}
-use Rattle.arc_script.proofs.LineEnds.{HaltsHere, cut_halts, goes_further, shut_halts, stop_halts, wanted_halts}
+use Rattle.arc_script.proofs.LineEnds.{cut_halts, goes_further, stop_halts, wanted_halts}
 use Rattle.arc_script.proofs.play.play_asked.Goals as goal
 
-pub returns-in_default-clause-halted : goal.returns-in_default-clause-halted
-returns-in_default-clause-halted g c =
+pub returns-in_default-clause-ended : goal.returns-in_default-clause-ended
+returns-in_default-clause-ended g c b lines typed asks may so more disk tally closed =
     let seen = g.D.Disk.seen in
     let script = c.args.script.now in
-    let s = c.args.store in
+    let s = c.args.store.now in
     let p = g.P.Ends.seen c.args.port.now in
     let a = asked c.args.wanted in
-    let disk = c.halt.result.disk in
-    let tally = c.halt.new.script.tally in
-    subst (λ (e : ScriptEnd). HaltsHere seen a script s p e p disk tally) (sym c.halt.ensures.end)
-    (wanted_halts seen script s p a c.args.moment c.requires.short c.requires.at disk tally
-    (record { disk_is = c.halt.ensures.disk; tally_is = ap (λ (k : Script). k.tally) c.halt.ensures.closed }))
+    wanted_halts seen script s p a c.args.moment c.requires.short c.requires.at disk tally closed b lines more typed asks may so
 
-pub returns-in-Err-clause-halted : goal.returns-in-Err-clause-halted
-returns-in-Err-clause-halted g c =
+pub returns-in-Err-clause-ended : goal.returns-in-Err-clause-ended
+returns-in-Err-clause-ended g c b lines typed asks may so more disk tally closed =
     let seen = g.D.Disk.seen in
     let script = c.args.script.now in
-    let s = c.args.store in
-    let p = g.P.Ends.seen c.args.port.now in
-    let a = asked c.args.wanted in
-    let refused = c.in-Err.field-0 in
-    let shut = c.in-Err.ensures.shut in
-    shut_halts seen script s p a c.args.moment c.requires.short c.requires.at refused.fault refused.disk c.carry_out.new.script.tally shut.0 shut.1
-    c.in-Err.ensures.closed
-
-pub returns-in-Err-played-clause-halted : goal.returns-in-Err-played-clause-halted
-returns-in-Err-played-clause-halted g c =
-    let seen = g.D.Disk.seen in
-    let script = c.args.script.now in
-    let s = c.args.store in
+    let s = c.args.store.now in
     let p = g.P.Ends.seen c.args.port.now in
     let a = asked c.args.wanted in
     let after = c.carry_out.new.script in
-    let s' = c.in-Ok-carry_out.carried.0 in
-    let stop = c.in-Err-played.stop in
-    let disk = c.halt-in-Err-played.result.disk in
-    let tally = c.halt-in-Err-played.new.script.tally in
-    let stops = IfErr-at_err (λ (e : Stop). Stops seen c.args.moment a script after s s' e) c.in-Err-played.is c.in-Ok-carry_out.ensures.stop in
-    subst (λ (e : ScriptEnd). HaltsHere seen a script s p e p disk tally) (sym c.halt-in-Err-played.ensures.end)
-    (stop_halts seen script s p a c.args.moment c.requires.short c.requires.at stop after s' disk tally stops c.carry_out.ensures.rest.2
-    (record { disk_is = c.halt-in-Err-played.ensures.disk; tally_is = ap (λ (k : Script). k.tally) c.halt-in-Err-played.ensures.closed }))
+    let s' = c.carry_out.new.store in
+    stop_halts seen script s p a c.args.moment c.requires.short c.requires.at c.in-Err.stop after s' disk tally c.in-Err.ensures.stop
+    c.carry_out.ensures.rest.2 closed b lines more typed asks may so
 
 pub returns-in-Ok-put-clause-played : goal.returns-in-Ok-put-clause-played
 returns-in-Ok-put-clause-played g c =
     let seen = g.D.Disk.seen in
     let script = c.args.script.now in
-    let s = c.args.store in
+    let s = c.args.store.now in
     let p = g.P.Ends.seen c.args.port.now in
     let a = asked c.args.wanted in
     let after = c.carry_out.new.script in
-    let s' = c.in-Ok-carry_out.carried.0 in
+    let s' = c.carry_out.new.store in
     let q = page_seen c.in-Ok.page in
     let q' = page_seen c.carry_out.new.page in
     let none = ap (λ (k : PortSeen). k.written) c.in-Ok.ensures.blank in
-    let up = IfOk-at_ok (λ _. HasFailed seen s' → ⊥) c.in_default-played.is c.in-Ok-carry_out.ensures.up in
-    let carries = IfOk-at_ok (λ _. Carries seen c.args.moment a script after s s' q q') c.in_default-played.is c.in-Ok-carry_out.ensures.carried in
     goes_further seen script s p a c.args.moment c.requires.short c.requires.at after s' q q' c.text.result.now none (ap Some (sym c.text.ensures))
-    c.carry_out.ensures.rest.2 up carries (g.P.Ends.seen c.put.new.sink) c.in-Ok-put.field-0 c.put.result c.in-Ok-put.is c.put.ensures
+    c.carry_out.ensures.rest.2 c.in_default-carry_out.ensures.up c.in_default-carry_out.ensures.carried (g.P.Ends.seen c.put.new.sink)
+    c.in-Ok-put.field-0 c.put.result c.in-Ok-put.is c.put.ensures
 
-pub returns-clause-halted : goal.returns-clause-halted
-returns-clause-halted g c =
+pub returns-clause-ended : goal.returns-clause-ended
+returns-clause-ended g c b lines typed asks may so more disk tally closed =
     let seen = g.D.Disk.seen in
     let script = c.args.script.now in
-    let s = c.args.store in
+    let s = c.args.store.now in
     let p = g.P.Ends.seen c.args.port.now in
     let a = asked c.args.wanted in
     let after = c.carry_out.new.script in
-    let s' = c.in-Ok-carry_out.carried.0 in
+    let s' = c.carry_out.new.store in
     let q = page_seen c.in-Ok.page in
     let q' = page_seen c.carry_out.new.page in
     let none = ap (λ (k : PortSeen). k.written) c.in-Ok.ensures.blank in
-    let up = IfOk-at_ok (λ _. HasFailed seen s' → ⊥) c.in_default-played.is c.in-Ok-carry_out.ensures.up in
-    let carries = IfOk-at_ok (λ _. Carries seen c.args.moment a script after s s' q q') c.in_default-played.is c.in-Ok-carry_out.ensures.carried in
-    let p' = g.P.Ends.seen c.put.new.sink in
-    let disk = c.halt-in-Err-put.result.disk in
-    let tally = c.halt-in-Err-put.new.script.tally in
-    subst (λ (e : ScriptEnd). HaltsHere seen a script s p e p' disk tally) (sym c.halt-in-Err-put.ensures.end)
-    (cut_halts seen script s p a c.args.moment c.requires.short c.requires.at after s' q q' c.text.result.now none (ap Some (sym c.text.ensures))
-    c.carry_out.ensures.rest.2 up carries p' c.in-Err-put.field-0 c.put.result disk tally c.in-Err-put.is c.put.ensures
-    (record { disk_is = c.halt-in-Err-put.ensures.disk; tally_is = ap (λ (k : Script). k.tally) c.halt-in-Err-put.ensures.closed }))
+    cut_halts seen script s p a c.args.moment c.requires.short c.requires.at after s' q q' c.text.result.now none (ap Some (sym c.text.ensures))
+    c.carry_out.ensures.rest.2 c.in_default-carry_out.ensures.up c.in_default-carry_out.ensures.carried (g.P.Ends.seen c.put.new.sink)
+    c.in-Err-put.field-0 c.put.result disk tally c.in-Err-put.is c.put.ensures closed b lines more typed asks may so

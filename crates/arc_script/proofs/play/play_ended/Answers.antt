@@ -43,8 +43,8 @@ play_line-requires-clause-short g c =
 pub play_line-requires-clause-ready : goal.play_line-requires-clause-ready
 play_line-requires-clause-ready g c = c.loop-at.invariant.ready
 
-pub loop-at-preserved : goal.loop-at-preserved
-loop-at-preserved g c =
+pub loop-at-preserved-in_default : goal.loop-at-preserved-in_default
+loop-at-preserved-in_default g c =
     let seen = g.D.Disk.seen in
     let bytes = c.args.bytes.now in
     let at = c.loop-at.at in
@@ -65,8 +65,8 @@ loop-at-preserved g c =
           (old.played b stream fed short so number);
     }
 
-pub loop-at-preserved-in-Some : goal.loop-at-preserved-in-Some
-loop-at-preserved-in-Some g c =
+pub loop-at-preserved : goal.loop-at-preserved
+loop-at-preserved g c =
     let seen = g.D.Disk.seen in
     let bytes = c.args.bytes.now in
     let at = c.loop-at.at in
@@ -78,19 +78,51 @@ loop-at-preserved-in-Some g c =
     let came = λ (stream : List ℕ) (fed : WasFed stream c.args.cutter.now).
     one_line stream bytes at n _ c.feed-count.result.1 cutter (take_rest bytes at)
     (c.feed-count.ensures.feeds (stream ++ take at bytes) (old.fed stream fed)) told c.in-Some.is in
+    let line_done = c.in_default-play_line.ensures in
     record {
       within = omega (arith, c.feed-count.ensures.count);
       limit = limit;
-      ready = c.in_ok-store.ensures.ready;
-      only = writes_more old.only c.in_ok-store.ensures.only;
+      ready = line_done.ready;
+      only = writes_more old.only line_done.only;
       fed = λ stream fed. (came stream fed).fed;
       played = λ b stream fed short so number.
           let line = came stream fed in
           let before = old.played b stream fed short so number in
-          played_line seen b stream bytes at n short told cutter line c.loop-at.script c.play_line.new.script c.loop-at.store c.in_ok-store.store
-          (g.P.Ends.seen c.loop-at.port) (g.P.Ends.seen c.play_line.new.port) before c.in_ok-store.ensures.number
-          (c.in_ok-store.ensures.played b (ended_lines (stream ++ take at bytes)) line.line (line.cut ∙ ap (λ l. cut_of l line.line) limit)
+          played_line seen b stream bytes at n short told cutter line c.loop-at.script c.play_line.new.script c.loop-at.store c.play_line.new.store
+          (g.P.Ends.seen c.loop-at.port) (g.P.Ends.seen c.play_line.new.port) before line_done.number
+          (line_done.played b (ended_lines (stream ++ take at bytes)) line.line (line.cut ∙ ap (λ l. cut_of l line.line) limit)
           (c.line.ensures ∙ line.kept) (line_came seen b stream bytes at n short told cutter line) before.0 before.1);
+    }
+
+pub loop-at-preserved-in-Err : goal.loop-at-preserved-in-Err
+loop-at-preserved-in-Err g c =
+    let seen = g.D.Disk.seen in
+    let bytes = c.args.bytes.now in
+    let at = c.loop-at.at in
+    let n = c.feed-count.result.0 in
+    let cutter = c.feed-count.new.self in
+    let old = c.loop-at.invariant in
+    let told = c.in-Some.cut in
+    let limit = c.feed-count.ensures.limit ∙ old.limit in
+    let came = λ (stream : List ℕ) (fed : WasFed stream c.args.cutter.now).
+    one_line stream bytes at n _ c.feed-count.result.1 cutter (take_rest bytes at)
+    (c.feed-count.ensures.feeds (stream ++ take at bytes) (old.fed stream fed)) told c.in-Some.is in
+    let line_done = c.in-Err.ensures in
+    let left_done = c.in_ok-store.ensures in
+    record {
+      within = omega (arith, c.feed-count.ensures.count);
+      limit = limit;
+      ready = left_done.ready;
+      only = writes_more old.only (writes_more line_done.only left_done.only);
+      fed = λ stream fed. (came stream fed).fed;
+      played = λ b stream fed short so number.
+          let line = came stream fed in
+          let lines = ended_lines (stream ++ take at bytes) in
+          let before = old.played b stream fed short so number in
+          played_line seen b stream bytes at n short told cutter line c.loop-at.script c.play_left.new.script c.loop-at.store c.in_ok-store.store
+          (g.P.Ends.seen c.loop-at.port) (g.P.Ends.seen c.play_left.new.port) before (λ few. left_done.number ∙ line_done.number few)
+          (left_done.played b lines line.line (line_done.left b lines line.line (line.cut ∙ ap (λ l. cut_of l line.line) limit)
+          (c.line.ensures ∙ line.kept) (line_came seen b stream bytes at n short told cutter line) before.0 before.1));
     }
 
 pub returns-in_err-store-clause-halted : goal.returns-in_err-store-clause-halted
@@ -111,16 +143,17 @@ returns-in_err-store-clause-halted g c =
     let same : c.from_residual.result ≡ Err halted = e.1 ∙ ap Err e.2 in
     rw same (λ b stream fed short so number.
     let line = came stream fed in
+    let lines = ended_lines (stream ++ take at bytes) in
     let before = old.played b stream fed short so number in
-    halted_line seen b stream bytes at n short told cutter line halted.end (g.P.Ends.seen c.play_line.new.port) halted.disk c.play_line.new.script.tally
-    (λ more. c.in_err-store.ensures.halted b (ended_lines (stream ++ take at bytes)) more line.line (line.cut ∙ ap (λ l. cut_of l line.line) limit)
-    (c.line.ensures ∙ line.kept) (line_came seen b stream bytes at n short told cutter line) before.0 before.1))
+    halted_line seen b stream bytes at n short told cutter line halted.end (g.P.Ends.seen c.play_left.new.port) halted.disk c.play_left.new.script.tally
+    (λ more. c.in_err-store.ensures.halted b lines more line.line (c.in-Err.ensures.left b lines line.line (line.cut ∙ ap (λ l. cut_of l line.line) limit)
+    (c.line.ensures ∙ line.kept) (line_came seen b stream bytes at n short told cutter line) before.0 before.1)))
 
 pub returns-in_err-store-clause-limit : goal.returns-in_err-store-clause-limit
 returns-in_err-store-clause-limit g c = c.feed-count.ensures.limit ∙ c.loop-at.invariant.limit
 
 pub returns-in_err-store-clause-only : goal.returns-in_err-store-clause-only
-returns-in_err-store-clause-only g c = writes_more c.loop-at.invariant.only c.in_err-store.ensures.only
+returns-in_err-store-clause-only g c = writes_more c.loop-at.invariant.only (writes_more c.in-Err.ensures.only c.in_err-store.ensures.only)
 
 pub returns-clause-fed : goal.returns-clause-fed
 returns-clause-fed g c stream fed =

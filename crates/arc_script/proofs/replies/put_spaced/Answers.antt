@@ -1,17 +1,22 @@
-use Rattle.std.proofs.Common.{take, get_or, refl, ap, ◌∙◌}
+use Rattle.std.proofs.Common.{take, drop, ap, ◌∙◌, arith}
 use Rattle.std.specs.Io.KnownBytes.{append_known}
+use Rattle.std.proofs.lemmas.List.{take_rest}
 use Rattle.arc_io.proofs.KnownMore.{known_both}
 use Rattle.arc_script.specs.Pages.{spaced}
-use Rattle.arc_script.proofs.Spaced.{spaced_byte, spaced_next, only_both}
+use Rattle.arc_script.proofs.Spaced.{only_both, spaced_more}
 use Rattle.arc_script.proofs.replies.put_spaced.Goals as goal
 
-pub loop-byte-preserved : goal.loop-byte-preserved
-loop-byte-preserved g c =
+pub loop-at-preserved : goal.loop-at-preserved
+loop-at-preserved g c =
     let frames = c.args.frames.now in
-    let i = c.loop-byte.byte-index in
-    let b = get_or frames i 0 in
-    let known = (g.K.Ends.seen c.args.out.now).written in (
-      c.in_ok-put_byte.ensures.all ∙ ap (λ k. append_known k (spaced_byte b)) c.loop-byte.invariant.0 ∙ known_both known (spaced (take i frames)) (spaced_byte b)
-          ∙ ap (append_known known) (spaced_next frames i b c.loop-byte-test.true refl),
-      only_both c.loop-byte.invariant.1 c.in_ok-put_byte.ensures.only,
-    )
+    let i = c.loop-at.at in
+    let n = c.in_ok-at.field-0 in
+    let known = (g.K.Ends.seen c.args.out.now).written in
+    let put = c.in_ok-at.ensures in
+    record {
+      within = omega (arith, put.within);
+      put = put.all ∙ ap (λ l. append_known (g.K.Ends.seen c.loop-at.out).written (spaced (take n l))) (take_rest frames i)
+          ∙ ap (λ k. append_known k (spaced (take n (drop i frames)))) c.loop-at.invariant.put
+          ∙ known_both known (spaced (take i frames)) (spaced (take n (drop i frames))) ∙ ap (append_known known) (spaced_more frames i n);
+      only = only_both c.loop-at.invariant.only put.only;
+    }

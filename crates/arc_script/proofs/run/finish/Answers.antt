@@ -19,7 +19,7 @@ returns-in-Ok-clause-finished g c b stream fed few so number =
     let next = line_last (ended_lines stream) line stream f.lines.1 few in
     finish_whole _ b stream (ended_lines stream ++ line ∷ []) f.lines.1 _ _ _ _ _
     (c.in-Ok.ensures.played b (ended_lines stream) line cut (c.line.ensures ∙ tells.kept) next so number)
-    c.close-in-Ok.ensures.disk (closed_tally c.play_line.new.script c.close-in-Ok.new.self c.in-Ok.store.state.sum c.close-in-Ok.ensures.tally)
+    c.close-in-Ok.ensures.disk (closed_tally c.play_last.new.script c.close-in-Ok.new.self c.in-Ok.store.state.sum c.close-in-Ok.ensures.tally)
 
 pub returns-in-Err-clause-finished : goal.returns-in-Err-clause-finished
 returns-in-Err-clause-finished g c b stream fed few so number =

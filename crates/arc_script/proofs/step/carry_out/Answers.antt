@@ -6,6 +6,6 @@ use Rattle.arc_script.proofs.step.carry_out.Goals as goal
 pub returns-clause-stop : goal.returns-clause-stop
 returns-clause-stop g c =
     let seen = g.D.Disk.seen in
-    still_stops seen c.args.moment (asked c.args.wanted) c.args.script.now c.attempt.new.script c.args.store c.in_ok-store.store
-    (page_seen c.args.page.now) (page_seen c.attempt.new.page) c.in_ok-store.done c.unless_failed-done.result c.unless_failed-done.ensures.stop
-    c.in_ok-store.ensures.carried c.in_ok-store.ensures.stop
+    still_stops seen c.args.moment (asked c.args.wanted) c.args.script.now c.over_store-done.new.script c.args.store.now c.over_store-done.new.store
+    (page_seen c.args.page.now) (page_seen c.over_store-done.new.page) c.over_store-done.result c.unless_failed.result c.unless_failed.ensures.stop
+    c.over_store-done.ensures.carried c.over_store-done.ensures.stop

@@ -11,7 +11,7 @@ returns-in-Ok-clause-reported g c b h s =
     let r = c.args.report in
     let hall = g.H.Hall.seen c.args.hall.now in
     let hall' = g.H.Hall.seen c.submit.new.self in
-    let done = c.in-Ok.field-0 in
+    let done = c.in-Ok.done in
     let kept = c.in-Ok.ensures.kept in
     let entry : Entry = record { caller = done.caller; event = r.event; at = done.at; reply = done.reply } in
     let took : TookEvent b hall hall' h r.event r.reading = record { entry = entry; goes = c.in-Ok.ensures.done b h s; by = c.in-Ok.ensures.by; of = refl } in

@@ -1,11 +1,8 @@
--- The first rows of the incidents from k on; then so many of the rows are pushed.
-use Rattle.std.proofs.Common.{◌≡◌, length, take, drop}
+-- The first rows of the incidents from k on.
+use Rattle.std.proofs.Common.{◌≡◌, drop}
 use Rattle.centre_rules.specs.Standing.{standing_of}
 use Rattle.open_incidents.proofs.ListingLemmas.{first_rows}
 use Rattle.open_incidents.proofs.listing.list.Given as goal
 
 abbrev pub invariant-loop-k : goal.invariant-loop-k
 invariant-loop-k l = l.first.items ≡ first_rows (standing_of l.lapse l.at (drop l.k l.items))
-
-abbrev pub invariant-loop-row : goal.invariant-loop-row
-invariant-loop-row l = l.listing ≡ record { total = length l.items; rows = take l.row-index l.row-items }

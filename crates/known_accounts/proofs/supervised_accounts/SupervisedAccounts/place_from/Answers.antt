@@ -1,17 +1,17 @@
 -- The row that is made tells nothing: the deadlines stay.
 use Rattle.std.proofs.Common.{◌∙◌, ap, sym, subst}
-use Rattle.std.specs.Prelude.{IfSome, Option}
+use Rattle.std.specs.Prelude.{IfSome}
 use Rattle.centre_rules.specs.History.{IsMoment}
 use Rattle.centre_rules.specs.Summary.{AccountRow, Opened}
 use Rattle.known_accounts.specs.Supervised.{accounts_in}
 use Rattle.known_accounts.proofs.Renewed.{silence_alike, lateness_alike}
-use Rattle.known_accounts.proofs.supervised_accounts.SupervisedAccounts.place.Goals as goal
+use Rattle.known_accounts.proofs.supervised_accounts.SupervisedAccounts.place_from.Goals as goal
 
 pub invariant_of-self : goal.invariant_of-self
 invariant_of-self c =
     let v = c.self.inside.rows in
-    let w = c.place-row.new.self in
-    let known = c.place-row.ensures.made.known in
+    let w = c.place_from-row.new.self in
+    let known = c.place_from-row.ensures.made.known in
     let xs = accounts_in c.self.inside.setup in
     record {
       valid = c.self.invariant.valid;
