@@ -24,7 +24,8 @@ fault_text Open.Memory = []
 unfoldable pub text_of_status : Status → List ℕ
 text_of_status Done = []
 text_of_status Usage =
-    codes "usage: arc-book [since PLACE] [until PLACE] [account NUMBER] [incident NUMBER] [operator NAME] [offset MINUTES | zone RULE] [tabs]\n"
+    codes "usage: arc-book [since PLACE] [until PLACE] [account NUMBER] [incident NUMBER] "
+    ++ codes "[operator NAME] [offset MINUTES | zone RULE] [tabs]\n"
 text_of_status ReadFault = codes "read fault on input\n"
 text_of_status WriteFault = codes "write fault\n"
 text_of_status (Journal fault) = fault_text fault

@@ -100,7 +100,8 @@ strange_text after = codes "strange message after " ++ decimal after ++ codes "\
 unfoldable pub text_of_status : Status → List ℕ
 text_of_status Done = []
 text_of_status Usage =
-    codes "usage: line | desk | script | report | drill N | serve LINES DESKS SESSIONS | panel ACCOUNT | feed | mirror | udp N | gather LINES DESKS SESSIONS\n"
+    codes "usage: line | desk | script | report | drill N | serve LINES DESKS SESSIONS | panel ACCOUNT | feed | mirror | udp N "
+    ++ codes "| gather LINES DESKS SESSIONS\n"
 text_of_status (SetupBad fault) = setup_text fault
 text_of_status (ReadFault which before now) = read_text which
 text_of_status (WriteFault before now) = codes "write fault\n"

@@ -29,7 +29,7 @@ fn alarm(rt: &impl Abort, alloc: Global, hall: &mut RamHall, account: Txt, seq: 
 fn compare_signals(rt: &impl Abort, alloc: Global, hall: &mut RamHall, number: u64, want: u64) {
     let event = Event::Show { number };
     let done = hall.submit(alloc, event, BEGIN).expect(rt, "an answer");
-    match done.reply {
+    match &done.reply {
         Reply::Shown(view) => same(rt, view.signals, want, "signals"),
         _ => panic!(rt; "not shown"),
     }
