@@ -1,7 +1,7 @@
 // The signals of a content under each token.
 use crate::checks::{holds, is_named, same, same_bytes};
 use arc_data::Token;
-use content_signals::signals;
+use content_signals::{has_signals, signals};
 use std::process::Abort;
 
 #[test]
@@ -23,20 +23,19 @@ fn reads_contents(rt: HostRuntime) {
         "fire new",
         "FA",
     );
-    holds(
-        &rt,
-        signals(Token::AdmCid, b"Nri1/FA129").is_none(),
-        "other data",
-    );
-    holds(
-        &rt,
-        signals(Token::SiaDcs, b"1131 01 001").is_none(),
-        "other data",
-    );
+    reads_none(&rt, Token::AdmCid, "Nri1/FA129");
+    reads_none(&rt, Token::SiaDcs, "1131 01 001");
+}
+
+// The content is outside the grammar of its token.
+fn reads_none(rt: &impl Abort, token: Token, content: &str) {
+    holds(rt, signals(token, content.as_bytes()).is_none(), content);
+    holds(rt, !has_signals(token, content.as_bytes()), content);
 }
 
 // The content has so many signals, the first with this class and kind and with this code.
 fn reads(rt: &impl Abort, token: Token, content: &str, count: u64, words: &str, code: &str) {
+    holds(rt, has_signals(token, content.as_bytes()), content);
     let signals = signals(token, content.as_bytes()).expect(rt, "signals");
     same(rt, signals.count() as u64, count, content);
     assert!(rt; signals.count() > 0);

@@ -116,3 +116,29 @@ fn repeats(rt: HostRuntime) {
     same(&rt, rows.repeat(&sent, 401), None, "too late");
     compare_heard(&rt, &rows, Some(100), false, "heard");
 }
+
+#[test]
+fn a_row_is_looked_up_once(rt: HostRuntime) {
+    let mut rows = AccountRows::new(rt.alloc());
+    let account = text(&rt, b"1234");
+    let sent = message(&rt, rt.alloc(), account, 1);
+    let again = message(&rt, rt.alloc(), account, 1);
+    reserve(&rt, rt.alloc(), &mut rows);
+    let none = rows.row_of(&account);
+    same(&rt, none, None, "no row");
+    same(&rt, rows.repeat_at(none, &sent, 100), None, "the first");
+    let place = rows.place_from(none, &account);
+    same(&rt, place as u64, 0, "a row is made");
+    rows.send(place, again, 100);
+    reserve(&rt, rt.alloc(), &mut rows);
+    let found = rows.row_of(&account);
+    same(&rt, found, Some(0), "its row");
+    same(&rt, rows.repeat_at(found, &sent, 400), Some(100), "in time");
+    same(&rt, rows.repeat_at(found, &sent, 401), None, "too late");
+    same(
+        &rt,
+        rows.place_from(found, &account) as u64,
+        0,
+        "the same row",
+    );
+}

@@ -252,3 +252,27 @@ fn play_most(rt: &impl Abort, alloc: Global, accounts: &mut SupervisedAccounts) 
     compare_ends(rt, alloc, accounts, 121, (1998, Some(1), Some(1998)));
     compare_ends(rt, alloc, accounts, 122, (2000, Some(0), Some(1999)));
 }
+
+#[test]
+fn an_account_is_looked_up_once(rt: HostRuntime) {
+    let mut accounts = SupervisedAccounts::new(rt.alloc());
+    adopt(
+        &rt,
+        rt.alloc(),
+        &mut accounts,
+        b"account 1001\naccount 1002\n",
+    );
+    let stranger = text(&rt, b"1003");
+    let none = accounts.find(&stranger);
+    same(&rt, none.row, None, "a stranger's row");
+    same(&rt, none.setup, None, "a stranger's place in the setup");
+    let account = text(&rt, b"1002");
+    reserve(&rt, rt.alloc(), &mut accounts);
+    let found = accounts.find(&account);
+    same(&rt, found.row, None, "no row yet");
+    same(&rt, found.setup, Some(1), "the place in the setup");
+    let place = accounts.place_from(found, &account);
+    same(&rt, place.row as u64, 0, "a row is made");
+    same(&rt, place.setup, Some(1), "where it stands");
+    same(&rt, accounts.find(&account).row, Some(0), "its row");
+}
