@@ -12,7 +12,7 @@ use crate::account_rows::AccountRows;
 use crate::deadlines::Deadlines;
 use crate::due::moves;
 use crate::uncounted::due;
-use crate::watched_setup::WatchedSetup;
+use crate::watched_setup::{WatchedParts, WatchedSetup};
 use accounts::Setup;
 use arc_data::{Carried, Memory, Message, Txt};
 use std::alloc::Global;
@@ -129,10 +129,11 @@ impl SupervisedAccounts {
         ensures text { self.new.text ≡ Some watched }
         ensures rows { self.new.rows ≡ self.old.rows }
     {
-        let WatchedSetup {
+        let WatchedSetup { parts } = watched;
+        let WatchedParts {
             setup,
             mut deadlines,
-        } = watched;
+        } = Box::into_inner(parts);
         deadlines.renew_all(&setup, &self.rows);
         self.setup = Some(setup);
         self.deadlines = deadlines;

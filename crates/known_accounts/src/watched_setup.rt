@@ -7,9 +7,16 @@ use arc_data::Memory;
 use std::alloc::Global;
 use std::marker::Model;
 
-/// A setup with memory for the deadlines of its accounts. Contracts see it as its text.
+/// A setup with memory for the deadlines of its accounts. Contracts see it as its text. It stands in a box, since what is worked out for an
+/// event has room for one, and is handed on by value.
 #[derive(Drop)]
 pub struct WatchedSetup {
+    pub(crate) parts: Box<WatchedParts>,
+}
+
+/// The setup, and the deadlines.
+#[derive(Drop)]
+pub(crate) struct WatchedParts {
     pub(crate) setup: Setup,
     pub(crate) deadlines: Deadlines,
 }
@@ -20,9 +27,9 @@ impl Model for WatchedSetup {
 
     ghost Value = { List ℕ };
 
-    ghost view = { λ w. w.setup };
+    ghost view = { λ w. w.parts.value.setup };
 
-    ghost invariant = { λ w. IsRoomed w.setup w.deadlines };
+    ghost invariant = { λ w. IsRoomed w.parts.value.setup w.parts.value.deadlines };
 }
 
 impl WatchedSetup {
@@ -33,6 +40,9 @@ impl WatchedSetup {
         // Its clause says that the text is a setup.
         let _text = setup.text();
         let deadlines = Deadlines::with_places(alloc, setup.count())?;
-        Ok(WatchedSetup { setup, deadlines })
+        match Box::new(alloc, WatchedParts { setup, deadlines }) {
+            Ok(parts) => Ok(WatchedSetup { parts }),
+            Err(_) => Err(Memory),
+        }
     }
 }
