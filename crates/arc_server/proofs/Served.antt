@@ -1,5 +1,5 @@
 -- What a run shows that began and served all callers.
-use Rattle.std.proofs.Common.{◌≡◌, ◌≤◌, ◌++◌, ℕ, List, [], Bool, true, false, Result, Ok, Err, IfOk, OnErr, inl, inr, refl, sym, subst, ap, ◌∙◌}
+use Rattle.std.proofs.Common.{◌≡◌, ◌≤◌, ◌++◌, ℕ, List, [], Bool, true, false, Result, Ok, Err, IfOk, OnErr, refl, sym, subst, ap, ◌∙◌}
 use Rattle.std.proofs.lemmas.List.Elements.{All-nil}
 use Rattle.arc_data.specs.declared.blob.Memory.{Memory}
 use Rattle.arc_io.specs.Causes.{Rose}
@@ -23,7 +23,7 @@ use Rattle.arc_server.specs.Handed.{Handed}
 use Rattle.arc_server.specs.ServeRuns.{ServesAll, HasServed, HasGathered, GathersBroken, EndsServing}
 use Rattle.arc_server.specs.declared.status.Status.{Status}
 use Rattle.arc_server.specs.declared.status.Status.TheVariants.{DiskFault}
-use Rattle.arc_server.proofs.Kept.{kept, rose_from}
+use Rattle.arc_server.proofs.Kept.{leaves_store, rose_from}
 use Rattle.arc_server.proofs.Reported.{puts_line}
 
 -- where the callers ran, at a gate of this name
@@ -49,9 +49,7 @@ serves_ran {D} {seen} groups t came first last crew status {r} {r'} {p} {around}
       passes = all_ended s.ran;
       served = served;
       stands = all;
-      limits = limits;
-      handed = handed;
-      ends = kept last entry r'.disk all.from.stands since handed;
+      leaves = leaves_store last all.from.stands limits since handed;
       written = e.written;
       puts = puts_line last.state base all.from.history all.from.stands.centre e.puts;
       status_is = e.status_is;
@@ -78,9 +76,7 @@ serves_none {D} {seen} groups none first last crew status {r} {r'} {p} {around} 
       passes = [];
       served = served;
       stands = record { from = from; all_seen = All-nil (λ (p : PassSeen). Extends (p.since ++ h) from.history) };
-      limits = limits;
-      handed = handed;
-      ends = kept last entry r'.disk from.stands since handed;
+      leaves = leaves_store last from.stands limits since handed;
       written = e.written;
       puts = puts_line last.state base from.history from.stands.centre e.puts;
       status_is = e.status_is;

@@ -17,9 +17,9 @@ use Rattle.centre_store.specs.Stores.{Stored}
 use Rattle.line_gate.specs.Passes.{PassSeen}
 use Rattle.line_gate.specs.declared.closed.GroupClosed.{GroupClosed}
 use Rattle.line_gate.specs.declared.closed.GroupClosed.TheVariants.{Whole, Broken}
-use Rattle.arc_server.specs.Areas.{EndsWith, shipped}
 use Rattle.arc_server.specs.Beginnings.{HasBegun, StopsBefore}
 use Rattle.arc_server.specs.Handed.{Handed}
+use Rattle.arc_server.specs.Leaving.{LeavesStore}
 use Rattle.arc_server.specs.Made.{status_over, write_fault}
 use Rattle.arc_server.specs.Servings.{first_of, met_by, where_so}
 use Rattle.arc_server.specs.declared.status.Status.{Status}
@@ -51,9 +51,9 @@ HasServed seen false first crew (around, around') (Ok came) last passes =
 HasServed seen true first crew (around, around') (Ok came) last passes =
     (served : GathersStore seen first crew around around' came (Whole last)) × (passes ≡ all_ended served.serves.0.ran)
 
--- A run began, with a port that told p then, and from there all callers were served. The store stands for a history that begins with the
--- begun one and has all that any of them has seen. One line of it was written, or a front of it; the disk that is handed back has its
--- recorded entries; and the status is the first of all that occurred.
+-- A run began, with a port that told p then, and from there all callers were served. It leaves the store with a history that begins with
+-- the begun one and has all that any of them has seen. One line of it was written, or a front of it, and the status is the first of all
+-- that occurred.
 pub record ServesAll {D : Type 0} (seen : D → DiskSeen)
     (groups : Bool) (crew : Crew) (status : Status) (r r' : Handed D) (around around' : StationSeen) : Type 0 where
   pub p : PortSeen
@@ -65,9 +65,7 @@ pub record ServesAll {D : Type 0} (seen : D → DiskSeen)
   pub passes : List PassSeen
   pub served : HasServed seen groups first crew (around, around') came last passes
   pub stands : StandsForAll seen begun.asked.base h passes last
-  pub limits : last.journal.limits ≡ shipped
-  pub handed : r'.disk ≡ last.journal.disk
-  pub ends : EndsWith (seen r.disk).faults (seen r'.disk) begun.asked.base stands.from.history
+  pub leaves : LeavesStore seen r r' begun.asked.base stands.from.history last
   pub written : Result (Unit {0}) Failed
   pub puts : Puts p r'.port written (line_after begun.asked.base stands.from.history)
   pub status_is : status ≡ status_over (seen r.disk).faults (seen r'.disk).faults
