@@ -1,5 +1,5 @@
 -- What a run of `feed` did.
-use Rattle.std.specs.Prelude.{◌≡◌, ◌<◌, ◌⊎◌, List, length, IfSome}
+use Rattle.std.specs.Prelude.{◌≡◌, ◌≤◌, ◌<◌, ◌⊎◌, ℕ, List, length, IfSome}
 use Rattle.arc_io.specs.Crashes.{IsQuiet}
 use Rattle.arc_io.specs.Disks.{DiskSeen}
 use Rattle.centre_rules.specs.Summary.{Summary}
@@ -12,9 +12,9 @@ use Rattle.mirror_centre.specs.Answers.{IsAnsweredWith}
 use Rattle.mirror_centre.specs.Feeds.{HasFed}
 use Rattle.mirror_centre.specs.Shown.{ShowsFeed}
 use Rattle.mirror_centre.specs.declared.feed_end.FeedEnd.{FeedEnd}
+use Rattle.arc_server.specs.Areas.{EndsWith}
 use Rattle.arc_server.specs.Beginnings.{StopsAtOpening}
 use Rattle.arc_server.specs.Handed.{Handed}
-use Rattle.arc_server.specs.Leaving.{LeavesStore}
 use Rattle.arc_server.specs.Made.{status_over, status_of_feed}
 use Rattle.arc_server.specs.Reports.{StandsOn}
 use Rattle.arc_server.specs.declared.status.Status.{Status}
@@ -40,8 +40,10 @@ pub record FeedsPast {D : Type 0} (seen : D → DiskSeen) (status : Status) (r r
   pub fed : HasFed (IsAnsweredWith seen base past first) end r.port r'.port
   pub last : Stored D
   pub shown : ShowsFeed seen end last
-  pub leaves : LeavesStore seen r r' base past last
+  pub later : (seen r.disk).faults ≤ last.at_open
+  pub handed : r'.disk ≡ last.journal.disk
   pub stays : StandsOn (seen r.disk) (seen r'.disk)
+  pub ends : EndsWith (seen r.disk).faults (seen r'.disk) base past
   pub status_is : status ≡ status_over (seen r.disk).faults (seen r'.disk).faults (status_of_feed end r.port r'.port)
 
 -- What such a run did.

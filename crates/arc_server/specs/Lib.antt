@@ -12,7 +12,6 @@ pub mod Forms
 pub mod Statuses
 pub mod Areas
 pub mod Handed
-pub mod Leaving
 pub mod Made
 pub mod SetupReads
 pub mod Beginnings
@@ -25,6 +24,5 @@ pub mod ScriptRuns
 pub mod DrillRuns
 pub mod PanelRuns
 pub mod Servings
-pub mod Shows
 pub mod ServeRuns
 pub mod WholeRuns

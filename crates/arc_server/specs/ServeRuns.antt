@@ -17,11 +17,11 @@ use Rattle.centre_store.specs.Stores.{Stored}
 use Rattle.line_gate.specs.Passes.{PassSeen}
 use Rattle.line_gate.specs.declared.closed.GroupClosed.{GroupClosed}
 use Rattle.line_gate.specs.declared.closed.GroupClosed.TheVariants.{Whole, Broken}
+use Rattle.arc_server.specs.Areas.{EndsWith, shipped}
 use Rattle.arc_server.specs.Beginnings.{HasBegun, StopsBefore}
 use Rattle.arc_server.specs.Handed.{Handed}
-use Rattle.arc_server.specs.Leaving.{LeavesStore}
 use Rattle.arc_server.specs.Made.{status_over, write_fault}
-use Rattle.arc_server.specs.Servings.{first_of, met_by, where_so}
+use Rattle.arc_server.specs.Servings.{first_of, met_by, where_so, IsShownBy}
 use Rattle.arc_server.specs.declared.status.Status.{Status}
 use Rattle.arc_server.specs.declared.status.Status.TheVariants.{DiskFault}
 
@@ -51,9 +51,9 @@ HasServed seen false first crew (around, around') (Ok came) last passes =
 HasServed seen true first crew (around, around') (Ok came) last passes =
     (served : GathersStore seen first crew around around' came (Whole last)) × (passes ≡ all_ended served.serves.0.ran)
 
--- A run began, with a port that told p then, and from there all callers were served. It leaves the store with a history that begins with
--- the begun one and has all that any of them has seen. One line of it was written, or a front of it, and the status is the first of all
--- that occurred.
+-- A run began, with a port that told p then, and from there all callers were served. The store stands for a history that begins with the
+-- begun one and has all that any of them has seen. One line of it was written, or a front of it; the disk that is handed back has its
+-- recorded entries; and the status is the first of all that occurred.
 pub record ServesAll {D : Type 0} (seen : D → DiskSeen)
     (groups : Bool) (crew : Crew) (status : Status) (r r' : Handed D) (around around' : StationSeen) : Type 0 where
   pub p : PortSeen
@@ -65,11 +65,14 @@ pub record ServesAll {D : Type 0} (seen : D → DiskSeen)
   pub passes : List PassSeen
   pub served : HasServed seen groups first crew (around, around') came last passes
   pub stands : StandsForAll seen begun.asked.base h passes last
-  pub leaves : LeavesStore seen r r' begun.asked.base stands.from.history last
+  pub limits : last.journal.limits ≡ shipped
+  pub handed : r'.disk ≡ last.journal.disk
+  pub ends : EndsWith (seen r.disk).faults (seen r'.disk) begun.asked.base stands.from.history
   pub written : Result (Unit {0}) Failed
   pub puts : Puts p r'.port written (line_after begun.asked.base stands.from.history)
   pub status_is : status ≡ status_over (seen r.disk).faults (seen r'.disk).faults
       (first_of (met_by came (where_so (is_err written) (write_fault p r'.port))))
+  pub shows : IsShownBy status (seen r.disk).faults (seen r'.disk).faults p r'.port came
 
 -- What such a run did; where it stopped before it began, what stood around the store is as it was.
 abbrev pub IsServeRun : {D : Type 0} → (D → DiskSeen) → Crew → Status → Handed D → Handed D → StationSeen → StationSeen → Type 0

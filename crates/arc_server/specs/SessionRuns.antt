@@ -1,16 +1,16 @@
 -- What a run did that serves one session.
-use Rattle.std.specs.Prelude.{◌≡◌, ◌⊎◌, ℕ, List, codes}
+use Rattle.std.specs.Prelude.{◌≡◌, ◌≤◌, ◌⊎◌, ℕ, List, codes}
 use Rattle.arc_io.specs.Disks.{DiskSeen}
 use Rattle.arc_io.specs.Seen.{PortSeen}
 use Rattle.centre_rules.specs.History.{Entry}
 use Rattle.centre_store.specs.StoreHalls.{store_seen}
 use Rattle.centre_store.specs.Stores.{Stored}
-use Rattle.arc_serving.specs.Sessions.{Reads, Serves}
+use Rattle.arc_serving.specs.Sessions.{Reads, Serves, ShowsEnd}
 use Rattle.arc_serving.specs.declared.session.SessionEnd.{SessionEnd}
 use Rattle.arc_serving.specs.declared.side.Side.{Side}
+use Rattle.arc_server.specs.Areas.{EndsWith, shipped}
 use Rattle.arc_server.specs.Beginnings.{HasBegun, StopsBefore}
 use Rattle.arc_server.specs.Handed.{Handed}
-use Rattle.arc_server.specs.Leaving.{LeavesStore}
 use Rattle.arc_server.specs.Made.{status_over, status_of_session}
 use Rattle.arc_server.specs.declared.status.Status.{Status}
 use Rattle.session_rules.specs.Sessions.{changed}
@@ -19,8 +19,8 @@ use Rattle.session_rules.specs.Sessions.{changed}
 abbrev pub line_name : List ℕ
 line_name = codes "line"
 
--- A run began, with a port that told p then, and from there a session of this kind read some bytes, answered them, and came to its end. It
--- leaves the store with the history that the session ended with.
+-- A run began, with a port that told p then, and from there a session of this kind read some bytes, answered them, and came to its end. The
+-- store stands for the history that the session ended with; its disk is handed back, and has the recorded entries.
 pub record ServesRun {D : Type 0} (seen : D → DiskSeen) (side : Side) (status : Status) (r r' : Handed D) : Type 0 where
   pub p : PortSeen
   pub first : Stored D
@@ -34,7 +34,11 @@ pub record ServesRun {D : Type 0} (seen : D → DiskSeen) (side : Side) (status 
   pub last : Stored D
   pub serves : Serves side line_name end read begun.asked.base (record { from = h; to = history; made = made })
       (changed (store_seen seen first) (store_seen seen last) p r'.port)
-  pub leaves : LeavesStore seen r r' begun.asked.base history last
+  pub shown : ShowsEnd end (store_seen seen last)
+  pub limits : last.journal.limits ≡ shipped
+  pub later : (seen r.disk).faults ≤ last.at_open
+  pub handed : r'.disk ≡ last.journal.disk
+  pub ends : EndsWith (seen r.disk).faults (seen r'.disk) begun.asked.base history
   pub status_is : status ≡ status_over (seen r.disk).faults (seen r'.disk).faults (status_of_session end p r'.port)
 
 -- What such a run did.

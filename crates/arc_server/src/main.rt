@@ -29,7 +29,6 @@ mod came;
 mod drill;
 mod feed;
 mod form;
-mod laws;
 mod made;
 mod mail;
 mod mirror;
