@@ -1,6 +1,5 @@
 -- What a run shows that began and served all callers.
 use Rattle.std.proofs.Common.{◌≡◌, ◌≤◌, ◌++◌, ℕ, List, [], Bool, true, false, Result, Ok, Err, IfOk, OnErr, inl, inr, refl, sym, subst, ap, ◌∙◌}
-use Rattle.std.specs.Prelude.{is_err}
 use Rattle.std.proofs.lemmas.List.Elements.{All-nil}
 use Rattle.arc_data.specs.declared.blob.Memory.{Memory}
 use Rattle.arc_io.specs.Causes.{Rose}
@@ -26,23 +25,21 @@ use Rattle.arc_server.specs.declared.status.Status.{Status}
 use Rattle.arc_server.specs.declared.status.Status.TheVariants.{DiskFault}
 use Rattle.arc_server.proofs.Kept.{kept, rose_from}
 use Rattle.arc_server.proofs.Reported.{puts_line}
-use Rattle.arc_server.proofs.Shown.{shown, rose_put, all_may}
 
 -- where the callers ran, at a gate of this name
 serves_ran : {D : Type 0} {seen : D → DiskSeen} (groups : Bool) (t : Terms) (came : CameSeen) (first last : Stored D) (crew : Crew)
     (status : Status) {r r' : Handed D} {p : PortSeen} {around around' : StationSeen} {h : List Entry}
     → (begun : HasBegun seen r r'.setup p first h) → (s : Serves seen t crew around around' came last)
-    → t.stood begun.asked.base h → t.at_open ≡ first.at_open
+    → t.stood begun.asked.base h
     → HasServed seen groups first crew (around, around') (Ok came) last (all_ended s.ran)
     → last.journal.limits ≡ shipped → r'.disk ≡ last.journal.disk → last.at_open ≡ first.at_open
     → EndsServing (seen r.disk).faults p r'.port (seen r'.disk).faults last.state.sum (Ok came) status
     → ServesAll seen groups crew status r r' around around'
-serves_ran {D} {seen} groups t came first last crew status {r} {r'} {p} {around} {around'} {h} begun s stood opening served limits handed opened e =
+serves_ran {D} {seen} groups t came first last crew status {r} {r'} {p} {around} {around'} {h} begun s stood served limits handed opened e =
     let base : Summary = begun.asked.base in
     let entry : ℕ = (seen r.disk).faults in
     let all = s.stands base h stood in
-    let since : entry ≤ last.at_open = subst (λ (n : ℕ). entry ≤ n) (sym opened) begun.later in
-    let low : entry ≤ t.at_open = subst (λ (n : ℕ). entry ≤ n) (sym opening) begun.later in record {
+    let since : entry ≤ last.at_open = subst (λ (n : ℕ). entry ≤ n) (sym opened) begun.later in record {
       p = p;
       first = first;
       h = h;
@@ -58,10 +55,6 @@ serves_ran {D} {seen} groups t came first last crew status {r} {r'} {p} {around}
       written = e.written;
       puts = puts_line last.state base all.from.history all.from.stands.centre e.puts;
       status_is = e.status_is;
-      shows =
-          shown (Ok came) (is_err e.written) status entry (seen r'.disk).faults p r'.port e.status_is
-          (rose_put e.written _ p r'.port e.puts)
-          (λ up. all_may t crew around around' came last entry r'.disk s low handed up);
     }
 
 -- where all were refused memory before the first began
@@ -91,9 +84,6 @@ serves_none {D} {seen} groups none first last crew status {r} {r'} {p} {around} 
       written = e.written;
       puts = puts_line last.state base from.history from.stands.centre e.puts;
       status_is = e.status_is;
-      shows =
-          shown (Err none) (is_err e.written) status entry (seen r'.disk).faults p r'.port e.status_is
-          (rose_put e.written _ p r'.port e.puts) (λ up. tt);
     }
 
 -- by whether the callers ran, at a gate without groups
@@ -109,8 +99,7 @@ pub serves_all : {D : Type 0} {seen : D → DiskSeen} (came : Result CameSeen Me
 serves_all {D} {seen} (Ok came) first last crew status {r} {r'} {p} {around} {around'} {h} begun served refused untouched limits handed opened e =
     let stood : StoreStands seen begun.asked.base served.gate.store h =
     subst (λ (s : Stored D). StoreStands seen begun.asked.base s h) (sym served.from_is) begun.stands.stands in
-    serves_ran false (terms_of false seen served.gate) came first last crew status begun served.serves stood
-    (ap (λ (s : Stored D). s.at_open) served.from_is) (served, refl) limits handed opened e
+    serves_ran false (terms_of false seen served.gate) came first last crew status begun served.serves stood (served, refl) limits handed opened e
 serves_all {D} {seen} (Err none) first last crew status {r} {r'} {p} {around} {around'} {h} begun served refused untouched limits handed opened e =
     serves_none false none first last crew status begun (refused begun.asked.base h begun.stands.stands) (untouched, refl) limits handed opened e
 
@@ -127,8 +116,8 @@ pub gathers_whole : {D : Type 0} {seen : D → DiskSeen} (came : Result CameSeen
 gathers_whole {D} {seen} (Ok came) first last crew status {r} {r'} {p} {around} {around'} {h} begun served refused untouched limits kept handed e =
     let stood : StoreStands seen begun.asked.base served.gate.store h =
     subst (λ (s : Stored D). StoreStands seen begun.asked.base s h) (sym served.from_is) begun.stands.stands in
-    serves_ran true (terms_of true seen served.gate) came first last crew status begun served.serves.0 stood
-    (ap (λ (s : Stored D). s.at_open) served.from_is) (served, refl) (kept.1 ∙ limits) handed kept.0 e
+    serves_ran true (terms_of true seen served.gate) came first last crew status begun served.serves.0 stood (served, refl) (kept.1 ∙ limits) handed
+    kept.0 e
 gathers_whole {D} {seen} (Err none) first last crew status {r} {r'} {p} {around} {around'} {h} begun served refused untouched limits kept handed e =
     serves_none true none first last crew status begun (refused begun.asked.base h begun.stands.stands) (untouched, refl) (kept.1 ∙ limits) handed kept.0 e
 

@@ -30,12 +30,16 @@ use Rattle.arc_serving.specs.declared.working.WorkerEnd.TheVariants.{DoorEnded, 
 use Rattle.centre_core.specs.declared.hall.Stop.{Stop}
 use Rattle.centre_core.specs.declared.hall.Stop.TheVariants.{Memory as MemoryWanted, Down, Full as HallFull, Worn as HallWorn}
 use Rattle.centre_store.specs.Stores.{Stored}
+use Rattle.line_gate.specs.Blanks.{terms_of}
 use Rattle.line_gate.specs.Passes.{PassSeen, PassShows}
 use Rattle.line_gate.specs.Terms.{Terms}
 use Rattle.arc_io.specs.Told.{Puts}
+use Rattle.arc_server.specs.Handed.{Handed}
 use Rattle.arc_server.specs.Made.{status_over}
+use Rattle.arc_server.specs.ServeRuns.{ServesAll, HasServed, line_after}
 use Rattle.arc_server.specs.Servings.{first_of, met_by, where_so, full_in, worn_in, stop_in, stops_in, door_fault_in, door_faults_in}
-use Rattle.arc_server.specs.Servings.{has_refused, was_refused, HasEnded, HaveEnded, HasCome, IsShownBy}
+use Rattle.arc_server.specs.Servings.{has_refused, was_refused}
+use Rattle.arc_server.specs.Shows.{HasEnded, HaveEnded, HasCome, IsShownBy}
 use Rattle.arc_server.specs.declared.status.Status.{Status}
 use Rattle.arc_server.specs.declared.status.Status.TheVariants.{Done, WriteFault, DiskFault, Full, DoorFault, Memory as NoMemory, Worn}
 
@@ -287,7 +291,7 @@ none_occurred entry end p p' cut (Ok came) may never =
     callers_ended came unwritten (may up) (right Never disk (met_by (Ok came) unwritten) never)
 
 -- all that the first status shows
-pub shown : (came : Result CameSeen Memory) (cut : Bool) (status : Status) (entry end : ℕ) (p p' : PortSeen)
+shown : (came : Result CameSeen Memory) (cut : Bool) (status : Status) (entry end : ℕ) (p p' : PortSeen)
     → status ≡ status_over entry end (first_of (met_by came (where_so cut (WriteFault p.write_faults p'.write_faults))))
     → (cut ≡ true → Rose p.write_faults p'.write_faults)
     → ((Rose entry end → ⊥) → MayCome came) → IsShownBy status entry end p p' came
@@ -298,7 +302,7 @@ shown came cut status entry end p p' is rose may =
     (none_occurred entry end p p' cut came may))
 
 -- a line that was cut off
-pub rose_put : {T E : Type 0} (result : Result T E) (line : List ℕ) (p p' : PortSeen) → Puts p p' result line → is_err result ≡ true
+rose_put : {T E : Type 0} (result : Result T E) (line : List ℕ) (p p' : PortSeen) → Puts p p' result line → is_err result ≡ true
     → Rose p.write_faults p'.write_faults
 rose_put (Ok x) line p p' puts cut = absurd (true≢false (sym cut))
 rose_put (Err e) line p p' puts cut = puts.cause.failed
@@ -358,7 +362,7 @@ module _ (t : Terms) (entry end : ℕ) (since : entry ≤ t.at_open) (up : Rose 
       (λ w is told. worker_may w.worked.end w.ended w.door w.door' sessions is.works.served told is.works.ended) served.each tolds in
       subst (λ (ws : List Worked). All (λ w. MayEnd w.end) ws) (sym served.stood.came_is) (All-map (λ (w : Worked). MayEnd w.end) (λ (w : WorkerRan). w.worked) ran each)
 
-pub all_may : {D : Type 0} {seen : D → DiskSeen}
+all_may : {D : Type 0} {seen : D → DiskSeen}
     (t : Terms) (crew : Crew) (around around' : StationSeen) (came : CameSeen) (last : Stored D) (entry : ℕ) (disk' : D)
     → Serves seen t crew around around' came last → entry ≤ t.at_open → disk' ≡ last.journal.disk
     → (Rose entry (seen disk').faults → ⊥) → AllMay came
@@ -375,3 +379,29 @@ all_may {D} {seen} t crew around around' came last entry disk' s low handed up =
           (left IsTold (ended_in s.ran.desks) (s.ran.ticker.ended ∷ []) behind);
       ticker = ticker_may t entry end low up came.ticked.stop s.ran.ticker.ended around'.pulse came.ticked.refused s.ticker.works.ticks of_ticker s.ticker.works.ended;
     }
+
+-- at a gate without groups or with them
+may_come : {D : Type 0} (seen : D → DiskSeen) (groups : Bool) (first last : Stored D) (crew : Crew) (around around' : StationSeen)
+    (came : Result CameSeen Memory) (passes : List PassSeen) (entry : ℕ) (disk' : D)
+    → HasServed seen groups first crew (around, around') came last passes → entry ≤ first.at_open → disk' ≡ last.journal.disk
+    → (Rose entry (seen disk').faults → ⊥) → MayCome came
+may_come seen false first last crew around around' (Err refused) passes entry disk' served since handed up = tt
+may_come seen true first last crew around around' (Err refused) passes entry disk' served since handed up = tt
+may_come {D} seen false first last crew around around' (Ok came) passes entry disk' served since handed up =
+    let s = served.0 in
+    all_may (terms_of false seen s.gate) crew around around' came last entry disk' s.serves
+    (subst (λ (at : Stored D). entry ≤ at.at_open) (sym s.from_is) since) handed up
+may_come {D} seen true first last crew around around' (Ok came) passes entry disk' served since handed up =
+    let s = served.0 in
+    all_may (terms_of true seen s.gate) crew around around' came last entry disk' s.serves.0
+    (subst (λ (at : Stored D). entry ≤ at.at_open) (sym s.from_is) since) handed up
+
+-- what the status of a run shows
+pub status_shows : {D : Type 0} (seen : D → DiskSeen) (groups : Bool) (crew : Crew) (status : Status) (r r' : Handed D)
+    (around around' : StationSeen) (run : ServesAll seen groups crew status r r' around around')
+    → IsShownBy status (seen r.disk).faults (seen r'.disk).faults run.p r'.port run.came
+status_shows seen groups crew status r r' around around' run =
+    let entry = (seen r.disk).faults in
+    shown run.came (is_err run.written) status entry (seen r'.disk).faults run.p r'.port run.status_is
+    (rose_put run.written (line_after run.begun.asked.base run.stands.from.history) run.p r'.port run.puts)
+    (may_come seen groups run.first run.last crew around around' run.came run.passes entry r'.disk run.served run.begun.later run.handed)

@@ -24,5 +24,6 @@ pub mod ScriptRuns
 pub mod DrillRuns
 pub mod PanelRuns
 pub mod Servings
+pub mod Shows
 pub mod ServeRuns
 pub mod WholeRuns

@@ -21,7 +21,7 @@ use Rattle.arc_server.specs.Areas.{EndsWith, shipped}
 use Rattle.arc_server.specs.Beginnings.{HasBegun, StopsBefore}
 use Rattle.arc_server.specs.Handed.{Handed}
 use Rattle.arc_server.specs.Made.{status_over, write_fault}
-use Rattle.arc_server.specs.Servings.{first_of, met_by, where_so, IsShownBy}
+use Rattle.arc_server.specs.Servings.{first_of, met_by, where_so}
 use Rattle.arc_server.specs.declared.status.Status.{Status}
 use Rattle.arc_server.specs.declared.status.Status.TheVariants.{DiskFault}
 
@@ -72,7 +72,6 @@ pub record ServesAll {D : Type 0} (seen : D → DiskSeen)
   pub puts : Puts p r'.port written (line_after begun.asked.base stands.from.history)
   pub status_is : status ≡ status_over (seen r.disk).faults (seen r'.disk).faults
       (first_of (met_by came (where_so (is_err written) (write_fault p r'.port))))
-  pub shows : IsShownBy status (seen r.disk).faults (seen r'.disk).faults p r'.port came
 
 -- What such a run did; where it stopped before it began, what stood around the store is as it was.
 abbrev pub IsServeRun : {D : Type 0} → (D → DiskSeen) → Crew → Status → Handed D → Handed D → StationSeen → StationSeen → Type 0

@@ -29,6 +29,7 @@ mod came;
 mod drill;
 mod feed;
 mod form;
+mod laws;
 mod made;
 mod mail;
 mod mirror;
