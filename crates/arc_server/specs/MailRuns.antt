@@ -1,11 +1,11 @@
 -- What a run did that serves datagrams.
-use Rattle.std.specs.Prelude.{◌≡◌, ◌≤◌, ◌⊎◌, ℕ, List, Err}
+use Rattle.std.specs.Prelude.{◌≡◌, ◌≤◌, ◌⊎◌, ℕ, List}
 use Rattle.arc_io.specs.Disks.{DiskSeen}
 use Rattle.arc_io.specs.Seen.{PortSeen}
 use Rattle.centre_rules.specs.History.{Entry}
 use Rattle.centre_store.specs.StoreHalls.{store_seen}
 use Rattle.centre_store.specs.Stores.{Stored}
-use Rattle.udp_line.specs.Mails.{ReceivesMail, ServesMail, ShowsStop}
+use Rattle.udp_line.specs.Mails.{ReceivesMail, ServesMail}
 use Rattle.udp_line.specs.declared.mail_end.MailEnd.{MailEnd}
 use Rattle.arc_server.specs.Areas.{EndsWith, shipped}
 use Rattle.arc_server.specs.Beginnings.{HasBegun, StopsBefore}
@@ -24,7 +24,6 @@ pub record AnswersMail {D : Type 0} (seen : D → DiskSeen) (count : ℕ) (statu
   pub receives : ReceivesMail end count given m m'
   pub last : Stored D
   pub serves : ServesMail end given begun.asked.base h (store_seen seen first) (store_seen seen last) m m'
-  pub shown : ShowsStop (Err end) (store_seen seen last)
   pub limits : last.journal.limits ≡ shipped
   pub later : (seen r.disk).faults ≤ last.at_open
   pub handed : r'.disk ≡ last.journal.disk

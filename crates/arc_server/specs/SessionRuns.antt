@@ -5,7 +5,7 @@ use Rattle.arc_io.specs.Seen.{PortSeen}
 use Rattle.centre_rules.specs.History.{Entry}
 use Rattle.centre_store.specs.StoreHalls.{store_seen}
 use Rattle.centre_store.specs.Stores.{Stored}
-use Rattle.arc_serving.specs.Sessions.{Reads, Serves, ShowsEnd}
+use Rattle.arc_serving.specs.Sessions.{Reads, Serves}
 use Rattle.arc_serving.specs.declared.session.SessionEnd.{SessionEnd}
 use Rattle.arc_serving.specs.declared.side.Side.{Side}
 use Rattle.arc_server.specs.Areas.{EndsWith, shipped}
@@ -34,7 +34,6 @@ pub record ServesRun {D : Type 0} (seen : D → DiskSeen) (side : Side) (status 
   pub last : Stored D
   pub serves : Serves side line_name end read begun.asked.base (record { from = h; to = history; made = made })
       (changed (store_seen seen first) (store_seen seen last) p r'.port)
-  pub shown : ShowsEnd end (store_seen seen last)
   pub limits : last.journal.limits ≡ shipped
   pub later : (seen r.disk).faults ≤ last.at_open
   pub handed : r'.disk ≡ last.journal.disk

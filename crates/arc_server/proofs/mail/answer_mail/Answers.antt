@@ -20,7 +20,6 @@ returns-clause-served g c r q' p' h counted begun =
       receives = e.mail.1;
       last = last;
       serves = serves;
-      shown = e.stop;
       limits = limits_stay e.kept.fixed ∙ c.requires.limits;
       later = later;
       handed = c.close-disk.ensures;

@@ -37,7 +37,6 @@ returns-clause-served g c r q' h counted begun =
       made = made;
       last = last;
       serves = went.2;
-      shown = e.stop;
       limits = limits_stay e.kept.fixed ∙ c.requires.limits;
       later = later;
       handed = c.close-disk.ensures;
