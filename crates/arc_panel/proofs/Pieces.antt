@@ -1,6 +1,6 @@
 -- The pieces of a panel's input, one behind another, and how reading it ends.
 use Rattle.std.proofs.Common.{◌≡◌, ◌≤◌, ◌<◌, ◌+◌, ◌∷◌, ◌++◌, ℕ, List, [], true, false, length, take, inl, inr, refl, sym, ap, subst, ◌∙◌, append_assoc, append-nil, length-append, arith}
-use Rattle.std.specs.Io.KnownBytes.{prepend_known, IsAtEnd}
+use Rattle.std.specs.Io.KnownBytes.{append_known, prepend_known, IsAtEnd}
 use Rattle.std.specs.Str.Lines.{lines}
 use Rattle.arc_io.proofs.KnownMore.{prepend_none, known_taken}
 use Rattle.arc_io.specs.Causes.{Rose}
@@ -15,6 +15,7 @@ use Rattle.session_rules.specs.Inputs.{input_limit}
 use Rattle.session_rules.proofs.Ports.{of_reads, of_writes, ports_more, ports_none, rose_since}
 use Rattle.session_rules.specs.Reading.{IsNotAhead, OnlyReadsAndWrites, lines_read}
 use Rattle.arc_panel.specs.Ends.{EndsAs, HasPlayed, Played, ReadsNoFurther}
+use Rattle.arc_panel.specs.Texts.{text_of}
 use Rattle.arc_panel.specs.Playing.{Finishes, Halts, HaltsAt, HaltsIn, SoFar, WholeOf}
 use Rattle.arc_panel.specs.declared.play.PanelEnd.{PanelEnd}
 use Rattle.arc_panel.specs.declared.play.PanelEnd.TheVariants.{Done, ReadFault, WriteFault, Spent, BadLine, Memory}
@@ -83,17 +84,10 @@ halted_ends s p q read before all Done h is = absurd is
 halted_ends s p q read before all ReadFault h is = absurd is
 halted_ends s p q read before all Spent h is = absurd is
 halted_ends s p q read before all WriteFault h is = (
+  is.1.2.0,
+  record { line = h.line; more = h.more; next = refl; happens = is.1.0; says = is.1.1; output = is.1.2.2 },
   is.0,
-  record {
-    line = h.line;
-    more = h.more;
-    next = refl;
-    happens = is.1.0;
-    says = is.1.1;
-    count = is.1.2.0;
-    short = is.1.2.1;
-    output = is.1.2.2;
-  },
+  is.1.2.1,
 )
 halted_ends s p q read before all (BadLine number) h is = record {
   line = h.line;
@@ -109,7 +103,7 @@ halted_ends s p q read before all Memory h is = record {
   next = refl;
   happens = is.0.0;
   says = is.0.1;
-  output = is.1;
+  output = is.1 ∙ ap (append_known p.written) (sym (append-nil (text_of s h.halts.history)));
 }
 
 no_further : (s : Setting) (p q : PortSeen) (read : List ℕ) (lines front : List (List ℕ)) (line : List ℕ) (end : PanelEnd) (h : Halts s p lines line end q) → HaltsAt s p lines line h.history end q → IsNotAhead ended_lines read front → ReadsNoFurther end read front

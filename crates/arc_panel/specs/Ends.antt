@@ -39,35 +39,27 @@ pub record IsBad (s : Setting) (lines : List (List ℕ)) (played : Played lines)
   pub wrong : (x : Happening) → IsPlayable played.history line x → ⊥
   pub output : p'.written ≡ append_known p.written (text_of s played.history)
 
--- the next line says something, whose output was cut short: it lacks a byte at least
-pub record IsCutOff (s : Setting) (lines : List (List ℕ)) (played : Played lines) (p p' : PortSeen) : Type 0 where
+-- the next line says something, of whose output so many bytes were written behind that of the lines before it
+pub record IsCutOff (s : Setting) (lines : List (List ℕ)) (played : Played lines) (count : ℕ) (p p' : PortSeen) : Type 0 where
   pub line : List ℕ
   pub more : List (List ℕ)
   pub next : played.behind ≡ line ∷ more
   pub happens : Happening
   pub says : IsPlayable played.history line happens
-  pub count : ℕ
-  pub short : count < length (line_of s played.history happens)
   pub output : p'.written ≡ append_known p.written (text_of s played.history ++ take count (line_of s played.history happens))
 
--- the next line says something, for which memory was wanted; the output is that of the lines before it
-pub record IsWanting (s : Setting) (lines : List (List ℕ)) (played : Played lines) (p p' : PortSeen) : Type 0 where
-  pub line : List ℕ
-  pub more : List (List ℕ)
-  pub next : played.behind ≡ line ∷ more
-  pub happens : Happening
-  pub says : IsPlayable played.history line happens
-  pub output : p'.written ≡ append_known p.written (text_of s played.history)
-
--- what an end says of what was played, of the bytes that were read
+-- What an end says of what was played, of the bytes that were read: where a write failed, the output of the next line lacks a byte at
+-- least, and where memory was wanted, it has none.
 abbrev pub EndsAs : Setting → List ℕ → (lines : List (List ℕ)) → Played lines → PanelEnd → PortSeen → PortSeen → Type 0
 EndsAs s read lines played Done p p' = IsReadOut p' × (length read < input_limit) × IsWhole s lines played p p'
 EndsAs s read lines played ReadFault p p' =
     Rose p.read_faults p'.read_faults × (length read < input_limit) × IsWhole s lines played p p'
 EndsAs s read lines played Spent p p' = (length read ≡ input_limit) × IsWhole s lines played p p'
-EndsAs s read lines played WriteFault p p' = Rose p.write_faults p'.write_faults × IsCutOff s lines played p p'
+EndsAs s read lines played WriteFault p p' =
+    (count : ℕ) × (cut : IsCutOff s lines played count p p') × Rose p.write_faults p'.write_faults
+    × (count < length (line_of s played.history cut.happens))
 EndsAs s read lines played (BadLine number) p p' = IsBad s lines played number p p'
-EndsAs s read lines played Memory p p' = IsWanting s lines played p p'
+EndsAs s read lines played Memory p p' = IsCutOff s lines played 0 p p'
 
 -- Of lines of which one ended the playing: all but those that end in the last bytes read were played.
 abbrev pub ReadsNoFurther : PanelEnd → List ℕ → List (List ℕ) → Type 0

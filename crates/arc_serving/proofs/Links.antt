@@ -7,7 +7,7 @@ use Rattle.arc_io.specs.Seen.{PortSeen}
 use Rattle.arc_serving.specs.declared.side.Side.{Side}
 use Rattle.line_gate.specs.Passes.{PassSeen}
 use Rattle.line_gate.specs.Terms.{Terms}
-use Rattle.arc_serving.specs.Served.{Served, IsServed, AreServed, HasServed, given_in, back_in}
+use Rattle.arc_serving.specs.Served.{Moves, Served, IsServed, AreServed, MovesLinks, given_in, back_in}
 
 -- a link that was just given is out
 pub one_out : (p : PortSeen) (before after : Option Links) → IsBackWithin before → TakesLink p before after → HasOneOut after
@@ -15,15 +15,15 @@ one_out p None after within takes = subst HasOneOut (sym takes) tt
 one_out p (Some old) after within takes = subst HasOneOut (sym takes.2) (omega (arith, length-append old.given (p ∷ []), within))
 
 -- no link was served yet
-pub none_served : (door : Option Links) → HasServed [] door door
+pub none_served : (door : Option Links) → Moves (MovesLinks []) door door
 none_served None = tt
 none_served (Some old) = record { left = refl; given = sym (append-nil old.given); back = sym (append-nil old.back) }
 
 -- one more was given and got back
-pub one_more : (ss : List Served) (s : Served) (door first out last : Option Links) → HasServed ss door first → TakesLink s.given first out → last ≡ after_back s.back out → HasServed (ss ++ s ∷ []) door last
-one_more ss s None None out last w takes gets = subst (HasServed (ss ++ s ∷ []) None) (sym (gets ∙ ap (after_back s.back) takes)) tt
+pub one_more : (ss : List Served) (s : Served) (door first out last : Option Links) → Moves (MovesLinks ss) door first → TakesLink s.given first out → last ≡ after_back s.back out → Moves (MovesLinks (ss ++ s ∷ [])) door last
+one_more ss s None None out last w takes gets = subst (Moves (MovesLinks (ss ++ s ∷ [])) None) (sym (gets ∙ ap (after_back s.back) takes)) tt
 one_more ss s (Some old) (Some new) out last w takes gets =
-    subst (HasServed (ss ++ s ∷ []) (Some old)) (sym (gets ∙ ap (after_back s.back) takes.2)) (record {
+    subst (Moves (MovesLinks (ss ++ s ∷ [])) (Some old)) (sym (gets ∙ ap (after_back s.back) takes.2)) (record {
       left = w.left ∙ ap (λ (l : List PortSeen). given_in ss ++ l) takes.1 ∙ sym (append_assoc (given_in ss) (s.given ∷ []) takes.0) ∙ ap (λ (l : List PortSeen). l ++ takes.0) (sym (map-append (λ (x : Served). x.given) ss (s ∷ [])));
       given = ap (λ (l : List PortSeen). l ++ s.given ∷ []) w.given ∙ append_assoc old.given (given_in ss) (s.given ∷ []) ∙ ap (λ (l : List PortSeen). old.given ++ l) (sym (map-append (λ (x : Served). x.given) ss (s ∷ [])));
       back = ap (λ (l : List PortSeen). l ++ s.back ∷ []) w.back ∙ append_assoc old.back (back_in ss) (s.back ∷ []) ∙ ap (λ (l : List PortSeen). old.back ++ l) (sym (map-append (λ (x : Served). x.back) ss (s ∷ [])));

@@ -11,13 +11,14 @@ use Rattle.line_gate.proofs.Carried.{later_self, later_further}
 use Rattle.line_gate.specs.Entries.{Entry}
 use Rattle.line_gate.specs.Passes.{PassSeen, IsPass, IsLater}
 use Rattle.line_gate.specs.Terms.{Terms}
-use Rattle.arc_serving.specs.Ticks.{Ticking, MakesTick, IsTicked, AreTicked, HasTicked, WorksTicks, TicksOnce, ticks_in, moments_in, missed_in}
+use Rattle.arc_serving.specs.Served.{Moves}
+use Rattle.arc_serving.specs.Ticks.{Ticking, MakesTick, IsTicked, AreTicked, MovesMoments, WorksTicks, TicksOnce, ticks_in, moments_in, missed_in}
 use Rattle.arc_serving.specs.Works.{is_memory}
 
 -- these Ticks were submitted
 pub record HasTickedSo (t : Terms) (p q : PassSeen) (pulse pulse' : Option Moments) (ticks : List Ticking) : Type 0 where
   pub each : AreTicked t p q ticks
-  pub moments : HasTicked ticks pulse pulse'
+  pub moments : Moves (MovesMoments ticks) pulse pulse'
   pub made : q.made ≡ reverse (ticks_in ticks) ++ p.made
   pub later : IsLater p q
   pub pass : IsPass t q
@@ -28,7 +29,7 @@ pub record TickedSoFar (t : Terms) (p q : PassSeen) (pulse pulse' : Option Momen
   pub so : HasTickedSo t p q pulse pulse' ticks
   pub refused_is : refused ≡ missed_in ticks
 
-no_moments : (pulse : Option Moments) → HasTicked [] pulse pulse
+no_moments : (pulse : Option Moments) → Moves (MovesMoments []) pulse pulse
 no_moments None = tt
 no_moments (Some old) = record { left = refl; given = sym (append-nil old.given) }
 
@@ -40,9 +41,9 @@ ticked_more : (t : Terms) (p m q : PassSeen) (ss : List Ticking) (s : Ticking) �
 ticked_more t p m q [] s w one = (q, subst (λ (k : PassSeen). IsTicked t k q s) w one, refl)
 ticked_more t p m q (x ∷ ss) s w one = (w.0, w.1, ticked_more t w.0 m q ss s w.2 one)
 
-moments_more : (ss : List Ticking) (s : Ticking) (pulse first last : Option Moments) → HasTicked ss pulse first → TakesMoment s.moment first last → HasTicked (ss ++ s ∷ []) pulse last
-moments_more ss s None None last w takes = subst (HasTicked (ss ++ s ∷ []) None) (sym takes) tt
-moments_more ss s (Some old) (Some new) last w takes = subst (HasTicked (ss ++ s ∷ []) (Some old)) (sym takes.2) (record {
+moments_more : (ss : List Ticking) (s : Ticking) (pulse first last : Option Moments) → Moves (MovesMoments ss) pulse first → TakesMoment s.moment first last → Moves (MovesMoments (ss ++ s ∷ [])) pulse last
+moments_more ss s None None last w takes = subst (Moves (MovesMoments (ss ++ s ∷ [])) None) (sym takes) tt
+moments_more ss s (Some old) (Some new) last w takes = subst (Moves (MovesMoments (ss ++ s ∷ [])) (Some old)) (sym takes.2) (record {
   left = w.left ∙ ap (λ (l : List ℕ). moments_in ss ++ l) takes.1 ∙ sym (append_assoc (moments_in ss) (s.moment ∷ []) takes.0) ∙ ap (λ (l : List ℕ). l ++ takes.0) (sym (map-append (λ (x : Ticking). x.moment) ss (s ∷ [])));
   given = ap (λ (l : List ℕ). l ++ s.moment ∷ []) w.given ∙ append_assoc old.given (moments_in ss) (s.moment ∷ []) ∙ ap (λ (l : List ℕ). old.given ++ l) (sym (map-append (λ (x : Ticking). x.moment) ss (s ∷ [])));
 })
@@ -113,7 +114,7 @@ pub pulse_ended : (t : Terms) (p q : PassSeen) (pulse first last : Option Moment
 pulse_ended t p q pulse first last refused w same none = record {
   ticks = w.ticks;
   each = w.so.each;
-  moments = subst (HasTicked w.ticks pulse) (sym same) w.so.moments;
+  moments = subst (Moves (MovesMoments w.ticks) pulse) (sym same) w.so.moments;
   made = w.so.made;
   later = w.so.later;
   ended = (subst HasNoMoment (sym same) none, w.refused_is);

@@ -21,7 +21,7 @@ use Rattle.session_rules.specs.Sessions.{IsShownFor}
 use Rattle.arc_serving.proofs.Links.{no_count_falls, none_served, one_more, served_more, same_number}
 use Rattle.arc_serving.proofs.AtGates.{makes_in_order}
 use Rattle.arc_serving.specs.Next.{ServesOne, IsAsBefore, ServesNext}
-use Rattle.arc_serving.specs.Served.{Served, AreServed, HasServed}
+use Rattle.arc_serving.specs.Served.{Moves, Served, AreServed, MovesLinks}
 use Rattle.arc_serving.specs.Works.{WentOn, IsShown, EndsWork, Works, is_refused, stop_of, refused_in}
 use Rattle.arc_serving.specs.declared.working.WorkerEnd.{WorkerEnd}
 use Rattle.arc_serving.specs.declared.working.WorkerEnd.TheVariants.{DoorEnded, Quota, DoorFault, Stopped as WorkerStopped}
@@ -30,7 +30,7 @@ use Rattle.arc_serving.specs.declared.working.WorkerEnd.TheVariants.{DoorEnded, 
 pub record HasDone (side : Side) (t : Terms) (p q : PassSeen) (door door' : DoorSeen) (count refused sessions : ℕ) (served : List Served) : Type 0 where
   pub first : IsPass t p
   pub each : AreServed side t p q served
-  pub links : HasServed served door.links door'.links
+  pub links : Moves (MovesLinks served) door.links door'.links
   pub count_is : count ≡ length served
   pub refused_is : refused ≡ refused_in served
   pub few : refused ≤ count
@@ -92,7 +92,7 @@ done_still : (side : Side) (t : Terms) (p m q : PassSeen) (door first last : Doo
 done_still side t p m q door first last count refused sessions ss w same = record {
   first = w.first;
   each = subst (λ (k : PassSeen). AreServed side t p k ss) (sym same.pass) w.each;
-  links = subst (HasServed ss door.links) (sym same.links) w.links;
+  links = subst (Moves (MovesLinks ss) door.links) (sym same.links) w.links;
   count_is = w.count_is;
   refused_is = w.refused_is;
   few = w.few;

@@ -76,11 +76,11 @@ pub record MovesLinks (served : List Served) (old new : Links) : Type 0 where
   pub given : new.given ≡ old.given ++ given_in served
   pub back : new.back ≡ old.back ++ back_in served
 
--- and of any door
-abbrev pub HasServed : List Served → Option Links → Option Links → Type 0
-HasServed served None None = Unit {0}
-HasServed served (Some old) (Some new) = MovesLinks served old new
-HasServed served old new = ⊥
+-- of a door or a pulse: where it told it goes on to tell, and what it tells moved so; one that did not never does
+abbrev pub Moves : {A : Type 0} → (A → A → Type 0) → Option A → Option A → Type 0
+Moves so None None = Unit {0}
+Moves so (Some old) (Some new) = so old new
+Moves so old new = ⊥
 
 -- what panels report: a message or a heartbeat
 abbrev pub IsReport : Event → Type 0

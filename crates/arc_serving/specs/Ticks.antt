@@ -8,6 +8,7 @@ use Rattle.centre_core.specs.declared.hall.Stop.{Stop}
 use Rattle.line_gate.specs.Entries.{Entry}
 use Rattle.line_gate.specs.Passes.{PassSeen, IsPass, IsLater, Makes, PassShows}
 use Rattle.line_gate.specs.Terms.{Terms}
+use Rattle.arc_serving.specs.Served.{Moves}
 use Rattle.arc_serving.specs.Works.{is_memory}
 use Rattle.arc_serving.specs.declared.ticking.Ticked.{Ticked}
 
@@ -48,12 +49,6 @@ pub record MovesMoments (ticks : List Ticking) (old new : Moments) : Type 0 wher
   pub left : old.left ≡ moments_in ticks ++ new.left
   pub given : new.given ≡ old.given ++ moments_in ticks
 
--- and of any pulse
-abbrev pub HasTicked : List Ticking → Option Moments → Option Moments → Type 0
-HasTicked ticks None None = Unit {0}
-HasTicked ticks (Some old) (Some new) = MovesMoments ticks old new
-HasTicked ticks old new = ⊥
-
 -- The last of these Ticks was stopped, not by want of memory, as the pass shows. Each earlier one that has no entry was refused
 -- memory.
 pub record IsTickStopped (t : Terms) (q : PassSeen) (stop : Stop) (refused : ℕ) (ticks : List Ticking) : Type 0 where
@@ -75,7 +70,7 @@ EndsTicking (Some stop) t q pulse refused ticks = IsTickStopped t q stop refused
 pub record WorksTicks (t : Terms) (p q : PassSeen) (pulse pulse' : Option Moments) (ticked : Ticked) : Type 0 where
   pub ticks : List Ticking
   pub each : AreTicked t p q ticks
-  pub moments : HasTicked ticks pulse pulse'
+  pub moments : Moves (MovesMoments ticks) pulse pulse'
   pub made : q.made ≡ reverse (ticks_in ticks) ++ p.made
   pub later : IsLater p q
   pub ended : EndsTicking ticked.stop t q pulse' ticked.refused ticks

@@ -12,7 +12,7 @@ use Rattle.centre_rules.specs.Summary.{Summary}
 use Rattle.line_gate.specs.Entries.{Entry}
 use Rattle.line_gate.specs.Passes.{PassSeen, PassShows}
 use Rattle.line_gate.specs.Terms.{Terms}
-use Rattle.arc_serving.specs.Served.{Served, AreServed, HasServed, MakesEntries, entries_in}
+use Rattle.arc_serving.specs.Served.{Moves, Served, AreServed, MovesLinks, MakesEntries, entries_in}
 use Rattle.arc_serving.specs.declared.working.Worked.{Worked}
 use Rattle.arc_serving.specs.declared.working.WorkerEnd.{WorkerEnd}
 use Rattle.arc_serving.specs.declared.working.WorkerEnd.TheVariants.{DoorEnded, Quota, DoorFault, Stopped as WorkerStopped}
@@ -75,7 +75,7 @@ pub record Works (side : Side) (t : Terms) (p q : PassSeen) (door door' : DoorSe
   pub number : q.number ≡ p.number
   pub count : p.count ≤ q.count
   pub told : p.told ≤ q.told
-  pub links : HasServed served door.links door'.links
+  pub links : Moves (MovesLinks served) door.links door'.links
   pub made : (b : Summary) (base : List Entry) → t.stood b base → MakesEntries side p q (entries_in served)
   pub most : length served ≤ sessions
   pub refused : worked.refused ≡ refused_in served
