@@ -109,20 +109,12 @@ ran_before t crew first given last ticker low one two high lines desks before le
 -- then the gate was closed with that pass
 pub serves : {D : Type 0} (seen : D → DiskSeen) (t : Terms) (last : PassSeen) (crew : Crew) (before after : StationSeen) (came : CameSeen) (s : Stored D)
     → IsClosed seen t last s → RanBefore t last crew before after came → Serves seen t crew before after came s
-serves seen t last crew before after came s closed w =
-    let all = w.all in record {
-      ran = all.ran;
-      lines = all.lines;
-      desks = all.desks;
-      ticker = all.ticker;
-      low = all.low;
-      high = all.high;
-      numbers = all.numbers;
-      stands = stands_for_all seen t last s (all_ended all.ran) closed w.taken;
-      setup = all.setup;
-      all_told = All-weaker (λ (p : PassSeen). HasTaken last p) (λ (p : PassSeen). p.told ≤ (seen s.journal.disk).faults) (λ p v. let a = v.told in let b = closed.told_is in omega arith)
-          (all_ended all.ran) w.taken;
-    }
+serves seen t last crew before after came s closed w = record {
+  all = w.all;
+  stands = stands_for_all seen t last s (all_ended w.all.ran) closed w.taken;
+  all_told = All-weaker (λ (p : PassSeen). HasTaken last p) (λ (p : PassSeen). p.told ≤ (seen s.journal.disk).faults) (λ p v. let a = v.told in let b = closed.told_is in omega arith)
+      (all_ended w.all.ran) w.taken;
+}
 
 serves_broken : {D : Type 0} (seen : D → DiskSeen) (t : Terms) (last : PassSeen) (crew : Crew) (before after : StationSeen) (came : CameSeen) (disk : D) (at_open now : ℕ)
     → IsClosedBroken seen t last disk at_open now → RanBefore t last crew before after came → ServesBroken t crew before after came at_open now

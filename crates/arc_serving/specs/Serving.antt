@@ -46,30 +46,8 @@ pub record StandsForAll {D : Type 0} (seen : D → DiskSeen)
   pub from : GoesOnFrom seen b base s
   pub all_seen : All (λ p. Extends (p.since ++ base) from.history) passes
 
--- The callers ran beside each other at a gate of this name, and then it was closed. Each used door has the clause of a worker, the pulse
--- that of the ticker, all under numbers of their own: lines in the order of their doors, then desks, then the ticker. The store stands
--- for one history, in which all that any of them has seen stands; the setup in force was that of the history before.
-pub record Serves {D : Type 0} (seen : D → DiskSeen)
-    (t : Terms) (crew : Crew) (before after : StationSeen) (came : CameSeen) (s : Stored D) : Type 0 where
-  pub ran : Ran
-  pub lines : IsSideServed Lines t crew.lines crew.sessions ran.lines before.lines after.lines came.lines
-  pub desks : IsSideServed Desks t crew.desks crew.sessions ran.desks before.desks after.desks came.desks
-  pub ticker : IsTickerRan t ran.ticker before.pulse after.pulse came.ticked
-  pub low : ℕ
-  pub high : ℕ
-  pub numbers : AreRising low (map (λ p. p.number) (all_began ran)) high
-  pub stands : (b : Summary) (base : List Entry) → t.stood b base → StandsForAll seen b base (all_ended ran) s
-  pub setup : (b : Summary) (base : List Entry) → t.stood b base → force b (marks b base) ≡ Some (meaning t.text)
-  pub all_told : All (λ p. p.told ≤ (seen s.journal.disk).faults) (all_ended ran)
-
--- The callers ran at some gate before the store. Its bases are just the histories for which the store stood.
-pub record ServesStore {D : Type 0} (seen : D → DiskSeen)
-    (from : Stored D) (crew : Crew) (before after : StationSeen) (came : CameSeen) (s : Stored D) : Type 0 where
-  pub gate : BlankSeen D
-  pub from_is : gate.store ≡ from
-  pub serves : Serves seen (terms_of false seen gate) crew before after came s
-
--- The callers ran beside each other at a gate of this name, as `Serves` has it, but nothing is said of the store.
+-- The callers ran beside each other at a gate of this name. Each used door has the clause of a worker, the pulse that of the ticker, all under
+-- numbers of their own: lines in the order of their doors, then desks, then the ticker. The setup in force was that of the history before.
 pub record RanAll (t : Terms) (crew : Crew) (before after : StationSeen) (came : CameSeen) : Type 0 where
   pub ran : Ran
   pub lines : IsSideServed Lines t crew.lines crew.sessions ran.lines before.lines after.lines came.lines
@@ -80,7 +58,21 @@ pub record RanAll (t : Terms) (crew : Crew) (before after : StationSeen) (came :
   pub numbers : AreRising low (map (λ p. p.number) (all_began ran)) high
   pub setup : (b : Summary) (base : List Entry) → t.stood b base → force b (marks b base) ≡ Some (meaning t.text)
 
--- and this pass has taken in those of all
+-- Then the gate was closed: the store stands for one history, in which all that any of them has seen stands.
+pub record Serves {D : Type 0} (seen : D → DiskSeen)
+    (t : Terms) (crew : Crew) (before after : StationSeen) (came : CameSeen) (s : Stored D) : Type 0 where
+  pub all : RanAll t crew before after came
+  pub stands : (b : Summary) (base : List Entry) → t.stood b base → StandsForAll seen b base (all_ended all.ran) s
+  pub all_told : All (λ p. p.told ≤ (seen s.journal.disk).faults) (all_ended all.ran)
+
+-- The callers ran at some gate before the store. Its bases are just the histories for which the store stood.
+pub record ServesStore {D : Type 0} (seen : D → DiskSeen)
+    (from : Stored D) (crew : Crew) (before after : StationSeen) (came : CameSeen) (s : Stored D) : Type 0 where
+  pub gate : BlankSeen D
+  pub from_is : gate.store ≡ from
+  pub serves : Serves seen (terms_of false seen gate) crew before after came s
+
+-- The callers ran so, and this pass has taken in those of all.
 pub record RanBefore (t : Terms) (last : PassSeen) (crew : Crew) (before after : StationSeen) (came : CameSeen) : Type 0 where
   pub all : RanAll t crew before after came
   pub taken : All (λ p. HasTaken last p) (all_ended all.ran)
