@@ -1,8 +1,6 @@
 // The signal of Contact ID data.
 ghost use Rattle.std.specs.Prelude.{◌≡◌};
 ghost use Rattle.alarm_rules.specs.ContactId.{contact_id_kind, contact_id_signal, is_contact_id, is_qualifier};
-ghost use Rattle.contact_id.specs.Places.{may_stand};
-ghost use Rattle.std.specs.List.{enumerate_from, list_all};
 ghost use Rattle.alarm_rules.specs.Signals.{data_of};
 
 use crate::class::class_of;
@@ -28,33 +26,25 @@ pub fn read(content: &[u8]) -> Option<Signal>
     })
 }
 
-// Whether the data has the form: eleven bytes, each as its place wants it.
+// Whether the data has the form: a qualifier, the code, a space, the group, a space, the zone or user. All eleven bytes are
+// looked at, without a branch for each.
 fn is_contact_id(data: &[u8]) -> bool
     ensures { result ≡ is_contact_id «data».now }
 {
     if data.len() != 11 {
         return false;
     }
-    stand_all(data)
-}
-
-fn stand_all(data: &[u8]) -> bool
-    ensures { result ≡ list_all (λ p. may_stand p.0 p.1) (enumerate_from 0 «data».now) }
-{
-    data.iter()
-        .enumerate()
-        .all(|(place, byte)| may_stand(place, *byte))
-}
-
-// Whether the byte may stand at the place: the qualifier first, spaces at 4 and 7, digits elsewhere.
-fn may_stand(place: usize, byte: u8) -> bool
-    ensures { result ≡ may_stand place byte }
-{
-    match place {
-        0 => is_qualifier(byte),
-        4 | 7 => byte == b' ',
-        _ => is_hex(byte),
-    }
+    is_qualifier(data[0])
+        & is_hex(data[1])
+        & is_hex(data[2])
+        & is_hex(data[3])
+        & (data[4] == b' ')
+        & is_hex(data[5])
+        & is_hex(data[6])
+        & (data[7] == b' ')
+        & is_hex(data[8])
+        & is_hex(data[9])
+        & is_hex(data[10])
 }
 
 fn is_qualifier(byte: u8) -> bool
