@@ -118,6 +118,9 @@ fn is_account_of(header: &Header, digits: &[u8]) -> bool
     requires { length digits.now ≤ 16 }
     ensures { result ≡ bytes_eq (capitals digits.now) (capitals header.now.account) }
 {
+    if digits == header.account.bytes() {
+        return true;
+    }
     let account = Txt::of(digits).unwrap();
     account.capitals() == header.account.capitals()
 }
