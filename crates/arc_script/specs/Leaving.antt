@@ -21,7 +21,8 @@ pub record IsClosed {D : Type 0} (script : Script) (s : Stored D) (disk : D) (ta
 -- this line ended the script behind these, once the store is closed
 abbrev pub EndsHere : {D : Type 0} → (D → DiskSeen) → Begun D → List (List ℕ) → List ℕ → Script → Stored D → PortSeen → ScriptEnd → Type 0
 EndsHere {D} seen b lines typed script s p end =
-    (more : List (List ℕ)) (disk : D) (tally : Tally) → IsClosed script s disk tally → Halts seen b lines (lines ++ typed ∷ more) end p disk tally
+    (more : List (List ℕ)) (disk : D) (tally : Tally) → IsClosed script s disk tally
+    → Halts seen b lines (lines ++ typed ∷ more) end p disk tally
 
 -- it ended the script, or it is an `X` for which nothing was done yet
 abbrev pub Leaves : {D : Type 0} → (D → DiskSeen) → Begun D → List (List ℕ) → List ℕ → Script → Stored D → PortSeen → Left → Type 0
