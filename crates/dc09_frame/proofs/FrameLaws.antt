@@ -4,14 +4,13 @@ use Rattle.std.specs.Prelude.{codes, Option, Some, None}
 use Rattle.std.specs.List.{list_all}
 use Rattle.std.proofs.Math.Seq.{drop-append_seam, take-append-add}
 use Rattle.std.proofs.lemmas.List.{drop-take}
-use Rattle.std.proofs.Math.Nat.{pow-succ'}
 use Rattle.std.proofs.lemmas.Bool.{lt-ltb, le-ltb, le-leb, lt-leb, eq-eqb, ne_eqb, leb-true, and_parts, and_from, or_left, cases_lt}
 use Rattle.std.proofs.lemmas.List.Folds.{list_all-append}
 use Rattle.arc_data.specs.Digits.{is_between, is_digit, is_hex, digit_value, hex_value, is_run}
 use Rattle.dc09_frame.specs.declared.limits.TheConstants.{PIECE_LIMIT}
 use Rattle.dc09_frame.specs.declared.cut.Cut.TheVariants.{Whole}
 use Rattle.dc09_frame.specs.Check.{divisor, all_bits, check_of}
-use Rattle.dc09_frame.specs.Polynomial.{remainder, zeros, bits, number}
+use Rattle.dc09_frame.specs.Polynomial.{remainder, zeros, number}
 use Rattle.dc09_frame.specs.Frames.{digit_of, four_digits, is_clean, IsBody, piece_of, head_of, frame_of, do_spell, has_length, has_check, cut}
 use Rattle.arc_data.specs.WellFormed.{is_receiver}
 use Rattle.dc09_frame.specs.declared.header.Header.{Header}
@@ -19,18 +18,9 @@ use Rattle.dc09_frame.specs.declared.header.Echo.{Echo}
 use Rattle.dc09_frame.specs.declared.header.Echo.TheVariants.{Ack, Duh}
 use Rattle.dc09_frame.specs.Headers.{IsHeader, receiver_field, fields, word_of, echo_body, nak_body}
 use Rattle.dc09_frame.proofs.Division.{divides}
-use Rattle.dc09_frame.proofs.Polynomials.{length-bits}
+use Rattle.dc09_frame.proofs.Polynomials.{number-lt, length-all_bits}
 
 -- The check is below 2 ^ 16.
-
-number-lt : (xs : List Bool) → number xs < 2 ^ length xs
-number-lt [] = omega arith
-number-lt (true ∷ xs) = omega (arith, number-lt xs, pow-succ' 2 (length xs))
-number-lt (false ∷ xs) = omega (arith, number-lt xs, pow-succ' 2 (length xs))
-
-length-all_bits : (bytes : List ℕ) → length (all_bits bytes) ≡ 8 * length bytes
-length-all_bits [] = refl
-length-all_bits (b ∷ bytes) = omega (arith, length-append (bits 8 b) (all_bits bytes), length-bits 8 b, length-all_bits bytes)
 
 sixteen : length divisor ≡ 16
 unfolding divisor

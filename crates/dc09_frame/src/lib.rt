@@ -10,6 +10,7 @@ mod header;
 mod laws;
 mod limits;
 mod reading;
+mod tables;
 
 pub use checksum::check;
 pub use cut::Cut;
