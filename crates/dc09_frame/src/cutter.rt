@@ -50,6 +50,13 @@ impl Cutter {
         }
     }
 
+    /// The cutter is as before the first byte of a stream, in the room that it has: what was kept counts for nothing.
+    pub fn restart(&mut self)
+        ensures { WasFed [] self.new }
+    {
+        self.piece = Piece::Closed;
+    }
+
     /// Takes bytes up to and including the first carriage return that ends a piece, or all, and says how many, and what
     /// the piece is that ended. What is left is fed again.
     pub fn feed(&mut self, piece: &[u8]) -> (usize, Option<Cut>)
