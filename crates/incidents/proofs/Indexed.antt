@@ -1,18 +1,18 @@
 -- What an index tells goes on to be the numbers of the open incidents.
-use Rattle.std.proofs.Common.{◌≡◌, ◌<◌, ◌≤◌, ℕ, zero, suc, ◌+◌, ◌-◌, List, [], ◌∷◌, ◌++◌, length, get_or, set, map, Bool, true, false, cond, refl, sym, ap, ◌∙◌, Option, Some, None, arith, length-append}
+use Rattle.std.proofs.Common.{◌≡◌, ◌<◌, ◌≤◌, ℕ, zero, suc, ◌+◌, ◌-◌, List, [], ◌∷◌, ◌++◌, length, get_or, map, Bool, true, false, cond, refl, sym, ap, ◌∙◌, Option, Some, None, arith, length-append}
 use Rattle.std.specs.Prelude.{◌&&◌}
 use Rattle.std.specs.List.{find, remove}
 use Rattle.std.specs.Str.{bytes_eq}
 use Rattle.std.proofs.lemmas.Bool.{false≢true}
 use Rattle.std.proofs.lemmas.Cmp.{nat_list_eq_equiv}
-use Rattle.std.proofs.lemmas.List.{length-set, length-map}
+use Rattle.std.proofs.lemmas.List.{length-map}
 use Rattle.std.proofs.lemmas.List.Edits.{length-remove}
 use Rattle.arc_data.specs.Classes.{same_class, same_class_equiv}
 use Rattle.arc_data.specs.declared.incident.Incident.{Incident}
 use Rattle.arc_data.specs.declared.signal.Class.{Class}
 use Rattle.arc_data.specs.Incidents.{is_of, Each}
 use Rattle.incidents.specs.Index.{IndexValue, Tells}
-use Rattle.incidents.specs.Tables.{IsIndexed, IsSingle, number_of, held}
+use Rattle.incidents.specs.Tables.{IsIndexed, IsSingle, number_of}
 use Rattle.incidents.proofs.Places.{IsAlike, none_found}
 
 -- One account and class.
@@ -54,28 +54,16 @@ is_of_alike account class x y a = λ i. bytes_eq (a.account i) account && same_c
 number_alike : (account : List ℕ) (class : Class) (x y : Incident) (o : Option Incident) → IsAlike x y → number_of (cond (is_of account class x) (Some x) o) ≡ number_of (cond (is_of account class y) (Some y) o)
 number_alike account class x y o a = rw (is_of_alike account class x y a) (number_if (is_of account class y) x y o a.number)
 
-set_told : (account : List ℕ) (class : Class) (is : List Incident) (place : ℕ) (y d : Incident) → place < length is → IsAlike y (get_or is place d) → number_of (find (is_of account class) (set is place y)) ≡ number_of (find (is_of account class) is)
-set_told account class [] place y d lt a = absurd (omega (arith, lt))
-set_told account class (i ∷ is) zero y d lt a = number_alike account class y i (find (is_of account class) is) a
-set_told account class (i ∷ is) (suc place) y d lt a =
-    number_after (is_of account class i) i (find (is_of account class) (set is place y)) (find (is_of account class) is) (set_told account class is place y d (omega (arith, lt)) a)
+alike_told : (account : List ℕ) (class : Class) (f : Incident → Incident) (is : List Incident) → ((i : Incident) → IsAlike (f i) i) → number_of (find (is_of account class) (map f is)) ≡ number_of (find (is_of account class) is)
+alike_told account class f [] a = refl
+alike_told account class f (i ∷ is) a =
+    number_after (is_of account class (f i)) (f i) (find (is_of account class) (map f is)) (find (is_of account class) is) (alike_told account class f is a)
+    ∙ number_alike account class (f i) i (find (is_of account class) is) (a i)
 
-pub set_indexed : (index : IndexValue) (is : List Incident) (room place : ℕ) (y d : Incident) → IsIndexed index is room → place < length is → IsAlike y (get_or is place d) → IsIndexed index (set is place y) room
-set_indexed index is room place y d w lt a = record {
-  tells = λ account class. w.tells account class ∙ sym (set_told account class is place y d lt a);
-  memory = omega (arith, w.memory, length-set is place y);
-}
-
-released_told : (account : List ℕ) (class : Class) (is : List Incident) → number_of (find (is_of account class) (map (held None 0) is)) ≡ number_of (find (is_of account class) is)
-released_told account class [] = refl
-released_told account class (i ∷ is) =
-    number_after (is_of account class i) (held None 0 i) (find (is_of account class) (map (held None 0) is)) (find (is_of account class) is) (released_told account class is)
-    ∙ number_if (is_of account class i) (held None 0 i) i (find (is_of account class) is) refl
-
-pub released_indexed : (index : IndexValue) (is : List Incident) (room : ℕ) → IsIndexed index is room → IsIndexed index (map (held None 0) is) room
-released_indexed index is room w = record {
-  tells = λ account class. w.tells account class ∙ sym (released_told account class is);
-  memory = omega (arith, w.memory, length-map is (held None 0));
+pub alike_indexed : (index : IndexValue) (f : Incident → Incident) (is : List Incident) (room : ℕ) → IsIndexed index is room → ((i : Incident) → IsAlike (f i) i) → IsIndexed index (map f is) room
+alike_indexed index f is room w a = record {
+  tells = λ account class. w.tells account class ∙ sym (alike_told account class f is a);
+  memory = omega (arith, w.memory, length-map is f);
 }
 
 -- An incident more.

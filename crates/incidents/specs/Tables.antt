@@ -1,8 +1,7 @@
 -- What calls do to a table of open incidents.
 use Rattle.std.specs.Prelude.{◌≡◌, ◌≤◌, ℕ, ◌+◌, List, [], ◌∷◌, ◌++◌, Bool, true, false, not, if◌then◌else◌}
-use Rattle.std.specs.Prelude.{Option, None, is_some, length, map, nat_lt}
+use Rattle.std.specs.Prelude.{Option, None, is_some, length, map}
 use Rattle.std.specs.List.{filter, find}
-use Rattle.std.specs.List.Sorted.{IsPartitionPoint}
 use Rattle.std.specs.Option.{option_map}
 use Rattle.arc_data.specs.Incidents.{has_number, is_of, Ascends, Each}
 use Rattle.arc_data.specs.declared.incident.Incident.{Incident}
@@ -40,19 +39,6 @@ pub record IsIndexed (index : IndexValue) (incidents : List Incident) (room : �
 pub record IsKept (opened : ℕ) (incidents : List Incident) (room memory : ℕ) (index : IndexValue) : Type 0 where
   pub table : IsTable opened incidents room memory
   pub indexed : IsIndexed index incidents room
-
--- Numbers.
-
--- the numbers rise
-abbrev pub Rise : List Incident → Type 0
-Rise is = (high : ℕ) × Ascends 0 is high
-
-abbrev pub is_below : ℕ → Incident → Bool
-is_below number i = nat_lt i.number number
-
--- numbers before this place are below one, and from it on they are not
-abbrev pub IsCut : ℕ → List Incident → ℕ → Type 0
-IsCut number is place = IsPartitionPoint (λ i. is_below number i ≡ true) (λ i. is_below number i ≡ false) is place
 
 -- What calls do.
 

@@ -2,7 +2,9 @@
 #![tactic(auto)]
 
 mod index;
+mod slots;
 mod table;
 
 pub use arc_data::{Acted, Acts, Class, Incident, Memory, Outcome, Step, StepList, Txt};
+pub use slots::{Slot, Slots};
 pub use table::Table;

@@ -1,14 +1,14 @@
 // The open incidents, in order of number.
-ghost use Rattle.std.specs.Prelude.{◌≡◌, ◌<◌, ◌≤◌, ◌^◌, ◌+◌, ◌-◌, ◌++◌, ◌∷◌, [], Some, None, length, map, slice_get, IfOk, IfSome, IsSome};
-ghost use Rattle.std.specs.Prelude.{is_some, if◌then◌else◌};
-ghost use Rattle.std.specs.List.{find, position};
-ghost use Rattle.std.specs.List.Sorted.{IsPartitionedBy};
+ghost use Rattle.std.specs.Prelude.{◌≡◌, ◌<◌, ◌≤◌, ◌^◌, ◌+◌, ◌-◌, ◌++◌, ◌∷◌, [], None, Some, length, map, IfOk, IfSome, IsSome};
+ghost use Rattle.std.specs.List.{find};
 ghost use Rattle.std.specs.Option.{option_map};
 ghost use Rattle.arc_data.specs.Incidents.{has_number, is_of, Ascends, Each};
-ghost use Rattle.incidents.specs.Tables.{IsCut, IsSingle, Rise, is_below, at_number, without, attached, restored, held, acted, raised, number_of};
+ghost use Rattle.incidents.specs.Slots.{open_of};
+ghost use Rattle.incidents.specs.Tables.{IsSingle, at_number, without, attached, restored, held, acted, raised, number_of};
 
 use crate::index::Index;
-use arc_data::{Acted, Acts, Class, Incident, Memory, Outcome, Step, StepList, Txt};
+use crate::slots::{Slot, Slots};
+use arc_data::{Acts, Class, Incident, Memory, Outcome, Step, StepList, Txt};
 use std::alloc::Global;
 use std::marker::Model;
 
@@ -18,7 +18,7 @@ use std::marker::Model;
 pub struct Table {
     opened: u64,
     room: usize,
-    items: Vec<Incident>,
+    slots: Slots,
     index: Index,
 }
 
@@ -28,23 +28,22 @@ impl Drop for Table {
         let Table {
             opened: _,
             room: _,
-            items,
+            slots,
             index,
         } = self;
-        drop(items);
+        drop(slots);
         drop(index);
     }
 }
 
 impl Model for Table {
-    ghost use Rattle.std.specs.Prelude.{vec_capacity};
     ghost use Rattle.incidents.specs.Tables.{TableValue, IsKept};
 
     ghost Value = { TableValue };
 
-    ghost view = { λ t. record { opened = t.opened; incidents = t.items.items; room = t.room } };
+    ghost view = { λ t. record { opened = t.opened; incidents = t.slots.incidents; room = t.room } };
 
-    ghost invariant = { λ t. IsKept t.opened t.items.items t.room (vec_capacity t.items) t.index };
+    ghost invariant = { λ t. IsKept t.opened t.slots.incidents t.room t.slots.room t.index };
 }
 
 impl Table {
@@ -55,7 +54,7 @@ impl Table {
         Table {
             opened: 0,
             room: 0,
-            items: Vec::new(alloc),
+            slots: Slots::new(alloc),
             index: Index::new(alloc),
         }
     }
@@ -68,7 +67,7 @@ impl Table {
         Table {
             opened,
             room: 0,
-            items: Vec::new(alloc),
+            slots: Slots::new(alloc),
             index: Index::new(alloc),
         }
     }
@@ -80,14 +79,12 @@ impl Table {
         ensures room { IfOk result (λ _. length self.new.incidents + more ≤ self.new.room) }
         ensures kept { self.old.room ≤ self.new.room }
     {
-        let Ok(()) = self.items.reserve(more) else {
-            return Err(Memory);
-        };
+        self.slots.reserve(more)?;
         self.index.reserve(more)?;
         let wanted = self
-            .items
-            .capacity()
-            .min(self.items.len().saturating_add(more));
+            .slots
+            .room()
+            .min(self.slots.count().saturating_add(more));
         self.room = self.room.max(wanted);
         Ok(())
     }
@@ -96,24 +93,16 @@ impl Table {
     pub fn count(&self) -> usize
         ensures { result ≡ length self.now.incidents }
     {
-        self.items.len()
+        self.slots.count()
     }
 
-    /// The open incident at a place below the count, in order of number.
-    pub fn at(&self, i: usize) -> &Incident
-        requires { i < length self.now.incidents }
-        ensures { slice_get self.now.incidents i ≡ Some result.now }
-    {
-        &self.items[i]
-    }
-
-    /// All open incidents, in order of number.
-    pub fn items(&self) -> &[Incident]
-        ensures value { result.now ≡ self.now.incidents }
+    /// The places of the open incidents, in order of number. Some may be places of incidents that were closed.
+    pub fn slots(&self) -> &[Slot]
+        ensures value { open_of result.now ≡ self.now.incidents }
         ensures ascends { Ascends 0 self.now.incidents self.now.opened }
         ensures single { IsSingle self.now.incidents }
     {
-        &self.items
+        self.slots.slots()
     }
 
     /// How many incidents were opened so far, closed ones included.
@@ -134,10 +123,7 @@ impl Table {
     pub fn get(&self, number: u64) -> Option<&Incident>
         ensures { option_map (λ i. i.now) result ≡ find (has_number number) self.now.incidents }
     {
-        match place_of(&self.items, number) {
-            Some(place) => Some(&self.items[place]),
-            None => None,
-        }
+        self.slots.get(number)
     }
 
     /// Opens an incident with the next number, which is the answer. It has one signal, which came by this line, or by none where
@@ -161,7 +147,7 @@ impl Table {
     {
         self.opened += 1;
         self.index.put(&account, class, self.opened);
-        self.items.push_reserved(Incident {
+        self.slots.push(Incident {
             number: self.opened,
             account,
             class,
@@ -189,7 +175,7 @@ impl Table {
     {
         self.index
             .put(&incident.account, incident.class, incident.number);
-        self.items.push_reserved(incident);
+        self.slots.push(incident);
     }
 
     /// A New or Again signal more of an open incident: it counts as not restored. Where no incident has the number, nothing
@@ -198,33 +184,21 @@ impl Table {
         requires { IfSome (find (has_number number) self.old.incidents) (λ i. i.signals < 2 ^ 62) }
         ensures { self.new ≡ record self.old { incidents = at_number number attached self.old.incidents } }
     {
-        if let Some(place) = place_of(&self.items, number) {
-            let item = &mut self.items[place];
-            item.signals += 1;
-            item.restored = false;
-        }
+        self.slots.attach(number);
     }
 
     /// Marks an open incident restored.
     pub fn mark_restored(&mut self, number: u64)
         ensures { self.new ≡ record self.old { incidents = at_number number restored self.old.incidents } }
     {
-        if let Some(place) = place_of(&self.items, number) {
-            let item = &mut self.items[place];
-            item.restored = true;
-        }
+        self.slots.mark_restored(number);
     }
 
     /// Gives an open incident a holder at a moment, or takes it from its holder.
     pub fn hold(&mut self, number: u64, holder: Option<Txt>, at: u64)
         ensures { self.new ≡ record self.old { incidents = at_number number (held holder at) self.old.incidents } }
     {
-        let touched = touched(&holder, at);
-        if let Some(place) = place_of(&self.items, number) {
-            let item = &mut self.items[place];
-            item.holder = holder;
-            item.touched = touched;
-        }
+        self.slots.hold(number, holder, at);
     }
 
     /// Records a step of an open incident. It has room for 10 of them.
@@ -232,86 +206,25 @@ impl Table {
         requires { IfSome (find (has_number number) self.old.incidents) (λ i. length i.acts < 10) }
         ensures { self.new ≡ record self.old { incidents = at_number number (acted (record { step = step; outcome = outcome; at = at; operator = operator })) self.old.incidents } }
     {
-        if let Some(place) = place_of(&self.items, number) {
-            let item = &mut self.items[place];
-            let _ = item.acts.push(Acted {
-                step,
-                outcome,
-                at,
-                operator,
-            });
-            item.touched = at;
-        }
+        self.slots.act(number, step, outcome, at, operator);
     }
 
     /// Takes each open incident from its holder.
     pub fn release_all(&mut self)
         ensures { self.new ≡ record self.old { incidents = map (held None 0) self.old.incidents } }
     {
-        release(&mut self.items);
+        self.slots.release_all();
     }
 
     /// Takes an open incident out of the table, and the memory of its place with it.
-    pub fn remove(&mut self, number: u64) -> Incident
+    pub fn remove(&mut self, number: u64)
         requires { IsSome (find (has_number number) self.old.incidents) }
-        ensures removed { find (has_number number) self.old.incidents ≡ Some result }
-        ensures left { self.new ≡ record self.old { incidents = without number self.old.incidents; room = self.old.room - 1 } }
+        ensures { self.new ≡ record self.old { incidents = without number self.old.incidents; room = self.old.room - 1 } }
     {
-        let place = open_place(&self.items, number);
-        let incident = self.items.remove(place);
-        self.index.remove(&incident.account, incident.class);
+        if let Some(incident) = self.slots.get(number) {
+            self.index.remove(&incident.account, incident.class);
+        }
+        self.slots.remove(number);
         self.room -= 1;
-        incident
     }
-}
-
-// The place of the incident of a number among incidents in order of number.
-fn place_of(items: &[Incident], number: u64) -> Option<usize>
-    requires { Rise items.now }
-    ensures { result ≡ position (has_number number) items.now }
-{
-    let place = first_from(items, number);
-    if place == items.len() {
-        return None;
-    }
-    if items[place].number == number {
-        Some(place)
-    } else {
-        None
-    }
-}
-
-// The place of the incident of a number that is among incidents in order of number.
-fn open_place(items: &[Incident], number: u64) -> usize
-    requires rise { Rise items.now }
-    requires there { IsSome (find (has_number number) items.now) }
-    ensures { position (has_number number) items.now ≡ Some result }
-{
-    first_from(items, number)
-}
-
-// The place from which on numbers are not below this one.
-fn first_from(items: &[Incident], number: u64) -> usize
-    requires { IsPartitionedBy (is_below number) items.now }
-    ensures cut { IsCut number items.now result }
-    ensures within { result ≤ length items.now }
-{
-    items.partition_point(|i| i.number < number)
-}
-
-// Takes each of these incidents from its holder.
-fn release(items: &mut [Incident])
-    ensures { items.new ≡ map (held None 0) items.old }
-{
-    for item in items {
-        item.holder = None;
-        item.touched = 0;
-    }
-}
-
-// The moment since which a holder holds an incident, 0 where there is none.
-fn touched(holder: &Option<Txt>, at: u64) -> u64
-    ensures { result ≡ (if is_some holder.now then at else 0) }
-{
-    if holder.is_some() { at } else { 0 }
 }
