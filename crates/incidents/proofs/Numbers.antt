@@ -43,3 +43,12 @@ ascends_under i low (j ∷ is) high lt above a = (a.0, ascends_under i j.number 
 pub ascends_top : (i : Incident) (low : ℕ) (is : List Incident) (high : ℕ) → high < i.number → Ascends low is high → Ascends low (is ++ i ∷ []) i.number
 ascends_top i low [] high lt a = (omega (arith, lt, a), omega arith)
 ascends_top i low (j ∷ is) high lt a = (a.0, ascends_top i j.number is high lt a.1)
+
+ascends_low : (low : ℕ) (is : List Incident) (high : ℕ) → Ascends low is high → low ≤ high
+ascends_low low [] high a = a
+ascends_low low (i ∷ is) high a = omega (arith, a.0, ascends_low i.number is high a.1)
+
+-- none has a number above the greatest one allowed
+pub ascends_within : (low : ℕ) (is : List Incident) (high : ℕ) → Ascends low is high → Each (λ j. j.number < high + 1) is
+ascends_within low [] high a = tt
+ascends_within low (i ∷ is) high a = (omega (arith, ascends_low i.number is high a.1), ascends_within i.number is high a.1)

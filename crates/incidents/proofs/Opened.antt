@@ -1,19 +1,19 @@
 -- The incidents that are open at places, after each change of a place.
 use Rattle.std.proofs.Common.{◌≡◌, ◌<◌, ◌≤◌, ℕ, zero, suc, ◌+◌, ◌-◌, List, [], ◌∷◌, ◌++◌, length, get_or, set, map, take, drop, Bool, true, false, cond, ltb, refl, sym, ap, ◌∙◌, Option, Some, None, arith, subst, length-append}
-use Rattle.std.specs.Prelude.{◌&&◌, not}
+use Rattle.std.specs.Prelude.{◌&&◌, ◌↔◌, IsTrue, not, if◌then◌else◌}
 use Rattle.std.specs.List.{find, filter, position, position_or_len}
 use Rattle.std.proofs.lemmas.Bool.{false≢true}
 use Rattle.std.proofs.lemmas.Bool.Decides.{nat_tests}
-use Rattle.std.proofs.lemmas.List.{length-map, map-append, take_all, take-append-le}
+use Rattle.std.proofs.lemmas.List.{length-map, length-set, map-append, take_all, take-append-le}
 use Rattle.std.proofs.lemmas.List.Elements.{filter_map-append}
 use Rattle.std.proofs.lemmas.List.Quantifiers.{position-Some}
 use Rattle.arc_data.specs.declared.incident.Incident.{Incident}
 use Rattle.arc_data.specs.Incidents.{has_number, Ascends, Each}
 use Rattle.incidents.specs.declared.slots.Slot.{Slot}
-use Rattle.incidents.specs.Slots.{has_open, standing, open_of, all_of, room_of, thinned, released}
+use Rattle.incidents.specs.Slots.{has_open, standing, open_of, all_of, room_of, thinned, released, AreSlots, SlotsValue}
 use Rattle.incidents.specs.Tables.{at_number, without, held}
 use Rattle.incidents.proofs.Numbers.{ascends_weak, ascends_top, ascends_under}
-use Rattle.incidents.proofs.Places.{IsFree, map_above, filter_above, equal_le}
+use Rattle.incidents.proofs.Places.{IsFree, map_free, map_above, filter_above, equal_le}
 
 pub both_first : (b c : Bool) → (b && c) ≡ true → b ≡ true
 both_first true c e = refl
@@ -183,6 +183,9 @@ thinned_few true slots =
     omega (arith, length-map (filter (λ (t : Slot). t.is_open) slots) (λ (t : Slot). t.incident), ap length (kept_all slots), open_few slots)
 thinned_few false slots = omega arith
 
+pub thinned_to : (wanted : Bool) (slots new : List Slot) → new ≡ thinned wanted slots → length new ≤ length slots
+thinned_to wanted slots new e = omega (arith, ap length e, thinned_few wanted slots)
+
 -- One more.
 
 pub pushed_open : (slots : List Slot) (i : Incident) → open_of (slots ++ record { incident = i; is_open = true } ∷ []) ≡ open_of slots ++ i ∷ []
@@ -216,3 +219,104 @@ pub whole : (f : Slot → Slot) (slots items new : List Slot) (len : ℕ) → sl
 whole f slots items new len e l n =
     let long : length new ≡ len = ap (λ (xs : List Slot). length xs) n ∙ length-map slots f ∙ l in
     take-append-le len new (drop (length new) items) (omega (arith, long)) ∙ take_all len new (omega (arith, long)) ∙ n ∙ ap (λ (xs : List Slot). map f xs) e
+
+pub there : (n : ℕ) (slots ks : List Slot) (place : ℕ) (x : Slot) (o : Option ℕ) → ks ≡ slots → o ≡ position (has_open n) ks → o ≡ Some place → x ≡ get_or slots place x → IsAt n slots place x
+there n slots ks place x o e p q item = is_at n slots place x (ap (λ (l : List Slot). position (has_open n) l) (sym e) ∙ sym p ∙ q) item
+
+pub pushed_one : {X : Type 0} (taken : Bool) (old new : List X) (x : X) → (IsTrue taken ↔ (length old < 10)) → new ≡ cond taken (old ++ x ∷ []) old → length old < 10 → new ≡ old ++ x ∷ []
+pushed_one true old new x room e lt = e
+pushed_one false old new x room e lt = absurd (false≢true (room.1 lt))
+
+-- The same, said of what is kept and of what contracts see.
+
+abbrev pub value_of : List Slot → ℕ → SlotsValue
+value_of slots memory = record { incidents = open_of slots; room = room_of slots memory }
+
+are_after : (count highest : ℕ) (slots new : List Slot) (f : Incident → Incident) → AreSlots count highest slots → Ascends 0 (all_of new) highest → open_of new ≡ map f (open_of slots) → AreSlots count highest new
+are_after count highest slots new f a rise e = record { rise = rise; counted = a.counted ∙ sym (ap length e ∙ length-map (open_of slots) f) }
+
+value_after : (slots new : List Slot) (memory : ℕ) (old : SlotsValue) (f : Incident → Incident) → value_of slots memory ≡ old → open_of new ≡ map f (open_of slots) → length new ≡ length slots → value_of new memory ≡ record old { incidents = map f old.incidents }
+value_after slots new memory old f v e l =
+    let many : length (open_of new) ≡ length (open_of slots) = ap length e ∙ length-map (open_of slots) f in
+    (λ i. record { incidents = e i; room = many i + (memory - l i) }) ∙ ap (λ (t : SlotsValue). record t { incidents = map f t.incidents }) v
+
+abbrev change_at : ℕ → (Incident → Incident) → Incident → Incident
+change_at n f i = if has_number n i then f i else i
+
+pub changed_are : (n count highest : ℕ) (f : Incident → Incident) (slots : List Slot) (place : ℕ) (x : Slot) → AreSlots count highest slots → IsAt n slots place x → (f x.incident).number ≡ x.incident.number → AreSlots count highest (set slots place (record x { incident = f x.incident }))
+changed_are n count highest f slots place x a w e =
+    are_after count highest slots (set slots place (record x { incident = f x.incident })) (change_at n f) a
+    (ascends_set 0 slots highest place (record x { incident = f x.incident }) x a.rise w.below (e ∙ ap (λ (s : Slot). s.incident.number) w.item))
+    (changed_there n f 0 slots highest place x a.rise w)
+
+pub changed_value : (n count highest memory : ℕ) (f : Incident → Incident) (slots : List Slot) (old : SlotsValue) (place : ℕ) (x : Slot) → value_of slots memory ≡ old → AreSlots count highest slots → IsAt n slots place x → value_of (set slots place (record x { incident = f x.incident })) memory ≡ record old { incidents = at_number n f old.incidents }
+changed_value n count highest memory f slots old place x v a w =
+    value_after slots (set slots place (record x { incident = f x.incident })) memory old (change_at n f) v (changed_there n f 0 slots highest place x a.rise w) (length-set slots place (record x { incident = f x.incident }))
+
+pub free_now : (n : ℕ) (slots ks : List Slot) (memory : ℕ) (old : SlotsValue) → value_of slots memory ≡ old → ks ≡ slots → position (has_open n) ks ≡ None → IsFree n old.incidents
+free_now n slots ks memory old v e p =
+    subst (λ (l : List Incident). IsFree n l) (ap (λ (l : List Slot). open_of l) e ∙ ap (λ (t : SlotsValue). t.incidents) v) (is_free n ks p)
+
+pub same_value : (n : ℕ) (f : Incident → Incident) (old : SlotsValue) → IsFree n old.incidents → old ≡ record old { incidents = at_number n f old.incidents }
+same_value n f old free = λ i. record old { incidents = sym (map_free n f old.incidents free) i }
+
+pub released_are : (count highest : ℕ) (slots : List Slot) → AreSlots count highest slots → AreSlots count highest (map released slots)
+released_are count highest slots a = are_after count highest slots (map released slots) (held None 0) a (released_rise 0 slots highest a.rise) (released_open slots)
+
+pub released_value : (slots : List Slot) (memory : ℕ) (old : SlotsValue) → value_of slots memory ≡ old → value_of (map released slots) memory ≡ record old { incidents = map (held None 0) old.incidents }
+released_value slots memory old v = value_after slots (map released slots) memory old (held None 0) v (released_open slots) (length-map slots released)
+
+-- where there is room for one more, there is a place behind all
+pub room_left : (slots : List Slot) (memory : ℕ) (old : SlotsValue) → value_of slots memory ≡ old → length old.incidents < old.room → length slots < memory
+room_left slots memory old v lt = omega (arith, lt, ap (λ (t : SlotsValue). length t.incidents) v, ap (λ (t : SlotsValue). t.room) v)
+
+abbrev open_slot : Incident → Slot
+open_slot i = record { incident = i; is_open = true }
+
+pub pushed_are : (wanted : Bool) (count highest memory : ℕ) (slots : List Slot) (i : Incident) (old : SlotsValue) → value_of slots memory ≡ old → AreSlots count highest slots → (wanted ≡ false → highest < i.number) → 0 < i.number → Each (λ j. j.number < i.number) old.incidents
+    → AreSlots (count + 1) i.number (thinned wanted slots ++ open_slot i ∷ [])
+pushed_are wanted count highest memory slots i old v a lt positive above = record {
+  rise = pushed_rise wanted slots highest i lt positive (subst (λ (l : List Incident). Each (λ j. j.number < i.number) l) (sym (ap (λ (t : SlotsValue). t.incidents) v)) above) a.rise;
+  counted = omega (arith, a.counted, ap length (pushed_open (thinned wanted slots) i), length-append (open_of (thinned wanted slots)) (i ∷ []), ap length (thinned_open wanted slots));
+}
+
+pub pushed_incidents : (wanted : Bool) (slots : List Slot) (memory : ℕ) (i : Incident) (old : SlotsValue) → value_of slots memory ≡ old → open_of (thinned wanted slots ++ open_slot i ∷ []) ≡ old.incidents ++ i ∷ []
+pushed_incidents wanted slots memory i old v =
+    pushed_open (thinned wanted slots) i ∙ ap (λ (l : List Incident). l ++ i ∷ []) (thinned_open wanted slots ∙ ap (λ (t : SlotsValue). t.incidents) v)
+
+pub pushed_room : (wanted : Bool) (slots : List Slot) (memory : ℕ) (i : Incident) (old : SlotsValue) → value_of slots memory ≡ old → length slots < memory → old.room ≤ room_of (thinned wanted slots ++ open_slot i ∷ []) memory
+pushed_room wanted slots memory i old v lt =
+    omega (
+      arith,
+      lt,
+      ap (λ (t : SlotsValue). t.room) v,
+      ap length (pushed_open (thinned wanted slots) i),
+      length-append (open_of (thinned wanted slots)) (i ∷ []),
+      ap length (thinned_open wanted slots),
+      length-append (thinned wanted slots) (open_slot i ∷ []),
+      thinned_few wanted slots,
+    )
+
+abbrev closed_at : List Slot → ℕ → Slot → List Slot
+closed_at slots place x = set slots place (record x { is_open = false })
+
+pub removed_are : (wanted : Bool) (n count highest : ℕ) (slots : List Slot) (place : ℕ) (x : Slot) → AreSlots count highest slots → IsAt n slots place x → AreSlots (count - 1) highest (thinned wanted (closed_at slots place x))
+removed_are wanted n count highest slots place x a w = record {
+  rise = thinned_rise wanted (closed_at slots place x) highest (ascends_set 0 slots highest place (record x { is_open = false }) x a.rise w.below (ap (λ (s : Slot). s.incident.number) w.item));
+  counted = omega (arith, a.counted, fewer_there n slots place x w, ap length (thinned_open wanted (closed_at slots place x)));
+}
+
+pub removed_incidents : (wanted : Bool) (n highest memory : ℕ) (slots : List Slot) (place : ℕ) (x : Slot) (old : SlotsValue) → value_of slots memory ≡ old → Ascends 0 (all_of slots) highest → IsAt n slots place x → open_of (thinned wanted (closed_at slots place x)) ≡ without n old.incidents
+removed_incidents wanted n highest memory slots place x old v a w =
+    thinned_open wanted (closed_at slots place x) ∙ closed_there n 0 slots highest place x a w ∙ ap (λ (t : SlotsValue). without n t.incidents) v
+
+pub removed_room : (wanted : Bool) (n memory : ℕ) (slots : List Slot) (place : ℕ) (x : Slot) (old : SlotsValue) → value_of slots memory ≡ old → IsAt n slots place x → old.room ≤ room_of (thinned wanted (closed_at slots place x)) memory + 1
+removed_room wanted n memory slots place x old v w =
+    omega (
+      arith,
+      ap (λ (t : SlotsValue). t.room) v,
+      fewer_there n slots place x w,
+      ap length (thinned_open wanted (closed_at slots place x)),
+      thinned_few wanted (closed_at slots place x),
+      length-set slots place (record x { is_open = false }),
+    )

@@ -5,7 +5,6 @@ use Rattle.std.specs.List.{find, remove}
 use Rattle.std.proofs.lemmas.List.{length-map}
 use Rattle.std.proofs.lemmas.List.Edits.{length-remove}
 use Rattle.std.proofs.lemmas.Cmp.{nat_list_eq_equiv}
-use Rattle.std.proofs.lemmas.Option.{some-injective}
 use Rattle.std.proofs.Common.{length-append}
 use Rattle.std.proofs.lemmas.Bool.{eqb-true, false≢true}
 use Rattle.arc_data.specs.Classes.{same_class_equiv}
@@ -26,10 +25,14 @@ first_after : (n : ℕ) (i : Incident) (is : List Incident) (place : ℕ) (x : I
 first_after n i is place x e f zero lt = e
 first_after n i is place x e f (suc j) lt = f j (omega (arith, lt))
 
+abbrev some_or : Incident → Option Incident → Incident
+some_or d None = d
+some_or d (Some i) = i
+
 found_if : (n : ℕ) (i : Incident) (is : List Incident) (x : Incident) (b : Bool) → has_number n i ≡ b → cond b (Some i) (find (has_number n) is) ≡ Some x → (find (has_number n) is ≡ Some x → (place : ℕ) × IsAt n is place x)
     → (place : ℕ) × IsAt n (i ∷ is) place x
 found_if n i is x true e f rest =
-    let same : i ≡ x = some-injective f in
+    let same : i ≡ x = ap (λ (o : Option Incident). some_or i o) f in
     (0, record { below = omega arith; here = ap (has_number n) (sym same) ∙ e; item = sym same; first = λ j lt. absurd (omega (arith, lt)) })
 found_if n i is x false e f rest =
     let w = rest f in

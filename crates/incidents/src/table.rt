@@ -221,9 +221,10 @@ impl Table {
         requires { IsSome (find (has_number number) self.old.incidents) }
         ensures { self.new ≡ record self.old { incidents = without number self.old.incidents; room = self.old.room - 1 } }
     {
-        if let Some(incident) = self.slots.get(number) {
-            self.index.remove(&incident.account, incident.class);
-        }
+        let Some(incident) = self.slots.get(number) else {
+            unreachable!()
+        };
+        self.index.remove(&incident.account, incident.class);
         self.slots.remove(number);
         self.room -= 1;
     }
