@@ -1,15 +1,17 @@
 // Writing the report.
-ghost use Rattle.std.specs.Prelude.{◌++◌, decimal};
+ghost use Rattle.std.specs.Prelude.{◌++◌, ◌∷◌, [], decimal};
 ghost use Rattle.std.specs.List.{flat_map};
 ghost use Rattle.arc_io.specs.Told.{Puts};
 ghost use Rattle.centre_rules.specs.Standing.{standing_of};
+ghost use Rattle.incidents.specs.Slots.{open_of};
 ghost use Rattle.arc_report.specs.Reports.{incident_line, table_of, report_of};
 ghost use Rattle.desk_wire.specs.Replies.{ended};
 
-use arc_data::{Incident, Reply};
+use arc_data::Reply;
 use arc_io::{Failed, Sink, put};
 use centre_core::Centre;
 use desk_wire::print;
+use incidents::{Slot, Table};
 use itoa::Buffer;
 use open_incidents::orders::view;
 
@@ -20,22 +22,17 @@ pub fn report<K: Sink>(centre: &Centre, out: &mut K) -> Result<(), Failed>
     ensures { Puts (K.seen out.old) (K.seen out.new) result (report_of centre.now.sum) }
 {
     match put_count(out, b"recorded ", centre.recorded()) {
-        Ok(()) => put_table(out, centre.table().items(), centre.last(), centre.lapse()),
+        Ok(()) => put_table(out, centre.table(), centre.last(), centre.lapse()),
         Err(fault) => Err(fault),
     }
 }
 
 // Writes how many incidents are open, and the line of each as it stands at a moment.
-fn put_table<K: Sink>(
-    out: &mut K,
-    items: &[Incident],
-    at: u64,
-    lapse: Option<u64>,
-) -> Result<(), Failed>
-    ensures { Puts (K.seen out.old) (K.seen out.new) result (table_of (standing_of lapse at items.now)) }
+fn put_table<K: Sink>(out: &mut K, table: &Table, at: u64, lapse: Option<u64>) -> Result<(), Failed>
+    ensures { Puts (K.seen out.old) (K.seen out.new) result (table_of (standing_of lapse at table.now.incidents)) }
 {
-    match put_count(out, b"open ", items.len() as u64) {
-        Ok(()) => put_incidents(out, items, at, lapse),
+    match put_count(out, b"open ", table.count() as u64) {
+        Ok(()) => put_incidents(out, table.slots(), at, lapse),
         Err(fault) => Err(fault),
     }
 }
@@ -61,20 +58,30 @@ fn put_number<K: Sink>(out: &mut K, number: u64) -> Result<(), Failed>
     }
 }
 
-// Writes the line of each incident as it stands at a moment.
+// Writes the line of each open incident as it stands at a moment.
 fn put_incidents<K: Sink>(
     out: &mut K,
-    items: &[Incident],
+    slots: &[Slot],
     at: u64,
     lapse: Option<u64>,
 ) -> Result<(), Failed>
-    ensures { Puts (K.seen out.old) (K.seen out.new) result (flat_map incident_line (standing_of lapse at items.now)) }
+    ensures { Puts (K.seen out.old) (K.seen out.new) result (flat_map incident_line (standing_of lapse at (open_of slots.now))) }
 {
-    for i in items {
-        match print(&Reply::Shown(view(i, at, lapse)), out) {
+    for slot in slots {
+        match put_slot(out, slot, at, lapse) {
             Ok(()) => {}
             Err(fault) => return Err(fault),
         }
     }
     Ok(())
+}
+
+// Writes the line of the incident that is open at a place, if there is one.
+fn put_slot<K: Sink>(out: &mut K, slot: &Slot, at: u64, lapse: Option<u64>) -> Result<(), Failed>
+    ensures { Puts (K.seen out.old) (K.seen out.new) result (flat_map incident_line (standing_of lapse at (open_of (slot.now ∷ [])))) }
+{
+    match slot.incident() {
+        Some(i) => print(&Reply::Shown(view(i, at, lapse)), out),
+        None => Ok(()),
+    }
 }

@@ -145,7 +145,7 @@ impl Centre {
                 ..
             } => Ok(self.on_close(operator, *number, at)),
             Event::Show { number } => Ok(show(self.queued.table(), *number, at, self.lapse())),
-            Event::List => list(alloc, self.queued.table().items(), at, self.lapse()),
+            Event::List => list(alloc, self.queued.table(), at, self.lapse()),
             Event::Message { .. } | Event::Tick => Ok(Reply::Unknown),
         }
     }

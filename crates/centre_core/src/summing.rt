@@ -1,6 +1,6 @@
 // What is kept, as the bytes of its summary.
-ghost use Rattle.std.specs.Prelude.{◌≡◌, ◌<◌, ◌++◌, [], ℕ, List, Some, true, length, map, slice_get, OnOk, OnErr};
-ghost use Rattle.std.specs.List.{list_any};
+ghost use Rattle.std.specs.Prelude.{◌≡◌, ◌<◌, ◌++◌, ◌∷◌, [], ℕ, List, Some, true, length, map, slice_get, OnOk, OnErr};
+ghost use Rattle.std.specs.List.{flat_map, list_any};
 ghost use Rattle.std.specs.Option.{option_map};
 ghost use Rattle.std.specs.Str.{bytes_eq};
 ghost use Rattle.centre_rules.specs.Marks.{has_row};
@@ -8,6 +8,7 @@ ghost use Rattle.centre_rules.specs.Summary.{Summary};
 ghost use Rattle.centre_rules.specs.History.{Entry, IsMoment};
 ghost use Rattle.centre_rules.specs.State.{StandsFor};
 ghost use Rattle.centre_rules.specs.Sums.{account_row, summary_of};
+ghost use Rattle.incidents.specs.Slots.{open_of};
 ghost use Rattle.known_accounts.specs.Supervised.{rows_sum};
 ghost use Rattle.summary_rules.specs.Spelling.{row_text, incident_text, many_texts, summary_text};
 ghost use Rattle.summary_codec.specs.Writing.{HaveGoodSteps};
@@ -15,7 +16,7 @@ ghost use Rattle.centre_core.specs.Summing.{IsSpelled};
 
 use crate::centre::Centre;
 use arc_data::{Memory, Txt};
-use incidents::Table;
+use incidents::{Slot, Table};
 use known_accounts::AccountRows;
 use std::alloc::Global;
 use summary_codec::{put_count, put_given, put_head, put_incident, put_row, put_setup};
@@ -145,8 +146,18 @@ fn put_incidents(table: &Table, out: &mut Vec<u8>) -> Result<(), Memory>
     ensures { OnOk result (HaveGoodSteps table.now.incidents → out.new.items ≡ out.old.items ++ many_texts (incident_text 2) table.now.incidents) }
 {
     put_count(table.count(), out)?;
-    for i in 0..table.count() {
-        put_incident(table.at(i), out)?;
+    for slot in table.slots() {
+        put_slot(slot, out)?;
     }
     Ok(())
+}
+
+// The incident that is open at a place.
+fn put_slot(slot: &Slot, out: &mut Vec<u8>) -> Result<(), Memory>
+    ensures { OnOk result (HaveGoodSteps (open_of (slot.now ∷ [])) → out.new.items ≡ out.old.items ++ flat_map (incident_text 2) (open_of (slot.now ∷ []))) }
+{
+    match slot.incident() {
+        Some(incident) => put_incident(incident, out),
+        None => Ok(()),
+    }
 }

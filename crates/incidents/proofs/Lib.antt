@@ -5,3 +5,4 @@ pub mod Opened
 pub mod Places
 pub mod Rising
 pub mod Told
+pub mod Walk

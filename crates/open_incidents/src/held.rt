@@ -110,7 +110,7 @@ pub(crate) fn hold(numbers: &mut Held, table: &Table, number: u64)
     ensures numbers { (by : List ℕ) (at : ℕ) → numbers.new.numbers ≡ held_numbers (at_number number (held (Some by) at) table.now.incidents) }
     ensures room { numbers.new.room ≡ numbers.old.room }
 {
-    let _items = table.items();
+    let _slots = table.slots();
     if let Some(i) = table.get(number) {
         if i.holder.is_none() {
             numbers.insert(number);
@@ -129,7 +129,7 @@ pub(crate) fn find_held<'a>(
     requires { numbers.now ≡ held_numbers table.now.incidents }
     ensures { option_map (λ i. stands_at lapse at i.now) result ≡ held_by operator.now (standing_of lapse at table.now.incidents) }
 {
-    let _items = table.items();
+    let _slots = table.slots();
     for number in numbers {
         if let Some(i) = table.get(*number) {
             if holds(i, operator, at, lapse) {

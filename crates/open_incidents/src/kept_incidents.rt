@@ -49,12 +49,13 @@ impl QueuedTable {
         ensures incidents { IfOk result (λ copy. copy.incidents ≡ self.now.incidents) }
     {
         // Its clauses say that numbers rise, and that no two are of one account and class.
-        let _items = self.table.items();
+        let slots = self.table.slots();
         let mut copy = QueuedTable::opened_at(alloc, self.table.opened());
         copy.reserve(self.table.count())?;
-        for place in 0..self.table.count() {
-            let incident = copied(self.table.at(place));
-            copy.put(incident);
+        for slot in slots {
+            if let Some(i) = slot.incident() {
+                copy.put(copied(i));
+            }
         }
         Ok(copy)
     }

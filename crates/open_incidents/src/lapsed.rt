@@ -20,7 +20,7 @@ pub(crate) fn first_lapsed<'a>(
     requires { numbers.now ≡ held_numbers table.now.incidents }
     ensures { option_map (λ i. i.now) result ≡ least (lapsed lapse at table.now.incidents) }
 {
-    let _items = table.items();
+    let _slots = table.slots();
     let mut first = None;
     for number in numbers {
         if let Some(i) = table.get(*number) {

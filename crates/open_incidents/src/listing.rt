@@ -7,17 +7,21 @@ ghost use Rattle.open_incidents.specs.Listings.{comes_before, put_in};
 
 use crate::standing::holder_at;
 use arc_data::{Incident, Listing, Memory, Reply, Row};
+use incidents::Table;
 use std::alloc::Global;
 
 /// How many incidents are open, and the first 16 by priority and number. The error is want of memory.
-pub fn list(alloc: Global, items: &[Incident], at: u64, lapse: Option<u64>) -> Result<Reply, Memory>
-    ensures { IfOk result (λ reply. reply ≡ on_list (standing_of lapse at items.now)) }
+pub fn list(alloc: Global, table: &Table, at: u64, lapse: Option<u64>) -> Result<Reply, Memory>
+    ensures { IfOk result (λ reply. reply ≡ on_list (standing_of lapse at table.now.incidents)) }
 {
     let mut first = Vec::new(alloc);
-    for k in (0..items.len()).rev() {
-        put(&mut first, row(&items[k], at, lapse))?;
+    let slots = table.slots();
+    for k in (0..slots.len()).rev() {
+        if let Some(i) = slots[k].incident() {
+            put(&mut first, row(i, at, lapse))?;
+        }
     }
-    Ok(Reply::Listed(Listing::of(items.len() as u64, first)))
+    Ok(Reply::Listed(Listing::of(table.count() as u64, first)))
 }
 
 // The row of an incident.

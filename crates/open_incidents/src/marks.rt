@@ -45,7 +45,7 @@ pub fn act(table: &mut Table, number: u64, step: Step, outcome: Outcome, at: u64
     ensures few { (n : ℕ) → IsFew n table.old.opened table.old.incidents → IsFew n table.new.opened table.new.incidents }
     ensures room { HaveActRoom table.new.incidents }
 {
-    let _items = table.items();
+    let _slots = table.slots();
     table.act(number, step, outcome, at, operator);
 }
 
@@ -70,7 +70,7 @@ pub fn carry(table: &mut Table, x: &Carried)
     ensures few { (n : ℕ) → IsFew n table.old.opened table.old.incidents → IsFew (n + 1) table.new.opened table.new.incidents }
     ensures room { HaveActRoom table.old.incidents → HaveActRoom table.new.incidents }
 {
-    let _items = table.items();
+    let _slots = table.slots();
     let _count = x.steps.count();
     match x.signal.kind {
         Kind::New | Kind::Again => match table.find(&x.account, x.signal.class) {

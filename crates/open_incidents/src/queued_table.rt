@@ -90,7 +90,7 @@ impl QueuedTable {
     pub fn first(&self, at: u64, lapse: Option<u64>) -> Option<&Incident>
         ensures { option_map (λ i. stands_at lapse at i.now) result ≡ best (standing_of lapse at self.now.incidents) }
     {
-        let _items = self.table.items();
+        let _slots = self.table.slots();
         let lapsed = first_lapsed(&self.table, self.held.numbers(), at, lapse);
         earlier(self.first_queued(), lapsed)
     }
@@ -99,7 +99,7 @@ impl QueuedTable {
     fn first_queued(&self) -> Option<&Incident>
         ensures { option_map (λ i. i.now) result ≡ best self.now.incidents }
     {
-        let _items = self.table.items();
+        let _slots = self.table.slots();
         match self.queue.first() {
             Some(first) => self.table.get(first.1),
             None => None,
@@ -138,7 +138,7 @@ impl QueuedTable {
         ensures few { (n : ℕ) → IsFew n self.old.opened self.old.incidents → IsFew n self.new.opened self.new.incidents }
         ensures room { HaveActRoom self.old.incidents → HaveActRoom self.new.incidents }
     {
-        put_held(&mut self.queue, self.table.items());
+        put_held(&mut self.queue, self.table.slots());
         self.held.clear();
         marks::release_all(&mut self.table);
     }

@@ -1,24 +1,26 @@
 // Which incidents of a table wait in its queue: those without a claimer.
 ghost use Rattle.std.specs.Prelude.{◌≡◌, ◌≤◌, None, length, map};
 ghost use Rattle.std.specs.List.Sorted.{IsPermutation};
+ghost use Rattle.incidents.specs.Slots.{open_of};
 ghost use Rattle.incidents.specs.Tables.{at_number, held, without};
 ghost use Rattle.open_incidents.specs.Waiting.{pair_of, waiting};
 
 use crate::uncounted::{insert, remove};
-use arc_data::Incident;
-use incidents::Table;
+use incidents::{Slot, Table};
 use operator_queue::Queue;
 
-/// Puts those of the incidents that have a claimer into the queue of those without one.
-pub(crate) fn put_held(queue: &mut Queue, items: &[Incident])
-    requires same { IsPermutation (waiting items.now) queue.old.pairs }
-    requires memory { length items.now ≤ queue.old.room }
-    ensures pairs { IsPermutation (map pair_of items.now) queue.new.pairs }
+/// Puts those of the open incidents that have a claimer into the queue of those without one.
+pub(crate) fn put_held(queue: &mut Queue, slots: &[Slot])
+    requires same { IsPermutation (waiting (open_of slots.now)) queue.old.pairs }
+    requires memory { length (open_of slots.now) ≤ queue.old.room }
+    ensures pairs { IsPermutation (map pair_of (open_of slots.now)) queue.new.pairs }
     ensures room { queue.new.room ≡ queue.old.room }
 {
-    for i in items {
-        if i.holder.is_some() {
-            insert(queue, i.class.priority(), i.number);
+    for slot in slots {
+        if let Some(i) = slot.incident() {
+            if i.holder.is_some() {
+                insert(queue, i.class.priority(), i.number);
+            }
         }
     }
 }
@@ -30,7 +32,7 @@ pub(crate) fn put_back(queue: &mut Queue, table: &Table, number: u64)
     ensures pairs { IsPermutation (waiting (at_number number (held None 0) table.now.incidents)) queue.new.pairs }
     ensures room { queue.new.room ≡ queue.old.room }
 {
-    let _items = table.items();
+    let _slots = table.slots();
     if let Some(i) = table.get(number) {
         if i.holder.is_some() {
             insert(queue, i.class.priority(), i.number);
@@ -44,7 +46,7 @@ pub(crate) fn take_out(queue: &mut Queue, table: &Table, number: u64)
     ensures pairs { IsPermutation (waiting (without number table.now.incidents)) queue.new.pairs }
     ensures room { queue.new.room ≡ queue.old.room }
 {
-    let _items = table.items();
+    let _slots = table.slots();
     if let Some(i) = table.get(number) {
         if i.holder.is_none() {
             remove(queue, i.class.priority(), i.number);

@@ -12,7 +12,13 @@ fn note() -> StepList {
 }
 
 // Opens an incident, where none of its account and class is open. The answer is its number, or 0.
-fn open(rt: &impl Abort, table: &mut Table, account: &[u8], class: Class, at: u64) -> u64 {
+pub(crate) fn open(
+    rt: &impl Abort,
+    table: &mut Table,
+    account: &[u8],
+    class: Class,
+    at: u64,
+) -> u64 {
     let account = text(rt, account);
     table.reserve(1).expect(rt, "memory");
     if table.opened() > 99 || table.find(&account, class).is_some() {
@@ -44,11 +50,13 @@ fn act(table: &mut Table, number: u64, at: u64, operator: Txt) {
     }
 }
 
-fn close(table: &mut Table, number: u64) -> Option<Incident> {
-    if table.get(number).is_none() {
-        return None;
+// Whether one was open until now.
+fn close(table: &mut Table, number: u64) -> bool {
+    let was_open = table.get(number).is_some();
+    if was_open {
+        table.remove(number);
     }
-    Some(table.remove(number))
+    was_open
 }
 
 fn three_incidents(rt: &impl Abort, alloc: Global) -> Table {
@@ -81,10 +89,8 @@ fn one_of_an_account_and_a_class(rt: HostRuntime) {
 fn close_and_open(rt: &impl Abort, table: &mut Table) {
     let number = open(rt, table, b"1234", Class::Fire, 400);
     same(rt, number, 0, "one is open");
-    let closed = close(table, 2).expect(rt, "open until now");
-    let told = (closed.number, closed.at, closed.signals);
-    same(rt, told, (2, 200, 1), "closed");
-    holds(rt, close(table, 2).is_none(), "closed once");
+    holds(rt, close(table, 2), "open until now");
+    holds(rt, !close(table, 2), "closed once");
     compare_found(rt, table, "1234", Class::Fire, None);
     let number = open(rt, table, b"1234", Class::Fire, 400);
     same(rt, number, 4, "opened again");
@@ -138,8 +144,7 @@ fn open_forty(rt: &impl Abort, table: &mut Table) {
 
 fn close_every_third(rt: &impl Abort, table: &mut Table) {
     for third in 0..13u64 {
-        let closed = close(table, 3 * third + 1);
-        holds(rt, closed.is_some(), "open until now");
+        holds(rt, close(table, 3 * third + 1), "open until now");
     }
     same(rt, table.count(), 27, "open still");
     same(rt, table.opened(), 40, "opened");
@@ -159,6 +164,70 @@ fn many_incidents_and_gaps(rt: HostRuntime) {
     open_forty(&rt, &mut table);
     close_every_third(&rt, &mut table);
     compare_open(&rt, &table);
+}
+
+fn open_sixty(rt: &impl Abort, table: &mut Table) {
+    for k in 0..60u8 {
+        open_one(rt, table, k);
+    }
+    same(rt, table.count(), 60, "open");
+}
+
+// All but each third, in an order that goes seven on each time: 61 is a prime number, so each number comes once.
+fn close_forty(rt: &impl Abort, table: &mut Table) {
+    for step in 1..61u64 {
+        let number = 7 * step % 61;
+        if number % 3 > 0 {
+            holds(rt, close(table, number), "open until now");
+        }
+    }
+    same(rt, table.count(), 20, "open still");
+    same(rt, table.opened(), 60, "opened");
+}
+
+// The first, second, fourth and fifth place of an account and a class are free, so four more open.
+fn open_again(rt: &impl Abort, table: &mut Table) {
+    for k in 0..5u8 {
+        open_one(rt, table, k);
+    }
+    same(rt, table.count(), 24, "open again");
+    same(rt, table.opened(), 64, "opened again");
+}
+
+// Each third number up to 60, and then each number before this end: in order, and no others.
+fn compare_numbers(rt: &impl Abort, table: &Table, end: u64) {
+    let mut wanted = 3u64;
+    for slot in table.slots() {
+        if let Some(incident) = slot.incident() {
+            same(rt, incident.number, wanted, "in order");
+            wanted = if wanted < 60 {
+                wanted + 3
+            } else {
+                wanted.saturating_add(1)
+            };
+        }
+    }
+    same(rt, wanted, end, "all that are open");
+}
+
+fn compare_thirds(rt: &impl Abort, table: &Table, end: u64) {
+    for number in 0..70u64 {
+        let is_open = number > 0 && number < 61 && number % 3 == 0 || number > 60 && number < end;
+        let told = (number, table.get(number).is_some());
+        same(rt, told, (number, is_open), "whether open");
+    }
+}
+
+#[test]
+fn many_closed_in_any_order(rt: HostRuntime) {
+    let mut table = Table::new(rt.alloc());
+    open_sixty(&rt, &mut table);
+    close_forty(&rt, &mut table);
+    compare_numbers(&rt, &table, 61);
+    compare_thirds(&rt, &table, 61);
+    open_again(&rt, &mut table);
+    compare_numbers(&rt, &table, 65);
+    compare_thirds(&rt, &table, 65);
 }
 
 // A held incident with a number that was given before.

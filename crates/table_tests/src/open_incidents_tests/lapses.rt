@@ -146,7 +146,7 @@ fn compare_listed(
     at: u64,
     want: Option<Txt>,
 ) {
-    let reply = list(alloc, queued.table().items(), at, LAPSE).expect(rt, "memory");
+    let reply = list(alloc, queued.table(), at, LAPSE).expect(rt, "memory");
     let Reply::Listed(listing) = reply else {
         panic!(rt; "no list");
     };

@@ -1,10 +1,10 @@
 // What no clause says: that memory for a list is found; and the order of a list, worked out by hand.
-ghost use Rattle.std.specs.Prelude.{◌<◌};
-
+use crate::incidents_tests::open;
 use crate::same::same;
-use arc_data::{Acts, Class, Listing, StepList};
+use arc_data::{Class, Listing};
+use incidents::Table;
+use open_incidents::Reply;
 use open_incidents::listing::list;
-use open_incidents::{Incident, Reply, Txt};
 use std::alloc::Global;
 use std::process::Abort;
 
@@ -13,36 +13,18 @@ const CLASSES: [Class; 4] = [Class::Trouble, Class::Fire, Class::Burglary, Class
 // The numbers of the first 16 of 18 incidents, whose classes follow each other as above.
 const FIRST: [u64; 16] = [2, 6, 10, 14, 18, 3, 7, 11, 15, 4, 8, 12, 16, 1, 5, 9];
 
-fn incident(number: u64) -> Incident
-    requires { 0 < number }
-{
-    Incident {
-        number,
-        account: Txt::empty(),
-        class: CLASSES[((number - 1) % 4) as usize],
-        code: Txt::empty(),
-        at: 100,
-        signals: 1,
-        restored: false,
-        holder: None,
-        touched: 0,
-        steps: StepList::new(),
-        acts: Acts::new(),
-        via: Txt::empty(),
+fn eighteen(rt: &impl Abort, alloc: Global) -> Table {
+    let mut table = Table::new(alloc);
+    for k in 0..18u8 {
+        let class = CLASSES[(k % 4) as usize];
+        open(rt, &mut table, &[b'A' + k], class, 100);
     }
+    table
 }
 
-fn incidents(rt: &impl Abort, alloc: Global) -> Vec<Incident> {
-    let mut items = Vec::new(alloc);
-    for number in 1..19u64 {
-        items.push(incident(number)).expect(rt, "memory");
-    }
-    items
-}
-
-// The list of these incidents, which tells how many there are, and has so many rows.
-fn listed(rt: &impl Abort, alloc: Global, items: &[Incident], total: u64, count: usize) -> Listing {
-    let reply = list(alloc, items, 100, None).expect(rt, "memory");
+// The list of the open incidents, which tells how many there are, and has so many rows.
+fn listed(rt: &impl Abort, alloc: Global, table: &Table, total: u64, count: usize) -> Listing {
+    let reply = list(alloc, table, 100, None).expect(rt, "memory");
     let Reply::Listed(listing) = reply else {
         panic!(rt; "no list");
     };
@@ -69,8 +51,9 @@ fn compare_rows(rt: &impl Abort, listing: &Listing) {
 
 #[test]
 fn the_first_sixteen_and_none(rt: HostRuntime) {
-    let items = incidents(&rt, rt.alloc());
-    let listing = listed(&rt, rt.alloc(), &items, 18, 16);
+    let table = eighteen(&rt, rt.alloc());
+    let listing = listed(&rt, rt.alloc(), &table, 18, 16);
     compare_rows(&rt, &listing);
-    let _none = listed(&rt, rt.alloc(), &[], 0, 0);
+    let none = Table::new(rt.alloc());
+    let _empty = listed(&rt, rt.alloc(), &none, 0, 0);
 }
