@@ -3,6 +3,7 @@ use Rattle.std.proofs.Common.{◌≡◌, ◌<◌, ◌≤◌, ℕ, zero, suc, ◌
 use Rattle.std.specs.Prelude.{slice_get}
 use Rattle.std.specs.List.{filter_map, cons_option}
 use Rattle.std.proofs.lemmas.List.{take_more, take_all}
+use Rattle.std.proofs.lemmas.Option.{slice_get_within, get_or_from_slice_get}
 use Rattle.std.proofs.lemmas.List.Elements.{filter_map-append}
 use Rattle.arc_data.specs.declared.incident.Incident.{Incident}
 use Rattle.incidents.specs.declared.slots.Slot.{Slot}
@@ -38,6 +39,15 @@ pub walk_here : (k : ℕ) (slots : List Slot) (x : Slot) (i : Incident) → k < 
 walk_here k [] x i lt e open_ = absurd (omega (arith, lt))
 walk_here zero (s ∷ slots) x i lt e open_ = let same : x ≡ s = e in let here : standing s ≡ Some i = ap standing (sym same) ∙ open_ in rw here refl
 walk_here (suc k) (s ∷ slots) x i lt e open_ = here_if s slots k (Some i) (standing s) refl (walk_here k slots x i (omega (arith, lt)) e open_)
+
+pub walk_next : (k : ℕ) (slots : List Slot) (is : List Incident) (x : Slot) (i j : Incident) → open_of slots ≡ is → k < length slots → x ≡ get_or slots k x → standing x ≡ Some i → j ≡ i → slice_get is (before k slots) ≡ Some j
+walk_next k slots is x i j whole lt e open_ same = ap (λ (l : List Incident). slice_get l (before k slots)) (sym whole) ∙ walk_here k slots x i lt e open_ ∙ ap Some (sym same)
+
+pub walk_within : (k : ℕ) (slots : List Slot) (x : Slot) (i : Incident) → k < length slots → x ≡ get_or slots k x → standing x ≡ Some i → before k slots < length (open_of slots)
+walk_within k slots x i lt e open_ = slice_get_within (open_of slots) (before k slots) i (walk_here k slots x i lt e open_)
+
+pub walk_item : (k : ℕ) (slots : List Slot) (x : Slot) (i : Incident) → k < length slots → x ≡ get_or slots k x → standing x ≡ Some i → i ≡ get_or (open_of slots) (before k slots) i
+walk_item k slots x i lt e open_ = sym (get_or_from_slice_get (open_of slots) (before k slots) i i (walk_here k slots x i lt e open_))
 
 -- before the end are all
 pub walk_end : (k : ℕ) (slots : List Slot) → length slots ≤ k → before k slots ≡ length (open_of slots)

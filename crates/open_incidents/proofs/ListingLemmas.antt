@@ -1,7 +1,7 @@
 -- The first rows of a list that is put in order.
 use Rattle.std.proofs.Common.{◌≡◌, ◌≤◌, ◌<◌, ◌+◌, ℕ, zero, suc, List, [], ◌∷◌, ◌++◌, map, length, take, drop, Bool, true, false, cond, refl, sym, ap, ◌∙◌, arith, get_or, drop-cons}
 use Rattle.std.specs.Prelude.{not, nat_lt, IsTrue, Option, Some, None}
-use Rattle.std.specs.List.{insert, position, position_or_len}
+use Rattle.std.specs.List.{insert, position, position_or_len, cons_option}
 use Rattle.std.proofs.lemmas.Bool.{false≢true}
 use Rattle.std.proofs.lemmas.Bool.Decides.{nat_tests}
 use Rattle.std.proofs.lemmas.List.{length-take, length-map}
@@ -12,6 +12,8 @@ use Rattle.arc_data.specs.declared.listing.Row.{Row}
 use Rattle.arc_data.specs.declared.reply.Reply.TheVariants.{Listed}
 use Rattle.centre_rules.specs.Desks.{on_list, row_of, is_before, inserted, sorted}
 use Rattle.centre_rules.specs.Standing.{stands_at, standing_of}
+use Rattle.incidents.specs.declared.slots.Slot.{Slot}
+use Rattle.incidents.specs.Slots.{standing, open_of}
 use Rattle.open_incidents.specs.Listings.{comes_before, put_in}
 
 -- The place that a search tells.
@@ -84,16 +86,25 @@ first_more i is =
     ap (λ l. take 16 (put_in (row_of i) l)) (map_take row_of 16 (sorted is)) ∙ first_put 16 (row_of i) (map row_of (sorted is))
     ∙ ap (take 16) (sym (rows_inserted i (sorted is))) ∙ sym (map_take row_of 16 (inserted i (sorted is)))
 
-drop_more : (n k : ℕ) (is : List Incident) (i : Incident) → n + 1 ≡ k → n < length is → i ≡ get_or is n i → drop n is ≡ i ∷ drop k is
-drop_more n k is i e lt at = let next : suc n ≡ k = omega arith in drop-cons is n i lt ∙ (λ t. sym at t ∷ drop (next t) is)
+drop_more : (n k : ℕ) (slots : List Slot) (x : Slot) → n + 1 ≡ k → n < length slots → x ≡ get_or slots n x → drop n slots ≡ x ∷ drop k slots
+drop_more n k slots x e lt at = let next : suc n ≡ k = omega arith in drop-cons slots n x lt ∙ (λ t. sym at t ∷ drop (next t) slots)
+
+open_more : (n k : ℕ) (slots : List Slot) (x : Slot) (o : Option Incident) → n + 1 ≡ k → n < length slots → x ≡ get_or slots n x → standing x ≡ o → open_of (drop n slots) ≡ cons_option o (open_of (drop k slots))
+open_more n k slots x o e lt at here = ap (λ (l : List Slot). open_of l) (drop_more n k slots x e lt at) ∙ ap (λ (p : Option Incident). cons_option p (open_of (drop k slots))) here
 
 -- the rows of one incident more, that before the others, as they stand
-pub row_more : (lapse : Option ℕ) (at n k : ℕ) (is : List Incident) (i : Incident) (r : Row) (rows rows' : List Row) → n + 1 ≡ k → n < length is
-    → i ≡ get_or is n i → r ≡ row_of (stands_at lapse at i) → rows ≡ first_rows (standing_of lapse at (drop k is))
-    → rows' ≡ take 16 (put_in r rows) → rows' ≡ first_rows (standing_of lapse at (drop n is))
-row_more lapse at n k is i r rows rows' e lt at_place row before after =
-    after ∙ (λ t. take 16 (put_in (row t) (before t))) ∙ first_more (stands_at lapse at i) (standing_of lapse at (drop k is))
-    ∙ ap (λ (l : List Incident). first_rows (standing_of lapse at l)) (sym (drop_more n k is i e lt at_place))
+pub row_more : (lapse : Option ℕ) (at n k : ℕ) (slots : List Slot) (x : Slot) (i : Incident) (r : Row) (rows rows' : List Row) → n + 1 ≡ k → n < length slots
+    → x ≡ get_or slots n x → standing x ≡ Some i → r ≡ row_of (stands_at lapse at i) → rows ≡ first_rows (standing_of lapse at (open_of (drop k slots)))
+    → rows' ≡ take 16 (put_in r rows) → rows' ≡ first_rows (standing_of lapse at (open_of (drop n slots)))
+row_more lapse at n k slots x i r rows rows' e lt at_place here row before after =
+    after ∙ (λ t. take 16 (put_in (row t) (before t))) ∙ first_more (stands_at lapse at i) (standing_of lapse at (open_of (drop k slots)))
+    ∙ ap (λ (l : List Incident). first_rows (standing_of lapse at l)) (sym (open_more n k slots x (Some i) e lt at_place here))
+
+-- and the same rows, where none is open
+pub row_less : (lapse : Option ℕ) (at n k : ℕ) (slots : List Slot) (x : Slot) (rows : List Row) → n + 1 ≡ k → n < length slots → x ≡ get_or slots n x → standing x ≡ None
+    → rows ≡ first_rows (standing_of lapse at (open_of (drop k slots))) → rows ≡ first_rows (standing_of lapse at (open_of (drop n slots)))
+row_less lapse at n k slots x rows e lt at_place none before =
+    before ∙ ap (λ (l : List Incident). first_rows (standing_of lapse at l)) (sym (open_more n k slots x None e lt at_place none))
 
 -- as many stand as are open
 pub as_many : (lapse : Option ℕ) (at : ℕ) (is : List Incident) → length (standing_of lapse at is) ≡ length is
@@ -105,11 +116,11 @@ pub few_rows : (is : List Incident) (rows : List Row) → rows ≡ first_rows is
 few_rows is rows e = omega (arith, ap length e, length-map (take 16 (sorted is)) row_of, length-take 16 (sorted is))
 
 -- with none left before them, they are the rows of the whole list
-pub listed_all : (lapse : Option ℕ) (at k : ℕ) (is : List Incident) (rows : List Row) (l : Listing) → k ≡ 0
-    → rows ≡ first_rows (standing_of lapse at (drop k is)) → l ≡ record { total = length is; rows = rows }
+pub listed_all : (lapse : Option ℕ) (at k : ℕ) (slots : List Slot) (is : List Incident) (rows : List Row) (l : Listing) → k ≡ 0 → open_of slots ≡ is
+    → rows ≡ first_rows (standing_of lapse at (open_of (drop k slots))) → l ≡ record { total = length is; rows = rows }
     → Listed l ≡ on_list (standing_of lapse at is)
-listed_all lapse at k is rows l none before e =
+listed_all lapse at k slots is rows l none whole before e =
     ap Listed (e ∙ (λ t. record {
       total = sym (as_many lapse at is) t;
-      rows = (before ∙ ap (λ (n : ℕ). first_rows (standing_of lapse at (drop n is))) none) t;
+      rows = (before ∙ ap (λ (n : ℕ). first_rows (standing_of lapse at (open_of (drop n slots)))) none ∙ ap (λ (js : List Incident). first_rows (standing_of lapse at js)) whole) t;
     }))

@@ -12,7 +12,7 @@ use Rattle.arc_data.specs.Classes.{same_class_equiv}
 use Rattle.arc_data.specs.Incidents.{is_of, Ascends, Each}
 use Rattle.arc_data.specs.declared.incident.Incident.{Incident}
 use Rattle.centre_rules.specs.Desks.{is_free}
-use Rattle.incidents.specs.Tables.{IsSingle}
+use Rattle.incidents.specs.Tables.{IsSingle, TableValue}
 use Rattle.open_incidents.specs.Holding.{held_numbers, is_held, with_number}
 use Rattle.open_incidents.specs.Waiting.{pair_of, waiting}
 use Rattle.open_incidents.proofs.Holders.{held_append}
@@ -97,3 +97,12 @@ none_of_it (i ∷ is) zero x at single = refl
 none_of_it (i ∷ is) (suc place) x at single =
     ap (λ b. cond b (Some i) (find (is_of x.account x.class) (take place is))) (sym (of_both i x) ∙ other_at i is place x at single.0)
     ∙ none_of_it is place x at single.1
+
+-- so many of the incidents were put into a copy
+pub record IsCopied (many : ℕ) (is : List Incident) (count : ℕ) (copy : TableValue) : Type 0 where
+  pub opened : copy.opened ≡ many
+  pub incidents : copy.incidents ≡ take count is
+  pub room : length is ≤ copy.room
+
+pub kept_as : (many : ℕ) (is : List Incident) (count : ℕ) (after copy : TableValue) → after ≡ copy → IsCopied many is count copy → IsCopied many is count after
+kept_as many is count after copy e w = subst (λ (t : TableValue). IsCopied many is count t) (sym e) w

@@ -57,7 +57,7 @@ pub fn close(table: &mut Table, number: u64)
     ensures few { (n : ℕ) → IsFew n table.old.opened table.old.incidents → IsFew n table.new.opened table.new.incidents }
     ensures room { HaveActRoom table.old.incidents → HaveActRoom table.new.incidents }
 {
-    let _closed = table.remove(number);
+    table.remove(number);
 }
 
 /// An account has a signal. A New or Again one is attached to the open incident of the account and class, or else opens one,

@@ -13,7 +13,7 @@ pub returns-then-holds : goal.returns-then-holds
 returns-then-holds c =
     let t = c.args.table.now in
     let k = c.loop-number.number-index in
-    let one = next t.incidents t.opened k _ c.args.numbers.now c.items-items.ensures.ascends c.requires c.loop-number-test.true refl in
+    let one = next t.incidents t.opened k _ c.args.numbers.now c.slots-slots.ensures.ascends c.requires c.loop-number-test.true refl in
     this c.args.lapse c.args.at c.args.operator.now t.incidents k _ c.in-Some.i.now one c.loop-number.invariant
     (sym c.get.ensures ∙ ap (option_map (λ i. i.now)) c.in-Some.is) c.if-holds.ensures
 
@@ -21,7 +21,7 @@ pub loop-number-preserved : goal.loop-number-preserved
 loop-number-preserved c =
     let t = c.args.table.now in
     let k = c.loop-number.number-index in
-    let one = next t.incidents t.opened k _ c.args.numbers.now c.items-items.ensures.ascends c.requires c.loop-number-test.true refl in
+    let one = next t.incidents t.opened k _ c.args.numbers.now c.slots-slots.ensures.ascends c.requires c.loop-number-test.true refl in
     elim c.match-get.branch [
       | in-Some+else-holds w ↦
           passed c.args.lapse c.args.at c.args.operator.now t.incidents k _ w.in-Some.i.now one c.loop-number.invariant

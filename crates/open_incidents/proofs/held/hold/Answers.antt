@@ -9,7 +9,7 @@ pub insert-requires : goal.insert-requires
 insert-requires c =
     let t = c.args.table.now in
     let found = sym c.get.ensures ∙ ap (option_map (λ i. i.now)) c.in-Some.is in
-    let few = room_free c.args.number t.incidents t.opened c.in-Some.i.now c.items-items.ensures.ascends found c.if-is_none.ensures in
+    let few = room_free c.args.number t.incidents t.opened c.in-Some.i.now c.slots-slots.ensures.ascends found c.if-is_none.ensures in
     omega (arith, few, ap length c.requires.same, c.requires.memory)
 
 pub returns-then-is_none-clause-numbers : goal.returns-then-is_none-clause-numbers
@@ -18,14 +18,14 @@ returns-then-is_none-clause-numbers c by at =
     let n = c.args.number in
     let found = sym c.get.ensures ∙ ap (option_map (λ i. i.now)) c.in-Some.is in
     c.insert.ensures.numbers ∙ ap (with_number n) c.requires.same
-    ∙ sym (begun n by at 0 t.incidents t.opened c.in-Some.i.now c.items-items.ensures.ascends found c.if-is_none.ensures)
+    ∙ sym (begun n by at 0 t.incidents t.opened c.in-Some.i.now c.slots-slots.ensures.ascends found c.if-is_none.ensures)
 
 pub returns-else-is_none-clause-numbers : goal.returns-else-is_none-clause-numbers
 returns-else-is_none-clause-numbers c by at =
     let t = c.args.table.now in
     let found = sym c.get.ensures ∙ ap (option_map (λ i. i.now)) c.in-Some.is in
     c.requires.same
-    ∙ sym (still c.args.number by at t.incidents t.opened c.in-Some.i.now c.items-items.ensures.ascends found c.if-is_none.ensures)
+    ∙ sym (still c.args.number by at t.incidents t.opened c.in-Some.i.now c.slots-slots.ensures.ascends found c.if-is_none.ensures)
 
 pub returns-in_default-clause-numbers : goal.returns-in_default-clause-numbers
 returns-in_default-clause-numbers c by at =

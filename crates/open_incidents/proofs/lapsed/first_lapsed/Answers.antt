@@ -14,7 +14,7 @@ loop-number-preserved c =
     let t = c.args.table.now in
     let k = c.loop-number.number-index in
     let first = option_map (λ i. i.now) c.loop-number.first in
-    let one = next t.incidents t.opened k _ c.args.numbers.now c.items-items.ensures.ascends c.requires c.loop-number-test.true refl in
+    let one = next t.incidents t.opened k _ c.args.numbers.now c.slots-slots.ensures.ascends c.requires c.loop-number-test.true refl in
     elim c.match-get.branch [
       | in-Some+then-has_lapsed w ↦
           one_seen lapse at t.incidents k first _ w.in-Some.i.now one c.loop-number.invariant (sym c.get.ensures ∙ ap (option_map (λ i. i.now)) w.in-Some.is)

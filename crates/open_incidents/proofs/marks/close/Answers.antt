@@ -7,10 +7,10 @@ use Rattle.open_incidents.proofs.Pointwise.{closes_map}
 use Rattle.open_incidents.proofs.marks.close.Goals as goal
 
 pub returns-clause-opened : goal.returns-clause-opened
-returns-clause-opened c = ap (λ (t : TableValue). t.opened) c.remove-closed.ensures.left
+returns-clause-opened c = ap (λ (t : TableValue). t.opened) c.remove.ensures
 
 pub returns-clause-incidents : goal.returns-clause-incidents
-returns-clause-incidents c = ap (λ (t : TableValue). t.incidents) c.remove-closed.ensures.left ∙ closes_map c.args.number c.args.table.now.incidents
+returns-clause-incidents c = ap (λ (t : TableValue). t.incidents) c.remove.ensures ∙ closes_map c.args.number c.args.table.now.incidents
 
 pub returns-clause-few : goal.returns-clause-few
 returns-clause-few c n w = rw (returns-clause-opened c, returns-clause-incidents c) (few_closes c.args.number n c.args.table.now.opened c.args.table.now.incidents w)

@@ -13,7 +13,7 @@ insert-requires c =
     let found = sym c.get.ensures ∙ ap (option_map (λ i. i.now)) c.in-Some.is in
     let held : is_free c.in-Some.i.now ≡ false = held_by c.in-Some.i.now.holder c.if-is_some.ensures in
     let few : length c.args.queue.now.pairs < length t.incidents =
-    room_held c.args.number t.incidents t.opened c.in-Some.i.now c.items-items.ensures.ascends found c.args.queue.now.pairs c.requires.same held in
+    room_held c.args.number t.incidents t.opened c.in-Some.i.now c.slots-slots.ensures.ascends found c.args.queue.now.pairs c.requires.same held in
     omega (arith, few, c.requires.memory)
 
 pub returns-then-is_some-clause-pairs : goal.returns-then-is_some-clause-pairs
@@ -21,7 +21,7 @@ returns-then-is_some-clause-pairs c =
     let t = c.args.table.now in
     let found = sym c.get.ensures ∙ ap (option_map (λ i. i.now)) c.in-Some.is in
     let held : is_free c.in-Some.i.now ≡ false = held_by c.in-Some.i.now.holder c.if-is_some.ensures in
-    back_held c.args.number t.incidents t.opened c.in-Some.i.now c.items-items.ensures.ascends found c.args.queue.now.pairs c.requires.same
+    back_held c.args.number t.incidents t.opened c.in-Some.i.now c.slots-slots.ensures.ascends found c.args.queue.now.pairs c.requires.same
     c.insert.new.queue.pairs held
     (subst (λ p. IsPermutation ((p, c.in-Some.i.now.number) ∷ c.args.queue.now.pairs) c.insert.new.queue.pairs) c.priority.ensures
     c.insert.ensures.pairs)
@@ -31,7 +31,7 @@ returns-else-is_some-clause-pairs c =
     let t = c.args.table.now in
     let found = sym c.get.ensures ∙ ap (option_map (λ i. i.now)) c.in-Some.is in
     let free : is_free c.in-Some.i.now ≡ true = free_by c.in-Some.i.now.holder c.if-is_some.ensures in
-    back_free c.args.number t.incidents t.opened c.in-Some.i.now c.items-items.ensures.ascends found c.args.queue.now.pairs c.requires.same free
+    back_free c.args.number t.incidents t.opened c.in-Some.i.now c.slots-slots.ensures.ascends found c.args.queue.now.pairs c.requires.same free
 
 pub returns-in_default-clause-pairs : goal.returns-in_default-clause-pairs
 returns-in_default-clause-pairs c =

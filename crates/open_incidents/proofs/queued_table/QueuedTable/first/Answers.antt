@@ -18,4 +18,4 @@ returns c =
     let past = c.first_lapsed-lapsed.ensures ∙ ap (λ (y : TableValue). least (lapsed lapse at y.incidents)) c.self.view_is in
     let both = c.earlier.ensures ∙ (λ i. earlier (c.first_queued.ensures i) (past i)) in
     map_twice (stands_at lapse at) (λ i. i.now) c.earlier.result ∙ ap (option_map (stands_at lapse at)) both
-    ∙ sym (best_stood lapse at t.incidents t.opened (subst (λ (y : TableValue). Ascends 0 y.incidents y.opened) c.self.view_is c.items-items.ensures.ascends))
+    ∙ sym (best_stood lapse at t.incidents t.opened (subst (λ (y : TableValue). Ascends 0 y.incidents y.opened) c.self.view_is c.slots-slots.ensures.ascends))

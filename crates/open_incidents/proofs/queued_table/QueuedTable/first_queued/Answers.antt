@@ -9,7 +9,7 @@ pub returns-in-Some : goal.returns-in-Some
 returns-in-Some c =
     let t = c.self.inside.table in
     c.get.ensures
-    ∙ first_best t.incidents t.opened c.self.inside.queue.pairs c.in-Some.first c.items-items.ensures.ascends c.self.invariant.queue_of.same
+    ∙ first_best t.incidents t.opened c.self.inside.queue.pairs c.in-Some.first c.slots-slots.ensures.ascends c.self.invariant.queue_of.same
     c.in-Some.ensures.least.0 c.in-Some.ensures.least.1
     ∙ ap (λ (y : TableValue). best y.incidents) c.self.view_is
 

@@ -16,7 +16,7 @@ invariant_of-self c =
     record {
       queue_of = record {
         same = started 0 old c.release_all.new.table.incidents c.put_held.new.queue.pairs is
-            (subst (λ (l : List Incident). IsPermutation (map pair_of l) c.put_held.new.queue.pairs) c.items.ensures.value c.put_held.ensures.pairs);
+            (subst (λ (l : List Incident). IsPermutation (map pair_of l) c.put_held.new.queue.pairs) c.slots.ensures.value c.put_held.ensures.pairs);
         memory = omega (arith, long_same (Starts 0) old c.release_all.new.table.incidents is, c.self.invariant.queue_of.memory, c.put_held.ensures.room);
       };
       held_of = record {
