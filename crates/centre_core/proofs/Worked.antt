@@ -1,27 +1,31 @@
 -- What has been worked out for an event.
 use Rattle.std.proofs.Common.{◌≡◌, ◌≤◌, ℕ, List, [], ◌++◌, length, true, false, Option, Some, None, refl, sym, ap, ◌∙◌, arith}
-use Rattle.std.specs.Prelude.{◌&&◌, IsOk, Result, Ok, Err, option_and_then, unwrap_or}
+use Rattle.std.specs.Prelude.{◌&&◌, IfSome, IsOk, Result, Ok, Err, is_some, option_and_then, unwrap_or}
 use Rattle.std.specs.List.{flat_map}
 use Rattle.std.specs.Result.{result_ok, result_unwrap_or}
 use Rattle.std.proofs.lemmas.Bool.{false≢true}
 use Rattle.arc_data.specs.declared.event.Event.{Event}
-use Rattle.arc_data.specs.declared.event.Event.TheVariants.{Message as Sent, Tick}
+use Rattle.arc_data.specs.declared.event.Event.TheVariants.{Message as Sent, Beat, Tick}
 use Rattle.arc_data.specs.declared.event.Message.{Message}
 use Rattle.arc_data.specs.declared.reply.Reply.{Reply}
-use Rattle.arc_data.specs.declared.reply.Reply.TheVariants.{Taken, Repeat, Raised, Unknown}
+use Rattle.arc_data.specs.declared.reply.Reply.TheVariants.{Taken, Repeat, Heard, Raised, Unknown}
 use Rattle.arc_data.specs.declared.setup_fault.SetupFault.{SetupFault}
 use Rattle.arc_data.specs.declared.signal.Signal.{Signal}
-use Rattle.alarm_rules.specs.Setups.{Setup, setup_of, meaning}
+use Rattle.alarm_rules.specs.Setups.{Setup, has_number, setup_of, meaning}
 use Rattle.alarm_rules.specs.Signals.{signals, has_signals}
 use Rattle.centre_rules.specs.Summary.{Summary}
 use Rattle.centre_rules.specs.Marks.{Mark, Carried, force}
 use Rattle.centre_rules.specs.Carrying.{carried_by, carried_sent, if_in_force, raised, raised_where, is_silent, is_late}
 use Rattle.arc_data.specs.declared.signal.Class.TheVariants.{CommFail, LateClose}
 use Rattle.centre_rules.specs.Answers.{answer_over, if_known, knows_account, repeat_of, taken_or}
+use Rattle.known_accounts.specs.Supervised.{IsPlaceIn}
+use Rattle.accounts.proofs.StandLemmas.{place-there}
 use Rattle.centre_core.specs.Kept.{IsWorked, IsPlain}
+use Rattle.centre_core.proofs.Carried.{found_known}
 
 no_signals : (s : Summary) (e : Event) (at : ℕ) → IsPlain e → carried_by s [] e at ≡ []
 no_signals s (Sent m via) at p = absurd p
+no_signals s (Beat account) at p = absurd p
 no_signals s Tick at p = absurd p
 no_signals s event at p = refl
 
@@ -32,10 +36,11 @@ plain_worked s e at r xs plain answer none = record {
   few = rw none (omega arith);
 }
 
-pub plain_event : (e : Event) → ((m : Message) (via : List ℕ) → e ≡ Sent m via → ⊥) → (e ≡ Tick → ⊥) → IsPlain e
-plain_event (Sent m via) f g = f m via refl
-plain_event Tick f g = g refl
-plain_event event f g = tt
+pub plain_event : (e : Event) → ((m : Message) (via : List ℕ) → e ≡ Sent m via → ⊥) → ((account : List ℕ) → e ≡ Beat account → ⊥) → (e ≡ Tick → ⊥) → IsPlain e
+plain_event (Sent m via) f g h = f m via refl
+plain_event (Beat account) f g h = g account refl
+plain_event Tick f g h = h refl
+plain_event event f g h = tt
 
 -- The setup in force.
 
@@ -73,6 +78,25 @@ message_taken s m via at setup signals_are xs in_force known read none are few =
       ap (λ (o : Option Setup). if_in_force o (λ x. flat_map (carried_sent x m.account via at) (unwrap_or (signals m.token m.content) []))) in_force
       ∙ ap (λ (o : Option (List Signal)). flat_map (carried_sent setup m.account via at) (unwrap_or o [])) read);
   few = omega (arith, few);
+}
+
+-- Heartbeats.
+
+-- an account has a place in the setup in force just where that knows it
+known_in : (account : List ℕ) (place : Option ℕ) (text : Option (List ℕ)) → IfSome text (λ t. IsOk (setup_of t)) → IsPlaceIn account place text
+    → is_some place ≡ knows_account (option_and_then (λ t. result_ok (setup_of t)) text) account
+known_in account place None ok there = ap is_some there.is
+known_in account place (Some t) ok there =
+    let forced : result_ok (setup_of t) ≡ Some (meaning t) = ok_is (setup_of t) _ ok in
+    found_known (meaning t) account place there.is there.within (place-there (has_number account) (meaning t).accounts place there.is)
+    ∙ sym (ap (λ (o : Option Setup). knows_account o account) forced)
+
+pub beat_worked : (s : Summary) (account : List ℕ) (place : Option ℕ) (at : ℕ) (r : Reply) (xs : List Carried) → IfSome s.text (λ t. IsOk (setup_of t)) → IsPlaceIn account place s.text
+    → r ≡ if_known (is_some place) Heard → xs ≡ [] → IsWorked s (Beat account) at r xs
+beat_worked s account place at r xs ok there is none = record {
+  answer = is ∙ ap (λ b. if_known b Heard) (known_in account place s.text ok there);
+  carried = λ q. none;
+  few = rw none (omega arith);
 }
 
 -- Ticks.

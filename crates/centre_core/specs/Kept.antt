@@ -1,7 +1,7 @@
 -- What a centre keeps, beside its state.
 use Rattle.std.specs.Prelude.{◌≡◌, ◌<◌, ◌≤◌, ◌^◌, ◌+◌, ◌*◌, ℕ, List, [], true, length, Option, Some, None, IsOk, IsErr, IfSome}
 use Rattle.arc_data.specs.declared.event.Event.{Event}
-use Rattle.arc_data.specs.declared.event.Event.TheVariants.{Adopt, Message as Sent, Tick}
+use Rattle.arc_data.specs.declared.event.Event.TheVariants.{Adopt, Message as Sent, Beat, Tick}
 use Rattle.arc_data.specs.declared.reply.Reply.{Reply}
 use Rattle.alarm_rules.specs.Setups.{setup_of}
 use Rattle.centre_rules.specs.Summary.{Summary}
@@ -41,9 +41,10 @@ abbrev pub CarriesSetup : Event → Option (List ℕ) → Type 0
 CarriesSetup (Adopt text) setup = (setup ≡ Some text) × IsOk (setup_of text)
 CarriesSetup event setup = Unit {0}
 
--- neither a Message nor a Tick, which carry signals
+-- neither a Message nor a Tick, which carry signals, nor a Beat, whose account is looked up
 abbrev pub IsPlain : Event → Type 0
 IsPlain (Sent m via) = ⊥
+IsPlain (Beat account) = ⊥
 IsPlain Tick = ⊥
 IsPlain event = Unit {0}
 
@@ -71,7 +72,7 @@ pub record IsWorked (s : Summary) (event : Event) (at : ℕ) (reply : Reply) (si
   pub carried : is_recorded reply ≡ true → signals ≡ carried_by s [] event at
   pub few : length signals ≤ 4000
 
--- it is sound, the setup of an Adopt was read, the account of a message looked up, and there is room
+-- it is sound, the setup of an Adopt was read, the account of a message or a heartbeat looked up, and there is room
 pub record IsReady (p : Plan) (setup : Option (List ℕ)) (found : FoundAccount) : Type 0 where
   pub sound : IsSound p
   pub adopted : IsAdopted p.event setup

@@ -50,9 +50,10 @@ abbrev pub AreOwn : Event → List Carried → Type 0
 AreOwn (Sent m via) xs = AreOf m.account xs
 AreOwn event xs = Unit {0}
 
--- the account of a message was looked up in this setup and these rows
+-- the account of a message or a heartbeat was looked up in this setup and these rows
 abbrev pub IsFoundFor : Event → FoundAccount → Option (List ℕ) → List AccountRow → Type 0
 IsFoundFor (Sent m via) found text rows = IsFoundOf m.account found text rows
+IsFoundFor (Beat account) found text rows = IsFoundOf account found text rows
 IsFoundFor event found text rows = Unit {0}
 
 -- the marks of a recorded event that carries these signals

@@ -1,6 +1,6 @@
 // What a centre works out for an event: its reply, and the signals that it carries.
-ghost use Rattle.std.specs.Prelude.{◌≡◌, [], true, IfOk};
-ghost use Rattle.arc_data.specs.declared.event.Event.TheVariants.{Message as Sent, Tick};
+ghost use Rattle.std.specs.Prelude.{◌≡◌, [], ℕ, true, IfOk};
+ghost use Rattle.arc_data.specs.declared.event.Event.TheVariants.{Message as Sent, Beat, Tick};
 ghost use Rattle.centre_rules.specs.Answers.{answer_over};
 ghost use Rattle.centre_rules.specs.History.{IsMoment, is_recorded};
 ghost use Rattle.centre_core.specs.Kept.{IsAdopted, IsWorked, IsPlain};
@@ -8,20 +8,21 @@ ghost use Rattle.centre_core.specs.Taken.{IsFoundFor};
 
 use crate::carrying::{found, raise, signals_sent};
 use crate::centre::Centre;
-use crate::orders::on_adopt;
+use crate::orders::{if_known, on_adopt};
 use arc_data::{Acted, Carried, Event, Memory, Message, Reply, Txt};
 use known_accounts::{FoundAccount, WatchedSetup};
 use open_incidents::listing::list;
 use open_incidents::orders::show;
 use std::alloc::Global;
 
-// Of all events but messages no account is looked up.
+// Of all events but messages and heartbeats no account is looked up.
 const NOT_FOUND: FoundAccount = FoundAccount {
     row: None,
     setup: None,
 };
 
-/// The reply to an event, and where it is recorded, the signals that it carries, and where the account of a message stands.
+/// The reply to an event, and where it is recorded, the signals that it carries, and where the account of a message or a heartbeat
+/// stands.
 #[derive(Drop)]
 pub(crate) struct Worked {
     pub reply: Reply,
@@ -46,6 +47,7 @@ impl Centre {
     {
         match event {
             Event::Message { message, via } => self.on_message(alloc, message, via, at),
+            Event::Beat { account } => Ok(self.on_beat(alloc, account)),
             Event::Tick => self.on_tick(alloc, at),
             _ => {
                 let reply = self.reply(alloc, event, setup, at)?;
@@ -90,6 +92,19 @@ impl Centre {
         })
     }
 
+    // The answer to a heartbeat, whose account is looked up here and nowhere else.
+    fn on_beat(&self, alloc: Global, account: &Txt) -> Worked
+        ensures worked { (at : ℕ) → IsWorked self.now.sum (Beat account.now) at result.reply result.carried.items }
+        ensures found { IsFoundFor (Beat account.now) result.found self.now.sum.text self.now.sum.rows }
+    {
+        let found = self.accounts.find(account);
+        Worked {
+            reply: if_known(found.setup.is_some(), Reply::Heard),
+            carried: Vec::new(alloc),
+            found,
+        }
+    }
+
     // The answer to a Tick, and the signals that it raises.
     fn on_tick(&self, alloc: Global, at: u64) -> Result<Worked, Memory>
         requires { IsMoment at }
@@ -121,7 +136,6 @@ impl Centre {
         match event {
             Event::Adopt { .. } => Ok(on_adopt(setup)),
             Event::Start => Ok(Reply::Started),
-            Event::Beat { account } => Ok(self.on_beat(account)),
             Event::Claim { operator, number } => Ok(self.on_claim(operator, *number, at)),
             Event::Next { operator } => Ok(self.on_next(operator, at)),
             Event::Act {
@@ -146,7 +160,7 @@ impl Centre {
             } => Ok(self.on_close(operator, *number, at)),
             Event::Show { number } => Ok(show(self.queued.table(), *number, at, self.lapse())),
             Event::List => list(alloc, self.queued.table(), at, self.lapse()),
-            Event::Message { .. } | Event::Tick => Ok(Reply::Unknown),
+            Event::Message { .. } | Event::Beat { .. } | Event::Tick => Ok(Reply::Unknown),
         }
     }
 }

@@ -15,8 +15,8 @@ use arc_data::{Carried, Event, Message, Outcome, Reply, Step, Txt};
 use known_accounts::{AccountPlace, FoundAccount, SupervisedAccounts};
 use open_incidents::QueuedTable;
 
-/// Takes up the marks of a recorded event that is no Adopt, with its reply and the signals that it carries. The account of a message was
-/// looked up.
+/// Takes up the marks of a recorded event that is no Adopt, with its reply and the signals that it carries. The account of a message or a
+/// heartbeat was looked up.
 pub(crate) fn mark(
     accounts: &mut SupervisedAccounts,
     table: &mut QueuedTable,
@@ -36,7 +36,7 @@ pub(crate) fn mark(
         Event::Start => start(accounts, table, at),
         Event::Message { message, .. } => send(accounts, table, message, at, carried, found),
         Event::Beat { account } => {
-            let place = accounts.place(&account);
+            let place = accounts.place_from(found, &account);
             accounts.hear(place, at);
         }
         Event::Tick => carry_each(accounts, table, carried),

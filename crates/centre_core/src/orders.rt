@@ -1,8 +1,8 @@
-// The answers to heartbeats, to operators, and to an Adopt.
+// The answers to operators, and to an Adopt.
 ghost use Rattle.std.specs.Prelude.{◌≡◌, ℕ, List, []};
 ghost use Rattle.arc_data.specs.declared.event.CloseCode.{CloseCode};
-ghost use Rattle.arc_data.specs.declared.event.Event.TheVariants.{Adopt, Beat, Claim, Next, Act as Do, Release, Close};
-ghost use Rattle.centre_rules.specs.Answers.{answer_over, knows_account, knows_operator, if_known};
+ghost use Rattle.arc_data.specs.declared.event.Event.TheVariants.{Adopt, Claim, Next, Act as Do, Release, Close};
+ghost use Rattle.centre_rules.specs.Answers.{answer_over, knows_operator, if_known};
 ghost use Rattle.centre_rules.specs.Marks.{force};
 ghost use Rattle.centre_rules.specs.Summary.{Summary};
 ghost use Rattle.centre_core.specs.Kept.{IsSetupOf};
@@ -13,13 +13,6 @@ use known_accounts::WatchedSetup;
 use open_incidents::orders;
 
 impl Centre {
-    /// The answer to a heartbeat.
-    pub(crate) fn on_beat(&self, account: &Txt) -> Reply
-        ensures { (at : ℕ) → result ≡ answer_over self.now.sum [] (Beat account.now) at }
-    {
-        if_known(self.knows(account), Reply::Heard)
-    }
-
     /// The answer to a claim.
     pub(crate) fn on_claim(&self, operator: &Txt, number: u64, at: u64) -> Reply
         ensures { result ≡ answer_over self.now.sum [] (Claim operator.now number) at }
@@ -61,16 +54,6 @@ impl Centre {
         if_known(self.knows_operator(operator), reply)
     }
 
-    // Whether the setup in force has an account.
-    fn knows(&self, account: &Txt) -> bool
-        ensures { result ≡ knows_account (force self.now.sum []) account.now }
-    {
-        match self.accounts.setup() {
-            None => false,
-            Some(setup) => setup.knows(account),
-        }
-    }
-
     // Whether the setup in force has an operator.
     fn knows_operator(&self, name: &Txt) -> bool
         ensures { result ≡ knows_operator (force self.now.sum []) name.now }
@@ -93,8 +76,8 @@ pub(crate) fn on_adopt(setup: &Option<WatchedSetup>) -> Reply
     }
 }
 
-// A reply, or Unknown where what it is about is lacking.
-fn if_known(known: bool, reply: Reply) -> Reply
+/// A reply, or Unknown where what it is about is lacking.
+pub(crate) fn if_known(known: bool, reply: Reply) -> Reply
     ensures { result ≡ if_known known reply }
 {
     if known { reply } else { Reply::Unknown }

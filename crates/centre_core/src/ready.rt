@@ -20,7 +20,7 @@ pub struct Ready {
     pub(crate) setup: Option<WatchedSetup>,
     // The signals that the entry carries, where it is recorded, each with the steps of the incident that it would open.
     pub(crate) carried: Vec<Carried>,
-    // Where the account of a message that is recorded stands.
+    // Where the account of a message or a heartbeat that is recorded stands.
     pub(crate) found: FoundAccount,
     pub(crate) of: Snapshot<Centre>,
 }

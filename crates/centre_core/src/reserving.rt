@@ -13,7 +13,7 @@ use std::alloc::Global;
 
 impl Centre {
     // Takes the memory for an event that carries these signals: for an incident of each, and for the rows that lack, and no more of these.
-    // The account of a message was looked up. The error is want of memory.
+    // The account of a message or a heartbeat was looked up. The error is want of memory.
     pub(crate) fn reserve(
         &mut self,
         alloc: Global,
@@ -36,7 +36,7 @@ impl Centre {
     }
 }
 
-// How many rows lack for an event that carries these signals. The account of a message was looked up.
+// How many rows lack for an event that carries these signals. The account of a message or a heartbeat was looked up.
 fn rows_for(
     accounts: &SupervisedAccounts,
     event: &Event,
@@ -49,8 +49,7 @@ fn rows_for(
 {
     let rows = accounts.rows();
     match event {
-        Event::Message { .. } => lacks(found.row),
-        Event::Beat { account } => row_for(rows, account),
+        Event::Message { .. } | Event::Beat { .. } => lacks(found.row),
         _ => rows_of(rows, carried),
     }
 }

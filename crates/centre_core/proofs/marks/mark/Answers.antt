@@ -11,7 +11,7 @@ returns-in-Beat-clause-taken c =
     let v = c.args.accounts.now.rows in
     rw c.in-Beat.is
     (one_taken (Hears account c.args.at) v c.hear.new.self.rows c.args.table.now c.args.table.now (λ text. refl)
-    (made_marked account (Hears account c.args.at) v c.place-place.new.self.rows c.hear.new.self.rows (λ b p. refl) c.place-place.ensures.made (c.hear.ensures.marked account c.place-place.ensures.there)) refl
+    (made_marked account (Hears account c.args.at) v c.place_from-place.new.self.rows c.hear.new.self.rows (λ b p. refl) c.place_from-place.ensures.made (c.hear.ensures.marked account c.place_from-place.ensures.there)) refl
     (sym (heard_same account c.args.at c.args.table.now.incidents)) (λ n w. w) (λ r. r))
 
 pub returns-clause-taken : goal.returns-clause-taken

@@ -14,9 +14,6 @@ returns-in-Adopt c =
     let read = subst (λ (e : Event). IsAdopted e c.args.setup.now) c.in-Adopt.is c.requires.adopted in
     λ plain. c.on_adopt.ensures c.args.self.now.sum _ c.args.at read ∙ ap (λ (e : Event). answer_over c.args.self.now.sum [] e c.args.at) (sym c.in-Adopt.is)
 
-pub returns-in-Beat : goal.returns-in-Beat
-returns-in-Beat c = λ plain. c.on_beat.ensures c.args.at ∙ ap (λ (e : Event). answer_over c.args.self.now.sum [] e c.args.at) (sym c.in-Beat.is)
-
 pub returns-in-Claim : goal.returns-in-Claim
 returns-in-Claim c = λ plain. c.on_claim.ensures ∙ ap (λ (e : Event). answer_over c.args.self.now.sum [] e c.args.at) (sym c.in-Claim.is)
 
