@@ -55,6 +55,16 @@ impl LineState {
         }
     }
 
+    /// The line is made anew, as `new` makes one, in the room that it has.
+    pub fn renew(&mut self, name: Txt)
+        requires { is_name name ≡ true }
+        ensures { TookStream name [] self.new }
+    {
+        self.name = name;
+        self.pieces.restart();
+        self.count = 0;
+    }
+
     /// How many bytes are taken yet, until the limit of 2^40.
     pub(crate) fn room(&self) -> u64
         ensures { result ≡ input_limit - self.now.count }

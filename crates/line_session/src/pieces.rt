@@ -42,6 +42,13 @@ impl Pieces {
         }
     }
 
+    /// Nothing is open any more.
+    pub(crate) fn restart(&mut self)
+        ensures { WasFed [] self.new.cutter }
+    {
+        self.cutter.restart();
+    }
+
     /// Answers each whole piece that ends in these bytes, behind those that were taken before, on a line of this name.
     pub(crate) fn answer_whole<H: Hall, P: Port>(
         &mut self,
