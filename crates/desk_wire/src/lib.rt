@@ -11,4 +11,5 @@ mod texts;
 
 pub use command::Command;
 pub use laws::{law_read_is_spelled, law_spelled_is_read};
-pub use printing::{print, print_welcome};
+pub use line::Line;
+pub use printing::{print, print_in, print_welcome};

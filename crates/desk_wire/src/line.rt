@@ -10,7 +10,7 @@ use std::marker::Model;
 
 /// A line that is being written, of at most 2,048 bytes. Contracts see it as the list of its bytes.
 #[derive(Drop)]
-pub(crate) struct Line {
+pub struct Line {
     bytes: [u8; 2048],
     len: usize,
 }
@@ -27,13 +27,20 @@ impl Model for Line {
 
 impl Line {
     /// No bytes.
-    pub(crate) fn new() -> Line
+    pub fn new() -> Line
         ensures { result ≡ [] }
     {
         Line {
             bytes: [0; 2048],
             len: 0,
         }
+    }
+
+    /// Drops all bytes.
+    pub(crate) fn clear(&mut self)
+        ensures { self.new ≡ [] }
+    {
+        self.len = 0;
     }
 
     /// Its bytes.

@@ -14,7 +14,15 @@ pub fn print<K: Sink>(reply: &Reply, out: &mut K) -> Result<(), Failed>
     ensures { Puts (K.seen out.old) (K.seen out.new) result (line_of reply.now) }
 {
     let mut line = Line::new();
-    put_reply(&mut line, reply);
+    print_in(&mut line, reply, out)
+}
+
+/// Writes the one line of a reply, as `print` does, built in a line that is lent: what stood there counts for nothing.
+pub fn print_in<K: Sink>(line: &mut Line, reply: &Reply, out: &mut K) -> Result<(), Failed>
+    ensures { Puts (K.seen out.old) (K.seen out.new) result (line_of reply.now) }
+{
+    line.clear();
+    put_reply(line, reply);
     put(out, line.bytes())
 }
 
