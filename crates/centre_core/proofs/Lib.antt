@@ -19,3 +19,4 @@ pub mod RowsPut
 pub mod Tests
 pub mod Decoded
 pub mod Batches
+pub mod OnDisk

@@ -5,7 +5,7 @@ use Rattle.centre_rules.specs.Summary.{Summary}
 use Rattle.centre_rules.specs.History.{Entry, Extends}
 use Rattle.centre_rules.specs.Answers.{IsLegal}
 use Rattle.centre_core.specs.Batches.{with_all, dones_of, entries_by}
-use Rattle.centre_core.specs.Halls.{HallSeen}
+use Rattle.centre_core.specs.Halls.{HallSeen, DiskGoesOn}
 use Rattle.centre_core.specs.declared.batch.Submission.{Submission}
 use Rattle.centre_core.specs.declared.hall.Stop.{Stop}
 use Rattle.centre_core.specs.declared.hall.Stop.TheVariants.{Memory, Down, Full, Worn}
@@ -20,7 +20,7 @@ pub record GoesOnWith (b : Summary) (hall hall' : HallSeen) (h : List Entry) (ca
   pub holds : hall'.stands b (with_all hall.caller b before calls)
   pub legal : IsLegal b (with_all hall.caller b before calls)
   pub own : hall'.own (with_all hall.caller b before calls) ≡ reverse (entries_by hall.caller b before calls) ++ hall.own h
-  pub reads : hall.readable b h → hall'.readable b (with_all hall.caller b before calls)
+  pub disk : DiskGoesOn b hall hall' h (with_all hall.caller b before calls)
 
 -- the hall shows the stop, whatever was submitted
 abbrev pub ShowsAny : HallSeen → Stop → Type 0

@@ -37,6 +37,8 @@ pub record HallSeen : Type 1 where
   pub stands : Summary → List Entry → Type 0
   -- what was recorded of such a history can be read again
   pub readable : Summary → List Entry → Type 0
+  -- a crash at any moment from one of its disk's clock on leaves all that it had recorded by then, and nothing past such a history
+  pub leaves : ℕ → List Entry → Summary → List Entry → Type 0
   -- the part of such a history that its caller made
   pub own : List Entry → List Entry
   -- what it shows after a stop of an event at a reading of the clock: that the stop had its cause
@@ -55,6 +57,12 @@ pub record IsKept (hall hall' : HallSeen) : Type 0 where
   pub count : hall.count ≤ hall'.count
   pub told : hall.told ≤ hall'.told
 
+-- What is so of the hall's disk and a history is so of it and a later one, behind the hall's calls: what was recorded can be read again; and
+-- then, since whatever moment, a crash leaves all that had been recorded by that, and nothing past the history.
+pub record DiskGoesOn (b : Summary) (hall hall' : HallSeen) (h x : List Entry) : Type 0 where
+  pub reads : hall.readable b h → hall'.readable b x
+  pub leaves : hall.readable b h → (t : ℕ) (k : List Entry) → hall.leaves t k b h → hall'.leaves t k b x
+
 -- From h on, the hall stands for a history that ends with this entry. before is that history without the entry.
 pub record GoesOn (b : Summary) (hall hall' : HallSeen) (h : List Entry) (clock : ℕ) (e : Entry) : Type 0 where
   pub before : List Entry
@@ -63,7 +71,7 @@ pub record GoesOn (b : Summary) (hall hall' : HallSeen) (h : List Entry) (clock 
   pub legal : IsLegal b (e ∷ before)
   pub at : e.at ≡ moment_after b before clock
   pub own : hall'.own (e ∷ before) ≡ e ∷ hall.own h
-  pub reads : hall.readable b h → hall'.readable b (e ∷ before)
+  pub disk : DiskGoesOn b hall hall' h (e ∷ before)
   pub up : hall'.up
 
 -- From h on, the hall stands for a legal history to which this call added nothing.
@@ -73,7 +81,7 @@ pub record Waits (b : Summary) (hall hall' : HallSeen) (h : List Entry) : Type 0
   pub holds : hall'.stands b now
   pub legal : IsLegal b now
   pub own : hall'.own now ≡ hall.own h
-  pub reads : hall.readable b h → hall'.readable b now
+  pub disk : DiskGoesOn b hall hall' h now
 
 -- The hall took the event at a reading, as the caller's next entry behind others.
 pub record TookEvent (b : Summary) (hall hall' : HallSeen) (h : List Entry) (event : Event) (reading : ℕ) : Type 0 where

@@ -30,7 +30,7 @@ IsShown s (Down at_open now) = ⊥
 IsShown s (Full used need records) = ⊥
 IsShown s (Worn count) = (count ≡ s.entries) × (2 ^ 48 ≤ count)
 
--- what it tells: its caller has the number 0, and made all of each history; it has no journal, of which anything could be read
+-- what it tells: its caller has the number 0, and made all of each history; it has no journal, of which anything could be read or left
 abbrev pub ram_seen : State → HallSeen
 ram_seen s = record {
   ready = Unit {0};
@@ -41,6 +41,7 @@ ram_seen s = record {
   told = 0;
   stands = λ b h. IsSetFor b s h;
   readable = λ b h. Unit {0};
+  leaves = λ t k b h. Unit {0};
   own = λ h. h;
   shows = λ stop event clock. IsShown s stop;
   up = Unit {0};

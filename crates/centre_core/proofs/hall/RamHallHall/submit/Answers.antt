@@ -43,14 +43,14 @@ returns-in-Ok-clause-done c b h s =
       legal = subst (λ (e : Entry). IsLegal b (e ∷ h)) same after.legal;
       at = c.apply.ensures.at ∙ c.in-Ok.ensures.at b h kept;
       own = refl;
-      reads = λ r. r;
+      disk = record { reads = λ r. r; leaves = λ r t k left. left };
       up = tt;
     }
 
 -- what the hall stands for it stands for still
 pub returns-then-count-clause-stop : goal.returns-then-count-clause-stop
 returns-then-count-clause-stop c b h s = record {
-  waits = record { now = h; extends = ([], refl); holds = s; legal = s.stands.legal; own = refl; reads = λ r. r };
+  waits = record { now = h; extends = ([], refl); holds = s; legal = s.stands.legal; own = refl; disk = record { reads = λ r. r; leaves = λ r t k left. left } };
   cause = record { shown = search rules; torn = λ up. tt };
 }
 
@@ -65,7 +65,7 @@ returns-clause-stop c b h s =
         holds = record { stands = kept; setting = subst IsSetting (sym text) s.setting };
         legal = kept.legal;
         own = refl;
-        reads = λ r. r;
+        disk = record { reads = λ r. r; leaves = λ r t k left. left };
       };
       cause = record { shown = tt; torn = λ up. tt };
     }
