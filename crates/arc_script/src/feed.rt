@@ -28,7 +28,7 @@ use arc_io::Disk;
 use centre_core::{Centre, Stop};
 use centre_store::Store;
 use dc09_frame::{FrameBuf, write_frame};
-use line_session::{LineEnd, LineState};
+use line_session::LineEnd;
 use script_lines::{MOST_DIGITS, spelled};
 use std::alloc::Global;
 
@@ -79,7 +79,7 @@ pub(crate) fn feed<D: Disk>(
     put_fed(page, b'L', line as u64, frames)
 }
 
-/// Feeds the frame of a body, after which the line is made anew.
+/// Feeds the frame of a body, which is built in the lent buffer, after which the line is made anew.
 pub(crate) fn message<D: Disk>(
     alloc: Global,
     store: &mut Store<D>,
@@ -87,6 +87,7 @@ pub(crate) fn message<D: Disk>(
     moment: u64,
     line: usize,
     body: &[u8],
+    frame: &mut FrameBuf,
     page: &mut Page,
 ) -> Result<(), Stop>
     requires clock { moment < 253_402_300_800 }
@@ -119,10 +120,9 @@ pub(crate) fn message<D: Disk>(
     ensures at_open { store.new.at_open ≡ store.old.at_open }
     ensures limits { store.new.journal.limits ≡ store.old.journal.limits }
 {
-    let mut frame = FrameBuf::new();
-    write_frame(body, &mut frame);
+    write_frame(body, frame);
     let frames = fed(alloc, store, script, moment, line, frame.bytes());
-    script.lines[line - 1] = LineState::new(name_of(line));
+    script.lines[line - 1].renew(name_of(line));
     put_fed(page, b'M', line as u64, frames)
 }
 

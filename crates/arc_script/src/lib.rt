@@ -9,6 +9,7 @@ mod page;
 mod play;
 mod reopen;
 mod replies;
+mod room;
 mod run;
 mod script;
 mod script_end;

@@ -14,6 +14,7 @@ ghost use Rattle.arc_script.specs.Playing.{IsAskedAt, moment_at};
 ghost use Rattle.arc_script.specs.Texts.{is_passed, line_limit};
 
 use crate::page::Page;
+use crate::room::Room;
 use crate::script::Script;
 use crate::script_end::ScriptEnd;
 use crate::step::{carry_out, carry_out_reopen};
@@ -38,6 +39,7 @@ pub(crate) fn play_ended<D: Disk, P: Port>(
     store: Store<D>,
     script: &mut Script,
     cutter: &mut LineCutter,
+    room: &mut Room,
     port: &mut P,
     bytes: &[u8],
 ) -> Result<Store<D>, Halted<D>>
@@ -66,7 +68,7 @@ pub(crate) fn play_ended<D: Disk, P: Port>(
         let Some(cut) = cut else {
             continue;
         };
-        if let Err(left) = play_line(alloc, &mut store, script, port, cut, cutter.line()) {
+        if let Err(left) = play_line(alloc, &mut store, script, room, port, cut, cutter.line()) {
             store = play_left(alloc, store, script, port, left)?;
         }
     }
@@ -78,6 +80,7 @@ pub(crate) fn play_last<D: Disk, P: Port>(
     alloc: Global,
     store: Store<D>,
     script: &mut Script,
+    room: &mut Room,
     port: &mut P,
     cut: LineCut,
     line: &[u8],
@@ -95,7 +98,7 @@ pub(crate) fn play_last<D: Disk, P: Port>(
     ensures only { OnlyWrites (P.seen port.old) (P.seen port.new) }
 {
     let mut store = store;
-    match play_line(alloc, &mut store, script, port, cut, line) {
+    match play_line(alloc, &mut store, script, room, port, cut, line) {
         Ok(()) => Ok(store),
         Err(left) => play_left(alloc, store, script, port, left),
     }
@@ -115,6 +118,7 @@ fn play_line<D: Disk, P: Port>(
     alloc: Global,
     store: &mut Store<D>,
     script: &mut Script,
+    room: &mut Room,
     port: &mut P,
     cut: LineCut,
     line: &[u8],
@@ -145,7 +149,7 @@ fn play_line<D: Disk, P: Port>(
     if asked == ScriptLine::Reopen {
         return Err(Left::Reopen(moment));
     }
-    match play_asked(alloc, store, script, port, asked, moment) {
+    match play_asked(alloc, store, script, room, port, asked, moment) {
         Ok(()) => Ok(()),
         Err(end) => Err(Left::Ended(end)),
     }
@@ -206,6 +210,7 @@ fn play_asked<D: Disk, P: Port>(
     alloc: Global,
     store: &mut Store<D>,
     script: &mut Script,
+    room: &mut Room,
     port: &mut P,
     wanted: ScriptLine,
     moment: u64,
@@ -231,7 +236,7 @@ fn play_asked<D: Disk, P: Port>(
     let Ok(mut page) = Page::new(alloc, moment) else {
         return Err(ScriptEnd::Stopped(Stop::Memory));
     };
-    if let Err(stop) = carry_out(alloc, store, script, moment, wanted, &mut page) {
+    if let Err(stop) = carry_out(alloc, store, script, moment, wanted, room, &mut page) {
         return Err(ScriptEnd::Stopped(stop));
     }
     match put(port, page.text()) {

@@ -13,6 +13,7 @@ ghost use Rattle.arc_script.specs.Halting.{Finishes};
 ghost use Rattle.arc_script.specs.Texts.{line_limit};
 
 use crate::play::{Halted, play_ended, play_last};
+use crate::room::Room;
 use crate::script::{Script, tally_of};
 use crate::script_end::{ScriptEnd, ScriptEnded, Tally};
 use accounts::Setup;
@@ -107,6 +108,7 @@ fn read_script<D: Disk, P: Port>(
     let mut store = store;
     let mut cutter = LineCutter::new(LINE_LIMIT);
     let mut buffer = [0; PIECE];
+    let mut room = Room::new();
     let mut count = 0;
     'pieces: loop {
         let most = (PIECE as u64).min(room_behind(count)) as usize;
@@ -115,10 +117,18 @@ fn read_script<D: Disk, P: Port>(
         }
         match read_piece(port, &mut buffer, most) {
             Err(Failed) => return (ScriptEnd::ReadFault, script.close(store)),
-            Ok(0) => return finish(alloc, store, script, &mut cutter, port),
+            Ok(0) => return finish(alloc, store, script, &mut cutter, &mut room, port),
             Ok(more) => {
                 count += more as u64;
-                match play_ended(alloc, store, script, &mut cutter, port, &buffer[..more]) {
+                match play_ended(
+                    alloc,
+                    store,
+                    script,
+                    &mut cutter,
+                    &mut room,
+                    port,
+                    &buffer[..more],
+                ) {
                     Ok(played) => store = played,
                     Err(Halted { end, disk }) => return (end, disk),
                 }
@@ -133,6 +143,7 @@ fn finish<D: Disk, P: Port>(
     store: Store<D>,
     script: &mut Script,
     cutter: &mut LineCutter,
+    room: &mut Room,
     port: &mut P,
 ) -> (ScriptEnd, D)
     requires limit { cutter.old.limit ≡ line_limit }
@@ -146,7 +157,7 @@ fn finish<D: Disk, P: Port>(
     let Some(cut) = cutter.finish() else {
         return (ScriptEnd::Done, script.close(store));
     };
-    match play_last(alloc, store, script, port, cut, cutter.line()) {
+    match play_last(alloc, store, script, room, port, cut, cutter.line()) {
         Ok(store) => (ScriptEnd::Done, script.close(store)),
         Err(Halted { end, disk }) => (end, disk),
     }

@@ -198,7 +198,7 @@ fn renew_lines(lines: &mut [LineState])
 {
     let mut place = 0;
     while place < lines.len() {
-        lines[place] = LineState::new(name_of(place + 1));
+        lines[place].renew(name_of(place + 1));
         place += 1;
     }
 }

@@ -14,6 +14,7 @@ use crate::command::command;
 use crate::feed::{feed, message};
 use crate::page::Page;
 use crate::reopen::reopen;
+use crate::room::Room;
 use crate::script::Script;
 use crate::tick::tick;
 use arc_io::Disk;
@@ -30,6 +31,7 @@ pub(crate) fn carry_out<D: Disk>(
     script: &mut Script,
     moment: u64,
     wanted: ScriptLine,
+    room: &mut Room,
     page: &mut Page,
 ) -> Result<(), Stop>
     requires moment { moment < 253_402_300_800 }
@@ -48,7 +50,7 @@ pub(crate) fn carry_out<D: Disk>(
     ensures rest { (script.new.setup ≡ script.old.setup) × (script.new.number ≡ script.old.number)
         × (script.new.opened_before ≡ script.old.opened_before) }
 {
-    let done = over_store(alloc, store, script, moment, wanted, page);
+    let done = over_store(alloc, store, script, moment, wanted, room, page);
     unless_failed(store, done)
 }
 
@@ -121,6 +123,7 @@ fn over_store<D: Disk>(
     script: &mut Script,
     moment: u64,
     wanted: ScriptLine,
+    room: &mut Room,
     page: &mut Page,
 ) -> Result<(), Stop>
     requires moment { moment < 253_402_300_800 }
@@ -139,10 +142,17 @@ fn over_store<D: Disk>(
         × (script.new.opened_before ≡ script.old.opened_before) }
 {
     match wanted {
-        ScriptLine::Time { moment } => tick(alloc, store, script, moment, page),
+        ScriptLine::Time { moment } => tick(alloc, store, script, moment, &mut room.line, page),
         ScriptLine::Feed { line, digits } => feed(alloc, store, script, moment, line, digits, page),
         ScriptLine::Message { line, body } => message(
-            alloc, store, script, moment, line, body, page,
+            alloc,
+            store,
+            script,
+            moment,
+            line,
+            body,
+            &mut room.frame,
+            page,
         ),
         ScriptLine::Command { desk, text } => command(alloc, store, script, desk, text, page),
         ScriptLine::Reopen => Ok(()),

@@ -21,15 +21,16 @@ use arc_data::{Event, Reply};
 use arc_io::{Disk, put};
 use centre_core::Stop;
 use centre_store::Store;
-use desk_wire::print;
+use desk_wire::{Line, print_in};
 use std::alloc::Global;
 
-/// Sets the clock, and submits a Tick. The first time a run begins before.
+/// Sets the clock, and submits a Tick, whose reply is built in the lent line. The first time a run begins before.
 pub(crate) fn tick<D: Disk>(
     alloc: Global,
     store: &mut Store<D>,
     script: &mut Script,
     moment: u64,
+    line: &mut Line,
     page: &mut Page,
 ) -> Result<(), Stop>
     requires clock { moment < 253_402_300_800 }
@@ -52,17 +53,17 @@ pub(crate) fn tick<D: Disk>(
     begin_first(alloc, store, script, moment)?;
     script.clock = Some(moment);
     let done = store.submit(alloc, 0, Event::Tick, moment)?;
-    say_tick(&done.reply, page)
+    say_tick(line, &done.reply, page)
 }
 
 // Puts the letter and the reply.
 #[tactic(auto, using(arc_io::proofs::KnownMore::known_both))]
-fn say_tick(reply: &Reply, page: &mut Page) -> Result<(), Stop>
+fn say_tick(line: &mut Line, reply: &Reply, page: &mut Page) -> Result<(), Stop>
     ensures text { OnOk result ((page_seen page.new).written ≡ append_known (page_seen page.old).written (codes "T " ++ line_of reply.now)) }
     ensures stop { OnErr result (result ≡ Err Stop.Memory) }
 {
     said(put(page, b"T "))?;
-    said(print(reply, page))
+    said(print_in(line, reply, page))
 }
 
 // Begins the run, where none has begun.

@@ -55,10 +55,10 @@ returns-clause-took g c =
     let body = c.args.body.now in
     subst (λ (desks : List Desk.DeskValue). OnOk c.put_fed.result ((before : List Asked) (count : ℕ)
     → IsNext (meaning script.setup) c.args.moment count before (Message line body) script.lines.items script.desks.items
-    → HaveTakenWith (meaning script.setup) count before (Message line body) (set c.fed-frames.new.script.lines.items (line - 1) c.new.result) desks))
+    → HaveTakenWith (meaning script.setup) count before (Message line body) (set c.fed-frames.new.script.lines.items (line - 1) c.renew.new.self) desks))
     (sym (ap (λ (s : Script). s.desks.items) c.fed-frames.ensures.rest))
-    (took_anew script.setup c.args.moment c.args.line c.args.body.now c.name_of.result script.lines.items c.fed-frames.new.script.lines.items c.new.result
-    script.desks.items c.put_fed.result c.requires.line.low c.name_of.ensures.value c.new.ensures c.fed-frames.ensures.others)
+    (took_anew script.setup c.args.moment c.args.line c.args.body.now c.name_of.result script.lines.items c.fed-frames.new.script.lines.items c.renew.new.self
+    script.desks.items c.put_fed.result c.requires.line.low c.name_of.ensures.value c.renew.ensures c.fed-frames.ensures.others)
 
 pub returns-clause-stop : goal.returns-clause-stop
 returns-clause-stop g c =
