@@ -226,7 +226,7 @@ says seen s s' base setup clock stream text h p p' same readable page ends none 
     let whole : text ∷ [] ≡ pieces_of desk_turns turns ++ [] =
     sym more ∙ session.taken ∙ ap (λ l. pieces_of desk_turns turns ++ l) session.ended.none_left in
     let one = one_added seen s s' base (text_in s.state) operator clock text h session.history p p' turns session.added.readings page whole
-    session.each.0 session.legal session.own (ap (λ (q : PortSeen). q.readings) told_of) (ap (λ a. a.readings) added) session.holds.stands (readable.0, session.reads readable.1) in
+    session.each.0 session.legal session.own (ap (λ (q : PortSeen). q.readings) told_of) (ap (λ a. a.readings) added) session.holds.stands (readable.0, session.disk.reads readable.1) in
     subst (λ (t : List ℕ). Said seen s' base t (acts_over (meaning t) None (ended_lines stream)) clock text h p p') same
     (record {
       answers = one.0;
@@ -258,7 +258,7 @@ unsaid seen s s' base setup clock stream text h p p' same readable page ends non
     let whole : text ∷ [] ≡ pieces_of desk_turns turns ++ [] = only_left turns ended.front session.behind ended.last text session.left ended.split
     (sym more ∙ session.taken) in
     let one = one_added seen s s' base (text_in s.state) operator clock text h session.history p p' turns session.added.readings page whole
-    session.each.0 session.legal session.own (ap (λ (q : PortSeen). q.readings) session.adds.told) (ap (λ a. a.readings) ended.added) session.holds.stands (readable.0, session.reads readable.1) in
+    session.each.0 session.legal session.own (ap (λ (q : PortSeen). q.readings) session.adds.told) (ap (λ a. a.readings) ended.added) session.holds.stands (readable.0, session.disk.reads readable.1) in
     subst (λ (t : List ℕ). Answers seen s' base t (acts_over (meaning t) None (ended_lines stream)) clock text h) same one.0
 
 -- the store stopped for the line

@@ -87,7 +87,7 @@ feeds seen s s' base setup clock line before bytes h p p' same set short readabl
         own = session.own;
       };
       stands = session.holds.stands;
-      readable = (readable.0, session.reads readable.1);
+      readable = (readable.0, session.disk.reads readable.1);
       written = ap (λ (q : PortSeen). q.written) told_of ∙ ap (λ a. append_known p.written a.text) added;
       count = stands.count ∙ ap (λ n. n + 1) (readings_count turns);
     }

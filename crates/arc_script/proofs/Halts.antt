@@ -96,7 +96,7 @@ cut_short seen s s' base setup clock line before bytes h p p' same set short rea
         own = session.own;
       };
       stands = session.holds.stands;
-      readable = (readable.0, session.reads readable.1);
+      readable = (readable.0, session.disk.reads readable.1);
       cause = inl refl;
       sent_is = inr (refl, refl);
       count = stands.count ∙ ap (λ n. n + 1) (readings_count turns);
@@ -170,7 +170,7 @@ stopped_at seen s s' base setup clock line before bytes h p p' stop same set sho
         own = session.own;
       };
       stands = session.holds.stands;
-      readable = (readable.0, session.reads readable.1);
+      readable = (readable.0, session.disk.reads readable.1);
       cause = caused seen s s' base setup clock line ended.reading session.history stop ended.piece ended.more same at.last ended.cause;
       sent_is = inl refl;
       count = omega (arith, stands.count, size, count);

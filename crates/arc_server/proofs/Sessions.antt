@@ -1,7 +1,8 @@
--- The store after a session stands for the history that the session ended with.
+-- What is so of a store and its disk behind a session, and of the history that it ended with.
 use Rattle.std.proofs.Common.{ℕ, List, false}
 use Rattle.arc_io.specs.Disks.{DiskSeen}
 use Rattle.arc_io.specs.Seen.{PortSeen}
+use Rattle.centre_core.specs.Halls.{DiskGoesOn}
 use Rattle.centre_rules.specs.Summary.{Summary}
 use Rattle.centre_store.specs.StoreHalls.{store_seen}
 use Rattle.centre_store.specs.Stores.{Stored, StoreStands}
@@ -15,3 +16,9 @@ pub stands_by : {D : Type 0} (seen : D → DiskSeen) (side : Side) (name : List 
     (p p' : PortSeen) → Serves side name end read base w (changed (store_seen seen first) (store_seen seen last) p p') → StoreStands seen base last w.to
 stands_by seen side name end read base w first last p p' serves =
     (is_after false side name end read base w (store_seen seen first) (store_seen seen last) p p' serves).holds.stands
+
+pub disk_by : {D : Type 0} (seen : D → DiskSeen) (side : Side) (name : List ℕ) (end : SessionEnd) (read : List ℕ) (base : Summary) (w : Way) (first last : Stored D)
+    (p p' : PortSeen) → Serves side name end read base w (changed (store_seen seen first) (store_seen seen last) p p')
+    → DiskGoesOn base (store_seen seen first) (store_seen seen last) w.from w.to
+disk_by seen side name end read base w first last p p' serves =
+    (is_after false side name end read base w (store_seen seen first) (store_seen seen last) p p' serves).disk

@@ -10,7 +10,7 @@ use Rattle.centre_rules.specs.Summary.{Summary}
 use Rattle.centre_rules.specs.History.{Entry}
 use Rattle.centre_store.specs.Begins.{begun_after, adopted_after, ShowsOfBegin}
 use Rattle.centre_store.specs.Given.{BeginsWith}
-use Rattle.centre_store.specs.StoreHalls.{IsStoreFor}
+use Rattle.centre_store.specs.StoreHalls.{IsStoreFor, IsReadable}
 use Rattle.centre_store.specs.Stores.{Stored, StoreStands, HasFailed}
 use Rattle.disk_journal.specs.declared.fault.OpenFault.{OpenFault}
 use Rattle.arc_server.specs.Areas.{EndsWith, shipped}
@@ -29,11 +29,13 @@ pub record HasAsked {D : Type 0} (seen : D → DiskSeen) (r : Handed D) (q' p' :
   pub clock : ℕ
   pub told : p' ≡ after_reading clock r.port
 
--- The run began so: the store stands for the past with the beginning of a run under the setup's text, and its disk has not failed.
+-- The run began so: the store stands for the past with the beginning of a run under the setup's text, of which all that was recorded can be
+-- read again, and its disk has not failed.
 pub record HasBegun {D : Type 0} (seen : D → DiskSeen) (r : Handed D) (q' p' : PortSeen) (first : Stored D) (h : List Entry) : Type 0 where
   pub asked : HasAsked seen r q' p'
   pub is : h ≡ begun_after asked.base asked.past asked.setup.text asked.clock
   pub stands : IsStoreFor seen asked.base first h
+  pub readable : IsReadable asked.base h
   pub under : text_of first.state ≡ asked.setup.text
   pub up : HasFailed seen first → ⊥
   pub later : (seen r.disk).faults ≤ first.at_open

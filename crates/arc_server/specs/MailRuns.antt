@@ -3,6 +3,7 @@ use Rattle.std.specs.Prelude.{◌≡◌, ◌≤◌, ◌⊎◌, ℕ, List}
 use Rattle.arc_io.specs.Disks.{DiskSeen}
 use Rattle.arc_io.specs.Seen.{PortSeen}
 use Rattle.centre_rules.specs.History.{Entry}
+use Rattle.centre_store.specs.Calls.{LeavesFrom}
 use Rattle.centre_store.specs.StoreHalls.{store_seen}
 use Rattle.centre_store.specs.Stores.{Stored}
 use Rattle.udp_line.specs.Mails.{ReceivesMail, ServesMail}
@@ -14,7 +15,8 @@ use Rattle.arc_server.specs.Made.{status_over, status_of_mail}
 use Rattle.arc_server.specs.declared.status.Status.{Status}
 
 -- A run began, and from there the next datagrams of a mailbox, which told m then, were received and answered, at most so many, up to an
--- end. The store stands for the history that they ended with; its disk is handed back, and has the recorded entries.
+-- end. The store stands for the history that they ended with; its disk is handed back, and has the recorded entries. A crash at any moment
+-- between leaves all that was recorded when the run had begun, and of the entries since then some first ones.
 pub record AnswersMail {D : Type 0} (seen : D → DiskSeen) (count : ℕ) (status : Status) (r r' : Handed D) (m m' : PortSeen) : Type 0 where
   pub first : Stored D
   pub h : List Entry
@@ -28,6 +30,7 @@ pub record AnswersMail {D : Type 0} (seen : D → DiskSeen) (count : ℕ) (statu
   pub later : (seen r.disk).faults ≤ last.at_open
   pub handed : r'.disk ≡ last.journal.disk
   pub ends : EndsWith (seen r.disk).faults (seen r'.disk) begun.asked.base serves.history
+  pub any_moment : LeavesFrom (seen first.journal.disk).moment h (seen r.disk).faults (seen r'.disk) begun.asked.base serves.history
   pub status_is : status ≡ status_over (seen r.disk).faults (seen r'.disk).faults (status_of_mail end m m')
 
 -- What such a run did. Where it stopped before it began, no datagram was received.

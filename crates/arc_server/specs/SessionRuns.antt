@@ -3,6 +3,7 @@ use Rattle.std.specs.Prelude.{◌≡◌, ◌≤◌, ◌⊎◌, ℕ, List, codes}
 use Rattle.arc_io.specs.Disks.{DiskSeen}
 use Rattle.arc_io.specs.Seen.{PortSeen}
 use Rattle.centre_rules.specs.History.{Entry}
+use Rattle.centre_store.specs.Calls.{LeavesFrom}
 use Rattle.centre_store.specs.StoreHalls.{store_seen}
 use Rattle.centre_store.specs.Stores.{Stored}
 use Rattle.arc_serving.specs.Sessions.{Reads, Serves}
@@ -20,7 +21,8 @@ abbrev pub line_name : List ℕ
 line_name = codes "line"
 
 -- A run began, with a port that told p then, and from there a session of this kind read some bytes, answered them, and came to its end. The
--- store stands for the history that the session ended with; its disk is handed back, and has the recorded entries.
+-- store stands for the history that the session ended with; its disk is handed back, and has the recorded entries. A crash at any moment of the
+-- session leaves all that was recorded when the run had begun, and of the session's entries some first ones.
 pub record ServesRun {D : Type 0} (seen : D → DiskSeen) (side : Side) (status : Status) (r r' : Handed D) : Type 0 where
   pub p : PortSeen
   pub first : Stored D
@@ -38,6 +40,7 @@ pub record ServesRun {D : Type 0} (seen : D → DiskSeen) (side : Side) (status 
   pub later : (seen r.disk).faults ≤ last.at_open
   pub handed : r'.disk ≡ last.journal.disk
   pub ends : EndsWith (seen r.disk).faults (seen r'.disk) begun.asked.base history
+  pub any_moment : LeavesFrom (seen first.journal.disk).moment h (seen r.disk).faults (seen r'.disk) begun.asked.base history
   pub status_is : status ≡ status_over (seen r.disk).faults (seen r'.disk).faults (status_of_session end p r'.port)
 
 -- What such a run did.

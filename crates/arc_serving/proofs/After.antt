@@ -2,7 +2,7 @@
 use Rattle.std.proofs.Common.{◌≡◌, ◌++◌, ℕ, List, Option, Some, None, sym, ap, ◌∙◌, subst}
 use Rattle.std.specs.Prelude.{Bool, true, false, reverse, MatchOption}
 use Rattle.arc_io.specs.Seen.{PortSeen}
-use Rattle.centre_core.specs.Halls.{HallSeen}
+use Rattle.centre_core.specs.Halls.{HallSeen, DiskGoesOn}
 use Rattle.centre_rules.specs.Answers.{IsLegal}
 use Rattle.centre_rules.specs.History.{Entry}
 use Rattle.centre_rules.specs.Summary.{Summary}
@@ -17,11 +17,12 @@ use Rattle.arc_serving.specs.declared.side.Side.TheVariants.{Lines, Desks}
 
 -- a session that went so, said of its way
 after_way : (b : Summary) (w : Way) (hall hall' : HallSeen) (to made : List Entry) → w.to ≡ to → w.made ≡ made → hall'.stands b to → IsLegal b to
-    → hall'.own to ≡ reverse made ++ hall.own w.from → IsHistoryAfter b w hall hall'
-after_way b w hall hall' to made goes makes holds legal own = record {
+    → hall'.own to ≡ reverse made ++ hall.own w.from → DiskGoesOn b hall hall' w.from to → IsHistoryAfter b w hall hall'
+after_way b w hall hall' to made goes makes holds legal own disk = record {
   holds = subst (hall'.stands b) (sym goes) holds;
   legal = subst (IsLegal b) (sym goes) legal;
   own = ap hall'.own goes ∙ own ∙ ap (λ (es : List Entry). reverse es ++ hall.own w.from) (sym makes);
+  disk = subst (DiskGoesOn b hall hall' w.from) (sym goes) disk;
 }
 
 line_after : (name : List ℕ) (end : Option LineEnd) (read : List ℕ) (b : Summary) (w : Way) (hall hall' : HallSeen) (p p' : PortSeen)
@@ -29,19 +30,20 @@ line_after : (name : List ℕ) (end : Option LineEnd) (read : List ℕ) (b : Sum
 line_after name None read b w hall hall' p p' serves = absurd serves
 line_after name (Some end) read b w hall hall' p p' serves =
     after_way b w hall hall' serves.session.history _ serves.to serves.made serves.session.holds serves.session.legal serves.session.own
+    serves.session.disk
 
 group_after : (name : List ℕ) (end : Option LineEnd) (read : List ℕ) (b : Summary) (w : Way) (hall hall' : HallSeen) (p p' : PortSeen)
     → MatchOption end ⊥ (λ e. ServesGroup name e read b w (changed hall hall' p p')) → IsHistoryAfter b w hall hall'
 group_after name None read b w hall hall' p p' serves = absurd serves
 group_after name (Some end) read b w hall hall' p p' serves =
     let session = serves.line.session in
-    after_way b w hall hall' session.history _ serves.to serves.made session.holds session.legal session.own
+    after_way b w hall hall' session.history _ serves.to serves.made session.holds session.legal session.own session.disk
 
 desk_after : (name : List ℕ) (end : SessionEnd) (read : List ℕ) (b : Summary) (w : Way) (hall hall' : HallSeen) (p p' : PortSeen)
     → Serves Desks name end read b w (changed hall hall' p p') → IsHistoryAfter b w hall hall'
 desk_after name end read b w hall hall' p p' serves =
     after_way b w hall hall' serves.desk.session.history _ serves.to serves.made serves.desk.session.holds serves.desk.session.legal
-    serves.desk.session.own
+    serves.desk.session.own serves.desk.session.disk
 
 -- the hall stands for the history that it ended with, which is legal, and the caller's own part grew by its entries
 pub is_after : (groups : Bool) (side : Side) (name : List ℕ) (end : SessionEnd) (read : List ℕ) (b : Summary) (w : Way) (hall hall' : HallSeen)

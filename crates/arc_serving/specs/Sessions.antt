@@ -1,7 +1,7 @@
 -- What one session over a hall and a port did, by its kind and its end.
 use Rattle.std.specs.Prelude.{◌≡◌, ◌++◌, ℕ, List, reverse, Bool, true, false, Option, Some, None, MatchOption}
 use Rattle.arc_io.specs.Seen.{PortSeen}
-use Rattle.centre_core.specs.Halls.{HallSeen}
+use Rattle.centre_core.specs.Halls.{HallSeen, DiskGoesOn}
 use Rattle.centre_rules.specs.Summary.{Summary}
 use Rattle.centre_rules.specs.Answers.{IsLegal}
 use Rattle.desk_session.specs.Desks.{ReadsDesk, ServesDesk}
@@ -61,3 +61,4 @@ pub record IsHistoryAfter (b : Summary) (w : Way) (hall hall' : HallSeen) : Type
   pub holds : hall'.stands b w.to
   pub legal : IsLegal b w.to
   pub own : hall'.own w.to ≡ reverse w.made ++ hall.own w.from
+  pub disk : DiskGoesOn b hall hall' w.from w.to

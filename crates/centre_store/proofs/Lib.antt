@@ -24,6 +24,7 @@ pub mod Reopened
 pub mod Opened
 pub mod Moved
 pub mod Remains
+pub mod Leaving
 pub mod RunOfCalls
 pub mod Lived
 pub mod Ideal

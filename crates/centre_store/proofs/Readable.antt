@@ -1,13 +1,17 @@
 -- A disk goes on telling what it holds, and what is recorded can be read again.
 use Rattle.std.proofs.Common.{◌≡◌, ◌∷◌, ℕ, List, [], Bool, true, false, cond, Option, Some, None, refl, sym, ap, subst, ◌∙◌, arith}
 use Rattle.arc_data.specs.WellFormed.{IsWellFormed}
+use Rattle.arc_data.specs.declared.event.Event.TheVariants.{Adopt, Start}
+use Rattle.arc_data.specs.declared.reply.Reply.TheVariants.{Adopted, Started}
 use Rattle.arc_io.specs.Areas.{Areas}
 use Rattle.arc_io.specs.Disks.{DiskSeen}
 use Rattle.arc_io.specs.Crashes.{Becomes}
-use Rattle.centre_rules.specs.Answers.{answer}
-use Rattle.centre_rules.specs.History.{Entry, IsMoment, is_recorded, last, moment_after, recorded}
+use Rattle.centre_rules.specs.Answers.{answer, IsLegal}
+use Rattle.centre_rules.specs.History.{Entry, IsMoment, is_recorded, last, marks, moment_after, recorded}
+use Rattle.centre_rules.specs.Marks.{text}
 use Rattle.centre_rules.specs.Summary.{Summary}
 use Rattle.centre_store.proofs.Bodies.{kept_event}
+use Rattle.centre_store.specs.Begins.{is_in_force, adopted_after, begun_after}
 use Rattle.centre_store.specs.Pasts.{IsKept, AreKept}
 use Rattle.disk_journal.specs.OtherArea.{SparesOther}
 use Rattle.disk_journal.specs.Standing.{IsOtherSame}
@@ -55,3 +59,16 @@ readable_more base h e clock caller formed fits at reply kept = (
     };
   }) kept.1,
 )
+
+-- and the beginning of a run
+pub readable_begun : (base : Summary) (h : List Entry) (setup : List ℕ) (clock : ℕ) → IsMoment clock → IsLegal base (begun_after base h setup clock)
+    → IsReadable base h → IsReadable base (begun_after base h setup clock)
+readable_begun base h setup clock fits legal kept =
+    readable_more base (adopted_after base h setup clock) (record { caller = 0; event = Start; at = moment_after base (adopted_after base h setup clock) clock; reply = Started })
+    clock refl legal.0.event fits refl legal.0.reply (adopted (is_in_force (text base (marks base h)) setup) legal.1) where
+      adopt : Entry
+      adopt = record { caller = 0; event = Adopt setup; at = moment_after base h clock; reply = Adopted }
+
+      adopted : (t : Bool) → IsLegal base (cond t h (adopt ∷ h)) → IsReadable base (cond t h (adopt ∷ h))
+      adopted true legal = kept
+      adopted false legal = readable_more base h adopt clock refl legal.0.event fits refl legal.0.reply kept

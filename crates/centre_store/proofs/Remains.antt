@@ -15,7 +15,7 @@ use Rattle.centre_laws.specs.Schedules.{Item, IsKept, entries, next, oldest, sta
 use Rattle.centre_laws.proofs.Lists.{oldest_recorded}
 use Rattle.centre_rules.proofs.Quiet.{legal_recorded}
 use Rattle.centre_rules.specs.Answers.{IsLegal, answer}
-use Rattle.centre_rules.specs.History.{Entry, IsMoment, is_recorded, last, moment_after, recorded}
+use Rattle.centre_rules.specs.History.{Entry, Extends, IsMoment, is_recorded, last, moment_after, recorded}
 use Rattle.centre_rules.specs.Summary.{Summary, nothing}
 use Rattle.disk_journal.proofs.Steps.{file_at, if_map}
 use Rattle.disk_journal.specs.declared.journal.Journal.{Journal}
@@ -27,7 +27,7 @@ use Rattle.centre_store.specs.Lives.{IsLeft, Reopens}
 use Rattle.centre_store.specs.Openings.{StandsForAll}
 use Rattle.centre_store.specs.Pasts.{AreKept}
 use Rattle.centre_store.specs.StoreHalls.{IsReadable}
-use Rattle.centre_store.specs.Stores.{Stored, HasFailed, StoreStands, Takes, IsToRecord}
+use Rattle.centre_store.specs.Stores.{Stored, HasFailed, StoreStands, Takes, IsToRecord, IsSameJournal}
 use Rattle.centre_store.proofs.Entered.{held}
 use Rattle.centre_store.proofs.Holding.{either_one, recorded_there}
 use Rattle.centre_store.proofs.Readable.{readable_more}
@@ -72,6 +72,10 @@ fit_oldest n h fit =
       readable = (fit.readable.0, subst AreKept (sym whole) (kept_drop lost (recorded h) fit.readable.1));
       few = omega (arith, ap length whole, length-drop lost (recorded h), fit.few);
     }
+
+-- what a history begins with, it begins with when it has one entry more
+pub extends_more : (h k : List Entry) (e : Entry) → Extends h k → Extends h (e ∷ k)
+extends_more h k e (later, is) = (e ∷ later, ap (λ (l : List Entry). e ∷ l) is)
 
 -- Areas.
 
@@ -196,35 +200,46 @@ module _ {D : Type 0} (seen : D → DiskSeen) (only_now : (d : D) (c : Areas) �
       λ i. record { caller = 0; event = e; at = t.at i; reply = reply i } in
       subst (λ (x : Entry). StoreStands seen b s (x ∷ h)) same t.stands
 
+  -- the areas have its entry or not
+  abbrev pub HasOrNot : List Entry → Event → ℕ → Areas → Type 0
+  HasOrNot h e clock c = StandForIn 2 b h c ⊎ StandForIn 2 b (entry_after b h e clock ∷ h) c
+
+  -- one that is not to be recorded writes nothing
+  pub still : (old s : Stored D) (h : List Entry) (e : Event) (clock : ℕ) → ((IsToRecord b h e clock → ⊥) → IsSameJournal old.journal s.journal)
+      → is_recorded (entry_after b h e clock).reply ≡ false → s.journal.disk ≡ old.journal.disk
+  still old s h e clock unrecorded is = ap (λ (j : Journal D). j.disk) (unrecorded (λ (to : IsToRecord b h e clock). false≢true (sym is ∙ to)))
+
   module _ (old s : Stored D) (h : List Entry) (e : Event) (clock : ℕ) (up : HasFailed seen old → ⊥) (w : StoreStands seen b old h)
-      (call : Submits seen old s e clock) where
-    -- a crash in the call leaves the entry or not
-    abbrev pub HasOrNot : Areas → Type 0
-    HasOrNot c = StandForIn 2 b h c ⊎ StandForIn 2 b (entry_after b h e clock ∷ h) c
-
-    -- an event that is not to be recorded writes nothing
-    still : is_recorded (entry_after b h e clock).reply ≡ false → s.journal.disk ≡ old.journal.disk
-    still is = ap (λ (j : Journal D). j.disk) (call.unrecorded b h w (λ (to : IsToRecord b h e clock). false≢true (sym is ∙ to)))
-
-    moments_if : (t : Bool) → is_recorded (entry_after b h e clock).reply ≡ t → LeavesOnly (seen old.journal.disk) (seen s.journal.disk) HasOrNot
+      (unrecorded : (IsToRecord b h e clock → ⊥) → IsSameJournal old.journal s.journal)
+      (any_moment : LeavesOnly (seen old.journal.disk) (seen s.journal.disk) (StandForEither b h (spelling e (moment_after b h clock)))) where
+    moments_if : (t : Bool) → is_recorded (entry_after b h e clock).reply ≡ t
+        → LeavesOnly (seen old.journal.disk) (seen s.journal.disk) (HasOrNot h e clock)
     moments_if true is =
-        weaker (seen old.journal.disk) (seen s.journal.disk) HasOrNot (StandForEither b h (spelling e (moment_after b h clock))) (call.any_moment b h w)
+        weaker (seen old.journal.disk) (seen s.journal.disk) (HasOrNot h e clock) (StandForEither b h (spelling e (moment_after b h clock))) any_moment
         (λ c either. either_one b h (entry_after b h e clock) c is either)
     moments_if false is =
-        subst (λ (d : D). LeavesOnly (seen old.journal.disk) (seen d) HasOrNot) (sym (still is)) (still_moments old h up w HasOrNot (λ c stands. inl stands))
+        subst (λ (d : D). LeavesOnly (seen old.journal.disk) (seen d) (HasOrNot h e clock)) (sym (still old s h e clock unrecorded is))
+        (still_moments old h up w (HasOrNot h e clock) (λ c stands. inl stands))
 
-    told_if : (t : Bool) → is_recorded (entry_after b h e clock).reply ≡ t → IfSome (seen s.journal.disk).told HasOrNot
+    -- a crash in the call leaves such areas
+    pub moments_of : LeavesOnly (seen old.journal.disk) (seen s.journal.disk) (HasOrNot h e clock)
+    moments_of = moments_if (is_recorded (entry_after b h e clock).reply) refl
+
+  module _ (old s : Stored D) (h : List Entry) (e : Event) (clock : ℕ) (up : HasFailed seen old → ⊥) (w : StoreStands seen b old h)
+      (call : Submits seen old s e clock) where
+    told_if : (t : Bool) → is_recorded (entry_after b h e clock).reply ≡ t → IfSome (seen s.journal.disk).told (HasOrNot h e clock)
     told_if true is =
-        if_map (StandForEither b h (spelling e (moment_after b h clock))) HasOrNot (seen s.journal.disk).told (call.met b h w).area
+        if_map (StandForEither b h (spelling e (moment_after b h clock))) (HasOrNot h e clock) (seen s.journal.disk).told (call.met b h w).area
         (λ c either. either_one b h (entry_after b h e clock) c is either)
     told_if false is =
-        subst (λ (d : D). IfSome (seen d).told HasOrNot) (sym (still is)) (still_told old h up w HasOrNot (λ c stands. inl stands))
+        subst (λ (d : D). IfSome (seen d).told (HasOrNot h e clock)) (sym (still old s h e clock (call.unrecorded b h w) is))
+        (still_told old h up w (HasOrNot h e clock) (λ c stands. inl stands))
 
-    pub cut_moments : LeavesOnly (seen old.journal.disk) (seen s.journal.disk) HasOrNot
-    cut_moments = moments_if (is_recorded (entry_after b h e clock).reply) refl
+    pub cut_moments : LeavesOnly (seen old.journal.disk) (seen s.journal.disk) (HasOrNot h e clock)
+    cut_moments = moments_of old s h e clock up w (call.unrecorded b h w) (call.any_moment b h w)
 
-    pub cut : (c : Areas) → IsLeft seen old s c → HasOrNot c
-    cut c left = left_is old s c HasOrNot cut_moments (told_if (is_recorded (entry_after b h e clock).reply) refl) left
+    pub cut : (c : Areas) → IsLeft seen old s c → HasOrNot h e clock c
+    cut c left = left_is old s c (HasOrNot h e clock) cut_moments (told_if (is_recorded (entry_after b h e clock).reply) refl) left
 
   -- What is opened over areas.
   pub reopens : (h : List Entry) (areas : Areas) (s : Stored D) → IsGiven b → IsLegal b h → IsMoment (last b h) → recorded h ≡ h → StandFor b h areas

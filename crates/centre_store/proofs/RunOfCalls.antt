@@ -1,5 +1,5 @@
 -- What a crash at any moment of a run of calls leaves: by the calls one after another.
-use Rattle.std.proofs.Common.{◌⊎◌, List, [], ◌∷◌, inl, inr, refl, sym, ap, subst}
+use Rattle.std.proofs.Common.{◌⊎◌, List, [], ◌∷◌, inl, inr, refl, sym, subst}
 use Rattle.arc_io.specs.Areas.{Areas}
 use Rattle.arc_io.specs.Disks.{DiskSeen}
 use Rattle.arc_io.specs.Crashes.{LeavesOnly}
@@ -9,10 +9,7 @@ use Rattle.centre_rules.specs.Summary.{Summary}
 use Rattle.centre_store.specs.Calls.{Submission, Submits, entry_after, entered, AreEntered, AreSubmitted, StandsBetween}
 use Rattle.centre_store.specs.Given.{StandForIn}
 use Rattle.centre_store.specs.Stores.{Stored, HasFailed, StoreStands}
-use Rattle.centre_store.proofs.Remains.{cut_moments, enters, still_moments}
-
-extends_more : (h k : List Entry) (e : Entry) → Extends h k → Extends h (e ∷ k)
-extends_more h k e (later, is) = (e ∷ later, ap (λ (l : List Entry). e ∷ l) is)
+use Rattle.centre_store.proofs.Remains.{cut_moments, enters, extends_more, still_moments}
 
 all_extends : (b : Summary) (h : List Entry) (calls : List Submission) → Extends h (entered b h calls)
 all_extends b h [] = ([], refl)

@@ -1,9 +1,10 @@
 -- Calls of a store with events, each known by its clauses alone, and what a crash at any moment of a run of them leaves.
-use Rattle.std.specs.Prelude.{◌≡◌, ◌<◌, ◌^◌, ℕ, List, [], ◌∷◌}
+use Rattle.std.specs.Prelude.{◌≡◌, ◌<◌, ◌≤◌, ◌^◌, ◌⊎◌, ℕ, List, [], ◌∷◌}
 use Rattle.arc_data.specs.WellFormed.{IsWellFormed}
 use Rattle.arc_data.specs.declared.event.Event.{Event}
 use Rattle.arc_data.specs.declared.reply.Reply.{Reply}
 use Rattle.arc_io.specs.Areas.{Areas}
+use Rattle.arc_io.specs.Causes.{Rose}
 use Rattle.arc_io.specs.Disks.{DiskSeen}
 use Rattle.arc_io.specs.Crashes.{LeavesOnly}
 use Rattle.centre_rules.specs.Summary.{Summary}
@@ -12,7 +13,7 @@ use Rattle.centre_rules.specs.History.{Entry, Extends, IsMoment, moment_after}
 use Rattle.event_codec.specs.Spelling.{spelling}
 pub use Rattle.centre_core.specs.declared.batch.Submission.{Submission}
 use Rattle.centre_store.specs.Given.{StandForIn, StandForEither, HasEither}
-use Rattle.centre_store.specs.Stores.{Stored, HasFailed, StoreStands, Takes, IsToRecord, IsSameJournal}
+use Rattle.centre_store.specs.Stores.{Stored, HasFailed, StoreStands, IsNextKept, Takes, IsToRecord, IsSameJournal}
 
 -- What is so of a call of `submit` with the event, whatever it answers, where it may be made and the disk has not failed before.
 pub record Submits {D : Type 0} (seen : D → DiskSeen) (old new : Stored D) (event : Event) (clock : ℕ) : Type 0 where
@@ -65,6 +66,16 @@ pub record StandsBetween (b : Summary) (h x : List Entry) (areas : Areas) : Type
   pub from_h : Extends h so_far
   pub to_x : Extends so_far x
   pub stands : StandForIn 2 b so_far areas
+
+-- A crash at any moment from t of the disk's clock on leaves areas that stand for a history that begins with k, and with which h begins: all
+-- that k has recorded is left, and nothing past h. Where the disk has failed since it had so many faults, the event that met the fault may be
+-- left, too: its entry is the next one of h.
+pub record LeavesFrom (t : ℕ) (k : List Entry) (faults : ℕ) (disk : DiskSeen) (b : Summary) (h : List Entry) : Type 0 where
+  pub later : t ≤ disk.moment
+  pub extends : Extends k h
+  pub furthest : List Entry
+  pub is : (furthest ≡ h) ⊎ (Rose faults disk.faults × (e : Entry) × IsNextKept b h e × (furthest ≡ e ∷ h))
+  pub each : (c : Areas) → disk.left_since t c → StandsBetween b k furthest c
 
 -- Of a store that stands for h, and of any events that are submitted then one after another: a crash at any moment from there on, within
 -- any of the calls, leaves the recorded entries of h and of some first ones of the events, each of which has the answer of one thread.

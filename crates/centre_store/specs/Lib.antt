@@ -14,8 +14,8 @@ pub mod Orders
 pub mod Writes
 pub mod Openings
 pub mod Begins
-pub mod StoreHalls
 pub mod Calls
+pub mod StoreHalls
 pub mod Groups
 pub mod Gathered
 pub mod Lives

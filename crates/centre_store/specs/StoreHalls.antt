@@ -10,6 +10,7 @@ use Rattle.centre_core.specs.Halls.{Fixed, HallSeen}
 use Rattle.centre_core.specs.InForce.{in_force}
 use Rattle.centre_core.specs.Setting.{IsSetting, text_of}
 use Rattle.event_codec.specs.Spelling.{spelling}
+use Rattle.centre_store.specs.Calls.{LeavesFrom}
 use Rattle.centre_store.specs.Given.{HasEither}
 use Rattle.centre_store.specs.Pasts.{AreKept}
 use Rattle.centre_store.specs.Stores.{Stored, HasFailed, StoreStands, Shows}
@@ -49,6 +50,7 @@ store_seen seen s = record {
   told = (seen s.journal.disk).faults;
   stands = λ b h. IsStoreFor seen b s h;
   readable = λ b h. IsReadable b h;
+  leaves = λ t k b h. LeavesFrom t k s.at_open (seen s.journal.disk) b h;
   own = λ h. h;
   shows = λ stop event clock. Shows seen s stop event clock;
   up = HasFailed seen s → ⊥;

@@ -10,7 +10,8 @@ use Rattle.arc_io.specs.Seen.{PortSeen}
 use Rattle.arc_io.specs.Told.{OnlyWrites, Puts, after_reading, after_noise}
 use Rattle.arc_io.proofs.Adding.{adds_put, adds_front, noise_none}
 use Rattle.arc_io.proofs.KnownMore.{known_none}
-use Rattle.centre_core.specs.Halls.{HallSeen, TookEvent}
+use Rattle.centre_core.proofs.OnDisk.{disk_stays}
+use Rattle.centre_core.specs.Halls.{HallSeen, DiskGoesOn, TookEvent}
 use Rattle.centre_core.specs.declared.hall.Stop.{Stop}
 use Rattle.centre_rules.specs.Summary.{Summary}
 use Rattle.centre_rules.specs.History.{Entry}
@@ -62,19 +63,19 @@ module _ (b : Summary) (operator : Option (List ℕ)) (h : List Entry) (hall hal
   -- A session over one line, whose answer was sent whole, or cut off.
 
   desk_sent : (x : List Entry) (t : Turn) → IsTurn b (meaning hall.text) hall.caller operator h x t → hall'.stands b x → IsLegal b x
-      → hall'.own x ≡ reverse (entries_of desk_turns (t ∷ [])) ++ hall.own h → (hall.readable b h → hall'.readable b x) → (hall.up → hall'.up) → Adds p p' (desk_turns.adds t) → IsDesk answered b operator (t.line ∷ []) h (changed hall hall' p p')
-  desk_sent x t turn s legal own reads up adds =
+      → hall'.own x ≡ reverse (entries_of desk_turns (t ∷ [])) ++ hall.own h → DiskGoesOn b hall hall' h x → (hall.up → hall'.up) → Adds p p' (desk_turns.adds t) → IsDesk answered b operator (t.line ∷ []) h (changed hall hall' p p')
+  desk_sent x t turn s legal own disk up adds =
       record {
         last = acts_after (meaning hall.text) operator (command_in t.line);
-        session = session_sent desk_turns (desk_rules b hall hall' operator (acts_after (meaning hall.text) operator (command_in t.line))) b h refl x t ((x, turn, ([], refl)), refl) s legal own reads up adds;
+        session = session_sent desk_turns (desk_rules b hall hall' operator (acts_after (meaning hall.text) operator (command_in t.line))) b h refl x t ((x, turn, ([], refl)), refl) s legal own disk up adds;
       }
 
   desk_cut : (x : List Entry) (t : Turn) (count : ℕ) → IsTurn b (meaning hall.text) hall.caller operator h x t → hall'.stands b x → IsLegal b x
-      → hall'.own x ≡ reverse (entries_of desk_turns (t ∷ [])) ++ hall.own h → (hall.readable b h → hall'.readable b x) → (hall.up → hall'.up) → count < length t.reply → Adds p p' (record (desk_turns.adds t) { text = take count t.reply })
+      → hall'.own x ≡ reverse (entries_of desk_turns (t ∷ [])) ++ hall.own h → DiskGoesOn b hall hall' h x → (hall.up → hall'.up) → count < length t.reply → Adds p p' (record (desk_turns.adds t) { text = take count t.reply })
       → IsDesk cut_off b operator (t.line ∷ []) h (changed hall hall' p p')
-  desk_cut x t count turn s legal own reads up short adds = record {
+  desk_cut x t count turn s legal own disk up short adds = record {
     last = acts_after (meaning hall.text) operator (command_in t.line);
-    session = session_cut desk_turns (desk_rules b hall hall' operator (acts_after (meaning hall.text) operator (command_in t.line))) b h refl x t count ((x, turn, ([], refl)), refl) s legal own reads up short adds;
+    session = session_cut desk_turns (desk_rules b hall hall' operator (acts_after (meaning hall.text) operator (command_in t.line))) b h refl x t count ((x, turn, ([], refl)), refl) s legal own disk up short adds;
   }
 
 module _ (b : Summary) (operator : Option (List ℕ)) (h : List Entry) (line : List ℕ) (command : Option Command) (typed : command ≡ command_in line) where
@@ -92,13 +93,13 @@ module _ (b : Summary) (operator : Option (List ℕ)) (h : List Entry) (line : L
     sent_said : event_of operator command ≡ None → hall.stands b h → IsLegal b h → Puts {T = Unit {0}} {E = DeskEnd} p p' (Ok tt) (text_of (meaning hall.text) command) → IsDesk answered b operator (line ∷ []) h (changed hall hall p p')
     unfolding said_turn
     sent_said nothing s legal put =
-        desk_sent b operator h hall hall p p' h said_turn (is_said nothing) s legal refl (λ r. r) (λ u. u) (adds_text p p' (text_of (meaning hall.text) command) put.taken put.others)
+        desk_sent b operator h hall hall p p' h said_turn (is_said nothing) s legal refl disk_stays (λ u. u) (adds_text p p' (text_of (meaning hall.text) command) put.taken put.others)
 
     cut_said : event_of operator command ≡ None → hall.stands b h → IsLegal b h → Puts {T = Unit {0}} {E = DeskEnd} p p' (Err WriteFault) (text_of (meaning hall.text) command) → IsDesk cut_off b operator (line ∷ []) h (changed hall hall p p')
     unfolding said_turn
     cut_said nothing s legal put =
         let part = part_said p p' (text_of (meaning hall.text) command) WriteFault put in
-        desk_cut b operator h hall hall p p' h said_turn part.count (is_said nothing) s legal refl (λ r. r) (λ u. u) part.short part.adds
+        desk_cut b operator h hall hall p p' h said_turn part.count (is_said nothing) s legal refl disk_stays (λ u. u) part.short part.adds
 
     pub session_said : (end : Result (Unit {0}) DeskEnd) → event_of operator command ≡ None → hall.stands b h → IsLegal b h → Puts p p' (said_as end) (text_of (meaning hall.text) command) → IsSaid end
         → IsDesk (ending_of end) b operator (line ∷ []) h (changed hall hall p p')
@@ -143,7 +144,7 @@ module _ (b : Summary) (operator : Option (List ℕ)) (h : List Entry) (line : L
     unfolding asked_turn
     sent_asked a =
         let goes = a.took.goes in
-        desk_sent b operator h hall hall' p p' (a.took.entry ∷ goes.before) (asked_turn (Ok tt) a) (is_asked (Ok tt) a) goes.holds goes.legal goes.own goes.reads (λ _. goes.up)
+        desk_sent b operator h hall hall' p p' (a.took.entry ∷ goes.before) (asked_turn (Ok tt) a) (is_asked (Ok tt) a) goes.holds goes.legal goes.own goes.disk (λ _. goes.up)
         (adds_put p p' a.reading [] (line_of a.took.entry.reply) tt (put_after (Ok tt) a))
 
     cut_asked : Asked (Err WriteFault) b h hall hall' event p p' → IsDesk cut_off b operator (line ∷ []) h (changed hall hall' p p')
@@ -151,7 +152,7 @@ module _ (b : Summary) (operator : Option (List ℕ)) (h : List Entry) (line : L
     cut_asked a =
         let goes = a.took.goes in
         let cut = adds_front p p' a.reading [] (line_of a.took.entry.reply) WriteFault (put_after (Err WriteFault) a) in
-        desk_cut b operator h hall hall' p p' (a.took.entry ∷ goes.before) (asked_turn (Err WriteFault) a) cut.count (is_asked (Err WriteFault) a) goes.holds goes.legal goes.own goes.reads (λ _. goes.up) cut.short cut.adds
+        desk_cut b operator h hall hall' p p' (a.took.entry ∷ goes.before) (asked_turn (Err WriteFault) a) cut.count (is_asked (Err WriteFault) a) goes.holds goes.legal goes.own goes.disk (λ _. goes.up) cut.short cut.adds
 
     left_asked : (stop : Stop) → Left stop b h hall hall' event p p' → IsDesk (stopped stop) b operator (line ∷ []) h (changed hall hall' p p')
     left_asked stop l =

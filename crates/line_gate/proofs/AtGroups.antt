@@ -87,5 +87,5 @@ goes_on_with t p q calls dones m by long pass b h w =
       legal = at_legal t q b now at;
       own = own_at t q b now at ∙ m.made ∙ ap (λ (l : List Entry). l ++ p.made) made
           ∙ ap (λ (l : List Entry). reverse (entries_by n b before calls) ++ l) (sym (own_at t p b h w));
-      reads = λ r. r;
+      disk = record { reads = λ r. r; leaves = λ r t k left. left };
     }

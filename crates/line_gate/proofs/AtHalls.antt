@@ -34,7 +34,7 @@ goes_on t p q clock e m pass b h w =
       legal = at_legal t q b (e ∷ (m.before ++ w.base)) at;
       at = m.answer.at b w.base w.from;
       own = own_at t q b (e ∷ (m.before ++ w.base)) at ∙ m.made ∙ sym (ap (λ (l : List Entry). e ∷ l) (own_at t p b h w));
-      reads = λ r. r;
+      disk = record { reads = λ r. r; leaves = λ r t k left. left };
       up = tt;
     }
 
@@ -47,7 +47,7 @@ waits t p q g same pass b h w =
       holds = at;
       legal = at_legal t q b (q.since ++ w.base) at;
       own = own_at t q b (q.since ++ w.base) at ∙ same ∙ sym (own_at t p b h w);
-      reads = λ r. r;
+      disk = record { reads = λ r. r; leaves = λ r t k left. left };
     }
 
 pub done_at : (t : Terms) (p q : PassSeen) (clock : ℕ) (event : Event) (r : Result Done Stop) → IfOk r (λ d. Makes t p q clock (record { caller = d.caller; event = event; at = d.at; reply = d.reply })) → IsPass t q

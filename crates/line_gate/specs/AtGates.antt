@@ -37,6 +37,7 @@ gate_seen t p = record {
   told = p.told;
   stands = λ b h. AtSeen t p b h;
   readable = λ b h. Unit {0};
+  leaves = λ t k b h. Unit {0};
   own = λ h. own_of p h;
   shows = λ stop event clock. PassShows t p stop event clock;
   up = Unit {0};

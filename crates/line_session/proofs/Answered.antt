@@ -11,6 +11,7 @@ use Rattle.arc_io.specs.Seen.{PortSeen}
 use Rattle.arc_io.proofs.Adding.{adds_both}
 use Rattle.arc_io.proofs.Frames.{answers_none, answers_put, answers_noise, answers_more, unfailed}
 use Rattle.centre_core.specs.Batches.{with_all, IsDown, IsDownThen}
+use Rattle.centre_core.proofs.OnDisk.{disk_stays}
 use Rattle.centre_core.specs.GroupHalls.{GoesOnWith, ShowsLeft}
 use Rattle.centre_core.specs.Halls.{HallSeen, IsKept}
 use Rattle.centre_core.specs.declared.batch.Submission.{Submission}
@@ -360,7 +361,7 @@ pub took_none : {b : Summary} {hall : HallSeen} {g : List Entry} (calls : List S
 took_none {b} {hall} {g} calls ready holds legal in_force = record {
   kept = kept_self hall ready;
   dones = [];
-  goes = record { before = g; extends = ([], refl); told = refl; holds = holds; legal = legal; own = refl; reads = λ r. r };
+  goes = record { before = g; extends = ([], refl); told = refl; holds = holds; legal = legal; own = refl; disk = disk_stays };
   in_force = in_force g holds;
   within = omega arith;
   few = omega arith;

@@ -9,7 +9,7 @@ use Rattle.arc_io.specs.Seen.{PortSeen}
 use Rattle.arc_io.proofs.Adding.{adds_both}
 use Rattle.centre_core.specs.Batches.{with_all, entries_by}
 use Rattle.centre_core.specs.GroupHalls.{GoesOnWith}
-use Rattle.centre_core.specs.Halls.{HallSeen, IsKept}
+use Rattle.centre_core.specs.Halls.{HallSeen, DiskGoesOn, IsKept}
 use Rattle.centre_core.specs.declared.batch.Submission.{Submission}
 use Rattle.centre_core.specs.declared.ready.Done.{Done}
 use Rattle.centre_rules.specs.Answers.{IsLegal}
@@ -74,7 +74,7 @@ group_of_line name {end} {b} {bodies} {h} {hall} {hall'} {p} {p'} s = record {
   holds = s.holds;
   legal = s.legal;
   own = s.own;
-  reads = s.reads;
+  disk = s.disk;
   up = s.up;
   adds = s.adds;
   ended = by end s.ended;
@@ -104,7 +104,7 @@ group_still name {end} {b} {bodies} {h} {hall} {hall'} {p} {q} {r} none s = reco
   holds = s.holds;
   legal = s.legal;
   own = s.own;
-  reads = s.reads;
+  disk = s.disk;
   up = s.up;
   adds = added_none s.adds none;
   ended = s.ended;
@@ -199,7 +199,7 @@ group_wider {name} {end} {b} {bodies} {h} {hall} {hall'} {p} {p'} more early lin
         holds = s.holds;
         legal = s.legal;
         own = s.own;
-        reads = s.reads;
+        disk = s.disk;
         up = s.up;
         adds = s.adds;
         ended = ends_wider name b hall hall' end s.history s.turns s.behind s.added s.left more early s.ended;
@@ -254,7 +254,7 @@ module _ (name : List ℕ) (b : Summary) {hall hall' : HallSeen} (g : List Entry
     legal = subst (IsLegal b) all_is batch.goes.legal;
     own = subst (λ (x : List Entry). hall'.own x ≡ reverse (entries_of line_turns batch_turns) ++ hall.own g) all_is
         (batch.goes.own ∙ ap (λ (l : List Entry). reverse l ++ hall.own g) own_is);
-    reads = λ r. subst (hall'.readable b) all_is (batch.goes.reads r);
+    disk = subst (DiskGoesOn b hall hall' g) all_is batch.goes.disk;
     up = up;
     adds = adds;
     ended = ended;

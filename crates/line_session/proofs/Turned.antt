@@ -5,7 +5,8 @@ use Rattle.alarm_rules.specs.Setups.{Setup, meaning}
 use Rattle.arc_io.specs.Seen.{PortSeen}
 use Rattle.arc_io.specs.Told.{Puts, after_reading, after_noise}
 use Rattle.arc_io.proofs.Adding.{adds_put, adds_front, noise_none}
-use Rattle.centre_core.specs.Halls.{HallSeen, LeftEvent}
+use Rattle.centre_core.proofs.OnDisk.{disk_stays}
+use Rattle.centre_core.specs.Halls.{HallSeen, DiskGoesOn, LeftEvent}
 use Rattle.centre_core.specs.declared.hall.Stop.{Stop}
 use Rattle.centre_core.specs.declared.hall.Stop.TheVariants.{Memory}
 use Rattle.centre_rules.specs.Summary.{Summary}
@@ -48,17 +49,17 @@ verdict_is text kept body reading told v same exact is = ap (λ (t : List ℕ). 
 module _ (name : List ℕ) (b : Summary) (h : List Entry) (hall hall' : HallSeen) (p p' : PortSeen) where
   -- A session over one whole piece, whose reply was sent or cut off.
   session_turn : (end : Result (Unit {0}) LineEnd) (x : List Entry) (t : Turn) → IsTurn name b (meaning hall.text) hall.caller h x t → hall'.stands b x → IsLegal b x
-      → hall'.own x ≡ reverse (entries_of line_turns (t ∷ [])) ++ hall.own h → (hall.readable b h → hall'.readable b x) → (hall.up → hall'.up) → Puts (after_noise t.noise (after_reading t.reading p)) p' end t.reply → IfErr end (λ e. e ≡ WriteFault)
+      → hall'.own x ≡ reverse (entries_of line_turns (t ∷ [])) ++ hall.own h → DiskGoesOn b hall hall' h x → (hall.up → hall'.up) → Puts (after_noise t.noise (after_reading t.reading p)) p' end t.reply → IfErr end (λ e. e ≡ WriteFault)
       → IsLine name (ending_of end) b (t.body ∷ []) h (changed hall hall' p p')
-  session_turn (Ok tt) x t turn s legal own reads up put ends =
-      session_sent line_turns (line_rules name b hall hall') b h refl x t (x, turn, ([], refl)) s legal own reads up (adds_put p p' t.reading t.noise t.reply tt put)
-  session_turn (Err WriteFault) x t turn s legal own reads up put ends =
+  session_turn (Ok tt) x t turn s legal own disk up put ends =
+      session_sent line_turns (line_rules name b hall hall') b h refl x t (x, turn, ([], refl)) s legal own disk up (adds_put p p' t.reading t.noise t.reply tt put)
+  session_turn (Err WriteFault) x t turn s legal own disk up put ends =
       let cut = adds_front p p' t.reading t.noise t.reply WriteFault put in
-      session_cut line_turns (line_rules name b hall hall') b h refl x t cut.count (x, turn, ([], refl)) s legal own reads up cut.short cut.adds
-  session_turn (Err InputEnded) x t turn s legal own reads up put ends = absurd (cc)
-  session_turn (Err ReadFault) x t turn s legal own reads up put ends = absurd (cc)
-  session_turn (Err Spent) x t turn s legal own reads up put ends = absurd (cc)
-  session_turn (Err (Stopped stop)) x t turn s legal own reads up put ends = absurd (cc)
+      session_cut line_turns (line_rules name b hall hall') b h refl x t cut.count (x, turn, ([], refl)) s legal own disk up cut.short cut.adds
+  session_turn (Err InputEnded) x t turn s legal own disk up put ends = absurd (cc)
+  session_turn (Err ReadFault) x t turn s legal own disk up put ends = absurd (cc)
+  session_turn (Err Spent) x t turn s legal own disk up put ends = absurd (cc)
+  session_turn (Err (Stopped stop)) x t turn s legal own disk up put ends = absurd (cc)
 
   module _ (r : Report) (body : List ℕ) (v : Verdict) (is : verdict_of (meaning hall.text) r.reading body ≡ v)
       (turn : (x : List Entry) (t : Turn) → TakesEntry b (meaning hall.text) hall.caller h x t r.header r.event → IsAnswered name b (meaning hall.text) hall.caller h x t v) where
@@ -71,7 +72,7 @@ module _ (name : List ℕ) (b : Summary) (h : List Entry) (hall hall' : HallSeen
         session_turn end x t
         (turn_is name b (meaning hall.text) hall.caller h x v t is
         (turn x t (record { before = goes.before; entry = entry; extends = goes.extends; is = refl; taken = refl; by = told.took.by; of = told.took.of; at = goes.at; known = told.known; reply = told.sends.ack })))
-        goes.holds goes.legal goes.own goes.reads (λ _. goes.up) told.sends.put ends
+        goes.holds goes.legal goes.own goes.disk (λ _. goes.up) told.sends.put ends
 
     left_it : (stop : Stop) → event_of name v ≡ Some r.event → LeftEvent stop b hall hall' h r.event r.reading → p' ≡ after_reading r.reading p → IsLine name (stopped stop) b (body ∷ []) h (changed hall hall' p p')
     left_it stop brings told unsent =
@@ -96,11 +97,11 @@ module _ (name : List ℕ) (b : Summary) (h : List Entry) (hall : HallSeen) (p p
       → {q : PortSeen} → q ≡ after_reading reading p → Puts q p' end reply → IfErr end (λ e. e ≡ WriteFault) → IsLine name (ending_of end) b (body ∷ []) h (changed hall hall p p')
   session_quiet end reply v is turn s legal {q} read put ends =
       let t : Turn = record { body = body; reading = reading; noise = []; entry = None; reply = reply } in
-      session_turn name b h hall hall p p' end h t (turn_is name b (meaning hall.text) hall.caller h h v t is turn) s legal refl (λ r. r) (λ u. u)
+      session_turn name b h hall hall p p' end h t (turn_is name b (meaning hall.text) hall.caller h h v t is turn) s legal refl disk_stays (λ u. u)
       (subst (λ (x : PortSeen). Puts x p' end reply) (read ∙ sym (noise_none (after_reading reading p))) put) ends
 
   -- A session over one whole piece whose message wants memory.
   pub session_wanting : TakesMemory (verdict_of (meaning hall.text) reading body) → hall.stands b h → IsLegal b h → p' ≡ after_reading reading p → IsLine name (stopped Memory) b (body ∷ []) h (changed hall hall p p')
   session_wanting wanted s legal read =
       subst (λ (q : PortSeen). IsLine name (stopped Memory) b (body ∷ []) h (changed hall hall p q)) (sym read)
-      (session_stopped line_turns (line_rules name b hall hall) b h refl p Memory body reading (record { now = h; extends = ([], refl); holds = s; legal = legal; own = refl; reads = λ r. r }) ([], refl) (inl (refl, wanted)))
+      (session_stopped line_turns (line_rules name b hall hall) b h refl p Memory body reading (record { now = h; extends = ([], refl); holds = s; legal = legal; own = refl; disk = disk_stays }) ([], refl) (inl (refl, wanted)))

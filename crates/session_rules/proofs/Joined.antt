@@ -5,6 +5,7 @@ use Rattle.arc_io.specs.Added.{Added, Adds, both}
 use Rattle.arc_io.specs.Seen.{PortSeen}
 use Rattle.arc_io.specs.Told.{OnlyReads}
 use Rattle.arc_io.proofs.Adding.{adds_both, adds_read}
+use Rattle.centre_core.proofs.OnDisk.{disk_then}
 use Rattle.centre_core.specs.Halls.{HallSeen}
 use Rattle.centre_core.specs.declared.hall.Stop.{Stop}
 use Rattle.centre_rules.specs.Summary.{Summary}
@@ -63,7 +64,7 @@ module _ {T : Type 0} (kind : Kind T) where
     holds = next.holds;
     legal = next.legal;
     own = next.own ∙ ap (λ (l : List Entry). reverse (entries_of kind next.turns) ++ l) first.own ∙ own_more kind first.turns next.turns (hall.own h);
-    reads = λ r. next.reads (first.reads r);
+    disk = disk_then first.disk next.disk;
     up = λ unstopped up. next.up unstopped (first.up tt up);
     adds = adds_both (subst (Adds p q) first.ended.added first.adds) next.adds;
     ended = ends_more kind rules end next.history first.turns next.turns next.behind next.added next.left
@@ -85,7 +86,7 @@ module _ {T : Type 0} (kind : Kind T) where
     holds = s.holds;
     legal = s.legal;
     own = s.own;
-    reads = s.reads;
+    disk = s.disk;
     up = s.up;
     adds = adds_read s.adds only;
     ended = s.ended;
@@ -120,7 +121,7 @@ module _ {T : Type 0} (kind : Kind T) where
     holds = s.holds;
     legal = s.legal;
     own = s.own;
-    reads = s.reads;
+    disk = s.disk;
     up = s.up;
     adds = s.adds;
     ended = ends_wider rules end s.history s.turns s.behind s.added s.left more early s.ended;

@@ -5,7 +5,8 @@ use Rattle.arc_io.specs.Added.{Adds}
 use Rattle.arc_io.specs.Seen.{PortSeen}
 use Rattle.arc_io.specs.Told.{OnlyReads, after_reading}
 use Rattle.arc_io.proofs.Adding.{adds_none, adds_reading}
-use Rattle.centre_core.specs.Halls.{HallSeen, Waits}
+use Rattle.centre_core.proofs.OnDisk.{disk_stays}
+use Rattle.centre_core.specs.Halls.{HallSeen, DiskGoesOn, Waits}
 use Rattle.centre_core.specs.declared.hall.Stop.{Stop}
 use Rattle.centre_rules.specs.Summary.{Summary}
 use Rattle.centre_rules.specs.History.{Entry}
@@ -27,7 +28,7 @@ module _ {T : Type 0} (kind : Kind T) (rules : Rules T) (b : Summary) (h : List 
     holds = s;
     legal = legal;
     own = refl;
-    reads = λ r. r;
+    disk = disk_stays;
     up = λ _ up. up;
     adds = adds_none only;
     ended = record { added = refl; none_behind = refl; none_left = refl };
@@ -40,8 +41,8 @@ module _ {T : Type 0} (kind : Kind T) (rules : Rules T) (b : Summary) (h : List 
 
   -- over one piece, whose reply was sent whole
   pub session_sent : {hall hall' : HallSeen} {p p' : PortSeen} (x : List Entry) (t : T) → rules.are_turns h x (t ∷ []) → hall'.stands b x → IsLegal b x
-      → hall'.own x ≡ reverse (entries_of kind (t ∷ [])) ++ hall.own h → (hall.readable b h → hall'.readable b x) → (hall.up → hall'.up) → Adds p p' (kind.adds t) → IsSession kind rules answered b (kind.asked t ∷ []) h (changed hall hall' p p')
-  session_sent {hall} {hall'} {p} {p'} x t turn s legal own reads up adds = record {
+      → hall'.own x ≡ reverse (entries_of kind (t ∷ [])) ++ hall.own h → DiskGoesOn b hall hall' h x → (hall.up → hall'.up) → Adds p p' (kind.adds t) → IsSession kind rules answered b (kind.asked t ∷ []) h (changed hall hall' p p')
+  session_sent {hall} {hall'} {p} {p'} x t turn s legal own disk up adds = record {
     turns = t ∷ [];
     behind = [];
     history = x;
@@ -52,7 +53,7 @@ module _ {T : Type 0} (kind : Kind T) (rules : Rules T) (b : Summary) (h : List 
     holds = s;
     legal = legal;
     own = own;
-    reads = reads;
+    disk = disk;
     up = λ _. up;
     adds = adds;
     ended = record { added = one_added t; none_behind = refl; none_left = refl };
@@ -61,9 +62,9 @@ module _ {T : Type 0} (kind : Kind T) (rules : Rules T) (b : Summary) (h : List 
 
   -- over one piece, whose reply was cut off
   pub session_cut : {hall hall' : HallSeen} {p p' : PortSeen} (x : List Entry) (t : T) (count : ℕ) → rules.are_turns h x (t ∷ []) → hall'.stands b x → IsLegal b x
-      → hall'.own x ≡ reverse (entries_of kind (t ∷ [])) ++ hall.own h → (hall.readable b h → hall'.readable b x) → (hall.up → hall'.up) → count < length (kind.adds t).text → Adds p p' (record (kind.adds t) { text = take count (kind.adds t).text })
+      → hall'.own x ≡ reverse (entries_of kind (t ∷ [])) ++ hall.own h → DiskGoesOn b hall hall' h x → (hall.up → hall'.up) → count < length (kind.adds t).text → Adds p p' (record (kind.adds t) { text = take count (kind.adds t).text })
       → IsSession kind rules cut_off b (kind.asked t ∷ []) h (changed hall hall' p p')
-  session_cut {hall} {hall'} {p} {p'} x t count turn s legal own reads up short adds = record {
+  session_cut {hall} {hall'} {p} {p'} x t count turn s legal own disk up short adds = record {
     turns = t ∷ [];
     behind = [];
     history = x;
@@ -74,7 +75,7 @@ module _ {T : Type 0} (kind : Kind T) (rules : Rules T) (b : Summary) (h : List 
     holds = s;
     legal = legal;
     own = own;
-    reads = reads;
+    disk = disk;
     up = λ _. up;
     adds = adds;
     ended = record {
@@ -106,7 +107,7 @@ module _ {T : Type 0} (kind : Kind T) (rules : Rules T) (b : Summary) (h : List 
     holds = w.holds;
     legal = w.legal;
     own = w.own;
-    reads = w.reads;
+    disk = w.disk;
     up = λ unstopped. absurd unstopped;
     adds = adds_reading p reading;
     ended = record { front = []; piece = piece; more = []; reading = reading; split = refl; next = refl; added = refl; cause = cause };

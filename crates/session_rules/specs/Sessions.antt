@@ -3,7 +3,7 @@ use Rattle.std.specs.Prelude.{◌≡◌, ◌<◌, ◌⊎◌, ◌++◌, ℕ, List
 use Rattle.arc_data.specs.declared.event.Event.{Event}
 use Rattle.arc_io.specs.Added.{Added, Adds}
 use Rattle.arc_io.specs.Seen.{PortSeen}
-use Rattle.centre_core.specs.Halls.{HallSeen}
+use Rattle.centre_core.specs.Halls.{HallSeen, DiskGoesOn}
 use Rattle.centre_core.specs.declared.hall.Stop.{Stop}
 use Rattle.centre_core.specs.declared.hall.Stop.TheVariants.{Memory}
 use Rattle.centre_rules.specs.Summary.{Summary}
@@ -88,8 +88,8 @@ abbrev pub Goes : List Entry → (Way → Type 0) → Type 0
 Goes h holds = (to : List Entry) × (made : List Entry) × holds (record { from = h; to = to; made = made })
 
 -- From a history on, a session over these pieces: the history for which the hall stands at its end, to which the caller's own
--- part grew by just the turns' entries, and what it added to the port. What was recorded can be read again if it could be before; and a
--- hall that was not down is not, unless it stopped.
+-- part grew by just the turns' entries, and what it added to the port. What was so of the hall's disk and the history before is so behind it;
+-- and a hall that was not down is not, unless it stopped.
 pub record IsSession {T : Type 0} (kind : Kind T) (rules : Rules T) (end : Ending) (b : Summary) (pieces : List (List ℕ)) (h : List Entry)
     (c : Change) : Type 0 where
   pub turns : List T
@@ -102,7 +102,7 @@ pub record IsSession {T : Type 0} (kind : Kind T) (rules : Rules T) (end : Endin
   pub holds : c.hall'.stands b history
   pub legal : IsLegal b history
   pub own : c.hall'.own history ≡ reverse (entries_of kind turns) ++ c.hall.own h
-  pub reads : c.hall.readable b h → c.hall'.readable b history
+  pub disk : DiskGoesOn b c.hall c.hall' h history
   pub up : IsUnstopped end → c.hall.up → c.hall'.up
   pub adds : Adds c.port c.port' added
   pub ended : IsEnd kind rules end history turns behind added left

@@ -36,6 +36,7 @@ impl Hall for Told {
       told = 0;
       stands = λ b h. ⊥;
       readable = λ b h. Unit {0};
+      leaves = λ t k b h. Unit {0};
       own = λ h. h;
       shows = λ stop event clock. Unit {0};
       up = Unit {0};

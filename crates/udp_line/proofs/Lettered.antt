@@ -97,7 +97,7 @@ module _ {M : Type 0} (seen : M → PortSeen) (l l' : Letter M) where
         holds = s.holds;
         legal = s.legal;
         own = s.own;
-        reads = s.reads;
+        disk = s.disk;
         up = s.up;
         adds = adds_mail s.added s.adds;
         ended = s.ended;

@@ -11,6 +11,7 @@ use Rattle.arc_io.specs.Added.{Added}
 use Rattle.arc_io.specs.Causes.{Rose}
 use Rattle.arc_io.specs.Seen.{PortSeen}
 use Rattle.arc_io.proofs.KnownMore.{known_none, known_both}
+use Rattle.centre_core.proofs.OnDisk.{disk_stays, disk_then}
 use Rattle.centre_core.specs.Halls.{HallSeen, IsKept}
 use Rattle.centre_core.specs.declared.hall.Stop.{Stop}
 use Rattle.centre_rules.specs.Summary.{Summary}
@@ -109,7 +110,7 @@ serves_none b h hall p s legal = record {
   holds = s;
   legal = legal;
   own = refl;
-  reads = λ r. r;
+  disk = disk_stays;
   up = λ _ u. u;
   told = told_by p p (record { replies = []; readings = []; noise = [] }) refl refl refl (sym (known_none p.readings)) (sym (known_none p.noise)) (sym (replies_none p.replies));
   ended = record { whole = refl; added = refl };
@@ -145,7 +146,7 @@ module _ (b : Summary) (h : List Entry) {given : List (List ℕ)} {hall mid : Ha
     holds = s.holds;
     legal = s.legal;
     own = s.own;
-    reads = s.reads;
+    disk = s.disk;
     up = λ _. s.up tt;
     told = told_by p r s.added
         (ap (λ (x : PortSeen). x.left) rest ∙ ap (λ (x : PortSeen). x.left) s.told)
@@ -182,7 +183,7 @@ module _ (b : Summary) (h : List Entry) {given : List (List ℕ)} {hall mid : Ha
           own =
               one.own ∙ ap (λ (l : List Entry). reverse (entries_of line_turns one.turns) ++ l) s.own ∙ own_more line_turns (turns_of s.datagrams) one.turns (hall.own h)
               ∙ ap (λ (ts : List Turn). reverse (entries_of line_turns ts) ++ hall.own h) (sym same);
-          reads = λ readable. one.reads (s.reads readable);
+          disk = disk_then s.disk one.disk;
           up = λ unhalted u. one.up (going unhalted) (s.up tt u);
           told = told_by p r (record { replies = s.added.replies ++ sent; readings = s.added.readings ++ one.added.readings; noise = s.added.noise ++ one.added.noise })
               (none'.left ∙ sym none.left) (none'.ended ∙ sym none.ended) (none'.written ∙ sym none.written)

@@ -7,7 +7,7 @@ use Rattle.arc_doors.specs.Mails.{HasNoMail, TakesMail, append_replies}
 use Rattle.arc_io.specs.Added.{Added}
 use Rattle.arc_io.specs.Causes.{Rose}
 use Rattle.arc_io.specs.Seen.{PortSeen}
-use Rattle.centre_core.specs.Halls.{HallSeen}
+use Rattle.centre_core.specs.Halls.{HallSeen, DiskGoesOn}
 use Rattle.centre_core.specs.declared.hall.Stop.{Stop}
 use Rattle.centre_rules.specs.Summary.{Summary}
 use Rattle.centre_rules.specs.History.{Entry}
@@ -109,8 +109,8 @@ IsUnhalted WriteFault = Unit {0}
 IsUnhalted (Stopped stop) = ⊥
 
 -- From a history on, a session over datagrams of which these bytes were given: the history for which the hall stands at its end, to which
--- the caller's own part grew by just the turns' entries, and what it added to what the mailbox tells. What was recorded can be read
--- again if it could be before; and a hall that was not down is not, unless a line was stopped.
+-- the caller's own part grew by just the turns' entries, and what it added to what the mailbox tells. What was so of the hall's disk and the
+-- history before is so behind it; and a hall that was not down is not, unless a line was stopped.
 pub record ServesMail (end : MailEnd) (given : List (List ℕ)) (b : Summary) (h : List Entry) (hall hall' : HallSeen) (p p' : PortSeen)
     : Type 0 where
   pub datagrams : List Datagram
@@ -121,7 +121,7 @@ pub record ServesMail (end : MailEnd) (given : List (List ℕ)) (b : Summary) (h
   pub holds : hall'.stands b history
   pub legal : IsLegal b history
   pub own : hall'.own history ≡ reverse (entries_of line_turns (turns_of datagrams)) ++ hall.own h
-  pub reads : hall.readable b h → hall'.readable b history
+  pub disk : DiskGoesOn b hall hall' h history
   pub up : IsUnhalted end → hall.up → hall'.up
   pub told : p' ≡ record p {
     read_faults = p'.read_faults;

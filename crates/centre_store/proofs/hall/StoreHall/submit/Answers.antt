@@ -18,10 +18,12 @@ returns-clause-kept g c =
 
 pub returns-clause-done : goal.returns-clause-done
 returns-clause-done g c =
-    goes_on g.D.Disk.seen c.args.self.now c.submit.new.self c.submit.ensures.text c.args.clock c.args.event c.submit.result
-    c.requires.formed c.requires.clock c.submit.ensures.done c.submit.ensures.by c.submit.ensures.down
+    let met = c.submit.ensures in
+    goes_on g.D.Disk.seen g.met.D.Disk.only_now c.args.self.now c.submit.new.self c.args.clock c.args.event c.requires.formed c.requires.clock
+    met.text met.at_open met.already met.unrecorded met.any_moment c.submit.result met.done met.by met.down
 
 pub returns-clause-stop : goal.returns-clause-stop
 returns-clause-stop g c =
-    waits g.D.Disk.seen c.args.self.now c.submit.new.self c.submit.ensures.text c.args.clock c.args.event c.submit.result
-    c.submit.ensures.stop c.submit.ensures.cause c.submit.ensures.met
+    let met = c.submit.ensures in
+    waits g.D.Disk.seen g.met.D.Disk.only_now c.args.self.now c.submit.new.self c.args.clock c.args.event c.requires.formed c.requires.clock
+    met.text met.at_open met.already met.unrecorded met.any_moment c.submit.result met.stop met.cause met.unwritten met.met
