@@ -1,9 +1,11 @@
 -- The lines of incidents, one after the other.
-use Rattle.std.proofs.Common.{◌≡◌, ◌<◌, ◌+◌, ℕ, List, [], ◌∷◌, ◌++◌, length, take, drop, slice_index_or, Option, codes, decimal, refl, sym, ◌∙◌, ap, append-nil}
-use Rattle.std.specs.List.{flat_map}
+use Rattle.std.proofs.Common.{◌≡◌, ◌<◌, ◌+◌, ℕ, List, [], ◌∷◌, ◌++◌, length, take, drop, slice_index_or, Option, Some, None, codes, decimal, refl, sym, ◌∙◌, ap, append-nil}
+use Rattle.std.specs.List.{flat_map, cons_option}
 use Rattle.std.proofs.lemmas.List.{take_more, take-append-drop, append_assoc, length-map}
 use Rattle.arc_data.specs.declared.incident.Incident.{Incident}
 use Rattle.centre_rules.specs.Standing.{stands_at, standing_of}
+use Rattle.incidents.specs.declared.slots.Slot.{Slot}
+use Rattle.incidents.specs.Slots.{standing, open_of}
 use Rattle.desk_wire.specs.Replies.{ended}
 use Rattle.arc_report.specs.Reports.{incident_line}
 
@@ -27,9 +29,24 @@ lines_all f xs n = sym (lines_append f (take n xs) (drop n xs)) ∙ ap (flat_map
 abbrev pub stood_line : Option ℕ → ℕ → Incident → List ℕ
 stood_line lapse at i = incident_line (stands_at lapse at i)
 
-pub lines_stood : (lapse : Option ℕ) (at : ℕ) (is : List Incident) → flat_map (stood_line lapse at) is ≡ flat_map incident_line (standing_of lapse at is)
+-- the line of what is open at a place
+abbrev pub slot_line : Option ℕ → ℕ → Slot → List ℕ
+slot_line lapse at s = flat_map incident_line (standing_of lapse at (open_of (s ∷ [])))
+
+pub line_open : (lapse : Option ℕ) (at : ℕ) (s : Slot) (i : Incident) → standing s ≡ Some i → stood_line lapse at i ≡ slot_line lapse at s
+line_open lapse at s i e = sym (append-nil (stood_line lapse at i)) ∙ ap (λ (o : Option Incident). flat_map incident_line (standing_of lapse at (cons_option o []))) (sym e)
+
+pub line_closed : (lapse : Option ℕ) (at : ℕ) (s : Slot) → standing s ≡ None → [] ≡ slot_line lapse at s
+line_closed lapse at s e = ap (λ (o : Option Incident). flat_map incident_line (standing_of lapse at (cons_option o []))) (sym e)
+
+next_lines : (lapse : Option ℕ) (at : ℕ) (o : Option Incident) (rest : List ℕ) (is : List Incident) → rest ≡ flat_map incident_line (standing_of lapse at is)
+    → flat_map incident_line (standing_of lapse at (cons_option o [])) ++ rest ≡ flat_map incident_line (standing_of lapse at (cons_option o is))
+next_lines lapse at None rest is e = e
+next_lines lapse at (Some i) rest is e = ap (λ l. l ++ rest) (append-nil (stood_line lapse at i)) ∙ ap (λ l. stood_line lapse at i ++ l) e
+
+pub lines_stood : (lapse : Option ℕ) (at : ℕ) (slots : List Slot) → flat_map (slot_line lapse at) slots ≡ flat_map incident_line (standing_of lapse at (open_of slots))
 lines_stood lapse at [] = refl
-lines_stood lapse at (i ∷ is) = ap (λ l. stood_line lapse at i ++ l) (lines_stood lapse at is)
+lines_stood lapse at (s ∷ slots) = next_lines lapse at (standing s) (flat_map (slot_line lapse at) slots) (open_of slots) (lines_stood lapse at slots)
 
 pub count_stood : (lapse : Option ℕ) (at : ℕ) (is : List Incident)
     → codes "open " ++ ended (decimal (length is)) ≡ codes "open " ++ ended (decimal (length (standing_of lapse at is)))

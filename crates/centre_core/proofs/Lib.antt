@@ -20,3 +20,4 @@ pub mod Tests
 pub mod Decoded
 pub mod Batches
 pub mod OnDisk
+pub mod SlotTexts

@@ -145,8 +145,9 @@ fn put_row_of(rows: &AccountRows, account: &Txt, out: &mut Vec<u8>) -> Result<()
 fn put_incidents(table: &Table, out: &mut Vec<u8>) -> Result<(), Memory>
     ensures { OnOk result (HaveGoodSteps table.now.incidents → out.new.items ≡ out.old.items ++ many_texts (incident_text 2) table.now.incidents) }
 {
+    let slots = table.slots();
     put_count(table.count(), out)?;
-    for slot in table.slots() {
+    for slot in slots {
         put_slot(slot, out)?;
     }
     Ok(())

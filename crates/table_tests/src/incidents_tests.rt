@@ -52,11 +52,11 @@ fn act(table: &mut Table, number: u64, at: u64, operator: Txt) {
 
 // Whether one was open until now.
 fn close(table: &mut Table, number: u64) -> bool {
-    let was_open = table.get(number).is_some();
-    if was_open {
-        table.remove(number);
+    if table.get(number).is_none() {
+        return false;
     }
-    was_open
+    table.remove(number);
+    true
 }
 
 fn three_incidents(rt: &impl Abort, alloc: Global) -> Table {

@@ -7,9 +7,9 @@ use Rattle.arc_report.proofs.writing.report.Goals as goal
 
 pub returns-in-Ok : goal.returns-in-Ok
 returns-in-Ok g c =
-    rw (sym c.recorded.ensures, sym c.table.ensures.incidents, sym c.items.ensures.value, sym c.last.ensures, sym c.lapse.ensures)
+    rw (sym c.recorded.ensures, sym c.table.ensures.incidents, sym c.last.ensures, sym c.lapse.ensures)
     (puts_next c.in-Ok.field-0 c.put_table.result (codes "recorded " ++ ended (decimal c.recorded.result))
-    (table_of (standing_of c.lapse.result c.last.result c.items.result.now)) c.in-Ok.ensures c.put_table.ensures)
+    (table_of (standing_of c.lapse.result c.last.result c.table.result.now.incidents)) c.in-Ok.ensures c.put_table.ensures)
 
 pub returns-in-Err : goal.returns-in-Err
 returns-in-Err g c =

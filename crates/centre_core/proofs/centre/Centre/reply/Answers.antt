@@ -38,5 +38,5 @@ returns-in-List c =
     let of = λ (is : List Incident). on_list (standing_of c.lapse-in-List.result c.args.at is) in
     ok_more c.list.result _ _ (λ r is plain.
     asked c.args.self.now.sum r on_list c.args.at c.lapse-in-List.result c.lapse-in-List.ensures
-    (of_table (the_view c.self.inside) c.args.self.now r of c.self.view_is (is ∙ ap of (c.items.ensures.value ∙ c.table-in-List.ensures.incidents)))
+    (of_table (the_view c.self.inside) c.args.self.now r of c.self.view_is (is ∙ ap of c.table-in-List.ensures.incidents))
     ∙ ap (λ (e : Event). answer_over c.args.self.now.sum [] e c.args.at) (sym c.in-List.is)) c.list.ensures
