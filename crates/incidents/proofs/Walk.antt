@@ -1,7 +1,7 @@
 -- A walk over places: how many of those before one are open, and what is open at it.
 use Rattle.std.proofs.Common.{◌≡◌, ◌<◌, ◌≤◌, ℕ, zero, suc, ◌+◌, List, [], ◌∷◌, ◌++◌, length, get_or, take, refl, sym, ap, ◌∙◌, Option, Some, None, arith, length-append}
 use Rattle.std.specs.Prelude.{slice_get}
-use Rattle.std.specs.List.{filter_map, cons_option}
+use Rattle.std.specs.List.{cons_option}
 use Rattle.std.proofs.lemmas.List.{take_more, take_all}
 use Rattle.std.proofs.lemmas.Option.{slice_get_within, get_or_from_slice_get}
 use Rattle.std.proofs.lemmas.List.Elements.{filter_map-append}

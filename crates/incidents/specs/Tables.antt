@@ -1,5 +1,5 @@
 -- What calls do to a table of open incidents.
-use Rattle.std.specs.Prelude.{◌≡◌, ◌≤◌, ℕ, ◌+◌, List, [], ◌∷◌, ◌++◌, Bool, true, false, not, if◌then◌else◌}
+use Rattle.std.specs.Prelude.{◌≡◌, ◌≤◌, ℕ, ◌+◌, List, [], ◌∷◌, ◌++◌, true, false, not, if◌then◌else◌}
 use Rattle.std.specs.Prelude.{Option, None, is_some, length, map}
 use Rattle.std.specs.List.{filter, find}
 use Rattle.std.specs.Option.{option_map}

@@ -1,8 +1,7 @@
 -- The first rows of a list that is put in order.
-use Rattle.std.proofs.Common.{◌≡◌, ◌≤◌, ◌<◌, ◌+◌, ℕ, zero, suc, List, [], ◌∷◌, ◌++◌, map, length, take, drop, Bool, true, false, cond, refl, sym, ap, ◌∙◌, arith, get_or, drop-cons}
-use Rattle.std.specs.Prelude.{not, nat_lt, IsTrue, Option, Some, None}
+use Rattle.std.proofs.Common.{◌≡◌, ◌≤◌, ◌<◌, ◌+◌, ℕ, zero, suc, List, [], ◌∷◌, map, length, take, drop, Bool, true, false, cond, refl, sym, ap, ◌∙◌, arith, get_or, drop-cons}
+use Rattle.std.specs.Prelude.{not, nat_lt, Option, Some, None}
 use Rattle.std.specs.List.{insert, position, position_or_len, cons_option}
-use Rattle.std.proofs.lemmas.Bool.{false≢true}
 use Rattle.std.proofs.lemmas.Bool.Decides.{nat_tests}
 use Rattle.std.proofs.lemmas.List.{length-take, length-map}
 use Rattle.std.proofs.lemmas.List.Sums.{prefix_len-le-length}

@@ -1,5 +1,5 @@
 -- An incident put last: who waits, who is held, and what may be put.
-use Rattle.std.proofs.Common.{◌≡◌, ◌<◌, ◌≤◌, ◌+◌, ℕ, zero, suc, List, [], ◌∷◌, ◌++◌, map, take, length, Bool, true, false, cond, refl, sym, ap, ◌∙◌, Option, Some, None, arith, subst, append-nil, length-append}
+use Rattle.std.proofs.Common.{◌≡◌, ◌<◌, ◌≤◌, ◌+◌, ℕ, zero, suc, List, [], ◌∷◌, ◌++◌, map, take, length, Bool, true, false, cond, refl, sym, ap, ◌∙◌, Some, None, arith, subst, append-nil}
 use Rattle.std.specs.Prelude.{slice_get, nat_lt, ◌&&◌}
 use Rattle.std.specs.List.{find, filter}
 use Rattle.std.specs.List.Sorted.{IsPermutation}

@@ -1,8 +1,6 @@
 -- It is held, or it waits.
 use Rattle.std.proofs.Common.{◌≡◌, ◌∷◌, ℕ, true, false, sym, subst}
-use Rattle.std.specs.Prelude.{is_some}
 use Rattle.std.specs.List.Sorted.{IsPermutation}
-use Rattle.centre_rules.specs.Desks.{is_free}
 use Rattle.open_incidents.specs.Holding.{is_held}
 use Rattle.open_incidents.proofs.Parts.{free_by, held_by}
 use Rattle.open_incidents.proofs.Put.{put_free, put_taken, held_not, held_put}

@@ -1,5 +1,5 @@
 -- Every hold is taken away.
-use Rattle.std.proofs.Common.{[], refl}
+use Rattle.std.proofs.Common.{refl}
 use Rattle.centre_rules.specs.Marks.{Starts}
 use Rattle.open_incidents.proofs.ActRoom.{room_same}
 use Rattle.open_incidents.proofs.Bounds.{few_same}

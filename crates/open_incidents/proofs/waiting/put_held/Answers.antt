@@ -4,10 +4,10 @@ use Rattle.std.specs.List.Sorted.{IsPermutation}
 use Rattle.std.specs.Option.{option_map}
 use Rattle.centre_rules.specs.Desks.{is_free}
 use Rattle.incidents.specs.Slots.{standing, open_of}
-use Rattle.incidents.proofs.Walk.{before, walk_open, walk_closed, walk_within, walk_item, walk_end}
+use Rattle.incidents.proofs.Walk.{before, walk_open, walk_closed, walk_within, walk_item}
 use Rattle.operator_queue.specs.Pairs.{PairsValue}
 use Rattle.open_incidents.proofs.Parts.{free_by, held_by}
-use Rattle.open_incidents.proofs.QueueEdits.{PutSome, room_next, put_free, put_held, put_all}
+use Rattle.open_incidents.proofs.QueueEdits.{PutSome, room_next, put_free, put_held}
 use Rattle.open_incidents.proofs.waiting.put_held.Goals as goal
 use Rattle.open_incidents.proofs.waiting.put_held.Goals.{in-Some+then-is_some, in-Some+else-is_some, in_default}
 

@@ -1,15 +1,15 @@
 -- Each incident is put behind those before it, whose numbers are less, and none of which is of its account and class.
-use Rattle.std.proofs.Common.{◌≡◌, ◌<◌, ◌≤◌, ◌+◌, ◌++◌, ◌∷◌, [], ℕ, List, None, Some, length, take, ap, ◌∙◌, sym, subst, arith}
+use Rattle.std.proofs.Common.{◌≡◌, ◌<◌, ◌+◌, ◌++◌, ◌∷◌, [], ℕ, List, None, Some, length, take, ap, ◌∙◌, sym, subst, arith}
 use Rattle.std.specs.Prelude.{slice_get}
 use Rattle.std.specs.List.{find}
 use Rattle.std.specs.Option.{option_map}
-use Rattle.std.proofs.lemmas.List.{take_all, length-take-le}
+use Rattle.std.proofs.lemmas.List.{length-take-le}
 use Rattle.std.proofs.lemmas.Option.{slice_get_within}
 use Rattle.arc_data.specs.Incidents.{is_of, Each}
 use Rattle.arc_data.specs.declared.incident.Incident.{Incident}
 use Rattle.incidents.specs.Slots.{standing}
 use Rattle.incidents.specs.Tables.{TableValue}
-use Rattle.incidents.proofs.Walk.{before, walk_open, walk_closed, walk_next, walk_end}
+use Rattle.incidents.proofs.Walk.{before, walk_open, walk_closed, walk_next}
 use Rattle.open_incidents.proofs.Put.{next_of, number_within, all_below, none_of_it, kept_as}
 use Rattle.open_incidents.proofs.queued_table.QueuedTable.copy.Goals as goal
 use Rattle.open_incidents.proofs.queued_table.QueuedTable.copy.Goals.{in-Some, in_default}

@@ -1,10 +1,9 @@
 -- The more urgent of the first of the queue and the first of those whose hold has lapsed.
-use Rattle.std.proofs.Common.{◌≡◌, ◌∙◌, Option, ap, sym, subst}
+use Rattle.std.proofs.Common.{◌∙◌, ap, sym, subst}
 use Rattle.std.specs.Option.{option_map}
 use Rattle.arc_data.specs.Incidents.{Ascends}
-use Rattle.arc_data.specs.declared.incident.Incident.{Incident}
 use Rattle.incidents.specs.Tables.{TableValue}
-use Rattle.centre_rules.specs.Desks.{best, least}
+use Rattle.centre_rules.specs.Desks.{least}
 use Rattle.centre_rules.specs.Standing.{stands_at}
 use Rattle.open_incidents.specs.Lapses.{earlier, lapsed}
 use Rattle.open_incidents.proofs.LapsedHolds.{map_twice, best_stood}

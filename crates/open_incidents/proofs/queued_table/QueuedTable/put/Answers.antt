@@ -1,5 +1,5 @@
 -- The queue and the list are those of the table with one more.
-use Rattle.std.proofs.Common.{◌≡◌, ◌≤◌, ◌<◌, length, ap, arith, length-append, ◌∷◌, []}
+use Rattle.std.proofs.Common.{◌<◌, length, ap, arith, length-append, ◌∷◌, []}
 use Rattle.std.proofs.lemmas.List.Sorted.{length_permutation}
 use Rattle.arc_data.specs.Incidents.{Each}
 use Rattle.incidents.specs.Tables.{TableValue}
