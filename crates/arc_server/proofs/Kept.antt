@@ -35,9 +35,9 @@ kept {D} {seen} {b} s {h} entry disk' stands since handed =
     subst (λ (d : D). EndsWith entry (seen d) b h) (sym handed) (kept_there s entry stands since)
 
 -- and what a crash may leave since some moment
-left_there : {D : Type 0} {seen : D → DiskSeen} {b : Summary} (s : Stored D) {t : ℕ} {k h : List Entry} (entry : ℕ) → entry ≤ s.at_open
+left_there : {D : Type 0} (seen : D → DiskSeen) {b : Summary} (s : Stored D) {t : ℕ} {k h : List Entry} (entry : ℕ) → entry ≤ s.at_open
     → LeavesFrom t k s.at_open (seen s.journal.disk) b h → LeavesFrom t k entry (seen s.journal.disk) b h
-left_there {D} {seen} {b} s {t} {k} {h} entry since left = record {
+left_there {D} seen {b} s {t} {k} {h} entry since left = record {
   later = left.later;
   extends = left.extends;
   furthest = left.furthest;
@@ -55,4 +55,4 @@ pub left_since_begun : {D : Type 0} (seen : D → DiskSeen) (only_now : (d : D) 
     → LeavesFrom (seen first.journal.disk).moment h entry (seen disk') b x
 left_since_begun {D} seen only_now {b} first last {h} {x} entry disk' stands up readable disk since handed =
     subst (λ (d : D). LeavesFrom (seen first.journal.disk).moment h entry (seen d) b x) (sym handed)
-    (left_there last entry since (disk.leaves readable (seen first.journal.disk).moment h (leaves_now seen only_now b first h up stands)))
+    (left_there seen last entry since (disk.leaves readable (seen first.journal.disk).moment h (leaves_now seen only_now b first h up stands)))

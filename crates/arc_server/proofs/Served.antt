@@ -31,7 +31,7 @@ serves_ran : {D : Type 0} {seen : D → DiskSeen} (groups : Bool) (t : Terms) (c
     (status : Status) {r r' : Handed D} {p : PortSeen} {around around' : StationSeen} {h : List Entry}
     → (begun : HasBegun seen r r'.setup p first h) → (s : Serves seen t crew around around' came last)
     → t.stood begun.asked.base h
-    → HasServed seen groups first crew (around, around') (Ok came) last (all_ended s.ran)
+    → HasServed seen groups first crew (around, around') (Ok came) last (all_ended s.all.ran)
     → last.journal.limits ≡ shipped → r'.disk ≡ last.journal.disk → last.at_open ≡ first.at_open
     → EndsServing (seen r.disk).faults p r'.port (seen r'.disk).faults last.state.sum (Ok came) status
     → ServesAll seen groups crew status r r' around around'
@@ -46,7 +46,7 @@ serves_ran {D} {seen} groups t came first last crew status {r} {r'} {p} {around}
       begun = begun;
       last = last;
       came = Ok came;
-      passes = all_ended s.ran;
+      passes = all_ended s.all.ran;
       served = served;
       stands = all;
       limits = limits;

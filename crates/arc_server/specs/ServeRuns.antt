@@ -47,9 +47,9 @@ abbrev pub HasServed : {D : Type 0} → (D → DiskSeen)
     → Bool → Stored D → Crew → StationSeen × StationSeen → Result CameSeen Memory → Stored D → List PassSeen → Type 0
 HasServed seen groups first crew (around, around') (Err refused) last passes = (around' ≡ around) × (passes ≡ [])
 HasServed seen false first crew (around, around') (Ok came) last passes =
-    (served : ServesStore seen first crew around around' came last) × (passes ≡ all_ended served.serves.ran)
+    (served : ServesStore seen first crew around around' came last) × (passes ≡ all_ended served.serves.all.ran)
 HasServed seen true first crew (around, around') (Ok came) last passes =
-    (served : GathersStore seen first crew around around' came (Whole last)) × (passes ≡ all_ended served.serves.0.ran)
+    (served : GathersStore seen first crew around around' came (Whole last)) × (passes ≡ all_ended served.serves.0.all.ran)
 
 -- A run began, with a port that told p then, and from there all callers were served. The store stands for a history that begins with the
 -- begun one and has all that any of them has seen. One line of it was written, or a front of it; the disk that is handed back has its
