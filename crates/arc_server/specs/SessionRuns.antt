@@ -20,9 +20,9 @@ use Rattle.session_rules.specs.Sessions.{changed}
 abbrev pub line_name : List ℕ
 line_name = codes "line"
 
--- A run began, with a port that told p then, and from there a session of this kind read some bytes, answered them, and came to its end. The
--- store stands for the history that the session ended with; its disk is handed back, and has the recorded entries. A crash at any moment of the
--- session leaves all that was recorded when the run had begun, and of the session's entries some first ones.
+-- A run began, with a port that told p then, and from there a session of this kind read some bytes, answered them, and came to its end.
+-- The store stands for the history that the session ended with; its disk is handed back, and has the recorded entries. A crash at any
+-- moment of the session leaves all that was recorded when the run had begun, and of the session's entries some first ones.
 pub record ServesRun {D : Type 0} (seen : D → DiskSeen) (side : Side) (status : Status) (r r' : Handed D) : Type 0 where
   pub p : PortSeen
   pub first : Stored D

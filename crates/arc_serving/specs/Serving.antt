@@ -46,8 +46,9 @@ pub record StandsForAll {D : Type 0} (seen : D → DiskSeen)
   pub from : GoesOnFrom seen b base s
   pub all_seen : All (λ p. Extends (p.since ++ base) from.history) passes
 
--- The callers ran beside each other at a gate of this name. Each used door has the clause of a worker, the pulse that of the ticker, all under
--- numbers of their own: lines in the order of their doors, then desks, then the ticker. The setup in force was that of the history before.
+-- The callers ran beside each other at a gate of this name. Each used door has the clause of a worker, the pulse that of the ticker,
+-- all under numbers of their own: lines in the order of their doors, then desks, then the ticker. The setup in force was that of the
+-- history before.
 pub record RanAll (t : Terms) (crew : Crew) (before after : StationSeen) (came : CameSeen) : Type 0 where
   pub ran : Ran
   pub lines : IsSideServed Lines t crew.lines crew.sessions ran.lines before.lines after.lines came.lines

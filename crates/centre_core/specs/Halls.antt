@@ -57,8 +57,8 @@ pub record IsKept (hall hall' : HallSeen) : Type 0 where
   pub count : hall.count ≤ hall'.count
   pub told : hall.told ≤ hall'.told
 
--- What is so of the hall's disk and a history is so of it and a later one, behind the hall's calls: what was recorded can be read again; and
--- then, since whatever moment, a crash leaves all that had been recorded by that, and nothing past the history.
+-- What is so of the hall's disk and a history is so of it and a later one, behind the hall's calls: what was recorded can be read
+-- again; and then, since whatever moment, a crash leaves all that had been recorded by that, and nothing past the history.
 pub record DiskGoesOn (b : Summary) (hall hall' : HallSeen) (h x : List Entry) : Type 0 where
   pub reads : hall.readable b h → hall'.readable b x
   pub leaves : hall.readable b h → (t : ℕ) (k : List Entry) → hall.leaves t k b h → hall'.leaves t k b x

@@ -67,9 +67,9 @@ pub record StandsBetween (b : Summary) (h x : List Entry) (areas : Areas) : Type
   pub to_x : Extends so_far x
   pub stands : StandForIn 2 b so_far areas
 
--- A crash at any moment from t of the disk's clock on leaves areas that stand for a history that begins with k, and with which h begins: all
--- that k has recorded is left, and nothing past h. Where the disk has failed since it had so many faults, the event that met the fault may be
--- left, too: its entry is the next one of h.
+-- A crash at any moment from t of the disk's clock on leaves areas that stand for a history that begins with k, and with which h
+-- begins: all that k has recorded is left, and nothing past h. Where the disk has failed since it had so many faults, the event that
+-- met the fault may be left, too: its entry is the next one of h.
 pub record LeavesFrom (t : ℕ) (k : List Entry) (faults : ℕ) (disk : DiskSeen) (b : Summary) (h : List Entry) : Type 0 where
   pub later : t ≤ disk.moment
   pub extends : Extends k h

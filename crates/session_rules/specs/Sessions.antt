@@ -87,9 +87,9 @@ pub record Way : Type 0 where
 abbrev pub Goes : List Entry → (Way → Type 0) → Type 0
 Goes h holds = (to : List Entry) × (made : List Entry) × holds (record { from = h; to = to; made = made })
 
--- From a history on, a session over these pieces: the history for which the hall stands at its end, to which the caller's own
--- part grew by just the turns' entries, and what it added to the port. What was so of the hall's disk and the history before is so behind it;
--- and a hall that was not down is not, unless it stopped.
+-- From a history on, a session over these pieces: the history for which the hall stands at its end, to which the caller's own part grew
+-- by just the turns' entries, and what it added to the port. What was so of the hall's disk and the history before is so behind it; and
+-- a hall that was not down is not, unless it stopped.
 pub record IsSession {T : Type 0} (kind : Kind T) (rules : Rules T) (end : Ending) (b : Summary) (pieces : List (List ℕ)) (h : List Entry)
     (c : Change) : Type 0 where
   pub turns : List T

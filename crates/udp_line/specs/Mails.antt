@@ -108,9 +108,9 @@ IsUnhalted ReadFault = Unit {0}
 IsUnhalted WriteFault = Unit {0}
 IsUnhalted (Stopped stop) = ⊥
 
--- From a history on, a session over datagrams of which these bytes were given: the history for which the hall stands at its end, to which
--- the caller's own part grew by just the turns' entries, and what it added to what the mailbox tells. What was so of the hall's disk and the
--- history before is so behind it; and a hall that was not down is not, unless a line was stopped.
+-- From a history on, a session over datagrams of which these bytes were given: the history for which the hall stands at its end, to
+-- which the caller's own part grew by just the turns' entries, and what it added to what the mailbox tells. What was so of the hall's
+-- disk and the history before is so behind it; and a hall that was not down is not, unless a line was stopped.
 pub record ServesMail (end : MailEnd) (given : List (List ℕ)) (b : Summary) (h : List Entry) (hall hall' : HallSeen) (p p' : PortSeen)
     : Type 0 where
   pub datagrams : List Datagram
