@@ -17,6 +17,7 @@ use Rattle.centre_rules.specs.Summary.{Summary}
 use Rattle.centre_store.proofs.Entered.{held}
 use Rattle.centre_store.proofs.Holding.{recorded_or, recorded_there}
 use Rattle.centre_store.specs.Begins.{adopted_after, begun_after, event_of_begin, LeavesWithin, ShowsOfBegin, TellsWithin}
+use Rattle.centre_store.specs.Calls.{entry_after}
 use Rattle.centre_store.specs.Given.{HasRecorded, HoldsRecorded}
 use Rattle.centre_store.specs.Orders.{IsDownWhereFailed}
 use Rattle.centre_store.specs.StoreHalls.{store_seen}
@@ -25,7 +26,7 @@ use Rattle.desk_wire.specs.Replies.{line_of}
 use Rattle.arc_script.specs.Causes.{HasShown, IsOfTime}
 use Rattle.arc_script.specs.Ends.{BegunUntil, BegunAgain}
 use Rattle.arc_script.specs.Playing.{AgainStops, BeginStops, TickStops, Ticked}
-use Rattle.arc_script.specs.Steps.{before_tick, entry_after}
+use Rattle.arc_script.specs.Steps.{before_tick}
 use Rattle.arc_script.proofs.Stops.{of_memory}
 use Rattle.arc_script.proofs.Unbegun.{fails_or_not, there_up, unbegun}
 

@@ -9,6 +9,7 @@ use Rattle.centre_core.specs.declared.hall.Stop.{Stop}
 use Rattle.centre_rules.specs.Answers.{IsLegal}
 use Rattle.centre_rules.specs.History.{Entry, IsMoment}
 use Rattle.centre_rules.specs.Summary.{Summary}
+use Rattle.centre_store.specs.Calls.{entry_after}
 use Rattle.centre_store.specs.Stores.{Stored, StoreStands}
 use Rattle.desk_wire.specs.Replies.{line_of}
 use Rattle.script_lines.specs.Lines.{Asked, Time, spelling}
@@ -20,7 +21,7 @@ use Rattle.arc_script.specs.Ends.{Tells, CameFor}
 use Rattle.arc_script.specs.Fed.{clock_of}
 use Rattle.arc_script.specs.Playing.{TickStops, Ticked}
 use Rattle.arc_script.specs.Standing.{IsReadable}
-use Rattle.arc_script.specs.Steps.{Place, Step, IsStepOf, before_tick, entry_after}
+use Rattle.arc_script.specs.Steps.{Place, Step, IsStepOf, before_tick}
 use Rattle.arc_script.specs.Tallies.{count_of, is_closed, is_repeat}
 use Rattle.arc_script.specs.declared.script.Script.{Script}
 use Rattle.arc_script.specs.declared.script_end.Tally.{Tally}

@@ -10,6 +10,7 @@ use Rattle.centre_core.specs.declared.hall.Stop.TheVariants.{Memory}
 use Rattle.centre_rules.specs.History.{Entry}
 use Rattle.centre_rules.specs.Summary.{Summary}
 use Rattle.centre_store.specs.Begins.{adopted_after, event_of_begin}
+use Rattle.centre_store.specs.Calls.{entry_after}
 use Rattle.centre_store.specs.Stores.{Stored, HasFailed, StoreStands}
 use Rattle.alarm_rules.specs.Setups.{Setup}
 use Rattle.desk_session.specs.Desks.{DeskValue, TookStream}
@@ -19,7 +20,7 @@ use Rattle.script_lines.specs.Reading.{asked}
 use Rattle.script_lines.specs.declared.line.ScriptLine.{ScriptLine}
 use Rattle.arc_script.specs.Causes.{HasShown, IsOfTime}
 use Rattle.arc_script.specs.Ends.{BegunUntil, BegunAgain}
-use Rattle.arc_script.specs.Steps.{before_tick, entry_after}
+use Rattle.arc_script.specs.Steps.{before_tick}
 use Rattle.arc_script.specs.Texts.{line_limit}
 
 -- the moment of a line, by the one that was set before: its own, or that one
