@@ -7,13 +7,15 @@ use Rattle.std.specs.Option.{option_to_list}
 use Rattle.std.proofs.lemmas.Bool.{le-leb, leb-true, not-false, eqb-true}
 use Rattle.std.proofs.lemmas.List.Elements.{All-nil, All-cons, All-head, All-tail, All-append, All-map, Contains-get_or}
 use Rattle.arc_data.specs.declared.blob.Memory.{Memory}
+use Rattle.arc_data.specs.declared.event.Event.{Event}
 use Rattle.arc_data.specs.declared.event.Event.TheVariants.{Tick}
 use Rattle.arc_doors.specs.Doors.{DoorSeen}
 use Rattle.arc_doors.specs.Pulses.{Moments}
 use Rattle.arc_io.specs.Disks.{DiskSeen}
 use Rattle.arc_io.specs.Causes.{next_count, Rose}
 use Rattle.arc_io.specs.Seen.{PortSeen}
-use Rattle.arc_serving.specs.Ran.{WorkerRan, IsWorkerRan, IsSideServed, ended_in}
+use Rattle.arc_serving.proofs.Sides.{ended_in}
+use Rattle.arc_serving.specs.Ran.{WorkerRan, IsWorkerRan, IsSideServed}
 use Rattle.arc_serving.specs.Seen.{StationSeen, CameSeen}
 use Rattle.arc_serving.specs.Serving.{Serves}
 use Rattle.arc_serving.specs.declared.station.Crew.{Crew}
@@ -23,7 +25,7 @@ use Rattle.arc_serving.specs.declared.side.Side.{Side}
 use Rattle.arc_serving.specs.declared.side.Side.TheVariants.{Lines, Desks}
 use Rattle.arc_serving.specs.Served.{Served}
 use Rattle.arc_serving.specs.Ticks.{Ticking, EndsTicking}
-use Rattle.arc_serving.specs.Works.{EndsWork, IsStoppedBy, IsShown, is_memory, stop_of, other_than_memory}
+use Rattle.arc_serving.specs.Works.{EndsWork, IsStoppedBy, stop_of}
 use Rattle.arc_serving.specs.declared.working.Worked.{Worked}
 use Rattle.arc_serving.specs.declared.working.WorkerEnd.{WorkerEnd}
 use Rattle.arc_serving.specs.declared.working.WorkerEnd.TheVariants.{DoorEnded, Quota, DoorFault as WorkerFault, Stopped}
@@ -309,14 +311,15 @@ rose_put (Err e) line p p' puts cut = puts.cause.failed
 
 -- Callers over a disk that has not failed since the run's entry.
 
-other_stop : (stop : Stop) → other_than_memory stop ≡ Some MemoryWanted → ⊥
-other_stop MemoryWanted is = cc
-other_stop (Down at_open now) is = cc
-other_stop (HallFull used need records) is = cc
-other_stop (HallWorn count) is = cc
+-- the pass shows the stop for some event at some reading of the clock
+abbrev IsShown : Terms → PassSeen → Stop → Type 0
+IsShown t q stop = (event : Event) × (clock : ℕ) × PassShows t q stop event clock
 
 other_end : (e : SessionEnd) → stop_of e ≡ Some MemoryWanted → ⊥
-other_end (Session.Stopped stop) is = other_stop stop is
+other_end (Session.Stopped MemoryWanted) is = cc
+other_end (Session.Stopped (Down at_open now)) is = cc
+other_end (Session.Stopped (HallFull used need records)) is = cc
+other_end (Session.Stopped (HallWorn count)) is = cc
 other_end Session.Quit is = cc
 other_end Session.InputEnded is = cc
 other_end Session.ReadFault is = cc
@@ -351,7 +354,7 @@ module _ (t : Terms) (entry end : ℕ) (since : entry ≤ t.at_open) (up : Rose 
       → q.told ≤ end → EndsTicking stop t q pulse refused ticks → MayStop stop
   ticker_may None q pulse refused ticks told ends = tt
   ticker_may (Some stop) q pulse refused ticks told ends =
-      stops_itself q stop told (λ is. true≢false (subst (λ (s : Stop). is_memory s ≡ false) is ends.other)) (Tick, ends.last.moment, ends.shown)
+      stops_itself q stop told ends.other (Tick, ends.last.moment, ends.shown)
 
   side_may : (side : Side) (count sessions : ℕ) (ran : List WorkerRan) (doors doors' : List DoorSeen) (came : List Worked)
       → IsSideServed side t count sessions ran doors doors' came → All (λ p. p.told ≤ end) (ended_in ran) → All (λ w. MayEnd w.end) came
@@ -360,7 +363,7 @@ module _ (t : Terms) (entry end : ℕ) (since : entry ≤ t.at_open) (up : Rose 
       let each : All (λ (w : WorkerRan). MayEnd w.worked.end) ran =
       all_both (λ (w : WorkerRan). IsWorkerRan side t sessions w) (λ (w : WorkerRan). w.ended.told ≤ end) (λ (w : WorkerRan). MayEnd w.worked.end) ran
       (λ w is told. worker_may w.worked.end w.ended w.door w.door' sessions is.works.served told is.works.ended) served.each tolds in
-      subst (λ (ws : List Worked). All (λ w. MayEnd w.end) ws) (sym served.stood.came_is) (All-map (λ (w : Worked). MayEnd w.end) (λ (w : WorkerRan). w.worked) ran each)
+      subst (λ (ws : List Worked). All (λ w. MayEnd w.end) ws) (sym served.came_is) (All-map (λ (w : Worked). MayEnd w.end) (λ (w : WorkerRan). w.worked) ran each)
 
 all_may : {D : Type 0} {seen : D → DiskSeen}
     (t : Terms) (crew : Crew) (around around' : StationSeen) (came : CameSeen) (last : Stored D) (entry : ℕ) (disk' : D)

@@ -1,6 +1,5 @@
 -- All that serving makes of a store.
-use Rattle.std.proofs.Common.{◌≡◌, ◌≤◌, ◌<◌, ℕ, List, [], ◌∷◌, ◌++◌, Option, Some, length, refl, sym, ap, ◌∙◌, subst, arith}
-use Rattle.std.proofs.lemmas.List.{map-append}
+use Rattle.std.proofs.Common.{◌≡◌, ◌≤◌, ◌<◌, ℕ, List, [], ◌∷◌, ◌++◌, Option, Some, length, refl, ap, ◌∙◌, subst, arith}
 use Rattle.std.proofs.lemmas.List.Elements.{All-nil, All-cons, All-append, All-weaker}
 use Rattle.std.specs.Prelude.{All, Result, Ok, Err, IfOk, OnErr, true, false, map, reverse}
 use Rattle.alarm_rules.specs.Setups.{meaning}
@@ -25,14 +24,14 @@ use Rattle.line_gate.specs.Groups.{IsClosed, IsClosedBroken, ClosesGroup}
 use Rattle.line_gate.specs.declared.closed.GroupClosed.{GroupClosed}
 use Rattle.line_gate.specs.declared.closed.GroupClosed.TheVariants.{Whole, Broken}
 use Rattle.arc_serving.specs.Closing.{ServesSeated}
-use Rattle.arc_serving.specs.Jobs.{JobSeen, AreSeated, HasTaken, AreUnseated, doors_in, numbers_in, passes_in, worked_in}
-use Rattle.arc_serving.specs.Ran.{IsFresh, WorkerRan, IsSideServed, began_in, ended_in}
+use Rattle.arc_serving.specs.Jobs.{JobSeen, AreSeated, HasTaken, AreUnseated, doors_in, numbers_in, worked_in}
+use Rattle.arc_serving.specs.Ran.{IsFresh, WorkerRan, IsSideServed}
 use Rattle.arc_serving.specs.Rising.{AreRising}
 use Rattle.arc_serving.specs.Seen.{StationSeen, CameSeen}
 use Rattle.arc_serving.specs.Serving.{Serves, ServesStore, ServesBroken, ServesAt, RanBefore, GathersStore, GoesOnFrom, GoesOnAt, IsKeptAt, IsKeptOf, StandsForAll, all_ended}
 use Rattle.arc_serving.specs.declared.station.Crew.{Crew}
 use Rattle.arc_serving.proofs.Lists.{rising_both}
-use Rattle.arc_serving.proofs.Sides.{SideRan, side_ran}
+use Rattle.arc_serving.proofs.Sides.{SideRan, ended_in, side_ran}
 
 -- the workers of a side stood at its first doors
 side_served : (side : Side) (t : Terms) (count sessions : ℕ) (last : PassSeen) (olds news : List JobSeen) (before left after : List DoorSeen) (came : List Worked)
@@ -40,12 +39,10 @@ side_served : (side : Side) (t : Terms) (count sessions : ℕ) (last : PassSeen)
     → IsSideServed side t count sessions w.ran before after came
 side_served side t count sessions last olds news before left after came seated long over worked w = record {
   count_is = w.count ∙ long;
-  stood = record {
-    unused = reverse left;
-    before = seated ∙ ap (λ (l : List DoorSeen). l ++ reverse left) w.doors;
-    after = over.parts ∙ ap (λ (l : List DoorSeen). l ++ reverse left) w.doors';
-    came_is = worked ∙ w.came;
-  };
+  unused = reverse left;
+  before = seated ∙ ap (λ (l : List DoorSeen). l ++ reverse left) w.doors;
+  after = over.parts ∙ ap (λ (l : List DoorSeen). l ++ reverse left) w.doors';
+  came_is = worked ∙ w.came;
   each = w.each;
 }
 
@@ -72,15 +69,13 @@ setup_from t first pass none b base from =
 
 -- the numbers of the callers: of lines, of desks, and of the ticker
 numbers_from : (low one two high : ℕ) (lines desks : List JobSeen) (ticker : PassSeen) (line_ran desk_ran : List WorkerRan) → AreRising low (numbers_in lines) one
-    → AreRising one (numbers_in desks) two → two ≤ ticker.number → ticker.number < high → passes_in lines ≡ began_in line_ran → passes_in desks ≡ began_in desk_ran
-    → AreRising low (map (λ (p : PassSeen). p.number) (began_in line_ran ++ (began_in desk_ran ++ ticker ∷ []))) high
+    → AreRising one (numbers_in desks) two → two ≤ ticker.number → ticker.number < high → numbers_in lines ≡ map (λ (w : WorkerRan). w.began.number) line_ran
+    → numbers_in desks ≡ map (λ (w : WorkerRan). w.began.number) desk_ran
+    → AreRising low (map (λ (w : WorkerRan). w.began.number) line_ran ++ (map (λ (w : WorkerRan). w.began.number) desk_ran ++ ticker.number ∷ [])) high
 numbers_from low one two high lines desks ticker line_ran desk_ran w v le lt line_is desk_is =
-    let number : PassSeen → ℕ = λ p. p.number in
-    let same : map number (began_in line_ran ++ (began_in desk_ran ++ ticker ∷ [])) ≡ numbers_in lines ++ (numbers_in desks ++ ticker.number ∷ []) =
-    map-append number (began_in line_ran) (began_in desk_ran ++ ticker ∷ []) ∙ ap (λ (l : List ℕ). map number (began_in line_ran) ++ l) (map-append number (began_in desk_ran) (ticker ∷ []))
-    ∙ ap (λ (l : List PassSeen). map number l ++ (map number (began_in desk_ran) ++ ticker.number ∷ [])) (sym line_is) ∙ ap (λ (l : List PassSeen). numbers_in lines ++ (map number l ++ ticker.number ∷ [])) (sym desk_is) in
-    subst (λ (l : List ℕ). AreRising low l high) (sym same)
-    (rising_both low (numbers_in lines) (numbers_in desks ++ ticker.number ∷ []) one high w (rising_both one (numbers_in desks) (ticker.number ∷ []) two high v (le, omega (arith, lt))))
+    subst (λ (l : List ℕ). AreRising low (l ++ (map (λ (x : WorkerRan). x.began.number) desk_ran ++ ticker.number ∷ [])) high) line_is
+    (subst (λ (l : List ℕ). AreRising low (numbers_in lines ++ (l ++ ticker.number ∷ [])) high) desk_is
+    (rising_both low (numbers_in lines) (numbers_in desks ++ ticker.number ∷ []) one high w (rising_both one (numbers_in desks) (ticker.number ∷ []) two high v (le, omega (arith, lt)))))
 
 -- all that ran, before the pass that took in theirs
 pub ran_before : (t : Terms) (crew : Crew) (first given last ticker : PassSeen)

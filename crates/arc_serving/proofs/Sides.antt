@@ -9,8 +9,11 @@ use Rattle.line_gate.specs.Passes.{PassSeen}
 use Rattle.line_gate.specs.Terms.{Terms}
 use Rattle.arc_serving.specs.declared.working.Worked.{Worked}
 use Rattle.arc_doors.specs.Doors.{DoorSeen}
-use Rattle.arc_serving.specs.Jobs.{JobSeen, IsReady, IsJobDone, WorksJob, HasTaken, IsTaken, doors_in, passes_in, worked_in}
-use Rattle.arc_serving.specs.Ran.{WorkerRan, IsWorkerRan, began_in, ended_in}
+use Rattle.arc_serving.specs.Jobs.{JobSeen, IsReady, IsJobDone, WorksJob, HasTaken, IsTaken, doors_in, numbers_in, passes_in, worked_in}
+use Rattle.arc_serving.specs.Ran.{WorkerRan, IsWorkerRan}
+
+abbrev pub ended_in : List WorkerRan → List PassSeen
+ended_in ran = map (λ w. w.ended) ran
 
 -- jobs that were ready, done and then taken in are workers that ran
 pub record SideRan (side : Side) (t : Terms) (sessions : ℕ) (last : PassSeen) (olds news : List JobSeen) : Type 0 where
@@ -19,7 +22,7 @@ pub record SideRan (side : Side) (t : Terms) (sessions : ℕ) (last : PassSeen) 
   pub doors : doors_in olds ≡ map (λ w. w.door) ran
   pub doors' : doors_in news ≡ map (λ w. w.door') ran
   pub came : worked_in news ≡ map (λ w. w.worked) ran
-  pub began : passes_in olds ≡ began_in ran
+  pub began : numbers_in olds ≡ map (λ w. w.began.number) ran
   pub each : All (λ (w : WorkerRan). IsWorkerRan side t sessions w) ran
   pub taken : All (λ (p : PassSeen). HasTaken last p) (ended_in ran)
 
@@ -43,7 +46,7 @@ one_more side t sessions last old new olds news ready done taken more =
       doors = ap (λ (l : List DoorSeen). old.door ∷ l) more.doors;
       doors' = ap (λ (l : List DoorSeen). new.door ∷ l) more.doors';
       came = ap (λ (o : Option Worked). option_to_list o ++ worked_in news) d.worked_is ∙ ap (λ (l : List Worked). d.worked ∷ l) more.came;
-      began = ap (λ (o : Option PassSeen). option_to_list o ++ passes_in olds) ready.1 ∙ ap (λ (l : List PassSeen). p ∷ l) more.began;
+      began = ap (λ (o : Option PassSeen). map (λ (x : PassSeen). x.number) (option_to_list o ++ passes_in olds)) ready.1 ∙ ap (λ (l : List ℕ). p.number ∷ l) more.began;
       each = All-cons (λ (x : WorkerRan). IsWorkerRan side t sessions x) w more.ran (record { fresh = ready.2; pass = d.is_pass; works = d.works }) more.each;
       taken = All-cons (λ (x : PassSeen). HasTaken last x) d.pass (ended_in more.ran) (taken_from last new.pass d.pass d.pass_is taken) more.taken;
     }

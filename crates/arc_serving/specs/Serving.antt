@@ -15,7 +15,7 @@ use Rattle.line_gate.specs.Terms.{Terms, IsPastBase}
 use Rattle.line_gate.specs.declared.closed.GroupClosed.{GroupClosed}
 use Rattle.line_gate.specs.declared.closed.GroupClosed.TheVariants.{Whole, Broken}
 use Rattle.arc_serving.specs.Jobs.{HasTaken}
-use Rattle.arc_serving.specs.Ran.{WorkerRan, TickerRan, IsTickerRan, IsSideServed, began_in, ended_in}
+use Rattle.arc_serving.specs.Ran.{WorkerRan, TickerRan, IsTickerRan, IsSideServed}
 use Rattle.arc_serving.specs.Rising.{AreRising}
 use Rattle.arc_serving.specs.Seen.{StationSeen, CameSeen}
 use Rattle.arc_serving.specs.declared.station.Crew.{Crew}
@@ -26,12 +26,9 @@ pub record Ran : Type 0 where
   pub desks : List WorkerRan
   pub ticker : TickerRan
 
--- their passes as they began, and as they ended
-abbrev pub all_began : Ran → List PassSeen
-all_began r = began_in r.lines ++ (began_in r.desks ++ r.ticker.began ∷ [])
-
+-- their passes as they ended
 abbrev pub all_ended : Ran → List PassSeen
-all_ended r = ended_in r.lines ++ (ended_in r.desks ++ r.ticker.ended ∷ [])
+all_ended r = map (λ w. w.ended) r.lines ++ (map (λ w. w.ended) r.desks ++ r.ticker.ended ∷ [])
 
 -- the store stands for a history that begins with this one, past which stand entries of events that callers submit alone
 pub record GoesOnFrom {D : Type 0} (seen : D → DiskSeen) (b : Summary) (base : List Entry) (s : Stored D) : Type 0 where
@@ -56,7 +53,8 @@ pub record RanAll (t : Terms) (crew : Crew) (before after : StationSeen) (came :
   pub ticker : IsTickerRan t ran.ticker before.pulse after.pulse came.ticked
   pub low : ℕ
   pub high : ℕ
-  pub numbers : AreRising low (map (λ p. p.number) (all_began ran)) high
+  pub numbers : AreRising low
+      (map (λ w. w.began.number) ran.lines ++ (map (λ w. w.began.number) ran.desks ++ ran.ticker.began.number ∷ [])) high
   pub setup : (b : Summary) (base : List Entry) → t.stood b base → force b (marks b base) ≡ Some (meaning t.text)
 
 -- Then the gate was closed: the store stands for one history, in which all that any of them has seen stands.
