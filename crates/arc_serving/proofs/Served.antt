@@ -1,6 +1,8 @@
 -- All that serving makes of a store.
-use Rattle.std.proofs.Common.{◌≡◌, ◌≤◌, ◌<◌, ℕ, List, [], ◌∷◌, ◌++◌, Option, Some, length, refl, ap, ◌∙◌, subst, arith}
+use Rattle.std.proofs.Common.{◌≡◌, ◌≤◌, ◌<◌, ℕ, List, [], ◌∷◌, ◌++◌, Option, Some, length, refl, sym, ap, ◌∙◌, subst, arith}
+use Rattle.std.proofs.lemmas.List.{map-append}
 use Rattle.std.proofs.lemmas.List.Elements.{All-nil, All-cons, All-append, All-weaker}
+use Rattle.std.specs.List.Sorted.{IsStrictlyIncreasing}
 use Rattle.std.specs.Prelude.{All, Result, Ok, Err, IfOk, OnErr, true, false, map, reverse}
 use Rattle.alarm_rules.specs.Setups.{meaning}
 use Rattle.arc_doors.specs.Doors.{DoorSeen}
@@ -24,13 +26,13 @@ use Rattle.line_gate.specs.Groups.{IsClosed, IsClosedBroken, ClosesGroup}
 use Rattle.line_gate.specs.declared.closed.GroupClosed.{GroupClosed}
 use Rattle.line_gate.specs.declared.closed.GroupClosed.TheVariants.{Whole, Broken}
 use Rattle.arc_serving.specs.Closing.{ServesSeated}
-use Rattle.arc_serving.specs.Jobs.{JobSeen, AreSeated, HasTaken, AreUnseated, doors_in, numbers_in, worked_in}
+use Rattle.arc_serving.specs.Jobs.{JobSeen, AreRising, AreSeated, HasTaken, AreUnseated, doors_in, numbers_in, worked_in}
 use Rattle.arc_serving.specs.Ran.{IsFresh, WorkerRan, IsSideServed}
-use Rattle.arc_serving.specs.Rising.{AreRising}
 use Rattle.arc_serving.specs.Seen.{StationSeen, CameSeen}
 use Rattle.arc_serving.specs.Serving.{Serves, ServesStore, ServesBroken, ServesAt, RanBefore, GathersStore, GoesOnFrom, GoesOnAt, IsKeptAt, IsKeptOf, StandsForAll, all_ended}
 use Rattle.arc_serving.specs.declared.station.Crew.{Crew}
-use Rattle.arc_serving.proofs.Lists.{rising_both}
+use Rattle.arc_serving.proofs.Lists.{rising_both, rising_increases}
+use Rattle.arc_serving.proofs.Moments.{ticks_later}
 use Rattle.arc_serving.proofs.Sides.{SideRan, ended_in, side_ran}
 
 -- the workers of a side stood at its first doors
@@ -68,13 +70,18 @@ setup_from t first pass none b base from =
     subst (λ (l : List Entry). force b (marks b (l ++ base)) ≡ Some (meaning t.text)) none (pass.of_gate.over b base from).in_force
 
 -- the numbers of the callers: of lines, of desks, and of the ticker
-numbers_from : (low one two high : ℕ) (lines desks : List JobSeen) (ticker : PassSeen) (line_ran desk_ran : List WorkerRan) → AreRising low (numbers_in lines) one
-    → AreRising one (numbers_in desks) two → two ≤ ticker.number → ticker.number < high → numbers_in lines ≡ map (λ (w : WorkerRan). w.began.number) line_ran
-    → numbers_in desks ≡ map (λ (w : WorkerRan). w.began.number) desk_ran
-    → AreRising low (map (λ (w : WorkerRan). w.began.number) line_ran ++ (map (λ (w : WorkerRan). w.began.number) desk_ran ++ ticker.number ∷ [])) high
-numbers_from low one two high lines desks ticker line_ran desk_ran w v le lt line_is desk_is =
-    subst (λ (l : List ℕ). AreRising low (l ++ (map (λ (x : WorkerRan). x.began.number) desk_ran ++ ticker.number ∷ [])) high) line_is
-    (subst (λ (l : List ℕ). AreRising low (numbers_in lines ++ (l ++ ticker.number ∷ [])) high) desk_is
+numbers_from : (low one two high : ℕ) (lines desks : List JobSeen) (ticker ticker' : PassSeen) (line_ran desk_ran : List WorkerRan) → AreRising low (numbers_in lines) one
+    → AreRising one (numbers_in desks) two → two ≤ ticker.number → ticker.number < high → numbers_in lines ≡ map (λ (p : PassSeen). p.number) (ended_in line_ran)
+    → numbers_in desks ≡ map (λ (p : PassSeen). p.number) (ended_in desk_ran) → ticker'.number ≡ ticker.number
+    → IsStrictlyIncreasing (map (λ (p : PassSeen). p.number) (ended_in line_ran ++ (ended_in desk_ran ++ ticker' ∷ [])))
+numbers_from low one two high lines desks ticker ticker' line_ran desk_ran w v le lt line_is desk_is ticker_is =
+    let number : PassSeen → ℕ = λ p. p.number in
+    let same : map number (ended_in line_ran ++ (ended_in desk_ran ++ ticker' ∷ [])) ≡ numbers_in lines ++ (numbers_in desks ++ ticker.number ∷ []) =
+    map-append number (ended_in line_ran) (ended_in desk_ran ++ ticker' ∷ []) ∙ ap (λ (l : List ℕ). map number (ended_in line_ran) ++ l) (map-append number (ended_in desk_ran) (ticker' ∷ []))
+    ∙ ap (λ (l : List ℕ). l ++ (map number (ended_in desk_ran) ++ ticker'.number ∷ [])) (sym line_is) ∙ ap (λ (l : List ℕ). numbers_in lines ++ (l ++ ticker'.number ∷ [])) (sym desk_is)
+    ∙ ap (λ (n : ℕ). numbers_in lines ++ (numbers_in desks ++ n ∷ [])) ticker_is in
+    subst (λ (l : List ℕ). IsStrictlyIncreasing l) (sym same)
+    (rising_increases low (numbers_in lines ++ (numbers_in desks ++ ticker.number ∷ [])) high
     (rising_both low (numbers_in lines) (numbers_in desks ++ ticker.number ∷ []) one high w (rising_both one (numbers_in desks) (ticker.number ∷ []) two high v (le, omega (arith, lt)))))
 
 -- all that ran, before the pass that took in theirs
@@ -92,9 +99,8 @@ ran_before t crew first given last ticker low one two high lines desks before le
         lines = side_served Lines t crew.lines crew.sessions last lines w.lines' before.lines left.lines after.lines came.lines seated_lines.parts line_count w.lines_over w.lines_came l;
         desks = side_served Desks t crew.desks crew.sessions last desks w.desks' before.desks left.desks after.desks came.desks seated_desks.parts desk_count w.desks_over w.desks_came d;
         ticker = record { fresh = fresh; pass = w.is_pass; works = subst (λ (m : Option Moments). WorksTicks t ticker w.ticker' m after.pulse came.ticked) pulse w.ticks };
-        low = low;
-        high = high;
-        numbers = numbers_from low one two high lines desks ticker l.ran d.ran seated_lines.rising seated_desks.rising le lt l.began d.began;
+        numbers = numbers_from low one two high lines desks ticker w.ticker' l.ran d.ran seated_lines.rising seated_desks.rising le lt l.numbers d.numbers
+            (ticks_later t ticker w.ticker' w.ticks.ticks w.ticks.each).number;
         setup = setup_from t first pass none;
       };
       taken = All-append (λ (p : PassSeen). HasTaken last p) (ended_in l.ran) (ended_in d.ran ++ w.ticker' ∷ []) l.taken

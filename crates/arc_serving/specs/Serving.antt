@@ -1,5 +1,6 @@
 -- What serving makes of a store and of what stood around it.
 use Rattle.std.specs.Prelude.{◌≡◌, ◌≤◌, ℕ, List, [], ◌∷◌, ◌++◌, true, false, Some, All, map}
+use Rattle.std.specs.List.Sorted.{IsStrictlyIncreasing}
 use Rattle.alarm_rules.specs.Setups.{meaning}
 use Rattle.arc_io.specs.Causes.{Rose}
 use Rattle.arc_io.specs.Disks.{DiskSeen}
@@ -16,7 +17,6 @@ use Rattle.line_gate.specs.declared.closed.GroupClosed.{GroupClosed}
 use Rattle.line_gate.specs.declared.closed.GroupClosed.TheVariants.{Whole, Broken}
 use Rattle.arc_serving.specs.Jobs.{HasTaken}
 use Rattle.arc_serving.specs.Ran.{WorkerRan, TickerRan, IsTickerRan, IsSideServed}
-use Rattle.arc_serving.specs.Rising.{AreRising}
 use Rattle.arc_serving.specs.Seen.{StationSeen, CameSeen}
 use Rattle.arc_serving.specs.declared.station.Crew.{Crew}
 
@@ -44,17 +44,14 @@ pub record StandsForAll {D : Type 0} (seen : D → DiskSeen)
   pub all_seen : All (λ p. Extends (p.since ++ base) from.history) passes
 
 -- The callers ran beside each other at a gate of this name. Each used door has the clause of a worker, the pulse that of the ticker,
--- all under numbers of their own: lines in the order of their doors, then desks, then the ticker. The setup in force was that of the
--- history before.
+-- all under numbers of their own, which rise: lines in the order of their doors, then desks, then the ticker. The setup in force was
+-- that of the history before.
 pub record RanAll (t : Terms) (crew : Crew) (before after : StationSeen) (came : CameSeen) : Type 0 where
   pub ran : Ran
   pub lines : IsSideServed Lines t crew.lines crew.sessions ran.lines before.lines after.lines came.lines
   pub desks : IsSideServed Desks t crew.desks crew.sessions ran.desks before.desks after.desks came.desks
   pub ticker : IsTickerRan t ran.ticker before.pulse after.pulse came.ticked
-  pub low : ℕ
-  pub high : ℕ
-  pub numbers : AreRising low
-      (map (λ w. w.began.number) ran.lines ++ (map (λ w. w.began.number) ran.desks ++ ran.ticker.began.number ∷ [])) high
+  pub numbers : IsStrictlyIncreasing (map (λ p. p.number) (all_ended ran))
   pub setup : (b : Summary) (base : List Entry) → t.stood b base → force b (marks b base) ≡ Some (meaning t.text)
 
 -- Then the gate was closed: the store stands for one history, in which all that any of them has seen stands.
