@@ -29,7 +29,7 @@ use Rattle.arc_serving.specs.Closing.{ServesSeated}
 use Rattle.arc_serving.specs.Jobs.{JobSeen, AreRising, AreSeated, HasTaken, AreUnseated, doors_in, numbers_in, worked_in}
 use Rattle.arc_serving.specs.Ran.{IsFresh, WorkerRan, IsSideServed}
 use Rattle.arc_serving.specs.Seen.{StationSeen, CameSeen}
-use Rattle.arc_serving.specs.Serving.{Serves, ServesStore, ServesBroken, ServesAt, RanBefore, GathersStore, GoesOnFrom, GoesOnAt, IsKeptAt, IsKeptOf, StandsForAll, all_ended}
+use Rattle.arc_serving.specs.Serving.{Serves, ServesStore, ServesBroken, ServesAt, RanBefore, GathersStore, GoesOnFrom, GoesOnAt, IsKeptOf, StandsForAll, all_ended}
 use Rattle.arc_serving.specs.declared.station.Crew.{Crew}
 use Rattle.arc_serving.proofs.Lists.{rising_both, rising_increases}
 use Rattle.arc_serving.proofs.Moments.{ticks_later}
@@ -54,7 +54,7 @@ stands_for_all : {D : Type 0} (seen : D → DiskSeen) (t : Terms) (last : PassSe
     → StandsForAll seen b base passes s
 stands_for_all seen t last s passes closed taken b base from =
     let h = closed.stands b base from in record {
-      from = record { history = h.0; stands = h.2; begins = extends_further base (last.since ++ base) h.0 (last.since, refl) h.1; past = h.3 };
+      from = record { history = h.0; stands = h.2; past = h.3 };
       all_seen = All-weaker (λ (p : PassSeen). HasTaken last p) (λ (p : PassSeen). Extends (p.since ++ base) h.0)
           (λ p w. extends_further (p.since ++ base) (last.since ++ base) h.0 (extends_base p.since last.since base w.since) h.1) passes taken;
     }
@@ -138,9 +138,11 @@ pub goes_on_at : {D : Type 0} (seen : D → DiskSeen) (t : Terms) (last : PassSe
 goes_on_at seen t last (Whole s) closed b base from = goes_on seen t last s closed.closed b base from
 goes_on_at seen t last (Broken disk at_open now) closed b base from = (closed.now_is, closed.rose)
 
-pub kept_at : {D : Type 0} (seen : D → DiskSeen) (t : Terms) (last : PassSeen) (c : GroupClosed D) → ClosesGroup seen t last c → IsKeptAt t c
-kept_at seen t last (Whole s) closed = (closed.closed.at_open, closed.closed.limits)
-kept_at seen t last (Broken disk at_open now) closed = closed.at_open_is
+-- closed, what comes back is as the store was that the gate was made before
+pub kept_of : {D : Type 0} (seen : D → DiskSeen) (t : Terms) (last : PassSeen) (from : Stored D) (c : GroupClosed D)
+    → from.at_open ≡ t.at_open → from.journal.limits ≡ t.limits → ClosesGroup seen t last c → IsKeptOf from c
+kept_of seen t last from (Whole s) opened limits closed = (closed.closed.at_open ∙ sym opened, closed.closed.limits ∙ sym limits)
+kept_of seen t last from (Broken disk at_open now) opened limits closed = closed.at_open_is ∙ sym opened
 
 pub if_ok : {A E : Type 0} (P Q : A → Type 0) (r : Result A E) → ((x : A) → P x → Q x) → IfOk r P → IfOk r Q
 if_ok P Q (Ok x) f w = f x w
@@ -162,7 +164,3 @@ pub of_group : {D E : Type 0} (seen : D → DiskSeen) (gate : BlankSeen D) (from
     → IfOk r (λ came. GathersStore seen from crew before after came c)
 of_group seen gate from crew before after c (Ok came) is w = record { gate = gate; from_is = is; serves = w }
 of_group seen gate from crew before after c (Err e) is w = tt
-
-pub kept_of : {D : Type 0} (seen : D → DiskSeen) (gate : BlankSeen D) (from : Stored D) (c : GroupClosed D) → gate.store ≡ from → IsKeptAt (terms_of true seen gate) c → IsKeptOf from c
-kept_of seen gate from (Whole s) is w = (w.0 ∙ ap (λ (x : Stored _). x.at_open) is, w.1 ∙ ap (λ (x : Stored _). x.journal.limits) is)
-kept_of seen gate from (Broken disk at_open now) is w = w ∙ ap (λ (x : Stored _). x.at_open) is

@@ -34,7 +34,6 @@ all_ended r = map (λ w. w.ended) r.lines ++ (map (λ w. w.ended) r.desks ++ r.t
 pub record GoesOnFrom {D : Type 0} (seen : D → DiskSeen) (b : Summary) (base : List Entry) (s : Stored D) : Type 0 where
   pub history : List Entry
   pub stands : StoreStands seen b s history
-  pub begins : Extends base history
   pub past : IsPastBase base history
 
 -- and with all that each of these passes has seen
@@ -82,17 +81,12 @@ pub record ServesBroken
   pub rose : Rose at_open now
   pub all_told : All (λ p. p.told ≤ now) (all_ended all.ran)
 
--- What closing a gate with groups gives: the store where its disk has not failed, else that disk with the counts of its faults at the
--- opening and now. Of either something holds.
-abbrev pub Gives : {D : Type 0} → (D → DiskSeen) → GroupClosed D → (Stored D → Type 0) → (D → ℕ → ℕ → Type 0) → Type 0
-Gives seen (Whole s) whole broken = whole s × (HasFailed seen s → ⊥)
-Gives seen (Broken disk at_open now) whole broken = broken disk at_open now
-
--- what serving at a gate with groups gives
+-- What serving at a gate with groups gives: the store where its disk has not failed, else that disk with the counts of its faults at the
+-- opening and now.
 abbrev pub ServesAt : {D : Type 0} → (D → DiskSeen) → Terms → Crew → StationSeen → StationSeen → CameSeen → GroupClosed D → Type 0
-ServesAt seen t crew before after came c = Gives seen c
-    (λ s. Serves seen t crew before after came s)
-    (λ disk at_open now. (now ≡ (seen disk).faults) × ServesBroken t crew before after came at_open now)
+ServesAt seen t crew before after came (Whole s) = Serves seen t crew before after came s × (HasFailed seen s → ⊥)
+ServesAt seen t crew before after came (Broken disk at_open now) =
+    (now ≡ (seen disk).faults) × ServesBroken t crew before after came at_open now
 
 -- Where all were refused memory before the first began: a store goes on from what it was, also if its disk had failed before.
 abbrev pub GoesOnAt : {D : Type 0} → (D → DiskSeen) → Summary → List Entry → GroupClosed D → Type 0
@@ -106,12 +100,7 @@ pub record GathersStore {D : Type 0} (seen : D → DiskSeen)
   pub from_is : gate.store ≡ from
   pub serves : ServesAt seen (terms_of true seen gate) crew before after came c
 
--- what comes back was opened at the count of faults that the gate has, and a store has its limits
-abbrev pub IsKeptAt : {D : Type 0} → Terms → GroupClosed D → Type 0
-IsKeptAt t (Whole s) = (s.at_open ≡ t.at_open) × (s.journal.limits ≡ t.limits)
-IsKeptAt t (Broken disk at_open now) = at_open ≡ t.at_open
-
--- and that this store has
+-- what comes back was opened at the count of faults that this store has, and a store has its limits
 abbrev pub IsKeptOf : {D : Type 0} → Stored D → GroupClosed D → Type 0
 IsKeptOf from (Whole s) = (s.at_open ≡ from.at_open) × (s.journal.limits ≡ from.journal.limits)
 IsKeptOf from (Broken disk at_open now) = at_open ≡ from.at_open
