@@ -1,6 +1,6 @@
 -- How a worker ends, and what it then says.
 use Rattle.std.specs.Prelude.{◌≡◌, ◌<◌, ◌≤◌, ◌++◌, ℕ, List, [], ◌∷◌, Bool, true, false}
-use Rattle.std.specs.Prelude.{Option, None, Some, All, count_by, flat_map, length}
+use Rattle.std.specs.Prelude.{Option, None, Some, All, count_by, length}
 use Rattle.arc_data.specs.declared.event.Event.{Event}
 use Rattle.arc_doors.specs.Doors.{DoorSeen, HasNoneLeft}
 use Rattle.arc_io.specs.Causes.{Rose}
@@ -9,11 +9,9 @@ use Rattle.arc_serving.specs.declared.session.SessionEnd.TheVariants.{Stopped}
 use Rattle.arc_serving.specs.declared.side.Side.{Side}
 use Rattle.centre_core.specs.declared.hall.Stop.{Stop}
 use Rattle.centre_core.specs.declared.hall.Stop.TheVariants.{Memory}
-use Rattle.centre_rules.specs.Summary.{Summary}
-use Rattle.line_gate.specs.Entries.{Entry}
 use Rattle.line_gate.specs.Passes.{PassSeen, PassShows}
 use Rattle.line_gate.specs.Terms.{Terms}
-use Rattle.arc_serving.specs.Served.{InTurn, Moves, Served, IsServed, MovesLinks, MakesEntries}
+use Rattle.arc_serving.specs.Served.{InTurn, Moves, Served, IsServed, MovesLinks}
 use Rattle.arc_serving.specs.declared.working.Worked.{Worked}
 use Rattle.arc_serving.specs.declared.working.WorkerEnd.{WorkerEnd}
 use Rattle.arc_serving.specs.declared.working.WorkerEnd.TheVariants.{DoorEnded, Quota, DoorFault, Stopped as WorkerStopped}
@@ -58,7 +56,6 @@ pub record Works (side : Side) (t : Terms) (p q : PassSeen) (door door' : DoorSe
   pub served : List Served
   pub each : InTurn (IsServed side t) p q served
   pub links : Moves (MovesLinks served) door.links door'.links
-  pub made : (b : Summary) (base : List Entry) → t.stood b base → MakesEntries side p q (flat_map (λ s. s.entries) served)
   pub most : length served ≤ sessions
   pub refused : worked.refused ≡ count_by (λ s. is_refused s.end) served
   pub ended : EndsWork worked.end t q door door' sessions served
