@@ -6,7 +6,7 @@ use Rattle.arc_io.specs.Causes.{Rose}
 use Rattle.arc_io.specs.Disks.{DiskSeen}
 use Rattle.arc_io.specs.Seen.{PortSeen}
 use Rattle.arc_serving.specs.Seen.{StationSeen, CameSeen}
-use Rattle.arc_serving.specs.Serving.{Serves, ServesStore, GathersStore, GoesOnFrom, GoesOnAt, IsKeptOf, all_ended}
+use Rattle.arc_serving.specs.Serving.{ServesWhole, ServesStore, GathersStore, GoesOnFrom, GoesOnAt, IsKeptOf, all_ended}
 use Rattle.arc_serving.specs.declared.station.Crew.{Crew}
 use Rattle.centre_rules.specs.Summary.{Summary}
 use Rattle.centre_rules.specs.History.{Entry}
@@ -29,7 +29,7 @@ use Rattle.arc_server.proofs.Reported.{puts_line}
 -- where the callers ran, at a gate of this name
 serves_ran : {D : Type 0} {seen : D → DiskSeen} (groups : Bool) (t : Terms) (came : CameSeen) (first last : Stored D) (crew : Crew)
     (status : Status) {r r' : Handed D} {p : PortSeen} {around around' : StationSeen} {h : List Entry}
-    → (begun : HasBegun seen r r'.setup p first h) → (s : Serves seen t crew around around' came last)
+    → (begun : HasBegun seen r r'.setup p first h) → (s : ServesWhole seen t crew around around' came last)
     → t.stood begun.asked.base h
     → HasServed seen groups first crew (around, around') (Ok came) last (all_ended s.all.ran)
     → last.journal.limits ≡ shipped → r'.disk ≡ last.journal.disk → last.at_open ≡ first.at_open

@@ -17,7 +17,7 @@ use Rattle.arc_io.specs.Seen.{PortSeen}
 use Rattle.arc_serving.proofs.Sides.{ended_in}
 use Rattle.arc_serving.specs.Ran.{WorkerRan, IsWorkerRan, IsSideServed}
 use Rattle.arc_serving.specs.Seen.{StationSeen, CameSeen}
-use Rattle.arc_serving.specs.Serving.{Serves}
+use Rattle.arc_serving.specs.Serving.{ServesWhole}
 use Rattle.arc_serving.specs.declared.station.Crew.{Crew}
 use Rattle.arc_serving.specs.declared.session.SessionEnd.{SessionEnd}
 use Rattle.arc_serving.specs.declared.session.SessionEnd.TheVariants as Session
@@ -367,7 +367,7 @@ module _ (t : Terms) (entry end : ℕ) (since : entry ≤ t.at_open) (up : Rose 
 
 all_may : {D : Type 0} {seen : D → DiskSeen}
     (t : Terms) (crew : Crew) (around around' : StationSeen) (came : CameSeen) (last : Stored D) (entry : ℕ) (disk' : D)
-    → Serves seen t crew around around' came last → entry ≤ t.at_open → disk' ≡ last.journal.disk
+    → ServesWhole seen t crew around around' came last → entry ≤ t.at_open → disk' ≡ last.journal.disk
     → (Rose entry (seen disk').faults → ⊥) → AllMay came
 all_may {D} {seen} t crew around around' came last entry disk' s low handed up =
     let end = (seen disk').faults in

@@ -29,7 +29,7 @@ use Rattle.arc_serving.specs.Closing.{ServesSeated}
 use Rattle.arc_serving.specs.Jobs.{JobSeen, AreRising, AreSeated, HasTaken, AreUnseated, doors_in, numbers_in, worked_in}
 use Rattle.arc_serving.specs.Ran.{IsFresh, WorkerRan, IsSideServed}
 use Rattle.arc_serving.specs.Seen.{StationSeen, CameSeen}
-use Rattle.arc_serving.specs.Serving.{Serves, ServesStore, ServesBroken, ServesAt, RanBefore, GathersStore, GoesOnFrom, GoesOnAt, IsKeptOf, StandsForAll, all_ended}
+use Rattle.arc_serving.specs.Serving.{ServesWhole, ServesStore, ServesBroken, ServesAt, RanBefore, GathersStore, GoesOnFrom, GoesOnAt, IsKeptOf, StandsForAll, all_ended}
 use Rattle.arc_serving.specs.declared.station.Crew.{Crew}
 use Rattle.arc_serving.proofs.Lists.{rising_both, rising_increases}
 use Rattle.arc_serving.proofs.Moments.{ticks_later}
@@ -109,7 +109,7 @@ ran_before t crew first given last ticker low one two high lines desks before le
 
 -- then the gate was closed with that pass
 pub serves : {D : Type 0} (seen : D → DiskSeen) (t : Terms) (last : PassSeen) (crew : Crew) (before after : StationSeen) (came : CameSeen) (s : Stored D)
-    → IsClosed seen t last s → RanBefore t last crew before after came → Serves seen t crew before after came s
+    → IsClosed seen t last s → RanBefore t last crew before after came → ServesWhole seen t crew before after came s
 serves seen t last crew before after came s closed w = record {
   all = w.all;
   stands = stands_for_all seen t last s (all_ended w.all.ran) closed w.taken;
@@ -150,7 +150,7 @@ if_ok P Q (Err e) f w = tt
 
 -- at the gate that was before the store
 pub of_store : {D E : Type 0} (seen : D → DiskSeen) (gate : BlankSeen D) (from : Stored D) (crew : Crew) (before after : StationSeen)
-    (s : Stored D) (r : Result CameSeen E) → gate.store ≡ from → IfOk r (λ came. Serves seen (terms_of false seen gate) crew before after came s)
+    (s : Stored D) (r : Result CameSeen E) → gate.store ≡ from → IfOk r (λ came. ServesWhole seen (terms_of false seen gate) crew before after came s)
     → IfOk r (λ came. ServesStore seen from crew before after came s)
 of_store seen gate from crew before after s (Ok came) is w = record { gate = gate; from_is = is; serves = w }
 of_store seen gate from crew before after s (Err e) is w = tt

@@ -54,7 +54,7 @@ pub record RanAll (t : Terms) (crew : Crew) (before after : StationSeen) (came :
   pub setup : (b : Summary) (base : List Entry) → t.stood b base → force b (marks b base) ≡ Some (meaning t.text)
 
 -- Then the gate was closed: the store stands for one history, in which all that any of them has seen stands.
-pub record Serves {D : Type 0} (seen : D → DiskSeen)
+pub record ServesWhole {D : Type 0} (seen : D → DiskSeen)
     (t : Terms) (crew : Crew) (before after : StationSeen) (came : CameSeen) (s : Stored D) : Type 0 where
   pub all : RanAll t crew before after came
   pub stands : (b : Summary) (base : List Entry) → t.stood b base → StandsForAll seen b base (all_ended all.ran) s
@@ -65,7 +65,7 @@ pub record ServesStore {D : Type 0} (seen : D → DiskSeen)
     (from : Stored D) (crew : Crew) (before after : StationSeen) (came : CameSeen) (s : Stored D) : Type 0 where
   pub gate : BlankSeen D
   pub from_is : gate.store ≡ from
-  pub serves : Serves seen (terms_of false seen gate) crew before after came s
+  pub serves : ServesWhole seen (terms_of false seen gate) crew before after came s
 
 -- The callers ran so, and this pass has taken in those of all.
 pub record RanBefore (t : Terms) (last : PassSeen) (crew : Crew) (before after : StationSeen) (came : CameSeen) : Type 0 where
@@ -84,7 +84,7 @@ pub record ServesBroken
 -- What serving at a gate with groups gives: the store where its disk has not failed, else that disk with the counts of its faults at the
 -- opening and now.
 abbrev pub ServesAt : {D : Type 0} → (D → DiskSeen) → Terms → Crew → StationSeen → StationSeen → CameSeen → GroupClosed D → Type 0
-ServesAt seen t crew before after came (Whole s) = Serves seen t crew before after came s × (HasFailed seen s → ⊥)
+ServesAt seen t crew before after came (Whole s) = ServesWhole seen t crew before after came s × (HasFailed seen s → ⊥)
 ServesAt seen t crew before after came (Broken disk at_open now) =
     (now ≡ (seen disk).faults) × ServesBroken t crew before after came at_open now
 
