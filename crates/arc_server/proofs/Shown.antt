@@ -31,6 +31,7 @@ use Rattle.arc_serving.specs.declared.working.WorkerEnd.{WorkerEnd}
 use Rattle.arc_serving.specs.declared.working.WorkerEnd.TheVariants.{DoorEnded, Quota, DoorFault as WorkerFault, Stopped}
 use Rattle.centre_core.specs.declared.hall.Stop.{Stop}
 use Rattle.centre_core.specs.declared.hall.Stop.TheVariants.{Memory as MemoryWanted, Down, Full as HallFull, Worn as HallWorn}
+use Rattle.centre_rules.specs.Sums.{summary_of}
 use Rattle.centre_store.specs.Stores.{Stored}
 use Rattle.line_gate.specs.Blanks.{terms_of}
 use Rattle.line_gate.specs.Passes.{PassSeen, PassShows}
@@ -38,7 +39,7 @@ use Rattle.line_gate.specs.Terms.{Terms}
 use Rattle.arc_io.specs.Told.{Puts}
 use Rattle.arc_server.specs.Handed.{Handed}
 use Rattle.arc_server.specs.Made.{status_over}
-use Rattle.arc_server.specs.ServeRuns.{ServesAll, HasServed, line_after}
+use Rattle.arc_server.specs.ServeRuns.{ServesAll, HasServed, summary_line}
 use Rattle.arc_server.specs.Servings.{first_of, met_by, where_so, full_in, worn_in, stop_in, stops_in, door_fault_in, door_faults_in}
 use Rattle.arc_server.specs.Servings.{has_refused, was_refused}
 use Rattle.arc_server.specs.Shows.{HasEnded, HaveEnded, HasCome, IsShownBy}
@@ -406,5 +407,5 @@ pub status_shows : {D : Type 0} (seen : D → DiskSeen) (groups : Bool) (crew : 
 status_shows seen groups crew status r r' around around' run =
     let entry = (seen r.disk).faults in
     shown run.came (is_err run.written) status entry (seen r'.disk).faults run.p r'.port run.status_is
-    (rose_put run.written (line_after run.begun.asked.base run.stands.from.history) run.p r'.port run.puts)
-    (may_come seen groups run.first run.last crew around around' run.came run.passes entry r'.disk run.served run.begun.later run.handed)
+    (rose_put run.written (summary_line (summary_of run.begun.asked.base run.stands.from.history)) run.p r'.port run.puts)
+    (may_come seen groups run.first run.last crew around around' run.came run.passes entry r'.disk run.served run.begun.later run.leaves.handed)
