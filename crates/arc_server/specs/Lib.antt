@@ -12,7 +12,6 @@ pub mod Forms
 pub mod Statuses
 pub mod Areas
 pub mod Handed
-pub mod Leaving
 pub mod Made
 pub mod SetupReads
 pub mod Beginnings

@@ -1,7 +1,8 @@
 // The ticker.
-ghost use Rattle.std.specs.Prelude.{◌≡◌, ◌↔◌, IsTrue};
+ghost use Rattle.std.specs.Prelude.{◌≡◌};
 ghost use Rattle.centre_rules.specs.History.{IsMoment};
 ghost use Rattle.line_gate.specs.Passes.{IsPass};
+ghost use Rattle.arc_serving.specs.Works.{is_memory};
 ghost use Rattle.arc_serving.specs.Ticks.{TicksOnce, WorksTicks};
 
 use arc_data::Event;
@@ -80,7 +81,7 @@ fn tick_at<D: Disk, R: Wait, N: GateName>(
 
 // Whether it is want of memory.
 fn is_memory(stop: Stop) -> bool
-    ensures { IsTrue result ↔ (stop ≡ Stop.Memory) }
+    ensures { result ≡ is_memory stop }
 {
     matches!(stop, Stop::Memory)
 }
