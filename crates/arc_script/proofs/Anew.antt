@@ -10,10 +10,11 @@ use Rattle.arc_io.specs.Seen.{PortSeen}
 use Rattle.centre_core.specs.declared.hall.Stop.{Stop}
 use Rattle.centre_rules.specs.History.{Entry, IsMoment, recorded}
 use Rattle.centre_rules.specs.Summary.{Summary}
-use Rattle.centre_store.specs.Begins.{begun_after, event_of_begin}
+use Rattle.centre_store.proofs.Entered.{held as has_recorded}
+use Rattle.centre_store.specs.Begins.{begun_after}
 use Rattle.centre_store.specs.Given.{GoesOn, HoldsRecorded}
 use Rattle.centre_store.specs.Openings.{IsOpened, IsRefused}
-use Rattle.centre_store.specs.Stores.{Stored, StoreStands}
+use Rattle.centre_store.specs.Stores.{HasFailed, Stored, StoreStands}
 use Rattle.desk_session.specs.Desks as Desk
 use Rattle.disk_journal.specs.Faults.{HasCounts, IsOfContent}
 use Rattle.disk_journal.specs.declared.journal.OpenRefused.{OpenRefused}
@@ -22,13 +23,12 @@ use Rattle.script_lines.specs.Lines.{Asked, Reopen, spelling}
 use Rattle.arc_script.specs.Begun.{Begun}
 use Rattle.arc_script.specs.Between.{Between, CarriedOut, ShutAt, StoppedAt}
 use Rattle.arc_script.specs.Carrying.{CountsMore, HasRead, HaveTaken}
-use Rattle.arc_script.specs.Causes.{HasShown}
-use Rattle.arc_script.specs.Ends.{BegunAgain, Tells}
+use Rattle.arc_script.specs.Ends.{Tells}
 use Rattle.arc_script.specs.Feeding.{AreNew}
 use Rattle.arc_script.specs.Fed.{clock_of}
 use Rattle.arc_script.specs.Halting.{closing}
 use Rattle.arc_script.specs.Pages.{counted_line}
-use Rattle.arc_script.specs.Playing.{IsNewDesk}
+use Rattle.arc_script.specs.Playing.{AgainStops, IsNewDesk}
 use Rattle.centre_store.specs.StoreHalls.{is_told}
 use Rattle.arc_script.specs.Steps.{Place, Step}
 use Rattle.arc_script.specs.Tallies.{count_of, is_closed, is_repeat}
@@ -77,11 +77,12 @@ pub record IsAnew {D : Type 0} (seen : D → DiskSeen) (script script' : Script)
   pub tells : is_told (seen s'.journal.disk).told ≡ is_told (seen s.journal.disk).told
   pub journal : s'.journal.limits ≡ script.limits
   pub later : s.at_open ≤ s'.at_open
+  pub still : (HasFailed seen s → ⊥) → HasFailed seen mid → ⊥
 
 pub made_anew : {D : Type 0} (seen : D → DiskSeen) (script closed script' : Script) (s mid s' : Stored D) (disk : D) → s.at_open ≤ (seen s.journal.disk).faults
     → disk ≡ s.journal.disk → closed ≡ record script { tally = closing script.tally script.opened_before s.state.sum }
     → IsOpened seen disk mid → Becomes (seen disk).told (seen mid.journal.disk).told GoesOn
-    → mid.journal.limits ≡ closed.limits → mid.at_open ≡ (seen mid.journal.disk).faults → (seen disk).faults ≤ (seen mid.journal.disk).faults
+    → mid.journal.limits ≡ closed.limits → mid.at_open ≡ (seen mid.journal.disk).faults → (seen mid.journal.disk).faults ≡ (seen disk).faults
     → AreNew script'.lines.items → All IsNewDesk script'.desks.items
     → script' ≡ record closed {
       lines = script'.lines;
@@ -91,7 +92,7 @@ pub made_anew : {D : Type 0} (seen : D → DiskSeen) (script closed script' : Sc
     }
     → is_told (seen s'.journal.disk).told ≡ is_told (seen mid.journal.disk).told → s'.at_open ≡ mid.at_open → s'.journal.limits ≡ mid.journal.limits
     → IsAnew seen script script' s mid s'
-made_anew {D = D} seen script closed script' s mid s' disk before disk_is closed_is opened goes limits opened_at later lines desks rest tells at_open journal
+made_anew {D = D} seen script closed script' s mid s' disk before disk_is closed_is opened goes limits opened_at met_none lines desks rest tells at_open journal
     = record {
       opened = subst (λ d. IsOpened seen d mid) disk_is opened;
       setup = ap (λ (k : Script). k.setup) rest ∙ ap (λ (k : Script). k.setup) closed_is;
@@ -102,7 +103,10 @@ made_anew {D = D} seen script closed script' s mid s' disk before disk_is closed
       tally = ap (λ (k : Script). k.tally) rest ∙ ap (λ (k : Script). k.tally) closed_is;
       tells = tells ∙ becomes_told (seen disk).told (seen mid.journal.disk).told GoesOn goes ∙ ap (λ d. is_told (seen d).told) disk_is;
       journal = journal ∙ limits ∙ ap (λ (k : Script). k.limits) closed_is;
-      later = (let same : (seen disk).faults ≡ (seen s.journal.disk).faults = ap (λ (d : D). (seen d).faults) disk_is in omega (arith, before, same, later, opened_at, at_open));
+      later = (let same : (seen disk).faults ≡ (seen s.journal.disk).faults = ap (λ (d : D). (seen d).faults) disk_is in omega (arith, before, same, met_none, opened_at, at_open));
+      still = λ up failed.
+          let same : (seen disk).faults ≡ (seen s.journal.disk).faults = ap (λ (d : D). (seen d).faults) disk_is in
+          up (omega (arith, before, same, met_none, opened_at, failed));
     }
 
 module _ {D : Type 0} (seen : D → DiskSeen) (script script' : Script) (s mid s' : Stored D) (anew : IsAnew seen script script' s mid s') (moment : ℕ)
@@ -113,6 +117,13 @@ module _ {D : Type 0} (seen : D → DiskSeen) (script script' : Script) (s mid s
 
   setup_is : script'.setup ≡ place.setup
   setup_is = anew.setup ∙ between.setup
+
+  -- the disk had not failed before, and no opening that answers Ok meets a fault
+  opened_up : HasFailed seen mid → ⊥
+  opened_up = anew.still (subst (λ (c : Option ℕ). IfSome c (λ last. HasFailed seen s → ⊥)) (between.clock.is ∙ set) between.up)
+
+  held_there : HoldsRecorded seen mid.journal from.anew from.kept
+  held_there = has_recorded seen from.anew mid from.kept opened_up from.stands
 
   limits_are : s'.journal.limits ≡ b.limits
   limits_are = anew.journal ∙ between.limits
@@ -134,9 +145,9 @@ module _ {D : Type 0} (seen : D → DiskSeen) (script script' : Script) (s mid s
 
   carried : (number : ℕ) (p p' : PortSeen) → IsMoment moment
       → StoreStands seen from.anew s' (begun_after from.anew from.kept place.setup moment)
-      → s'.state.sum.text ≡ Some place.setup → p'.written ≡ append_known p.written (counted_line s'.state.sum.recorded)
+      → s'.state.sum.text ≡ Some place.setup → (HasFailed seen s' → ⊥) → p'.written ≡ append_known p.written (counted_line s'.state.sum.recorded)
       → CarriedOut seen b place count number h Reopen script.tally script' s' p p'
-  carried number p p' fits stands text put =
+  carried number p p' fits stands text up put =
       let x = begun_after from.anew from.kept place.setup moment in
       let adds = adds_begun from.anew place.setup moment from.kept in
       let count_is : s'.state.sum.recorded ≡ from.anew.recorded + length (recorded x) = stands.centre.recorded in
@@ -176,14 +187,15 @@ module _ {D : Type 0} (seen : D → DiskSeen) (script script' : Script) (s mid s
             limits_are = limits_are;
             later = later;
           };
+          up = subst (λ (c : Option ℕ). IfSome c (λ last. HasFailed seen s' → ⊥)) (sym (anew.clock ∙ between.clock.is ∙ set)) up;
         };
       }
 
-  stopped : (stop : Stop) (x : List Entry) → StoreStands seen from.anew s' x → BegunAgain stop from.anew place.setup moment from.kept x
-      → HasShown seen s' stop moment (λ event. event ≡ event_of_begin s'.state.sum.text place.setup)
+  stopped : (stop : Stop) → AgainStops seen from.anew place.setup moment from.kept stop s'
       → StoppedAt seen b place h Reopen stop script.tally script'.tally s'
-  stopped stop x stands until cause =
-      let adds = adds_again stop from.anew place.setup moment from.kept x until in
+  stopped stop at =
+      let x = at.history in
+      let adds = adds_again stop from.anew place.setup moment from.kept x at.came in
       record {
         waiting = [];
         partial = step_of 0 adds.entries [];
@@ -194,12 +206,12 @@ module _ {D : Type 0} (seen : D → DiskSeen) (script script' : Script) (s mid s
           keeps = from.keeps;
           clock = moment;
           set = set;
-          until = until;
+          until = at.came;
           by = record { added = adds.is; base = refl; sent = refl };
         });
         set = set;
-        cause = cause;
-        stands = stands;
+        cause = at.cause;
+        stands = at.stands;
         limits_are = limits_are;
         later = later;
         counts = counts 0 x [] adds;
@@ -210,34 +222,32 @@ module _ {D : Type 0} (seen : D → DiskSeen) (script script' : Script) (s mid s
   pub carried_on : (r : Result (Unit {0}) Stop) (p p' : PortSeen) → IsMoment moment
       → OnOk r ((base : Summary) (k : List Entry) → StoreStands seen base mid k
       → StoreStands seen base s' (begun_after base k script'.setup moment))
-      → OnOk r (s'.state.sum.text ≡ Some script'.setup)
+      → OnOk r (s'.state.sum.text ≡ Some script'.setup) → OnOk r (HasFailed seen s' → ⊥)
       → OnOk r (p'.written ≡ append_known p.written (counted_line s'.state.sum.recorded))
       → OnOk r ((b : Begun D) (place : Place) (count number : ℕ) (h : List Entry) → Between seen b place count h script s
       → HoldsRecorded seen s.journal place.base h → clock_of place.asked ≡ Some moment
       → CarriedOut seen b place count number h Reopen script.tally script' s' p p')
-  carried_on (Ok done) p p' fits begun text put = λ b place count number h between held set.
+  carried_on (Ok done) p p' fits begun text up put = λ b place count number h between held set.
       let same = anew.setup ∙ between.setup in
       let on = from seen script script' s mid s' anew moment b place count h between held set in
       carried seen script script' s mid s' anew moment b place count h between held set number p p' fits
       (subst (λ (l : List ℕ). StoreStands seen on.anew s' (begun_after on.anew on.kept l moment)) same (begun on.anew on.kept on.stands))
-      (text ∙ ap Some same) put
-  carried_on (Err stop) p p' fits begun text put = tt
+      (text ∙ ap Some same) up put
+  carried_on (Err stop) p p' fits begun text up put = tt
 
   pub stopped_on : (r : Result (Unit {0}) Stop)
-      → IfErr r (λ stop. (base : Summary) (k : List Entry) → StoreStands seen base mid k
-      → (x : List Entry) × StoreStands seen base s' x × BegunAgain stop base script'.setup moment k x)
-      → IfErr r (λ stop. HasShown seen s' stop moment (λ event. event ≡ event_of_begin s'.state.sum.text script'.setup))
+      → IfErr r (λ stop. (base : Summary) (k : List Entry) → StoreStands seen base mid k → HoldsRecorded seen mid.journal base k
+      → AgainStops seen base script'.setup moment k stop s')
       → IfErr r (λ stop. (b : Begun D) (place : Place) (count : ℕ) (h : List Entry) → Between seen b place count h script s
       → HoldsRecorded seen s.journal place.base h → clock_of place.asked ≡ Some moment
       → StoppedAt seen b place h Reopen stop script.tally script'.tally s')
-  stopped_on (Ok done) stops cause = tt
-  stopped_on (Err stop) stops cause = λ b place count h between held set.
+  stopped_on (Ok done) stops = tt
+  stopped_on (Err stop) stops = λ b place count h between held set.
       let same = anew.setup ∙ between.setup in
       let on = from seen script script' s mid s' anew moment b place count h between held set in
-      let at = stops on.anew on.kept on.stands in
-      stopped seen script script' s mid s' anew moment b place count h between held set stop at.0 at.1
-      (subst (λ (l : List ℕ). BegunAgain stop on.anew l moment on.kept at.0) same at.2)
-      (subst (λ (l : List ℕ). HasShown seen s' stop moment (λ event. event ≡ event_of_begin s'.state.sum.text l)) same cause)
+      let there = held_there seen script script' s mid s' anew moment b place count h between held set in
+      stopped seen script script' s mid s' anew moment b place count h between held set stop
+      (subst (λ (l : List ℕ). AgainStops seen on.anew l moment on.kept stop s') same (stops on.anew on.kept on.stands there))
 
 -- The journal was not opened again.
 shut : {D : Type 0} (seen : D → DiskSeen) (script : Script) (s : Stored D) (r : OpenRefused D) → s.at_open ≤ (seen s.journal.disk).faults

@@ -36,6 +36,7 @@ use Rattle.arc_script.proofs.Answered.{are_replies, turns_lined}
 use Rattle.arc_script.proofs.Counts.{closes_none, grows_none}
 use Rattle.arc_script.proofs.Listed.{replied_listed}
 use Rattle.arc_script.proofs.Taken.{fed_after, feed_hit, feed_miss, message_hit, message_miss}
+use Rattle.arc_script.proofs.Ticks.{wanted_up}
 
 -- The step.
 
@@ -95,6 +96,7 @@ carried seen s' base setup moment number letter line asked before bytes h t t' p
       is = feeds_of (placed base setup before) number letter line asked bytes h w.history turns w.fed;
       stands = w.stands;
       readable = w.readable;
+      up = w.up;
       text = put ∙ ap (λ (l : List ℕ). append_known p.written (head_of letter line ++ l ++ 10 ∷ [])) listed_is;
       counts = counts_step (placed base setup before) line bytes h w.history turns [] (length turns) t t' s w.fed w.counts refl refl;
     }
@@ -103,9 +105,9 @@ carried seen s' base setup moment number letter line asked before bytes h t t' p
 abbrev CameSoFar : {D : Type 0} → Summary → (D → DiskSeen) → Stored D → List ℕ → ℕ → ℕ → ℕ → List Asked → List ℕ → List Entry
     → Stop → List Entry → Step → Type 0
 CameSoFar base seen s' setup moment letter line before bytes h stop x s =
-    ((waiting : List (List ℕ)) × FedUntil stop (placed base setup before) line bytes waiting h x s
-    × HasShown seen s' stop moment (IsOfFrame setup moment line waiting))
-    ⊎ ((stop ≡ Memory) × Feeds (placed base setup before) letter line bytes h x s)
+    (waiting : List (List ℕ)) × HasShown seen base s' x stop moment (IsOfFrame setup moment line waiting)
+    × (FedUntil stop (placed base setup before) line bytes waiting h x s
+    ⊎ ((stop ≡ Memory) × Feeds (placed base setup before) letter line bytes h x s))
 
 -- all was fed, and memory was wanted for the output
 pub finished : {D : Type 0} (seen : D → DiskSeen) (s' : Stored D) (base : Summary) (setup : List ℕ)
@@ -119,7 +121,11 @@ finished seen s' base setup moment letter line asked before bytes h t t' written
     record {
       partial = s;
       history = w.history;
-      came = inr (is, feeds_of (placed base setup before) 0 letter line asked bytes h w.history w.turns w.fed);
+      came = (
+        [],
+        wanted_up seen base s' w.history stop moment (IsOfFrame setup moment line []) is w.stands w.up,
+        inr (is, feeds_of (placed base setup before) 0 letter line asked bytes h w.history w.turns w.fed),
+      );
       stands = w.stands;
       readable = w.readable;
       counts = counts_step (placed base setup before) line bytes h w.history w.turns [] (length w.turns) t t' s w.fed w.counts refl refl;
@@ -136,11 +142,7 @@ halted_at seen s' base setup moment letter line asked before bytes h t t' stop s
     record {
       partial = s;
       history = w.history;
-      came = inl (
-        w.more,
-        record { turns = w.turns; fed = w.fed; entries = refl; base = refl; sent = w.sent_is },
-        w.cause,
-      );
+      came = (w.more, w.cause, inl (record { turns = w.turns; fed = w.fed; entries = refl; base = refl; sent = w.sent_is }));
       stands = w.stands;
       readable = w.readable;
       counts = counts_step (placed base setup before) line bytes h w.history w.turns w.more w.sent t t' s w.fed w.counts refl refl;

@@ -7,13 +7,13 @@ use Rattle.centre_core.specs.declared.hall.Stop.{Stop}
 use Rattle.centre_core.specs.declared.hall.Stop.TheVariants.{Memory}
 use Rattle.centre_rules.specs.History.{Entry, IsMoment}
 use Rattle.centre_rules.specs.Summary.{Summary}
-use Rattle.centre_store.specs.Stores.{Stored, StoreStands}
+use Rattle.centre_store.specs.Stores.{HasFailed, Stored, StoreStands}
 use Rattle.script_lines.specs.Lines.{Asked, Time, Feed, Message, Command, Reopen, spelling}
 use Rattle.arc_script.specs.Begun.{Begun}
 use Rattle.arc_script.specs.Between.{Between, CarriedOut, IsClock, IsStoreSoFar, StoppedAt}
 use Rattle.arc_script.specs.Carrying.{Carried, Halted, HaveTaken, HaveTakenWith}
 use Rattle.arc_script.specs.Causes.{HasShown, Submits}
-use Rattle.arc_script.specs.Ends.{Tells, CameTo}
+use Rattle.arc_script.specs.Ends.{Tells, CameFor, CameTo}
 use Rattle.arc_script.specs.Fed.{clock_of}
 use Rattle.arc_script.specs.Playing.{moment_at}
 use Rattle.centre_store.specs.StoreHalls.{is_told}
@@ -93,42 +93,37 @@ module _ {D : Type 0} (seen : D → DiskSeen) (b : Begun D) (place : Place) (cou
             limits_are = stays.journal ∙ between.store.limits_are;
             later = subst (λ (n : ℕ). (seen b.disk).faults ≤ n) (sym stays.at_open) between.store.later;
           });
+      up = subst (λ (c : Option ℕ). IfSome c (λ last. HasFailed seen s' → ⊥)) (sym clock) out.up;
     };
   }
 
-  pub stopped_at : (stop : Stop) (waiting : List (List ℕ))
-      → Halted seen place.base (λ x st.
-      (CameTo stop (Tells (seen b.disk)) place waiting h x st asked × HasShown seen s' stop moment (Submits s'.state.sum.text place.setup place.asked moment waiting asked))
-      ⊎ ((stop ≡ Memory) × IsStepOf (Tells (seen b.disk)) place h x st asked)) script.tally script'.tally s'
+  pub stopped_at : (stop : Stop)
+      → Halted seen place.base (λ x st. (waiting : List (List ℕ))
+      × HasShown seen place.base s' x stop moment (Submits s'.state.sum.text place.setup place.asked moment waiting asked)
+      × (CameTo stop (Tells (seen b.disk)) place waiting h x st asked ⊎ ((stop ≡ Memory) × IsStepOf (Tells (seen b.disk)) place h x st asked)))
+      script.tally script'.tally s'
       → StoppedAt seen b place h asked stop script.tally script'.tally s'
-  stopped_at stop waiting out =
-      elim out.came as (λ came. StoppedAt seen b place h asked stop script.tally script'.tally s') [
-        | inl until ↦ record {
-          waiting = waiting;
-          partial = out.partial;
-          history = out.history;
-          clock = moment;
-          came = inl until.0;
-          set = clock_with place.asked asked moment set;
-          cause = until.1;
-          stands = subst (λ (base : Summary). StoreStands seen base s' out.history)
-              (sym (came_over stop (Tells (seen b.disk)) place waiting h out.history out.partial asked over until.0)) out.stands;
-          limits_are = stays.journal ∙ between.store.limits_are;
-          later = subst (λ (n : ℕ). (seen b.disk).faults ≤ n) (sym stays.at_open) between.store.later;
-          counts = out.counts.more;
-        }
-        | inr whole ↦ record {
-          waiting = waiting;
-          partial = out.partial;
-          history = out.history;
-          clock = moment;
-          came = inr (whole.0, inr whole.1);
-          set = clock_with place.asked asked moment set;
-          cause = inl whole.0;
-          stands = subst (λ (base : Summary). StoreStands seen base s' out.history)
-              (sym (step_over (Tells (seen b.disk)) place h out.history out.partial asked over whole.1)) out.stands;
-          limits_are = stays.journal ∙ between.store.limits_are;
-          later = subst (λ (n : ℕ). (seen b.disk).faults ≤ n) (sym stays.at_open) between.store.later;
-          counts = out.counts.more;
-        }
-      ]
+  stopped_at stop out =
+      let Told = Tells (seen b.disk) in
+      let waiting = out.came.0 in
+      let over_same : out.partial.base ≡ place.base = elim out.came.2 as (λ _. out.partial.base ≡ place.base) [
+        | inl until ↦ came_over stop Told place waiting h out.history out.partial asked over until
+        | inr whole ↦ step_over Told place h out.history out.partial asked over whole.1
+      ] in
+      record {
+        waiting = waiting;
+        partial = out.partial;
+        history = out.history;
+        clock = moment;
+        came = elim out.came.2 as (λ _. CameFor stop Told place waiting h out.history out.partial asked) [
+          | inl until ↦ inl until
+          | inr whole ↦ inr (whole.0, inr whole.1)
+        ];
+        set = clock_with place.asked asked moment set;
+        cause = subst (λ (base : Summary). HasShown seen base s' out.history stop moment (Submits s'.state.sum.text place.setup place.asked moment waiting asked))
+            (sym over_same) out.came.1;
+        stands = subst (λ (base : Summary). StoreStands seen base s' out.history) (sym over_same) out.stands;
+        limits_are = stays.journal ∙ between.store.limits_are;
+        later = subst (λ (n : ℕ). (seen b.disk).faults ≤ n) (sym stays.at_open) between.store.later;
+        counts = out.counts.more;
+      }

@@ -11,7 +11,7 @@ use Rattle.centre_core.specs.declared.hall.Stop.TheVariants.{Memory}
 use Rattle.centre_rules.specs.History.{Entry}
 use Rattle.centre_rules.specs.State.{State}
 use Rattle.centre_rules.specs.Summary.{Summary}
-use Rattle.centre_store.specs.Stores.{Stored, StoreStands}
+use Rattle.centre_store.specs.Stores.{HasFailed, Stored, StoreStands}
 use Rattle.desk_session.specs.Desks as Desk
 use Rattle.desk_session.specs.Sessions.{ReadsNothing}
 use Rattle.desk_session.specs.declared.desk_end.DeskEnd.{DeskEnd}
@@ -20,7 +20,7 @@ use Rattle.line_session.specs.Lines as Line
 use Rattle.script_lines.specs.Lines.{Asked, Command}
 use Rattle.session_rules.specs.Inputs.{input_limit}
 use Rattle.arc_script.specs.Carrying.{Halted, IsNext}
-use Rattle.arc_script.specs.Causes.{stop_in}
+use Rattle.arc_script.specs.Causes.{IsOfCommand, stop_in}
 use Rattle.arc_script.specs.Pages.{blank}
 use Rattle.arc_script.specs.Standing.{IsReadable}
 use Rattle.arc_script.specs.Steps.{Step}
@@ -29,6 +29,7 @@ use Rattle.arc_script.specs.declared.script_end.Tally.{Tally}
 use Rattle.arc_script.proofs.Commandings.{fails_at, has_served, quits_on, stops_at, IsGiven}
 use Rattle.arc_script.proofs.Counts.{grows_none}
 use Rattle.arc_script.proofs.Desked.{command_short, CameSoFar, Closings}
+use Rattle.arc_script.proofs.Ticks.{wanted_up}
 
 pub closings : (s s' k k' : State) (t t' : Tally) (opened behind closed : ℕ) → k ≡ s → k' ≡ s' → opened ≡ length k.sum.incidents
     → behind ≡ length k'.sum.incidents → closed ≡ opened - behind → t'.closed ≡ min (t.closed + closed) (2 ^ 64 - 1)
@@ -49,14 +50,17 @@ stop_is stop r at memory = cc
 -- memory was wanted for the head of the line
 pub halted_first : {D : Type 0} (seen : D → DiskSeen) (s : Stored D) (base : Summary) (setup : List ℕ)
     (clock desk : ℕ) (before : List Asked) (text : List ℕ) (h : List Entry) (t : Tally) (stop : Stop) (r : Result (Unit {0}) Stop) → r ≡ Err stop
-    → r ≡ Err Memory → StoreStands seen base s h → IsReadable base h
+    → r ≡ Err Memory → StoreStands seen base s h → IsReadable base h → (HasFailed seen s → ⊥)
     → Halted seen base (λ x k. CameSoFar base seen s setup clock desk before text h stop x k) t t s
-halted_first seen s base setup clock desk before text h t stop r at memory stands readable =
+halted_first seen s base setup clock desk before text h t stop r at memory stands readable up =
     let partial : Step = record { number = 0; asked = Command desk text; entries = []; base = base; sent = 0; text = [] } in
     record {
       partial = partial;
       history = h;
-      came = inl (refl, record { added = refl; base = refl; sent = refl }, inl (stop_is stop r at memory));
+      came = (
+        wanted_up seen base s h stop clock (IsOfCommand setup before desk text) (stop_is stop r at memory) stands up,
+        inl (refl, record { added = refl; base = refl; sent = refl }),
+      );
       stands = stands;
       readable = readable;
       counts = record {
@@ -86,15 +90,15 @@ module _ {D : Type 0} (seen : D → DiskSeen) (s s' : Stored D) (setup : List �
   -- Of the ends that are no stops a failed write alone can come: memory was wanted for it.
   ended : (end : DeskEnd) → ReadsNothing (Err end) → r ≡ Err end → Closings s.state s'.state t t'
       → (base : Summary) (before : List Asked) (clock count : ℕ) (h : List Entry) → IsNext (meaning setup) clock count before (Command desk text) lines desks
-      → p ≡ blank clock → StoreStands seen base s h → IsReadable base h
+      → p ≡ blank clock → StoreStands seen base s h → IsReadable base h → (HasFailed seen s → ⊥)
       → Halted seen base (λ x k. CameSoFar base seen s' setup clock desk before text h (stop_in end) x k) t t' s'
-  ended InputEnded reads is sums base before clock count h next empty stands readable = absurd reads
-  ended ReadFault reads is sums base before clock count h next empty stands readable = absurd reads
-  ended WriteFault reads is sums base before clock count h next empty stands readable =
+  ended InputEnded reads is sums base before clock count h next empty stands readable up = absurd reads
+  ended ReadFault reads is sums base before clock count h next empty stands readable up = absurd reads
+  ended WriteFault reads is sums base before clock count h next empty stands readable up =
       fails_at seen s s' base setup desk text lines desks was now t t' p page page' given (given_as (Err WriteFault) is) sums before
       clock
-      count h next empty stands readable
-  ended Spent reads is sums base before clock count h next empty stands readable =
+      count h next empty stands readable up
+  ended Spent reads is sums base before clock count h next empty stands readable up =
       let at = given_as (Err Spent) is in
       let w = has_served seen s s' base setup clock count desk before text h lines desks was now p page page' given (Err Spent) at
       next empty
@@ -104,28 +108,31 @@ module _ {D : Type 0} (seen : D → DiskSeen) (s s' : Stored D) (setup : List �
       let over = subst (λ (l : List ℕ). input_limit ≤ length (w.has.stream ++ l)) at.line spent.0 in
       let short = command_short (meaning setup) clock count desk before text w.has.stream lines desks next w.has.few in
       absurd (omega (arith, short, over))
-  ended Quit reads is sums base before clock count h next empty stands readable =
+  ended Quit reads is sums base before clock count h next empty stands readable up =
       let w = quits_on seen s s' base setup desk text lines desks was now t t' p page page' given (given_as (Err Quit) is) sums
       before clock
-      count 0 h next empty stands readable in
+      count 0 h next empty stands readable up in
       record {
         partial = w.step;
         history = w.history;
-        came = inr (refl, w.is);
+        came = (
+          wanted_up seen base s' w.history Memory clock (IsOfCommand setup before desk text) refl w.stands w.up,
+          inr (refl, w.is),
+        );
         stands = w.stands;
         readable = w.readable;
         counts = w.counts;
       }
-  ended (Stopped stop) reads is sums base before clock count h next empty stands readable =
+  ended (Stopped stop) reads is sums base before clock count h next empty stands readable up =
       stops_at seen s s' base setup desk text lines desks was now t t' p page page' given stop (given_as (Err (Stopped stop)) is)
       sums before
-      clock count h next empty stands readable
+      clock count h next empty stands readable up
 
   pub ended_as : (end : DeskEnd) (stop : Stop) → r ≡ Err end → stop ≡ stop_in end → ReadsNothing r → Closings s.state s'.state t t'
       → (base : Summary) (before : List Asked) (clock count : ℕ) (h : List Entry) → IsNext (meaning setup) clock count before (Command desk text) lines desks
-      → p ≡ blank clock → StoreStands seen base s h → IsReadable base h
+      → p ≡ blank clock → StoreStands seen base s h → IsReadable base h → (HasFailed seen s → ⊥)
       → Halted seen base (λ x k. CameSoFar base seen s' setup clock desk before text h stop x k) t t' s'
-  ended_as end stop is same reads sums base before clock count h next empty stands readable =
+  ended_as end stop is same reads sums base before clock count h next empty stands readable up =
       subst (λ (k : Stop). Halted seen base (λ x q. CameSoFar base seen s' setup clock desk before text h k x q) t t'
       s')
-      (sym same) (ended end (subst ReadsNothing is reads) is sums base before clock count h next empty stands readable)
+      (sym same) (ended end (subst ReadsNothing is reads) is sums base before clock count h next empty stands readable up)

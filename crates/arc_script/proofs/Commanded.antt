@@ -21,7 +21,7 @@ use Rattle.centre_core.specs.declared.hall.Stop.{Stop}
 use Rattle.centre_rules.specs.Answers.{IsLegal}
 use Rattle.centre_rules.specs.History.{Entry, Extends}
 use Rattle.centre_rules.specs.Summary.{Summary}
-use Rattle.centre_store.specs.Stores.{Stored, StoreStands, Shows}
+use Rattle.centre_store.specs.Stores.{HasFailed, Stored, StoreStands, Shows}
 use Rattle.desk_session.proofs.Quitting.{quits_next, up_next}
 use Rattle.desk_session.specs.Desks.{ServesLines}
 use Rattle.desk_session.specs.Events.{acts_over, command_in, event_of, is_quit, quits, text_of as said_of, up_to_quit}
@@ -141,7 +141,7 @@ turned_by base setup operator clock n text h x t line are legal own readings =
       added = added;
     }
 
--- The desk answered the line, or would have: the store stands for the history with its turn.
+-- The desk answered the line, or would have: the store, whose disk has not failed, stands for the history with its turn.
 pub record Answers {D : Type 0} (seen : D → DiskSeen) (s' : Stored D)
     (base : Summary) (setup : List ℕ) (operator : Option (List ℕ)) (clock : ℕ) (text : List ℕ) (h : List Entry) : Type 0 where
   pub turn : Turn
@@ -149,6 +149,7 @@ pub record Answers {D : Type 0} (seen : D → DiskSeen) (s' : Stored D)
   pub turned : Turned base setup operator clock text h history turn
   pub stands : StoreStands seen base s' history
   pub readable : IsReadable base history
+  pub up : HasFailed seen s' → ⊥
 
 -- all was answered
 pub record Said {D : Type 0} (seen : D → DiskSeen) (s' : Stored D)
@@ -161,9 +162,9 @@ one_added : {D : Type 0} (seen : D → DiskSeen) (s s' : Stored D) (base : Summa
     → (page : PageTells clock p p') → text ∷ [] ≡ pieces_of desk_turns turns ++ []
     → AreTurns base (meaning setup) 0 operator h x turns → IsLegal base x → x ≡ reverse (entries_of desk_turns turns) ++ h
     → p'.readings ≡ append_known p.readings readings → readings ≡ readings_of desk_turns turns
-    → StoreStands seen base s' x → IsReadable base x
+    → StoreStands seen base s' x → IsReadable base x → (HasFailed seen s' → ⊥)
     → (answers : Answers seen s' base setup operator clock text h) × (text_of desk_turns turns ≡ answers.turn.reply)
-one_added seen s s' base setup operator clock text h x p p' turns readings page whole are legal own tells same stands readable =
+one_added seen s s' base setup operator clock text h x p p' turns readings page whole are legal own tells same stands readable up =
     let one = one_turn turns text whole in
     let t = one.turn in
     let list = option_to_list t.reading ++ [] in
@@ -179,6 +180,7 @@ one_added seen s s' base setup operator clock text h x p p' turns readings page 
             (own ∙ ap (λ (ts : List Turn). reverse (entries_of desk_turns ts) ++ h) one.is) at.same;
         stands = stands;
         readable = readable;
+        up = up;
       },
       ap (text_of desk_turns) one.is ∙ append-nil t.reply,
     )
@@ -211,12 +213,13 @@ none_before (t ∷ u ∷ ts) text piece more is = absurd cc
 
 -- all was answered: the desk goes on, or the line was a `quit`
 pub says : {D : Type 0} (seen : D → DiskSeen) (s s' : Stored D) (base : Summary) (setup : List ℕ)
-    (clock : ℕ) (stream text : List ℕ) (h : List Entry) (p p' : PortSeen) → text_in s.state ≡ setup → IsReadable base h → (page : PageTells clock p p')
+    (clock : ℕ) (stream text : List ℕ) (h : List Entry) (p p' : PortSeen) → text_in s.state ≡ setup → IsReadable base h → (HasFailed seen s → ⊥)
+    → (page : PageTells clock p p')
     → EndsAs stream text → quits (ended_lines stream) ≡ false
     → ServesLines (Ok tt) (ended_lines stream) (ended_lines (stream ++ (text ++ 13 ∷ 10 ∷ []))) base h (store_seen seen s)
     (store_seen seen s') p p'
     → Said seen s' base setup (acts_over (meaning setup) None (ended_lines stream)) clock text h p p'
-says seen s s' base setup clock stream text h p p' same readable page ends none serves =
+says seen s s' base setup clock stream text h p p' same readable up page ends none serves =
     let session = serves.desk.session in
     let turns = session.turns in
     let told_of = session.adds.told in
@@ -226,7 +229,7 @@ says seen s s' base setup clock stream text h p p' same readable page ends none 
     let whole : text ∷ [] ≡ pieces_of desk_turns turns ++ [] =
     sym more ∙ session.taken ∙ ap (λ l. pieces_of desk_turns turns ++ l) session.ended.none_left in
     let one = one_added seen s s' base (text_in s.state) operator clock text h session.history p p' turns session.added.readings page whole
-    session.each.0 session.legal session.own (ap (λ (q : PortSeen). q.readings) told_of) (ap (λ a. a.readings) added) session.holds.stands (readable.0, session.disk.reads readable.1) in
+    session.each.0 session.legal session.own (ap (λ (q : PortSeen). q.readings) told_of) (ap (λ a. a.readings) added) session.holds.stands (readable.0, session.disk.reads readable.1) (session.up tt up) in
     subst (λ (t : List ℕ). Said seen s' base t (acts_over (meaning t) None (ended_lines stream)) clock text h p p') same
     (record {
       answers = one.0;
@@ -234,22 +237,24 @@ says seen s s' base setup clock stream text h p p' same readable page ends none 
     })
 
 pub says_quit : {D : Type 0} (seen : D → DiskSeen) (s s' : Stored D) (base : Summary) (setup : List ℕ)
-    (clock : ℕ) (stream text : List ℕ) (h : List Entry) (p p' : PortSeen) → text_in s.state ≡ setup → IsReadable base h → (page : PageTells clock p p')
+    (clock : ℕ) (stream text : List ℕ) (h : List Entry) (p p' : PortSeen) → text_in s.state ≡ setup → IsReadable base h → (HasFailed seen s → ⊥)
+    → (page : PageTells clock p p')
     → EndsAs stream text → quits (ended_lines stream) ≡ false
     → ServesLines (Err Quit) (ended_lines stream) (ended_lines (stream ++ (text ++ 13 ∷ 10 ∷ []))) base h (store_seen seen s)
     (store_seen seen s') p p'
     → Said seen s' base setup (acts_over (meaning setup) None (ended_lines stream)) clock text h p p'
-says_quit seen s s' base setup clock stream text h p p' same readable page ends none serves =
-    says seen s s' base setup clock stream text h p p' same readable page ends none (record { more = serves.more; came = serves.came; desk = serves.desk })
+says_quit seen s s' base setup clock stream text h p p' same readable up page ends none serves =
+    says seen s s' base setup clock stream text h p p' same readable up page ends none (record { more = serves.more; came = serves.came; desk = serves.desk })
 
 -- a write failed: the line has its turn all the same
 pub unsaid : {D : Type 0} (seen : D → DiskSeen) (s s' : Stored D) (base : Summary) (setup : List ℕ)
-    (clock : ℕ) (stream text : List ℕ) (h : List Entry) (p p' : PortSeen) → text_in s.state ≡ setup → IsReadable base h → (page : PageTells clock p p')
+    (clock : ℕ) (stream text : List ℕ) (h : List Entry) (p p' : PortSeen) → text_in s.state ≡ setup → IsReadable base h → (HasFailed seen s → ⊥)
+    → (page : PageTells clock p p')
     → EndsAs stream text → quits (ended_lines stream) ≡ false
     → ServesLines (Err WriteFault) (ended_lines stream) (ended_lines (stream ++ (text ++ 13 ∷ 10 ∷ []))) base h
     (store_seen seen s) (store_seen seen s') p p'
     → Answers seen s' base setup (acts_over (meaning setup) None (ended_lines stream)) clock text h
-unsaid seen s s' base setup clock stream text h p p' same readable page ends none serves =
+unsaid seen s s' base setup clock stream text h p p' same readable up page ends none serves =
     let session = serves.desk.session in
     let turns = session.turns in
     let ended = session.ended in
@@ -258,22 +263,23 @@ unsaid seen s s' base setup clock stream text h p p' same readable page ends non
     let whole : text ∷ [] ≡ pieces_of desk_turns turns ++ [] = only_left turns ended.front session.behind ended.last text session.left ended.split
     (sym more ∙ session.taken) in
     let one = one_added seen s s' base (text_in s.state) operator clock text h session.history p p' turns session.added.readings page whole
-    session.each.0 session.legal session.own (ap (λ (q : PortSeen). q.readings) session.adds.told) (ap (λ a. a.readings) ended.added) session.holds.stands (readable.0, session.disk.reads readable.1) in
+    session.each.0 session.legal session.own (ap (λ (q : PortSeen). q.readings) session.adds.told) (ap (λ a. a.readings) ended.added) session.holds.stands (readable.0, session.disk.reads readable.1) (session.up tt up) in
     subst (λ (t : List ℕ). Answers seen s' base t (acts_over (meaning t) None (ended_lines stream)) clock text h) same one.0
 
 -- the store stopped for the line
 pub record StoppedFor {D : Type 0} (seen : D → DiskSeen) (s' : Stored D)
     (base : Summary) (setup : List ℕ) (operator : Option (List ℕ)) (clock : ℕ) (text : List ℕ) (h : List Entry) (stop : Stop) : Type 0 where
   pub stands : StoreStands seen base s' h
-  pub cause : HasShown seen s' stop clock (λ event. event_of operator (command_in text) ≡ Some event)
+  pub cause : HasShown seen base s' h stop clock (λ event. event_of operator (command_in text) ≡ Some event)
 
 pub stops : {D : Type 0} (seen : D → DiskSeen) (s s' : Stored D) (base : Summary) (setup : List ℕ)
-    (clock : ℕ) (stream text : List ℕ) (h : List Entry) (p p' : PortSeen) (stop : Stop) → text_in s.state ≡ setup → (page : PageTells clock p p')
+    (clock : ℕ) (stream text : List ℕ) (h : List Entry) (p p' : PortSeen) (stop : Stop) → text_in s.state ≡ setup → (HasFailed seen s → ⊥)
+    → (page : PageTells clock p p')
     → EndsAs stream text → quits (ended_lines stream) ≡ false
     → ServesLines (Err (Stopped stop)) (ended_lines stream) (ended_lines (stream ++ (text ++ 13 ∷ 10 ∷ []))) base h
     (store_seen seen s) (store_seen seen s') p p'
     → StoppedFor seen s' base setup (acts_over (meaning setup) None (ended_lines stream)) clock text h stop
-stops seen s s' base setup clock stream text h p p' stop same page ends none serves =
+stops seen s s' base setup clock stream text h p p' stop same up page ends none serves =
     let session = serves.desk.session in
     let turns = session.turns in
     let ended = session.ended in
@@ -298,5 +304,7 @@ stops seen s s' base setup clock stream text h p p' stop same page ends none ser
         cause.0,
         ap (λ (o : Option (List ℕ)). event_of o (command_in text)) last ∙ ap (λ (l : List ℕ). event_of serves.desk.last (command_in l)) (sym none_done.piece) ∙ cause.1,
         subst (λ (r : ℕ). Shows seen s' stop cause.0 r) at cause.2.shown,
+        subst (λ (r : ℕ). (store_seen seen s').torn base h cause.0 r) at
+            (subst (λ (x : List Entry). (store_seen seen s').torn base x cause.0 ended.reading) back (cause.2.torn up)),
       );
     })

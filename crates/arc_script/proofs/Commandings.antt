@@ -17,7 +17,7 @@ use Rattle.centre_rules.specs.History.{Entry}
 use Rattle.centre_rules.specs.Summary.{Summary}
 use Rattle.centre_store.specs.StoreHalls.{IsStoreFor, store_seen}
 use Rattle.arc_script.specs.Standing.{IsReadable}
-use Rattle.centre_store.specs.Stores.{Stored, StoreStands}
+use Rattle.centre_store.specs.Stores.{HasFailed, Stored, StoreStands}
 use Rattle.desk_session.specs.Desks as Desk
 use Rattle.desk_session.specs.Events.{acts_over, command_in, event_of, quits}
 use Rattle.desk_session.specs.declared.desk_end.DeskEnd.{DeskEnd}
@@ -121,11 +121,11 @@ pub goes_on : {D : Type 0} (seen : D → DiskSeen) (s s' : Stored D) (base : Sum
     (page page' : Page) (given : List ℕ) → IsGiven seen s s' setup desk text desks was now p page page' given (Ok tt)
     → Closings s.state s'.state t t'
     → (before : List Asked) (clock count number : ℕ) (h : List Entry) → IsNext (meaning setup) clock count before (Command desk text) lines desks
-    → p ≡ blank clock → StoreStands seen base s h → IsReadable base h
+    → p ≡ blank clock → StoreStands seen base s h → IsReadable base h → (HasFailed seen s → ⊥)
     → Carried seen base (λ x k. Commands (placed base setup before) desk text h x k) number (Command desk text) t t' p (page_seen page') s'
-goes_on seen s s' base setup desk text lines desks was now t t' p page page' given g closings before clock count number h next empty stands readable =
+goes_on seen s s' base setup desk text lines desks was now t t' p page page' given g closings before clock count number h next empty stands readable up =
     let w = has_served seen s s' base setup clock count desk before text h lines desks was now p page page' given (Ok tt) g next empty stands readable in
-    let said = says seen s s' base setup clock w.has.stream text h (page_seen page) (page_seen page') (text_is s setup g.set) readable w.page w.ends w.none w.serves in
+    let said = says seen s s' base setup clock w.has.stream text h (page_seen page) (page_seen page') (text_is s setup g.set) readable up w.page w.ends w.none w.serves in
     commanded seen s s' base setup clock number desk before text (ended_lines w.has.stream) h t t' p (page_seen page) (page_seen page')
     next.set w.has.ended stands said g.head closings
 
@@ -134,11 +134,11 @@ pub quits_on : {D : Type 0} (seen : D → DiskSeen) (s s' : Stored D) (base : Su
     (page page' : Page) (given : List ℕ) → IsGiven seen s s' setup desk text desks was now p page page' given (Err Quit)
     → Closings s.state s'.state t t'
     → (before : List Asked) (clock count number : ℕ) (h : List Entry) → IsNext (meaning setup) clock count before (Command desk text) lines desks
-    → p ≡ blank clock → StoreStands seen base s h → IsReadable base h
+    → p ≡ blank clock → StoreStands seen base s h → IsReadable base h → (HasFailed seen s → ⊥)
     → Carried seen base (λ x k. Commands (placed base setup before) desk text h x k) number (Command desk text) t t' p (page_seen page') s'
-quits_on seen s s' base setup desk text lines desks was now t t' p page page' given g closings before clock count number h next empty stands readable =
+quits_on seen s s' base setup desk text lines desks was now t t' p page page' given g closings before clock count number h next empty stands readable up =
     let w = has_served seen s s' base setup clock count desk before text h lines desks was now p page page' given (Err Quit) g next empty stands readable in
-    let said = says_quit seen s s' base setup clock w.has.stream text h (page_seen page) (page_seen page') (text_is s setup g.set) readable w.page w.ends w.none w.serves in
+    let said = says_quit seen s s' base setup clock w.has.stream text h (page_seen page) (page_seen page') (text_is s setup g.set) readable up w.page w.ends w.none w.serves in
     commanded seen s s' base setup clock number desk before text (ended_lines w.has.stream) h t t' p (page_seen page) (page_seen page')
     next.set w.has.ended stands said g.head closings
 
@@ -148,12 +148,12 @@ pub stops_at : {D : Type 0} (seen : D → DiskSeen) (s s' : Stored D) (base : Su
     (page page' : Page) (given : List ℕ) (stop : Stop)
     → IsGiven seen s s' setup desk text desks was now p page page' given (Err (Stopped stop)) → Closings s.state s'.state t t'
     → (before : List Asked) (clock count : ℕ) (h : List Entry) → IsNext (meaning setup) clock count before (Command desk text) lines desks
-    → p ≡ blank clock → StoreStands seen base s h → IsReadable base h
+    → p ≡ blank clock → StoreStands seen base s h → IsReadable base h → (HasFailed seen s → ⊥)
     → Halted seen base (λ x k. CameSoFar base seen s' setup clock desk before text h stop x k) t t' s'
-stops_at seen s s' base setup desk text lines desks was now t t' p page page' given stop g closings before clock count h next empty stands readable =
+stops_at seen s s' base setup desk text lines desks was now t t' p page page' given stop g closings before clock count h next empty stands readable up =
     let w = has_served seen s s' base setup clock count desk before text h lines desks was now p page page' given (Err (Stopped stop)) g next empty stands readable in
-    let stopped = stops seen s s' base setup clock w.has.stream text h (page_seen page) (page_seen page') stop (text_is s setup g.set) w.page w.ends w.none w.serves in
-    let cause = subst (λ (ls : List (List ℕ)). HasShown seen s' stop clock
+    let stopped = stops seen s s' base setup clock w.has.stream text h (page_seen page) (page_seen page') stop (text_is s setup g.set) up w.page w.ends w.none w.serves in
+    let cause = subst (λ (ls : List (List ℕ)). HasShown seen base s' h stop clock
     (λ event. event_of (acts_over (meaning setup) None ls) (command_in text) ≡ Some event)) w.has.ended stopped.cause in
     halted_before seen s s' base setup clock desk before text h t t' stop stands stopped.stands readable cause closings
 
@@ -163,11 +163,11 @@ pub fails_at : {D : Type 0} (seen : D → DiskSeen) (s s' : Stored D) (base : Su
     (page page' : Page) (given : List ℕ) → IsGiven seen s s' setup desk text desks was now p page page' given (Err WriteFault)
     → Closings s.state s'.state t t'
     → (before : List Asked) (clock count : ℕ) (h : List Entry) → IsNext (meaning setup) clock count before (Command desk text) lines desks
-    → p ≡ blank clock → StoreStands seen base s h → IsReadable base h
+    → p ≡ blank clock → StoreStands seen base s h → IsReadable base h → (HasFailed seen s → ⊥)
     → Halted seen base (λ x k. CameSoFar base seen s' setup clock desk before text h Memory x k) t t' s'
-fails_at seen s s' base setup desk text lines desks was now t t' p page page' given g closings before clock count h next empty stands readable =
+fails_at seen s s' base setup desk text lines desks was now t t' p page page' given g closings before clock count h next empty stands readable up =
     let w = has_served seen s s' base setup clock count desk before text h lines desks was now p page page' given (Err WriteFault) g next empty stands readable in
-    let answers = unsaid seen s s' base setup clock w.has.stream text h (page_seen page) (page_seen page') (text_is s setup g.set) readable w.page w.ends w.none w.serves in
+    let answers = unsaid seen s s' base setup clock w.has.stream text h (page_seen page) (page_seen page') (text_is s setup g.set) readable up w.page w.ends w.none w.serves in
     unsaid_all seen s s' base setup clock desk before text (ended_lines w.has.stream) h t t' next.set w.has.ended stands answers closings
 
 -- What the desks took.

@@ -39,6 +39,7 @@ use Rattle.arc_script.proofs.Closing.{counted_turn, IsCounted}
 use Rattle.arc_script.proofs.Commanded.{is_quit_as, Answers, EndsAs, Said, Turned}
 use Rattle.arc_script.proofs.Counts.{grows_none, grows_told}
 use Rattle.arc_script.proofs.Taken.{read_next}
+use Rattle.arc_script.proofs.Ticks.{wanted_up}
 
 -- what the code counts: the open incidents fewer
 pub record Closings (s s' : State) (t t' : Tally) : Type 0 where
@@ -126,6 +127,7 @@ commanded seen s s' base setup clock number desk before text lines h t t' p q p'
       is = commands_of base setup clock number desk before text lines h a.history a.turn set same a.turned;
       stands = a.stands;
       readable = a.readable;
+      up = a.up;
       text = w.text_is ∙ ap (λ (k : Option (List ℕ)). append_known k a.turn.reply) head
           ∙ known_both p.written (head_of 68 desk ++ 32 ∷ []) a.turn.reply
           ∙ ap (append_known p.written) (append_assoc (head_of 68 desk) (32 ∷ []) a.turn.reply);
@@ -136,8 +138,8 @@ commanded seen s s' base setup clock number desk before text lines h t t' p q p'
 abbrev pub CameSoFar : {D : Type 0} → Summary → (D → DiskSeen) → Stored D → List ℕ → ℕ → ℕ → List Asked → List ℕ → List Entry
     → Stop → List Entry → Step → Type 0
 CameSoFar base seen s' setup clock desk before text h stop x s =
-    ((x ≡ h) × AddedBy base h x s × HasShown seen s' stop clock (IsOfCommand setup before desk text))
-    ⊎ ((stop ≡ Memory) × Commands (placed base setup before) desk text h x s)
+    HasShown seen base s' x stop clock (IsOfCommand setup before desk text)
+    × (((x ≡ h) × AddedBy base h x s) ⊎ ((stop ≡ Memory) × Commands (placed base setup before) desk text h x s))
 
 -- the desk had answered, and memory was wanted for it
 pub unsaid_all : {D : Type 0} (seen : D → DiskSeen) (s s' : Stored D) (base : Summary) (setup : List ℕ)
@@ -153,7 +155,10 @@ unsaid_all seen s s' base setup clock desk before text lines h t t' set same sta
     record {
       partial = step;
       history = a.history;
-      came = inr (refl, commands_of base setup clock 0 desk before text lines h a.history a.turn set same a.turned);
+      came = (
+        wanted_up seen base s' a.history Memory clock (IsOfCommand setup before desk text) refl a.stands a.up,
+        inr (refl, commands_of base setup clock 0 desk before text lines h a.history a.turn set same a.turned),
+      );
       stands = a.stands;
       readable = a.readable;
       counts = command_counts base s.state s'.state t t' h a.history step entries stands.centre a.stands.centre counted closings refl refl;
@@ -170,7 +175,7 @@ none_counted base h = record { repeats = refl; closed = omega arith }
 pub halted_before : {D : Type 0} (seen : D → DiskSeen) (s s' : Stored D) (base : Summary) (setup : List ℕ)
     (clock desk : ℕ) (before : List Asked) (text : List ℕ) (h : List Entry) (t t' : Tally) (stop : Stop)
     → StoreStands seen base s h → StoreStands seen base s' h → IsReadable base h
-    → HasShown seen s' stop clock (IsOfCommand setup before desk text) → Closings s.state s'.state t t'
+    → HasShown seen base s' h stop clock (IsOfCommand setup before desk text) → Closings s.state s'.state t t'
     → Halted seen base (λ x s. CameSoFar base seen s' setup clock desk before text h stop x s) t t' s'
 unfolding step_of
 halted_before seen s s' base setup clock desk before text h t t' stop was stands readable shown closings =
@@ -178,7 +183,7 @@ halted_before seen s s' base setup clock desk before text h t t' stop was stands
     record {
       partial = step;
       history = h;
-      came = inl (refl, none_added base h desk text, shown);
+      came = (shown, inl (refl, none_added base h desk text));
       stands = stands;
       readable = readable;
       counts = command_counts base s.state s'.state t t' h h step [] was.centre stands.centre (none_counted base h) closings refl refl;

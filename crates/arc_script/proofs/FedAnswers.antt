@@ -1,16 +1,15 @@
 -- What feeding bytes to a line answers, in the words of what was called for it.
-use Rattle.std.proofs.Common.{◌≡◌, ◌<◌, ◌-◌, ◌+◌, ◌++◌, ◌^◌, ℕ, List, [], Option, Some, None, Result, Ok, Err, inl, length, set, refl, ap, subst, ◌∙◌, arith}
+use Rattle.std.proofs.Common.{◌≡◌, ◌<◌, ◌-◌, ◌+◌, ◌++◌, ◌^◌, ℕ, List, [], Option, Some, None, Result, Ok, Err, length, set, ap, subst, sym, ◌∙◌, arith}
 use Rattle.std.specs.Prelude.{min, unwrap_or}
 use Rattle.std.specs.List.{slice_get}
 use Rattle.arc_io.specs.Disks.{DiskSeen}
 use Rattle.arc_io.specs.Memory.{clock_calls, sink_bytes}
 use Rattle.centre_core.specs.Setting.{IsSetting}
 use Rattle.centre_core.specs.declared.hall.Stop.{Stop}
-use Rattle.centre_core.specs.declared.hall.Stop.TheVariants.{Memory}
 use Rattle.centre_rules.specs.History.{Entry}
 use Rattle.centre_rules.specs.State.{State}
 use Rattle.centre_rules.specs.Summary.{Summary}
-use Rattle.centre_store.specs.Stores.{Stored, StoreStands}
+use Rattle.centre_store.specs.Stores.{HasFailed, Stored, StoreStands}
 use Rattle.line_session.specs.Lines as Line
 use Rattle.line_session.specs.Sessions.{ReadsNothing}
 use Rattle.line_session.specs.declared.line_end.LineEnd.{LineEnd}
@@ -18,14 +17,14 @@ use Rattle.line_session.specs.declared.line_end.LineEnd.TheVariants.{InputEnded,
 use Rattle.script_lines.specs.Lines.{Asked}
 use Rattle.session_rules.specs.Inputs.{input_limit}
 use Rattle.arc_script.specs.Fed.{clock_of, line_fed}
-use Rattle.arc_script.specs.Feeding.{FeedStops, HasFed, TookAt}
+use Rattle.arc_script.specs.Feeding.{FeedStops, HasFed, TookAt, stop_in}
 use Rattle.arc_script.specs.Names.{line_name}
 use Rattle.arc_script.specs.Standing.{IsReadable}
 use Rattle.arc_script.specs.Steps.{placed}
 use Rattle.arc_script.specs.declared.page.Page.{Page}
 use Rattle.arc_script.specs.declared.script_end.Tally.{Tally}
 use Rattle.arc_script.proofs.Carries.{set_there}
-use Rattle.arc_script.proofs.FedCounts.{sent_for, Tallied}
+use Rattle.arc_script.proofs.FedCounts.{Tallied}
 use Rattle.arc_script.proofs.FedEnds.{all_fed, fed_failed, fed_stopped, took_there, took_was, IsTaking}
 
 -- how many entries are not recorded
@@ -59,56 +58,38 @@ module _ {D : Type 0} (seen : D → DiskSeen) (s s' : Stored D) (setup : List �
   taking_as q is = subst (λ (q : Result (Unit {0}) LineEnd). IsTaking seen s s' setup moment line place lines was page page' given q) is taking
 
   pub ended_fed : r ≡ Ok tt → (base : Summary) (before : List Asked) (h : List Entry) → clock_of before ≡ Some moment → TookAt (line_fed line before) lines place
-      → length (line_fed line before ++ given) < input_limit → StoreStands seen base s h → IsReadable base h
+      → length (line_fed line before ++ given) < input_limit → StoreStands seen base s h → IsReadable base h → (HasFailed seen s → ⊥)
       → HasFed seen (placed base setup before) line given h t t' (sink_bytes page'.port.sink) s'
   ended_fed is = all_fed seen s s' setup moment line place lines was page page' given t t' sums (taking_as (Ok tt) is)
 
-  pub ended_stopped : (stop : Stop) → r ≡ Err (Stopped stop) → (base : Summary) (before : List Asked) (h : List Entry) → clock_of before ≡ Some moment → TookAt (line_fed line before) lines place
-      → length (line_fed line before ++ given) < input_limit → StoreStands seen base s h → IsReadable base h
-      → FeedStops seen (placed base setup before) moment line given h t t' stop s'
-  ended_stopped stop is =
-      fed_stopped seen s s' setup moment line place lines was page page' given t t' sums stop (taking_as (Err (Stopped stop)) is)
-
-  wanting : (base : Summary) (before : List Asked) (h : List Entry) (stop : Stop) → FeedStops seen (placed base setup before) moment line given h t t' stop s'
-      → FeedStops seen (placed base setup before) moment line given h t t' Memory s'
-  wanting base before h stop w = record {
-    turns = w.turns;
-    more = w.more;
-    history = w.history;
-    sent = w.sent;
-    fed = w.fed;
-    stands = w.stands;
-    readable = w.readable;
-    cause = inl refl;
-    sent_is = sent_for Memory stop (length w.turns) w.sent refl w.sent_is;
-    counts = w.counts;
-  }
-
-  -- Of the other ends a failed write alone can come: memory was wanted for it.
-  otherwise : (end : LineEnd) (now : Line.LineValue) → ReadsNothing (Err end)
+  -- Of the ends that are no stops a failed write alone can come: memory was wanted for it.
+  ended : (end : LineEnd) (now : Line.LineValue) → ReadsNothing (Err end)
       → ((name stream : List ℕ) → Line.TookStream name stream was → Line.IsTaken name (Err end) stream given now) → r ≡ Err end
       → (base : Summary) (before : List Asked) (h : List Entry) → clock_of before ≡ Some moment → TookAt (line_fed line before) lines place
-      → length (line_fed line before ++ given) < input_limit → StoreStands seen base s h → IsReadable base h
-      → FeedStops seen (placed base setup before) moment line given h t t' Memory s'
-  otherwise InputEnded now reads taken is base before h set took short stands readable = absurd reads
-  otherwise ReadFault now reads taken is base before h set took short stands readable = absurd reads
-  otherwise WriteFault now reads taken is base before h set took short stands readable =
+      → length (line_fed line before ++ given) < input_limit → StoreStands seen base s h → IsReadable base h → (HasFailed seen s → ⊥)
+      → FeedStops seen (placed base setup before) moment line given h t t' (stop_in end) s'
+  ended InputEnded now reads taken is base before h set took short stands readable up = absurd reads
+  ended ReadFault now reads taken is base before h set took short stands readable up = absurd reads
+  ended WriteFault now reads taken is base before h set took short stands readable up =
       fed_failed seen s s' setup moment line place lines was page page' given t t' sums (taking_as (Err WriteFault) is) base before h set took short
-      stands readable
-  otherwise Spent now reads taken is base before h set took short stands readable =
+      stands readable up
+  ended Spent now reads taken is base before h set took short stands readable up =
       let over = taken (line_name line) (line_fed line before) (took_was (line_fed line before) lines line place was taking.at taking.there took) in
       absurd (omega (arith, short, over))
-  otherwise (Stopped stop) now reads taken is base before h set took short stands readable =
-      wanting base before h stop (ended_stopped stop is base before h set took short stands readable)
+  ended (Stopped stop) now reads taken is base before h set took short stands readable up =
+      fed_stopped seen s s' setup moment line place lines was page page' given t t' sums stop (taking_as (Err (Stopped stop)) is) base before h set took
+      short stands readable up
 
-  pub ended_otherwise : (end : LineEnd) (now : Line.LineValue) → r ≡ Err end → ReadsNothing r
+  pub ended_as : (end : LineEnd) (stop : Stop) (now : Line.LineValue) → r ≡ Err end → stop ≡ stop_in end → ReadsNothing r
       → ((name stream : List ℕ) → Line.TookStream name stream was → Line.IsTaken name r stream given now)
       → (base : Summary) (before : List Asked) (h : List Entry) → clock_of before ≡ Some moment → TookAt (line_fed line before) lines place
-      → length (line_fed line before ++ given) < input_limit → StoreStands seen base s h → IsReadable base h
-      → FeedStops seen (placed base setup before) moment line given h t t' Memory s'
-  ended_otherwise end now is reads taken =
-      otherwise end now (subst ReadsNothing is reads)
-      (λ name stream took. subst (λ (q : Result (Unit {0}) LineEnd). Line.IsTaken name q stream given now) is (taken name stream took)) is
+      → length (line_fed line before ++ given) < input_limit → StoreStands seen base s h → IsReadable base h → (HasFailed seen s → ⊥)
+      → FeedStops seen (placed base setup before) moment line given h t t' stop s'
+  ended_as end stop now is same reads taken base before h set took short stands readable up =
+      subst (λ (k : Stop). FeedStops seen (placed base setup before) moment line given h t t' k s') (sym same)
+      (ended end now (subst ReadsNothing is reads)
+      (λ name stream took. subst (λ (q : Result (Unit {0}) LineEnd). Line.IsTaken name q stream given now) is (taken name stream took)) is base before h
+      set took short stands readable up)
 
 -- a line to which all was fed took it
 pub took_all : (place : ℕ) (lines : List Line.LineValue) (was now : Line.LineValue) (given : List ℕ) (r : Result (Unit {0}) LineEnd)

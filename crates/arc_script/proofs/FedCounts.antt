@@ -1,5 +1,5 @@
 -- What a line leaves that was fed bytes, with what is counted.
-use Rattle.std.proofs.Common.{◌≡◌, ◌-◌, ◌+◌, ◌++◌, ◌^◌, ℕ, List, [], ◌∷◌, Option, Some, length, reverse, inl, inr, refl, ap, sym, ◌∙◌, append-nil}
+use Rattle.std.proofs.Common.{◌≡◌, ◌-◌, ◌+◌, ◌++◌, ◌^◌, ℕ, List, [], ◌∷◌, Option, Some, length, reverse, inr, refl, ap, sym, ◌∙◌, append-nil}
 use Rattle.std.specs.Prelude.{min, unwrap_or}
 use Rattle.std.specs.Io.KnownBytes.{append_known}
 use Rattle.alarm_rules.specs.Setups.{meaning}
@@ -11,13 +11,13 @@ use Rattle.centre_core.specs.declared.hall.Stop.TheVariants.{Memory}
 use Rattle.centre_rules.specs.History.{Entry}
 use Rattle.centre_rules.specs.State.{State, StandsFor}
 use Rattle.centre_rules.specs.Summary.{Summary}
-use Rattle.centre_store.specs.Stores.{Stored, StoreStands}
+use Rattle.centre_store.specs.Stores.{HasFailed, Stored, StoreStands}
 use Rattle.dc09_frame.specs.Frames.{bodies}
 use Rattle.line_session.proofs.Fed.{bodies_more}
 use Rattle.line_session.specs.Turns.{Turn, line_turns, AreTurns}
 use Rattle.script_lines.specs.Lines.{Asked}
 use Rattle.session_rules.specs.Turns.{entries_of, text_of}
-use Rattle.arc_script.specs.Causes.{IsSentFor}
+use Rattle.arc_script.specs.Causes.{IsOfFrame}
 use Rattle.arc_script.specs.Fed.{clock_of, line_fed}
 use Rattle.arc_script.specs.Feeding.{CountsFed, FeedStops, HasFed}
 use Rattle.arc_script.specs.Names.{line_name}
@@ -31,6 +31,7 @@ use Rattle.arc_script.proofs.Answered.{turns_lined}
 use Rattle.arc_script.proofs.Counts.{grows_none, grows_told, repeats_told, sent_told}
 use Rattle.arc_script.proofs.Feeds.{FedBy, PageTells}
 use Rattle.arc_script.proofs.Halts.{FedUpTo}
+use Rattle.arc_script.proofs.Ticks.{wanted_up}
 
 -- a page whose clock stands still and whose noise is zero
 abbrev pub page_tells : (clock : ℕ) (page page' : Page) → (page_seen page).readings ≡ Some (clock ∷ []) → (page_seen page).noise ≡ Some []
@@ -75,6 +76,7 @@ has_fed seen s s' base setup clock line before bytes h t t' page page' calls sto
   fed = w.fed;
   stands = w.stands;
   readable = w.readable;
+  up = w.up;
   written_is = ap (λ (k : Option (List ℕ)). unwrap_or k []) (w.written ∙ ap (λ (k : Option (List ℕ)). append_known k (text_of line_turns w.turns)) empty);
   counts = counts_fed (line_name line) base setup calls (length w.turns) s.state s'.state t t' h w.history w.turns stood.centre w.stands.centre w.fed.are w.fed.own w.count
       tallied;
@@ -100,9 +102,9 @@ feed_stops seen s s' base setup clock line before bytes h t t' stop calls stood 
 -- Memory was wanted before anything was fed.
 pub none_fed : {D : Type 0} (seen : D → DiskSeen) (s : Stored D) (base : Summary) (setup : List ℕ)
     (clock line : ℕ) (before : List Asked) (bytes : List ℕ) (h : List Entry) (t : Tally) → clock_of before ≡ Some clock
-    → StoreStands seen base s h → IsReadable base h
+    → StoreStands seen base s h → IsReadable base h → (HasFailed seen s → ⊥)
     → FeedStops seen (placed base setup before) clock line bytes h t t Memory s
-none_fed seen s base setup clock line before bytes h t set stands readable =
+none_fed seen s base setup clock line before bytes h t set stands readable up =
     let stream = line_fed line before in
     let more = bodies_more stream bytes in
     record {
@@ -122,12 +124,7 @@ none_fed seen s base setup clock line before bytes h t set stands readable =
       };
       stands = stands;
       readable = readable;
-      cause = inl refl;
+      cause = wanted_up seen base s h Memory clock (IsOfFrame setup clock line more.0) refl stands up;
       sent_is = inr (refl, refl);
       counts = record { frames = grows_none 0 t.sent refl; repeats = grows_none 0 t.repeats refl; rest = refl };
     }
-
--- where memory was wanted for it, the same count does
-pub sent_for : (stop other : Stop) (count sent : ℕ) → stop ≡ Memory → IsSentFor other count sent → IsSentFor stop count sent
-sent_for stop other count sent is (inl all) = inl all
-sent_for stop other count sent is (inr few) = inr (is, few.1)

@@ -12,7 +12,7 @@ use Rattle.centre_rules.specs.History.{Entry}
 use Rattle.centre_rules.specs.Summary.{Summary}
 use Rattle.centre_store.specs.StoreHalls.{IsStoreFor, store_seen}
 use Rattle.arc_script.specs.Standing.{IsReadable}
-use Rattle.centre_store.specs.Stores.{Stored, StoreStands}
+use Rattle.centre_store.specs.Stores.{HasFailed, Stored, StoreStands}
 use Rattle.line_session.specs.Lines as Line
 use Rattle.line_session.specs.declared.line_end.LineEnd.{LineEnd}
 use Rattle.line_session.specs.declared.line_end.LineEnd.TheVariants.{Stopped, WriteFault}
@@ -67,31 +67,31 @@ module _ {D : Type 0} (seen : D → DiskSeen) (s s' : Stored D) (setup : List �
 
   pub all_fed : IsTaking seen s s' setup moment line place lines was page page' given (Ok tt)
       → (base : Summary) (before : List Asked) (h : List Entry) → clock_of before ≡ Some moment → TookAt (line_fed line before) lines place
-      → length (line_fed line before ++ given) < input_limit → StoreStands seen base s h → IsReadable base h
+      → length (line_fed line before ++ given) < input_limit → StoreStands seen base s h → IsReadable base h → (HasFailed seen s → ⊥)
       → HasFed seen (placed base setup before) line given h t t' (sink_bytes page'.port.sink) s'
-  all_fed g base before h set took short stands readable =
+  all_fed g base before h set took short stands readable up =
       let serves = g.served base (line_fed line before) h (took_was (line_fed line before) lines line place was g.at g.there took) (record { stands = stands; setting = g.setting }) in
       has_fed seen s s' base setup moment line before given h t t' page page' (clock_calls page'.port.clock) stands
       (ap (λ (q : PortSeen). q.written) g.empty)
-      (feeds seen s s' base setup moment line before given h (page_seen page) (page_seen page') (same_text (Ok tt) g) set short readable (tells (Ok tt) g) serves)
+      (feeds seen s s' base setup moment line before given h (page_seen page) (page_seen page') (same_text (Ok tt) g) set short readable up (tells (Ok tt) g) serves)
       tallied
 
   pub fed_stopped : (stop : Stop) → IsTaking seen s s' setup moment line place lines was page page' given (Err (Stopped stop))
       → (base : Summary) (before : List Asked) (h : List Entry) → clock_of before ≡ Some moment → TookAt (line_fed line before) lines place
-      → length (line_fed line before ++ given) < input_limit → StoreStands seen base s h → IsReadable base h
+      → length (line_fed line before ++ given) < input_limit → StoreStands seen base s h → IsReadable base h → (HasFailed seen s → ⊥)
       → FeedStops seen (placed base setup before) moment line given h t t' stop s'
-  fed_stopped stop g base before h set took short stands readable =
+  fed_stopped stop g base before h set took short stands readable up =
       let serves = g.served base (line_fed line before) h (took_was (line_fed line before) lines line place was g.at g.there took) (record { stands = stands; setting = g.setting }) in
       feed_stops seen s s' base setup moment line before given h t t' stop (clock_calls page'.port.clock) stands
-      (stopped_at seen s s' base setup moment line before given h (page_seen page) (page_seen page') stop (same_text (Err (Stopped stop)) g) set short readable
+      (stopped_at seen s s' base setup moment line before given h (page_seen page) (page_seen page') stop (same_text (Err (Stopped stop)) g) set short readable up
       (tells (Err (Stopped stop)) g) serves) tallied
 
   pub fed_failed : IsTaking seen s s' setup moment line place lines was page page' given (Err WriteFault)
       → (base : Summary) (before : List Asked) (h : List Entry) → clock_of before ≡ Some moment → TookAt (line_fed line before) lines place
-      → length (line_fed line before ++ given) < input_limit → StoreStands seen base s h → IsReadable base h
+      → length (line_fed line before ++ given) < input_limit → StoreStands seen base s h → IsReadable base h → (HasFailed seen s → ⊥)
       → FeedStops seen (placed base setup before) moment line given h t t' Memory s'
-  fed_failed g base before h set took short stands readable =
+  fed_failed g base before h set took short stands readable up =
       let serves = g.served base (line_fed line before) h (took_was (line_fed line before) lines line place was g.at g.there took) (record { stands = stands; setting = g.setting }) in
       feed_stops seen s s' base setup moment line before given h t t' Memory (clock_calls page'.port.clock) stands
-      (cut_short seen s s' base setup moment line before given h (page_seen page) (page_seen page') (same_text (Err WriteFault) g) set short readable
+      (cut_short seen s s' base setup moment line before given h (page_seen page) (page_seen page') (same_text (Err WriteFault) g) set short readable up
       (tells (Err WriteFault) g) serves) tallied

@@ -12,7 +12,7 @@ use Rattle.centre_core.specs.declared.hall.Stop.{Stop}
 use Rattle.centre_core.specs.declared.hall.Stop.TheVariants.{Memory}
 use Rattle.centre_rules.specs.History.{Entry}
 use Rattle.centre_rules.specs.Summary.{Summary}
-use Rattle.centre_store.specs.Stores.{Stored, StoreStands}
+use Rattle.centre_store.specs.Stores.{HasFailed, Stored, StoreStands}
 use Rattle.desk_session.specs.Desks as Desk
 use Rattle.line_session.specs.Lines as Line
 use Rattle.script_lines.specs.Lines.{Asked}
@@ -24,10 +24,9 @@ use Rattle.arc_script.specs.Fed.{clock_of, line_fed}
 use Rattle.arc_script.specs.Feeding.{FeedStops, HasFed, TookAt}
 use Rattle.arc_script.specs.Pages.{head_of, replied}
 use Rattle.arc_script.specs.Standing.{IsReadable}
-use Rattle.arc_script.specs.Steps.{Place, placed, Feeds}
+use Rattle.arc_script.specs.Steps.{placed, Feeds}
 use Rattle.arc_script.specs.declared.page.Page.{Page}
 use Rattle.arc_script.specs.declared.script_end.Tally.{Tally}
-use Rattle.arc_script.proofs.FedCounts.{sent_for}
 use Rattle.arc_script.proofs.Carries.{carried, finished, halted_at, took_before}
 
 -- what is known of a line that is next and feeds these bytes
@@ -45,85 +44,67 @@ pub fed_ok : {D : Type 0} (seen : D → DiskSeen) (s s' : Stored D) (setup : Lis
     → OnOk r (IsOk frames)
     → OnOk r (IfOk frames (λ f. p'.written ≡ append_known p.written (head_of letter line ++ replied (sink_bytes f.port.sink) ++ 10 ∷ [])))
     → IfOk frames (λ f. (base : Summary) (before : List Asked) (h : List Entry) → clock_of before ≡ Some moment
-    → TookAt (line_fed line before) lines (line - 1) → length (line_fed line before ++ given) < input_limit → StoreStands seen base s h → IsReadable base h
+    → TookAt (line_fed line before) lines (line - 1) → length (line_fed line before ++ given) < input_limit → StoreStands seen base s h → IsReadable base h → (HasFailed seen s → ⊥)
     → HasFed seen (placed base setup before) line given h t t' (sink_bytes f.port.sink) s')
     → OnOk r ((base : Summary) (before : List Asked) (count number : ℕ) (h : List Entry) → IsNext (meaning setup) moment count before asked lines desks
-    → StoreStands seen base s h → IsReadable base h
+    → StoreStands seen base s h → IsReadable base h → (HasFailed seen s → ⊥)
     → Carried seen base (λ x k. Feeds (placed base setup before) letter line bytes h x k) number asked t t' p p' s')
 fed_ok seen s s' setup moment letter line asked given bytes lines desks t t' p p' (Ok done) (Ok page) same is ok put fed =
-    λ base before count number h next stands readable.
+    λ base before count number h next stands readable up.
     let stream = line_fed line before in
     let took = took_before (meaning setup) moment count line before asked lines desks is.low next in
     let short = subst (λ (l : List ℕ). length (stream ++ l) < input_limit) (sym same) (is.short before count next) in
     let has = subst (λ (l : List ℕ). HasFed seen (placed base setup before) line l h t t' (sink_bytes page.port.sink) s') same
-    (fed base before h (is.set before count next) took short stands readable) in
+    (fed base before h (is.set before count next) took short stands readable up) in
     carried seen s' base setup moment number letter line asked before bytes h t t' p p' (sink_bytes page.port.sink) is.at
     (is.set before count next) has put
 fed_ok seen s s' setup moment letter line asked given bytes lines desks t t' p p' (Ok done) (Err stop) same is ok put fed = absurd (false≢true ok)
 fed_ok seen s s' setup moment letter line asked given bytes lines desks t t' p p' (Err stop) frames same is ok put fed = tt
 
--- where memory was wanted, that is the cause
-wanting : {D : Type 0} {seen : D → DiskSeen} {s' : Stored D} {place : Place} {moment line : ℕ} {bytes : List ℕ} {h : List Entry} {t t' : Tally}
-    (stop other : Stop) → (stop ≡ Memory) ⊎ (other ≡ stop)
-    → FeedStops seen place moment line bytes h t t' other s' → FeedStops seen place moment line bytes h t t' stop s'
-wanting stop other (inl is) w = record {
-  turns = w.turns;
-  more = w.more;
-  history = w.history;
-  sent = w.sent;
-  fed = w.fed;
-  stands = w.stands;
-  readable = w.readable;
-  cause = inl is;
-  sent_is = sent_for stop other (length w.turns) w.sent is w.sent_is;
-  counts = w.counts;
-}
-wanting {D} {seen} {s'} {place} {moment} {line} {bytes} {h} {t} {t'} stop other (inr same) w =
-    subst (λ (k : Stop). FeedStops seen place moment line bytes h t t' k s') same w
-
-stop_or : (stop other : Stop) (frames : Result Page Stop) → frames ≡ Err other → (stop ≡ Memory) ⊎ (frames ≡ Err stop) → (stop ≡ Memory) ⊎ (other ≡ stop)
-stop_or stop other frames at (inl is) = inl is
-stop_or stop other frames at (inr same) = inr cc
-
-memory_of : (page : Page) (stop : Stop) (frames : Result Page Stop) → frames ≡ Ok page → (stop ≡ Memory) ⊎ (frames ≡ Err stop) → stop ≡ Memory
-memory_of page stop frames at (inl is) = is
+-- where all was fed, memory was wanted
+memory_of : (page : Page) (stop : Stop) (frames : Result Page Stop) → frames ≡ Ok page → (IsOk frames × (stop ≡ Memory)) ⊎ (frames ≡ Err stop) → stop ≡ Memory
+memory_of page stop frames at (inl is) = is.1
 memory_of page stop frames at (inr same) = absurd cc
+
+-- else it was stopped for that
+stop_of : (stop other : Stop) (frames : Result Page Stop) → frames ≡ Err other → (IsOk frames × (stop ≡ Memory)) ⊎ (frames ≡ Err stop) → other ≡ stop
+stop_of stop other frames at (inl is) = absurd (false≢true (subst (λ (r : Result Page Stop). IsOk r) at is.0))
+stop_of stop other frames at (inr same) = cc
 
 pub fed_stops : {D : Type 0} (seen : D → DiskSeen) (s s' : Stored D) (setup : List ℕ)
     (moment letter line : ℕ) (asked : Asked) (given bytes : List ℕ) (lines : List Line.LineValue) (desks : List Desk.DeskValue) (t t' : Tally)
     (r : Result (Unit {0}) Stop) (frames : Result Page Stop) → given ≡ bytes → IsFeed setup moment line asked bytes lines desks
-    → IfErr r (λ stop. (stop ≡ Memory) ⊎ (frames ≡ Err stop))
+    → IfErr r (λ stop. (IsOk frames × (stop ≡ Memory)) ⊎ (frames ≡ Err stop))
     → IfOk frames (λ f. (base : Summary) (before : List Asked) (h : List Entry) → clock_of before ≡ Some moment
-    → TookAt (line_fed line before) lines (line - 1) → length (line_fed line before ++ given) < input_limit → StoreStands seen base s h → IsReadable base h
+    → TookAt (line_fed line before) lines (line - 1) → length (line_fed line before ++ given) < input_limit → StoreStands seen base s h → IsReadable base h → (HasFailed seen s → ⊥)
     → HasFed seen (placed base setup before) line given h t t' (sink_bytes f.port.sink) s')
     → IfErr frames (λ stop. (base : Summary) (before : List Asked) (h : List Entry) → clock_of before ≡ Some moment
-    → TookAt (line_fed line before) lines (line - 1) → length (line_fed line before ++ given) < input_limit → StoreStands seen base s h → IsReadable base h
+    → TookAt (line_fed line before) lines (line - 1) → length (line_fed line before ++ given) < input_limit → StoreStands seen base s h → IsReadable base h → (HasFailed seen s → ⊥)
     → FeedStops seen (placed base setup before) moment line given h t t' stop s')
     → IfErr r (λ stop. (base : Summary) (before : List Asked) (count : ℕ) (h : List Entry) → IsNext (meaning setup) moment count before asked lines desks
-    → StoreStands seen base s h → IsReadable base h
-    → Halted seen base (λ x k.
-    ((waiting : List (List ℕ)) × FedUntil stop (placed base setup before) line bytes waiting h x k
-    × HasShown seen s' stop moment (IsOfFrame setup moment line waiting))
-    ⊎ ((stop ≡ Memory) × Feeds (placed base setup before) letter line bytes h x k)) t t' s')
+    → StoreStands seen base s h → IsReadable base h → (HasFailed seen s → ⊥)
+    → Halted seen base (λ x k. (waiting : List (List ℕ)) × HasShown seen base s' x stop moment (IsOfFrame setup moment line waiting)
+    × (FedUntil stop (placed base setup before) line bytes waiting h x k
+    ⊎ ((stop ≡ Memory) × Feeds (placed base setup before) letter line bytes h x k))) t t' s')
 fed_stops seen s s' setup moment letter line asked given bytes lines desks t t' (Ok done) frames same is stops fed stopped = tt
 fed_stops seen s s' setup moment letter line asked given bytes lines desks t t' (Err stop) (Ok page) same is stops fed stopped =
-    λ base before count h next stands readable.
+    λ base before count h next stands readable up.
     let stream = line_fed line before in
     let took = took_before (meaning setup) moment count line before asked lines desks is.low next in
     let short = subst (λ (l : List ℕ). length (stream ++ l) < input_limit) (sym same) (is.short before count next) in
     let has = subst (λ (l : List ℕ). HasFed seen (placed base setup before) line l h t t' (sink_bytes page.port.sink) s') same
-    (fed base before h (is.set before count next) took short stands readable) in
+    (fed base before h (is.set before count next) took short stands readable up) in
     finished seen s' base setup moment letter line asked before bytes h t t' (sink_bytes page.port.sink) stop
     (memory_of page stop (Ok page) refl stops) (is.set before count next) has
 fed_stops seen s s' setup moment letter line asked given bytes lines desks t t' (Err stop) (Err other) same is stops fed stopped =
-    λ base before count h next stands readable.
+    λ base before count h next stands readable up.
     let stream = line_fed line before in
     let took = took_before (meaning setup) moment count line before asked lines desks is.low next in
     let short = subst (λ (l : List ℕ). length (stream ++ l) < input_limit) (sym same) (is.short before count next) in
     let has = subst (λ (l : List ℕ). FeedStops seen (placed base setup before) moment line l h t t' other s') same
-    (stopped base before h (is.set before count next) took short stands readable) in
+    (stopped base before h (is.set before count next) took short stands readable up) in
     halted_at seen s' base setup moment letter line asked before bytes h t t' stop (is.set before count next)
-    (wanting stop other (stop_or stop other (Err other) refl stops) has)
+    (subst (λ (k : Stop). FeedStops seen (placed base setup before) moment line bytes h t t' k s') (stop_of stop other (Err other) refl stops) has)
 
 -- where all was fed, the lines and desks took it
 pub took_ok : (setup : List ℕ) (moment line : ℕ) (asked : Asked) (given bytes : List ℕ) (lines lines' : List Line.LineValue)

@@ -9,7 +9,7 @@ use Rattle.arc_io.specs.Seen.{PortSeen}
 use Rattle.centre_core.specs.Setting.{text_of as text_in}
 use Rattle.centre_rules.specs.History.{Entry}
 use Rattle.centre_rules.specs.Summary.{Summary}
-use Rattle.centre_store.specs.Stores.{Stored, StoreStands}
+use Rattle.centre_store.specs.Stores.{HasFailed, Stored, StoreStands}
 use Rattle.dc09_frame.specs.Frames.{bodies}
 use Rattle.line_session.proofs.Ported.{all_in_limit}
 use Rattle.line_session.specs.Lines.{ServesBytes}
@@ -36,7 +36,7 @@ pub record PageTells (clock : ℕ) (p p' : PortSeen) : Type 0 where
   pub tens : ℕ
   pub noise : Some (noise_given [] tens) ≡ p'.noise
 
--- all frames have their turns
+-- all frames have their turns, and the disk has not failed
 pub record FedBy {D : Type 0} (seen : D → DiskSeen) (s' : Stored D)
     (base : Summary) (setup : List ℕ) (clock line : ℕ) (before : List Asked) (bytes : List ℕ) (h : List Entry) (p p' : PortSeen) (calls : ℕ) : Type 0 where
   pub turns : List Turn
@@ -44,6 +44,7 @@ pub record FedBy {D : Type 0} (seen : D → DiskSeen) (s' : Stored D)
   pub fed : FeedsLine (placed base setup before) line bytes h history turns []
   pub stands : StoreStands seen base s' history
   pub readable : IsReadable base history
+  pub up : HasFailed seen s' → ⊥
   pub written : p'.written ≡ append_known p.written (text_of line_turns turns)
   pub count : calls ≡ length turns + 1
 
@@ -53,10 +54,11 @@ readings_count (t ∷ ts) = ap suc (readings_count ts)
 
 pub feeds : {D : Type 0} (seen : D → DiskSeen) (s s' : Stored D)
     (base : Summary) (setup : List ℕ) (clock line : ℕ) (before : List Asked) (bytes : List ℕ) (h : List Entry) (p p' : PortSeen) → text_in s.state ≡ setup
-    → clock_of before ≡ Some clock → length (line_fed line before ++ bytes) < input_limit → IsReadable base h → (page : PageTells clock p p')
+    → clock_of before ≡ Some clock → length (line_fed line before ++ bytes) < input_limit → IsReadable base h → (HasFailed seen s → ⊥)
+    → (page : PageTells clock p p')
     → ServesBytes (line_name line) (Ok tt) (line_fed line before) (in_limit (line_fed line before) bytes) base h (changed (store_seen seen s) (store_seen seen s') p p')
     → FedBy seen s' base setup clock line before bytes h p p' page.calls
-feeds seen s s' base setup clock line before bytes h p p' same set short readable page serves =
+feeds seen s s' base setup clock line before bytes h p p' same set short readable up page serves =
     let stream = line_fed line before in
     let session = serves.session in
     let turns = session.turns in
@@ -88,6 +90,7 @@ feeds seen s s' base setup clock line before bytes h p p' same set short readabl
       };
       stands = session.holds.stands;
       readable = (readable.0, session.disk.reads readable.1);
+      up = session.up tt up;
       written = ap (λ (q : PortSeen). q.written) told_of ∙ ap (λ a. append_known p.written a.text) added;
       count = stands.count ∙ ap (λ n. n + 1) (readings_count turns);
     }

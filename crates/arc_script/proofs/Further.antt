@@ -1,15 +1,15 @@
 -- One line more of a script: it was carried out, or it ended the script.
-use Rattle.std.proofs.Common.{◌≡◌, ◌<◌, ◌≤◌, ◌+◌, ◌++◌, ◌∷◌, ℕ, List, [], Some, false, filter, length, take, inl, inr, refl, sym, ap, subst, ◌∙◌, append_assoc, append-nil, arith}
-use Rattle.std.specs.Prelude.{unwrap_or}
+use Rattle.std.proofs.Common.{◌≡◌, ◌<◌, ◌≤◌, ◌+◌, ◌++◌, ◌∷◌, ℕ, List, [], Some, false, filter, length, take, refl, sym, ap, subst, ◌∙◌, append_assoc, append-nil, arith}
+use Rattle.std.specs.Prelude.{IfSome, Option, unwrap_or}
 use Rattle.std.specs.Io.KnownBytes.{append_known}
 use Rattle.arc_io.proofs.KnownMore.{known_both}
 use Rattle.arc_io.specs.Causes.{Rose}
 use Rattle.arc_io.specs.Disks.{DiskSeen}
 use Rattle.arc_io.specs.Seen.{PortSeen}
 use Rattle.centre_core.specs.declared.hall.Stop.{Stop}
-use Rattle.centre_rules.specs.History.{Entry}
 use Rattle.centre_rules.specs.State.{StandsFor}
 use Rattle.centre_rules.specs.Summary.{Summary}
+use Rattle.centre_store.proofs.Entered.{held as has_recorded}
 use Rattle.centre_store.specs.Given.{HoldsRecorded}
 use Rattle.centre_store.specs.Stores.{Stored, StoreStands, HasFailed}
 use Rattle.disk_journal.specs.declared.fault.OpenFault.{OpenFault}
@@ -28,15 +28,6 @@ use Rattle.arc_script.proofs.Behind.{of_last, are_last, base_last, end_of, outpu
 use Rattle.arc_script.proofs.Counted.{counted_next, is_played}
 use Rattle.arc_script.proofs.Ended.{recorded_in, tally_is, counts_last}
 use Rattle.arc_script.proofs.Sizes.{size_last}
-
--- a store whose disk has not failed
-held_up : {D : Type 0} (seen : D → DiskSeen) (base : Summary) (s : Stored D) (h : List Entry) → StoreStands seen base s h
-    → (HasFailed seen s → ⊥) → HoldsRecorded seen s.journal base h
-held_up seen base s h stands up =
-    elim stands.journal as (λ j. HoldsRecorded seen s.journal base h) [
-      | inl holds ↦ holds
-      | inr torn ↦ absurd (up torn.0)
-    ]
 
 -- Behind these lines comes one that asks for this, with its number.
 module _ {D : Type 0} (seen : D → DiskSeen) (b : Begun D) (lines : List (List ℕ)) (script : Script) (s : Stored D) (p : PortSeen)
@@ -120,7 +111,7 @@ module _ {D : Type 0} (seen : D → DiskSeen) (b : Begun D) (lines : List (List 
   -- It was carried out.
   module _ (script' : Script) (s' : Stored D) (q q' : PortSeen) (none : q.written ≡ Some [])
       (out : CarriedOut seen b (end_of b so.steps) (size_of lines) number so.history asked script.tally script' s' q q')
-      (kept : script'.opened_before ≡ script.opened_before) (up : HasFailed seen s' → ⊥) where
+      (kept : script'.opened_before ≡ script.opened_before) where
     abbrev steps : List Step
     steps = so.steps ++ out.step ∷ []
 
@@ -133,8 +124,14 @@ module _ {D : Type 0} (seen : D → DiskSeen) (b : Begun D) (lines : List (List 
     stands : StoreStands seen (base_after b.base steps) s' out.history
     stands = subst (λ (base : Summary). StoreStands seen base s' out.history) (sym (base_last b.base so.steps out.step)) out.between.store.stands
 
+    -- behind a line the clock is set, and so the disk has not failed
+    up : HasFailed seen s' → ⊥
+    up =
+        let clock = out.between.clock in
+        subst (λ (c : Option ℕ). IfSome c (λ last. HasFailed seen s' → ⊥)) (clock.is ∙ clock.once.1) out.between.up
+
     held : HoldsRecorded seen s'.journal (base_after b.base steps) out.history
-    held = held_up seen (base_after b.base steps) s' out.history stands up
+    held = has_recorded seen (base_after b.base steps) s' out.history up stands
 
     are : AreSteps (Tells (seen b.disk)) (placed b.base b.setup []) b.past out.history steps
     are = are_last (Tells (seen b.disk)) (placed b.base b.setup []) b.past so.history out.history so.steps out.step so.are

@@ -2,6 +2,7 @@ pub mod Feeds
 pub mod Spaced
 pub mod Readings
 pub mod Stops
+pub mod Unbegun
 pub mod Ticks
 pub mod Answered
 pub mod Listed

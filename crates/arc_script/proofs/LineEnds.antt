@@ -52,7 +52,7 @@ module _ {D : Type 0} (seen : D → DiskSeen) (script : Script) (s : Stored D) (
       let there : moment_at (clock_of (asked_after [] so.steps)) a ≡ Some moment =
       ap (λ (c : Option ℕ). moment_at c a) (sym so.between.clock.is) ∙ set in
       stopped seen b lines script s p so typed a (asks_played typed a asks) (playable_here b lines typed asks so) more Memory script s disk tally
-      (nothing_done seen b (end_of b so.steps) (size_of lines) so.history a script s moment script.tally there so.between) refl
+      (nothing_done seen b (end_of b so.steps) (size_of lines) so.history a script s moment script.tally there so.between so.held) refl
       closed.disk_is closed.tally_is
 
   -- it was stopped
@@ -72,7 +72,7 @@ module _ {D : Type 0} (seen : D → DiskSeen) (script : Script) (s : Stored D) (
 
   -- It was carried out, with this page.
   module _ (script' : Script) (s' : Stored D) (q q' : PortSeen) (text : List ℕ) (none : q.written ≡ Some []) (page : q'.written ≡ Some text)
-      (kept : script'.opened_before ≡ script.opened_before) (up : HasFailed seen s' → ⊥)
+      (kept : script'.opened_before ≡ script.opened_before)
       (carries : Carries seen moment a script script' s s' q q') where
     out_here : (b : Begun D) (lines : List (List ℕ)) (typed : List ℕ) → Asks typed a → MayComeNext lines typed → (so : SoFar seen b lines script s p)
         → CarriedOut seen b (end_of b so.steps) (size_of lines) (1 + length lines) so.history a script.tally script' s' q q'
@@ -86,7 +86,7 @@ module _ {D : Type 0} (seen : D → DiskSeen) (script : Script) (s : Stored D) (
     goes_further {T} {E} p' done r is puts b lines typed asks may so =
         let wrote = subst (λ (k : Result T E). Puts p p' k text) is puts in
         further seen b lines script s p so typed a (asks_played typed a asks) (playable_here b lines typed asks so) script' s' q q' none
-        (out_here b lines typed asks may so) kept up p' text page wrote.taken wrote.cause.later asks.spelled
+        (out_here b lines typed asks may so) kept p' text page wrote.taken wrote.cause.later asks.spelled
 
     -- or it was cut off
     pub cut_halts : {T E : Type 0} (p' : PortSeen) (fault : E) (r : Result T E) (disk : D) (tally : Tally) → r ≡ Err fault → Puts p p' r text
@@ -94,7 +94,7 @@ module _ {D : Type 0} (seen : D → DiskSeen) (script : Script) (s : Stored D) (
     cut_halts {T} {E} p' fault r disk tally is puts closed = λ b lines more typed asks may so.
         let wrote = subst (λ (k : Result T E). Puts p p' k text) is puts in
         cut_off seen b lines script s p so typed a (asks_played typed a asks) (playable_here b lines typed asks so) script' s' q q' none
-        (out_here b lines typed asks may so) kept up more p' text wrote.taken.0 disk tally page wrote.taken.1 wrote.taken.2 wrote.cause.failed
+        (out_here b lines typed asks may so) kept more p' text wrote.taken.0 disk tally page wrote.taken.1 wrote.taken.2 wrote.cause.failed
         closed.disk_is closed.tally_is
 
 -- all of a script but the number of its last line
@@ -126,6 +126,7 @@ renumbered seen b lines script script' s p same so =
         taken = subst (λ l. HaveTaken (meaning b.setup) (size_of lines) asked l.items script'.desks.items) (sym same.lines)
             (subst (λ d. HaveTaken (meaning b.setup) (size_of lines) asked script.lines.items d.items) (sym same.desks) between.taken);
         store = between.store;
+        up = subst (λ (c : Option ℕ). IfSome c (λ last. HasFailed seen s → ⊥)) (sym same.clock) between.up;
       };
       held = so.held;
       counts = subst (λ (t : Tally). CountsSteps so.steps t) (sym same.tally) so.counts;

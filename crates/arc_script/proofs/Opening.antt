@@ -9,7 +9,7 @@ use Rattle.centre_rules.specs.Summary.{Summary}
 use Rattle.centre_store.specs.Given.{IsGiven, BeginsWith, HoldsRecorded}
 use Rattle.centre_store.specs.Openings.{IsOpened}
 use Rattle.centre_store.specs.Pasts.{AreKept}
-use Rattle.centre_store.specs.Stores.{Stored, StoreStands}
+use Rattle.centre_store.specs.Stores.{HasFailed, Stored, StoreStands}
 use Rattle.desk_session.specs.Desks as Desk
 use Rattle.line_session.specs.Lines.{LineValue}
 use Rattle.arc_script.specs.Begun.{Begun}
@@ -79,6 +79,7 @@ so_far_none seen b script s setup limits new_lines new_desks none opened sent re
     set = subst (λ (c : Option ℕ). IfSome c (λ last. s.state.sum.text ≡ Some b.setup)) (sym none) tt;
     taken = taken_none b.setup script.lines.items script.desks.items new_lines new_desks;
     store = store;
+    up = subst (λ (c : Option ℕ). IfSome c (λ last. HasFailed seen s → ⊥)) (sym none) tt;
   };
   held = held;
   counts = record { sent = sent; repeats = repeats; closed = closed };

@@ -51,6 +51,7 @@ skipped seen b lines line script number s p passed so =
         taken = taken_more _ (size_of lines) (size_of (lines ++ line ∷ [])) (asked_after [] so.steps) script.lines.items script.desks.items
             (omega (arith, size)) between.taken;
         store = between.store;
+        up = between.up;
       };
       held = so.held;
       counts = so.counts;

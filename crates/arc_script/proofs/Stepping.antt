@@ -1,5 +1,5 @@
 -- What a line of a script that asks for something answers, by the results of the calls that carry it out.
-use Rattle.std.proofs.Common.{◌≡◌, ◌⊎◌, ◌∷◌, ℕ, List, [], Option, Some, Result, Ok, Err, OnOk, IfErr, IfOk, inl, inr, refl, sym, ap, subst, ◌∙◌}
+use Rattle.std.proofs.Common.{◌≡◌, ◌⊎◌, ◌∷◌, ℕ, List, [], Option, Some, Result, Ok, Err, OnOk, IfErr, IfOk, refl, sym, ap, subst, ◌∙◌}
 use Rattle.std.specs.Prelude.{IfSome, None, unwrap_or}
 use Rattle.std.proofs.lemmas.Result.{on_ok_weaker, IfErr-weaker}
 use Rattle.alarm_rules.specs.Setups.{meaning}
@@ -10,13 +10,13 @@ use Rattle.centre_core.specs.declared.hall.Stop.TheVariants.{Memory}
 use Rattle.centre_rules.specs.History.{Entry, IsMoment}
 use Rattle.centre_rules.specs.Summary.{Summary}
 use Rattle.centre_store.specs.Given.{HoldsRecorded}
-use Rattle.centre_store.specs.Stores.{Stored, StoreStands}
+use Rattle.centre_store.specs.Stores.{HasFailed, Stored, StoreStands}
 use Rattle.disk_journal.specs.declared.journal.OpenRefused.{OpenRefused}
 use Rattle.script_lines.specs.Lines.{Asked, Time, Command, Reopen}
 use Rattle.arc_script.specs.Begun.{Begun}
 use Rattle.arc_script.specs.Between.{Between, CarriedOut, Carries, IsReady, ShutAt, Shuts, StoppedAt, Stops}
 use Rattle.arc_script.specs.Carrying.{Carried, Halted, HaveTakenWith, IsNext}
-use Rattle.arc_script.specs.Causes.{HasShown, IsOfCommand, IsOfTime, Submits}
+use Rattle.arc_script.specs.Causes.{HasShown, IsOfCommand, Submits}
 use Rattle.arc_script.specs.Ends.{Tells, AddedBy, CameTo}
 use Rattle.arc_script.specs.Fed.{clock_of}
 use Rattle.arc_script.specs.Playing.{TickStops, Ticked, moment_at}
@@ -26,7 +26,6 @@ use Rattle.arc_script.specs.declared.script.Script.{Script}
 use Rattle.arc_script.specs.declared.script_end.Tally.{Tally}
 use Rattle.arc_script.proofs.Carry.{IsOverStore, Stays, carried_out, stopped_at}
 use Rattle.arc_script.proofs.Timing.{time_carried, time_stopped, time_taken}
-use Rattle.arc_script.proofs.Wanting.{clock_with}
 
 -- The clock.
 
@@ -59,18 +58,16 @@ module _ {D : Type 0} (seen : D → DiskSeen) (script script' : Script) (s s' : 
   time_carries p p' (Err stop) ticked text clock = tt
 
   pub time_stops : (r : Result (Unit {0}) Stop)
-      → IfErr r (λ stop. (base : Summary) (h : List Entry) → StoreStands seen base s h
+      → IfErr r (λ stop. (base : Summary) (h : List Entry) → StoreStands seen base s h → HoldsRecorded seen s.journal base h
       → TickStops seen script.clock base script.setup at h stop s')
-      → IfErr r (λ stop. HasShown seen s' stop at (IsOfTime s'.state.sum.text script.clock script.setup))
       → IfErr r (λ stop. Stops seen moment a script script' s s' stop)
-  time_stops (Ok done) stops shown = tt
-  time_stops (Err stop) stops shown = λ b place count h between next holds.
+  time_stops (Ok done) stops = tt
+  time_stops (Err stop) stops = λ b place count h between next holds.
       let tally : script'.tally ≡ script.tally = ap (λ (k : Script). k.tally) rest in
       let there = subst (λ (n : ℕ). TickStops seen script.clock place.base script.setup n h stop s') same
-      (stops place.base h between.store.stands) in
-      let by = subst (λ (n : ℕ). HasShown seen s' stop n (IsOfTime s'.state.sum.text script.clock script.setup)) same shown in
+      (stops place.base h between.store.stands holds) in
       subst (λ (k : Asked). StoppedAt seen b place h k stop script.tally script'.tally s') (sym whose)
-      (time_stopped seen b place count h moment script script' s s' between fits tally stop stays there by)
+      (time_stopped seen b place count h moment script script' s s' between fits tally stop stays there)
 
 -- The other lines over the store.
 
@@ -78,22 +75,28 @@ module _ {D : Type 0} (seen : D → DiskSeen) (script script' : Script) (s s' : 
 abbrev pub CameSoFar : {D : Type 0} → Summary → (D → DiskSeen) → Type 0 → List ℕ → ℕ → List Asked → Asked → List Entry → Stored D → Stop → List Entry → Step
     → Type 0
 CameSoFar base seen Told setup moment before asked h s' stop x st =
-    ((waiting : List (List ℕ)) × CameTo stop Told (placed base setup before) waiting h x st asked
-    × HasShown seen s' stop moment (Submits s'.state.sum.text setup before moment waiting asked))
-    ⊎ ((stop ≡ Memory) × IsStepOf Told (placed base setup before) h x st asked)
+    (waiting : List (List ℕ)) × HasShown seen base s' x stop moment (Submits s'.state.sum.text setup before moment waiting asked)
+    × (CameTo stop Told (placed base setup before) waiting h x st asked ⊎ ((stop ≡ Memory) × IsStepOf Told (placed base setup before) h x st asked))
 
 module _ {D : Type 0} (seen : D → DiskSeen) (script script' : Script) (s s' : Stored D) (a : Asked) (moment : ℕ) (stays : Stays seen script script' s s')
-    (fits : IsMoment moment) (over : IsOverStore a) where
+    (fits : IsMoment moment) (over : IsOverStore a) (own : moment_at script.clock a ≡ script.clock) where
   next_with : (b : Begun D) (place : Place) (count : ℕ) (h : List Entry) → Between seen b place count h script s
       → IsNext (meaning place.setup) moment count place.asked a script.lines.items script.desks.items
       → IsNext (meaning script.setup) moment count place.asked a script.lines.items script.desks.items
   next_with b place count h between next =
       subst (λ (l : List ℕ). IsNext (meaning l) moment count place.asked a script.lines.items script.desks.items) (sym between.setup) next
 
+  -- such a line comes behind the first `T`
+  up_here : (b : Begun D) (place : Place) (count : ℕ) (h : List Entry) → Between seen b place count h script s
+      → IsNext (meaning place.setup) moment count place.asked a script.lines.items script.desks.items → HasFailed seen s → ⊥
+  up_here b place count h between next =
+      let set : script.clock ≡ Some moment = sym own ∙ ap (λ (c : Option ℕ). moment_at c a) between.clock.is ∙ next.set in
+      subst (λ (c : Option ℕ). IfSome c (λ last. HasFailed seen s → ⊥)) set between.up
+
   pub line_carries : (p p' : PortSeen) (r : Result (Unit {0}) Stop) → script'.clock ≡ Some moment
       → ((Told : Type 0) → OnOk r ((base : Summary) (before : List Asked) (count number : ℕ) (h : List Entry)
       → IsNext (meaning script.setup) moment count before a script.lines.items script.desks.items
-      → StoreStands seen base s h → IsReadable base h
+      → StoreStands seen base s h → IsReadable base h → (HasFailed seen s → ⊥)
       → Carried seen base (λ x st. IsStepOf Told (placed base script.setup before) h x st a) number a script.tally script'.tally p p' s'))
       → OnOk r ((before : List Asked) (count : ℕ) → IsNext (meaning script.setup) moment count before a script.lines.items script.desks.items
       → HaveTakenWith (meaning script.setup) count before a script'.lines.items script'.desks.items)
@@ -102,7 +105,7 @@ module _ {D : Type 0} (seen : D → DiskSeen) (script script' : Script) (s s' : 
   line_carries p p' (Ok done) clock fed took text = λ b place count number h between next holds.
       let n = next_with b place count h between next in
       let out = subst (λ (l : List ℕ). Carried seen place.base (λ x st. IsStepOf (Tells (seen b.disk)) (placed place.base l place.asked) h x st a) number a
-      script.tally script'.tally p p' s') between.setup (fed (Tells (seen b.disk)) place.base place.asked count number h n between.store.stands between.store.readable) in
+      script.tally script'.tally p p' s') between.setup (fed (Tells (seen b.disk)) place.base place.asked count number h n between.store.stands between.store.readable (up_here b place count h between next)) in
       let taken = subst (λ (l : List ℕ). HaveTakenWith (meaning l) count place.asked a script'.lines.items script'.desks.items) between.setup
       (took place.asked count n) in
       carried_out seen b place count h a moment script script' s s' between stays fits next.set over number p p' out taken clock
@@ -112,7 +115,7 @@ module _ {D : Type 0} (seen : D → DiskSeen) (script script' : Script) (s s' : 
   pub line_stops : (r : Result (Unit {0}) Stop)
       → ((Told : Type 0) → IfErr r (λ stop. (base : Summary) (before : List Asked) (count : ℕ) (h : List Entry)
       → IsNext (meaning script.setup) moment count before a script.lines.items script.desks.items
-      → StoreStands seen base s h → IsReadable base h
+      → StoreStands seen base s h → IsReadable base h → (HasFailed seen s → ⊥)
       → Halted seen base (λ x st. CameSoFar base seen Told script.setup moment before a h s' stop x st) script.tally script'.tally s'))
       → IfErr r (λ stop. Stops seen moment a script script' s s' stop)
   line_stops (Ok done) stops = tt
@@ -120,90 +123,24 @@ module _ {D : Type 0} (seen : D → DiskSeen) (script script' : Script) (s s' : 
       let Told = Tells (seen b.disk) in
       let n = next_with b place count h between next in
       let out = subst (λ (l : List ℕ). Halted seen place.base (λ x st. CameSoFar place.base seen Told l moment place.asked a h s' stop x st)
-      script.tally script'.tally s') between.setup (stops Told place.base place.asked count h n between.store.stands between.store.readable) in
-      elim out.came as (λ came. StoppedAt seen b place h a stop script.tally script'.tally s') [
-        | inl until ↦ stopped_at seen b place count h a moment script script' s s' between stays fits next.set over stop until.0 (record {
-          partial = out.partial;
-          history = out.history;
-          came = inl (until.1, until.2);
-          stands = out.stands;
-          readable = out.readable;
-          counts = out.counts;
-        })
-        | inr whole ↦ stopped_at seen b place count h a moment script script' s s' between stays fits next.set over stop [] (record {
-          partial = out.partial;
-          history = out.history;
-          came = inr whole;
-          stands = out.stands;
-          readable = out.readable;
-          counts = out.counts;
-        })
-      ]
-
--- What was done, whether the disk failed or not.
-
-pub still_ok : (r r' : Result (Unit {0}) Stop) (P : Type 0) → OnOk r' (r ≡ Ok tt) → OnOk r P → OnOk r' P
-still_ok r (Ok done) P is holds = subst (λ (k : Result (Unit {0}) Stop). OnOk k P) is holds
-still_ok r (Err stop) P is holds = tt
-
--- it was carried out, and memory is said to be wanted
-failed_at : {D : Type 0} (seen : D → DiskSeen) (b : Begun D) (place : Place) (count number : ℕ) (h : List Entry) (a : Asked) (moment : ℕ)
-    (stop : Stop) (t : Tally) (script' : Script) (s' : Stored D) (p p' : PortSeen) → stop ≡ Memory → moment_at (clock_of place.asked) a ≡ Some moment
-    → CarriedOut seen b place count number h a t script' s' p p' → StoppedAt seen b place h a stop t script'.tally s'
-failed_at seen b place count number h a moment stop t script' s' p p' is set out = record {
-  waiting = [];
-  partial = out.step;
-  history = out.history;
-  clock = moment;
-  came = inr (is, inr out.is);
-  set = clock_with place.asked a moment set;
-  cause = inl is;
-  stands = out.between.store.stands;
-  limits_are = out.between.store.limits_are;
-  later = out.between.store.later;
-  counts = out.counts;
-}
-
-pub still_stops : {D : Type 0} (seen : D → DiskSeen) (moment : ℕ) (a : Asked) (script script' : Script) (s s' : Stored D) (p p' : PortSeen)
-    (r r' : Result (Unit {0}) Stop) → IfErr r' (λ stop. (r ≡ Err stop) ⊎ ((r ≡ Ok tt) × (stop ≡ Memory)))
-    → OnOk r (Carries seen moment a script script' s s' p p') → IfErr r (λ stop. Stops seen moment a script script' s s' stop)
-    → IfErr r' (λ stop. Stops seen moment a script script' s s' stop)
-still_stops seen moment a script script' s s' p p' r (Ok done) how carries stops = tt
-still_stops seen moment a script script' s s' p p' r (Err stop) how carries stops =
-    elim how as (λ k. Stops seen moment a script script' s s' stop) [
-      | inl is ↦ subst (λ (k : Result (Unit {0}) Stop). IfErr k (λ other. Stops seen moment a script script' s s' other)) is stops
-      | inr both ↦ λ b place count h between next holds.
-          let out = subst (λ (k : Result (Unit {0}) Stop). OnOk k (Carries seen moment a script script' s s' p p')) both.0 carries in
-          failed_at seen b place count 0 h a moment stop script.tally script' s' p p' both.1 next.set (out b place count 0 h between next holds)
-    ]
+      script.tally script'.tally s') between.setup (stops Told place.base place.asked count h n between.store.stands between.store.readable (up_here b place count h between next)) in
+      stopped_at seen b place count h a moment script script' s s' between stays fits next.set over stop out
 
 -- a command that was stopped added nothing
 pub command_came : {D : Type 0} (seen : D → DiskSeen) (Told : Type 0) (base : Summary) (setup : List ℕ) (moment : ℕ) (before : List Asked) (desk : ℕ) (text : List ℕ)
     (h : List Entry) (s' : Stored D) (stop : Stop) (t t' : Tally)
-    → Halted seen base (λ x st. ((x ≡ h) × AddedBy base h x st
-    × HasShown seen s' stop moment (IsOfCommand setup before desk text))
-    ⊎ ((stop ≡ Memory) × Commands (placed base setup before) desk text h x st)) t t' s'
+    → Halted seen base (λ x st. HasShown seen base s' x stop moment (IsOfCommand setup before desk text)
+    × (((x ≡ h) × AddedBy base h x st) ⊎ ((stop ≡ Memory) × Commands (placed base setup before) desk text h x st))) t t' s'
     → Halted seen base (λ x st. CameSoFar base seen Told setup moment before (Command desk text) h s' stop x st) t t' s'
 command_came {D} seen Told base setup moment before desk text h s' stop t t' out =
-    let IsIt = λ (x : List Entry) (st : Step). CameSoFar base seen Told setup moment before (Command desk text) h s' stop x st in
-    elim out.came as (λ came. Halted seen base IsIt t t' s') [
-      | inl until ↦ record {
-        partial = out.partial;
-        history = out.history;
-        came = inl ([], (until.0, until.1), until.2);
-        stands = out.stands;
-        readable = out.readable;
-        counts = out.counts;
-      }
-      | inr whole ↦ record {
-        partial = out.partial;
-        history = out.history;
-        came = inr whole;
-        stands = out.stands;
-        readable = out.readable;
-        counts = out.counts;
-      }
-    ]
+    record {
+      partial = out.partial;
+      history = out.history;
+      came = ([], out.came.0, out.came.1);
+      stands = out.stands;
+      readable = out.readable;
+      counts = out.counts;
+    }
 
 -- An `X`.
 

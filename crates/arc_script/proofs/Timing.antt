@@ -9,6 +9,7 @@ use Rattle.centre_core.specs.declared.hall.Stop.{Stop}
 use Rattle.centre_rules.specs.Answers.{IsLegal}
 use Rattle.centre_rules.specs.History.{Entry, IsMoment}
 use Rattle.centre_rules.specs.Summary.{Summary}
+use Rattle.centre_store.specs.Calls.{entry_after}
 use Rattle.centre_store.specs.Stores.{Stored, StoreStands}
 use Rattle.desk_wire.specs.Replies.{line_of}
 use Rattle.script_lines.specs.Lines.{Asked, Time, spelling}
@@ -16,11 +17,11 @@ use Rattle.arc_script.specs.Begun.{Begun}
 use Rattle.arc_script.specs.Between.{Between, StoppedAt}
 use Rattle.arc_script.specs.Carrying.{Carried, CountsStep, HaveTaken, HaveTakenWith}
 use Rattle.arc_script.specs.Causes.{HasShown, IsOfTime}
-use Rattle.arc_script.specs.Ends.{Tells, BegunUntil, CameFor}
+use Rattle.arc_script.specs.Ends.{Tells, CameFor}
 use Rattle.arc_script.specs.Fed.{clock_of}
 use Rattle.arc_script.specs.Playing.{TickStops, Ticked}
 use Rattle.arc_script.specs.Standing.{IsReadable}
-use Rattle.arc_script.specs.Steps.{Place, Step, IsStepOf, before_tick, entry_after}
+use Rattle.arc_script.specs.Steps.{Place, Step, IsStepOf, before_tick}
 use Rattle.arc_script.specs.Tallies.{count_of, is_closed, is_repeat}
 use Rattle.arc_script.specs.declared.script.Script.{Script}
 use Rattle.arc_script.specs.declared.script_end.Tally.{Tally}
@@ -101,15 +102,17 @@ module _ {D : Type 0} (seen : D → DiskSeen) (b : Begun D) (place : Place) (cou
         is = record { is = refl; added = adds.is; base = refl; sent = refl; text = refl };
         stands = t.stands;
         readable = readable_tick (clock_of place.asked) place.base place.setup moment h fits t.stands.centre.legal between.store.readable;
+        up = t.up;
         text = t.text;
         counts = counts_none st script.tally script'.tally refl adds.repeats adds.closed same;
       }
 
-  stop_with : (stop : Stop) → Stays seen script script' s s' → HasShown seen s' stop moment (IsOfTime s'.state.sum.text (clock_of place.asked) place.setup)
-      → (x : List Entry) → StoreStands seen place.base s' x → (adds : Adds h x)
+  stop_with : (stop : Stop) → Stays seen script script' s s' → (x : List Entry)
+      → HasShown seen place.base s' x stop moment (IsOfTime s'.state.sum.text (clock_of place.asked) place.setup)
+      → StoreStands seen place.base s' x → (adds : Adds h x)
       → CameFor stop (Tells (seen b.disk)) place [] h x (step_of place.base 0 moment (clock_of place.asked) place.setup h adds.entries) (Time moment)
       → StoppedAt seen b place h (Time moment) stop script.tally script'.tally s'
-  stop_with stop stays shown x stands adds came =
+  stop_with stop stays x shown stands adds came =
       let st = step_of place.base 0 moment (clock_of place.asked) place.setup h adds.entries in
       record {
         waiting = [];
@@ -126,21 +129,16 @@ module _ {D : Type 0} (seen : D → DiskSeen) (b : Begun D) (place : Place) (cou
       }
 
   pub time_stopped : (stop : Stop) → Stays seen script script' s s' → TickStops seen script.clock place.base script.setup moment h stop s'
-      → HasShown seen s' stop moment (IsOfTime s'.state.sum.text script.clock script.setup)
       → StoppedAt seen b place h (Time moment) stop script.tally script'.tally s'
-  time_stopped stop stays stops shown =
-      let by = subst (λ (l : List ℕ). HasShown seen s' stop moment (IsOfTime s'.state.sum.text (clock_of place.asked) l)) between.setup
-      (subst (λ (c : Option ℕ). HasShown seen s' stop moment (IsOfTime s'.state.sum.text c script.setup)) between.clock.is shown) in
+  time_stopped stop stays stopped =
+      let stops = subst (λ (l : List ℕ). TickStops seen (clock_of place.asked) place.base l moment h stop s') between.setup
+      (subst (λ (c : Option ℕ). TickStops seen c place.base script.setup moment h stop s') between.clock.is stopped) in
       elim stops.came as (λ came. StoppedAt seen b place h (Time moment) stop script.tally script'.tally s') [
-        | inl until ↦
-            let begun = subst (λ (l : List ℕ). BegunUntil (clock_of place.asked) place.base l moment h stops.history) between.setup
-            (subst (λ (c : Option ℕ). BegunUntil c place.base script.setup moment h stops.history) between.clock.is until) in
+        | inl begun ↦
             let adds = adds_until (clock_of place.asked) place.base place.setup moment h stops.history begun in
-            stop_with stop stays by stops.history stops.stands adds (inl (begun, record { added = adds.is; base = refl; sent = refl }))
+            stop_with stop stays stops.history stops.cause stops.stands adds (inl (begun, record { added = adds.is; base = refl; sent = refl }))
         | inr whole ↦
-            let is : stops.history ≡ ticked_by place.base (clock_of place.asked) place.setup moment h =
-            whole.1 ∙ ap (λ (x : List Entry). entry_after place.base x Tick moment ∷ x) first_is in
-            let adds = subst (Adds h) (sym is) (adds_tick (clock_of place.asked) place.base place.setup moment h) in
-            stop_with stop stays by stops.history stops.stands adds
-            (inr (whole.0, inr (record { is = is; added = adds.is; base = refl; sent = refl; text = refl })))
+            let adds = subst (Adds h) (sym whole.1) (adds_tick (clock_of place.asked) place.base place.setup moment h) in
+            stop_with stop stays stops.history stops.cause stops.stands adds
+            (inr (whole.0, inr (record { is = whole.1; added = adds.is; base = refl; sent = refl; text = refl })))
       ]

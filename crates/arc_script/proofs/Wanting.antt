@@ -4,6 +4,8 @@ use Rattle.arc_io.specs.Disks.{DiskSeen}
 use Rattle.centre_core.specs.declared.hall.Stop.TheVariants.{Memory}
 use Rattle.centre_rules.specs.History.{Entry}
 use Rattle.centre_rules.specs.Summary.{Summary}
+use Rattle.centre_store.proofs.Holding.{recorded_there}
+use Rattle.centre_store.specs.Given.{HoldsRecorded}
 use Rattle.centre_store.specs.Stores.{Stored}
 use Rattle.script_lines.specs.Lines.{Asked, Time, Feed, Message, Command, Reopen}
 use Rattle.arc_script.specs.Begun.{Begun}
@@ -32,15 +34,16 @@ same n = let e : n ≡ n + 0 = omega arith in ap told e
 
 pub nothing_done : {D : Type 0} (seen : D → DiskSeen) (b : Begun D) (place : Place) (count : ℕ) (h : List Entry) (asked : Asked) (script : Script)
     (s : Stored D) (moment : ℕ) (t : Tally) → moment_at (clock_of place.asked) asked ≡ Some moment → Between seen b place count h script s
+    → HoldsRecorded seen s.journal place.base h
     → StoppedAt seen b place h asked Memory t t s
-nothing_done seen b place count h asked script s moment t set between = record {
+nothing_done seen b place count h asked script s moment t set between held = record {
   waiting = [];
   partial = none place.base asked;
   history = h;
   clock = moment;
   came = inr (refl, inl (refl, record { added = refl; base = refl; sent = refl }));
   set = clock_with place.asked asked moment set;
-  cause = inl refl;
+  cause = inl (refl, inl (recorded_there seen s.journal place.base h held));
   stands = between.store.stands;
   limits_are = between.store.limits_are;
   later = between.store.later;

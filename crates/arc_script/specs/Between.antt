@@ -11,7 +11,7 @@ use Rattle.centre_rules.specs.Cases.{opened}
 use Rattle.centre_rules.specs.History.{Entry, IsMoment, marks}
 use Rattle.centre_rules.specs.Summary.{Summary}
 use Rattle.centre_store.specs.Given.{HasRecorded, HoldsRecorded}
-use Rattle.centre_store.specs.Stores.{Stored, StoreStands}
+use Rattle.centre_store.specs.Stores.{Stored, HasFailed, StoreStands}
 use Rattle.disk_journal.specs.declared.fault.OpenFault.{OpenFault}
 use Rattle.script_lines.specs.Lines.{Asked, spelling}
 use Rattle.session_rules.specs.Inputs.{input_limit}
@@ -63,7 +63,8 @@ pub record IsStoreSoFar {D : Type 0} (seen : D → DiskSeen) (b : Begun D) (base
   pub limits_are : s.journal.limits ≡ b.limits
   pub later : (seen b.disk).faults ≤ s.at_open
 
--- where a line stands, behind so many bytes of what was asked so far: lines, desks, the clock and the store
+-- Where a line stands, behind so many bytes of what was asked so far: lines, desks, the clock and the store. Behind the first `T` its disk
+-- has not failed.
 pub record Between {D : Type 0} (seen : D → DiskSeen) (b : Begun D) (place : Place) (count : ℕ) (h : List Entry) (script : Script)
     (s : Stored D) : Type 0 where
   pub setup : script.setup ≡ place.setup
@@ -72,6 +73,7 @@ pub record Between {D : Type 0} (seen : D → DiskSeen) (b : Begun D) (place : P
   pub set : IfSome script.clock (λ last. s.state.sum.text ≡ Some place.setup)
   pub taken : HaveTaken (meaning place.setup) count place.asked script.lines.items script.desks.items
   pub store : IsStoreSoFar seen b place.base h s
+  pub up : IfSome script.clock (λ last. HasFailed seen s → ⊥)
 
 -- what was counted over steps so far
 pub record CountsSteps (steps : List Step) (t : Tally) : Type 0 where
@@ -115,7 +117,7 @@ pub record StoppedAt {D : Type 0} (seen : D → DiskSeen) (b : Begun D) (place :
   pub clock : ℕ
   pub came : CameFor stop (Tells (seen b.disk)) place waiting h history partial asked
   pub set : clock_of (asked ∷ place.asked) ≡ Some clock
-  pub cause : HasShown seen s stop clock (Submits s.state.sum.text place.setup place.asked clock waiting asked)
+  pub cause : HasShown seen partial.base s history stop clock (Submits s.state.sum.text place.setup place.asked clock waiting asked)
   pub stands : StoreStands seen partial.base s history
   pub limits_are : s.journal.limits ≡ b.limits
   pub later : (seen b.disk).faults ≤ s.at_open

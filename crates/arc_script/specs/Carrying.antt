@@ -8,7 +8,7 @@ use Rattle.arc_io.specs.Seen.{PortSeen}
 use Rattle.arc_text.specs.Lines.{is_feed, ended_lines, rest_of}
 use Rattle.centre_rules.specs.History.{Entry}
 use Rattle.centre_rules.specs.Summary.{Summary}
-use Rattle.centre_store.specs.Stores.{Stored, StoreStands}
+use Rattle.centre_store.specs.Stores.{Stored, HasFailed, StoreStands}
 use Rattle.desk_session.specs.Desks as Desk
 use Rattle.line_session.specs.Lines as Line
 use Rattle.script_lines.specs.Lines.{Asked, spelling}
@@ -66,7 +66,7 @@ pub record CountsStep (s : Step) (t t' : Tally) : Type 0 where
   pub more : CountsMore s t t'
   pub rest : t' ≡ record t { sent = t'.sent; repeats = t'.repeats; closed = t'.closed }
 
--- The line has its step: its output was put, it is counted, and the store stands for the history behind it.
+-- The line has its step: its output was put, it is counted, and the store, whose disk has not failed, stands for the history behind it.
 pub record Carried {D : Type 0} (seen : D → DiskSeen)
     (base : Summary) (IsStep : List Entry → Step → Type 0) (number : ℕ) (asked : Asked) (t t' : Tally) (p p' : PortSeen)
     (s : Stored D) : Type 0 where
@@ -77,6 +77,7 @@ pub record Carried {D : Type 0} (seen : D → DiskSeen)
   pub is : IsStep history step
   pub stands : StoreStands seen base s history
   pub readable : IsReadable base history
+  pub up : HasFailed seen s → ⊥
   pub text : p'.written ≡ append_known p.written step.text
   pub counts : CountsStep step t t'
 

@@ -2,12 +2,17 @@
 use Rattle.std.specs.Prelude.{◌≡◌, ◌⊎◌, ℕ, suc, List, [], ◌∷◌, Option, Some, None}
 use Rattle.alarm_rules.specs.Setups.{meaning}
 use Rattle.arc_data.specs.declared.event.Event.{Event}
-use Rattle.arc_data.specs.declared.event.Event.TheVariants.{Tick}
+use Rattle.arc_data.specs.declared.event.Event.TheVariants.{Message as Sent, Tick}
+use Rattle.arc_data.specs.declared.event.Message.{Message as Telling}
 use Rattle.arc_io.specs.Disks.{DiskSeen}
 use Rattle.centre_core.specs.declared.hall.Stop.{Stop}
 use Rattle.centre_core.specs.declared.hall.Stop.TheVariants.{Memory}
+use Rattle.centre_rules.specs.History.{Entry}
+use Rattle.centre_rules.specs.Summary.{Summary}
 use Rattle.centre_store.specs.Begins.{event_of_begin}
-use Rattle.centre_store.specs.Stores.{Stored, Shows}
+use Rattle.centre_store.specs.Given.{HasRecorded}
+use Rattle.centre_store.specs.StoreHalls.{store_seen}
+use Rattle.centre_store.specs.Stores.{HasFailed, Stored, Shows}
 use Rattle.dc09_message.specs.Verdicts.{verdict_of}
 use Rattle.desk_session.specs.Events as Desk
 use Rattle.desk_session.specs.declared.desk_end.DeskEnd.{DeskEnd}
@@ -17,9 +22,14 @@ use Rattle.script_lines.specs.Lines.{Asked, Time, Feed, Message, Command, Reopen
 use Rattle.arc_script.specs.Fed.{clock_of, desk_read}
 use Rattle.arc_script.specs.Names.{line_name}
 
--- what a store shows of a stop at a moment, for an event that is one of these; unless memory was wanted
-abbrev pub HasShown : {D : Type 0} → (D → DiskSeen) → Stored D → Stop → ℕ → (Event → Type 0) → Type 0
-HasShown seen s stop moment IsOne = (stop ≡ Memory) ⊎ ((event : Event) × IsOne event × Shows seen s stop event moment)
+-- What a store that stands for a history over a summary shows of a stop at a moment: an event that is one of these met it, and the areas
+-- have the recorded entries, or these and the body of just that event, at its moment. Or memory was wanted: the areas have the recorded
+-- entries alone, unless it was for a message and the disk has failed.
+abbrev pub HasShown : {D : Type 0} → (D → DiskSeen) → Summary → Stored D → List Entry → Stop → ℕ → (Event → Type 0) → Type 0
+HasShown seen base s h stop moment IsOne =
+    ((stop ≡ Memory)
+    × (HasRecorded (seen s.journal.disk) base h ⊎ (HasFailed seen s × (m : Telling) × (via : List ℕ) × IsOne (Sent m via))))
+    ⊎ ((event : Event) × IsOne event × Shows seen s stop event moment × (store_seen seen s).torn base h event moment)
 
 -- How many frames a line was fed until it was stopped for this, where so many have their turns: the one that was stopped, too, or none more
 -- where memory was wanted before a frame or for a reply.

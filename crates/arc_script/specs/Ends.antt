@@ -144,7 +144,8 @@ CameFor stop Told place waiting h x s asked =
 
 -- The next line was stopped. It has no output, and what it recorded before stands: the store that showed the stop, for an event of this
 -- line at the moment that is set, stands for it, and its disk is handed back. So the area stands for it, and after a fault of the disk for
--- it with the one event that met the fault or without.
+-- it with that event, which met the fault, or without. Only where memory was wanted for a message though the disk has failed is not said
+-- which event met the fault.
 pub record IsHalted {D : Type 0} {lines : List (ℕ × List ℕ)} (seen : D → DiskSeen) (b : Begun D) (played : Played seen b lines)
     (stop : Stop) (p' : PortSeen) (disk' : D) (tally : Tally) : Type 0 where
   pub number : ℕ
@@ -161,7 +162,8 @@ pub record IsHalted {D : Type 0} {lines : List (ℕ × List ℕ)} (seen : D → 
   pub came : CameFor stop (Tells (seen b.disk)) (place_after (placed b.base b.setup []) played.steps) waiting played.history history
       partial asked
   pub set : clock_of (asked ∷ asked_after [] played.steps) ≡ Some clock
-  pub cause : HasShown seen last stop clock (Submits last.state.sum.text b.setup (asked_after [] played.steps) clock waiting asked)
+  pub cause : HasShown seen partial.base last history stop clock
+      (Submits last.state.sum.text b.setup (asked_after [] played.steps) clock waiting asked)
   pub stands : StoreStands seen partial.base last history
   pub limits_are : last.journal.limits ≡ b.limits
   pub later : (seen b.disk).faults ≤ last.at_open

@@ -6,13 +6,13 @@ use Rattle.std.specs.Option.{option_to_list}
 use Rattle.alarm_rules.specs.SetupLines.{is_nil}
 use Rattle.alarm_rules.specs.Setups.{meaning}
 use Rattle.arc_data.specs.Digits.{bytes_spelled}
-use Rattle.arc_data.specs.declared.event.Event.{Event}
 use Rattle.arc_data.specs.declared.event.Event.TheVariants.{Tick}
-use Rattle.centre_rules.specs.Answers.{IsLegal, answer}
-use Rattle.centre_rules.specs.History.{Entry, moment_after, recorded}
+use Rattle.centre_rules.specs.Answers.{IsLegal}
+use Rattle.centre_rules.specs.History.{Entry, recorded}
 use Rattle.centre_rules.specs.Summary.{Summary}
 use Rattle.centre_store.specs.Begins.{begun_after}
 use Rattle.centre_store.specs.Bodies.{bodies_in}
+use Rattle.centre_store.specs.Calls.{entry_after}
 use Rattle.centre_store.specs.Given.{IsGiven}
 use Rattle.centre_store.specs.Pasts.{IsPast}
 use Rattle.dc09_frame.specs.Frames.{bodies, frame_of}
@@ -44,15 +44,6 @@ pub record Step : Type 0 where
   pub base : Summary
   pub sent : ℕ
   pub text : List ℕ
-
--- the entry of an event that is submitted at a reading after a history: one caller, and the answer of one thread
-abbrev pub entry_after : Summary → List Entry → Event → ℕ → Entry
-entry_after base h event clock = record {
-  caller = 0;
-  event = event;
-  at = moment_after base h clock;
-  reply = answer base h event (moment_after base h clock);
-}
 
 -- `T`: where no clock was set before, the run begins, with the setup's text; then there is a Tick.
 abbrev pub before_tick : Option ℕ → Summary → List ℕ → ℕ → List Entry → List Entry

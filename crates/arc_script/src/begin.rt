@@ -1,10 +1,11 @@
 // How a run of a script begins.
-ghost use Rattle.std.specs.Prelude.{◌≡◌, ◌<◌, ◌≤◌, ◌⊎◌, List, Some, OnOk, OnErr, IfErr};
+ghost use Rattle.std.specs.Prelude.{◌≡◌, ◌<◌, ◌≤◌, List, Some, OnOk, IfErr};
 ghost use Rattle.centre_rules.specs.History.{Entry};
 ghost use Rattle.centre_rules.specs.Summary.{Summary};
-ghost use Rattle.centre_store.specs.Begins.{adopted_after, begun_after, event_of_begin};
-ghost use Rattle.centre_store.specs.Stores.{StoreStands};
-ghost use Rattle.arc_script.specs.Causes.{HasShown};
+ghost use Rattle.centre_store.specs.Begins.{begun_after};
+ghost use Rattle.centre_store.specs.Given.{HoldsRecorded};
+ghost use Rattle.centre_store.specs.Stores.{HasFailed, StoreStands};
+ghost use Rattle.arc_script.specs.Playing.{BeginStops};
 ghost use Rattle.centre_store.specs.StoreHalls.{is_told};
 
 use crate::script::Script;
@@ -25,11 +26,9 @@ pub(crate) fn begin<D: Disk>(
     ensures begun { OnOk result ((base : Summary) (h : List Entry) → StoreStands D.seen base store.old h
         → StoreStands D.seen base store.new (begun_after base h script.now.setup moment)) }
     ensures text { OnOk result (store.new.state.sum.text ≡ Some script.now.setup) }
-    ensures stop { OnErr result ((base : Summary) (h : List Entry) → StoreStands D.seen base store.old h
-        → StoreStands D.seen base store.new h
-        ⊎ StoreStands D.seen base store.new (adopted_after base h script.now.setup moment)) }
-    ensures cause { IfErr result (λ s. HasShown D.seen store.new s moment
-        (λ event. event ≡ event_of_begin store.new.state.sum.text script.now.setup)) }
+    ensures stop { IfErr result (λ s. (base : Summary) (h : List Entry) → StoreStands D.seen base store.old h
+        → HoldsRecorded D.seen store.old.journal base h → BeginStops D.seen base script.now.setup moment h s store.new) }
+    ensures up { OnOk result (HasFailed D.seen store.new → ⊥) }
     ensures tells { is_told (D.seen store.new.journal.disk).told ≡ is_told (D.seen store.old.journal.disk).told }
     ensures at_open { store.new.at_open ≡ store.old.at_open }
     ensures limits { store.new.journal.limits ≡ store.old.journal.limits }

@@ -5,7 +5,7 @@ ghost use Rattle.alarm_rules.specs.Setups.{meaning};
 ghost use Rattle.arc_io.specs.Told.{OnlyWrites};
 ghost use Rattle.centre_rules.specs.History.{Entry};
 ghost use Rattle.centre_rules.specs.Summary.{Summary};
-ghost use Rattle.centre_store.specs.Stores.{StoreStands};
+ghost use Rattle.centre_store.specs.Stores.{HasFailed, StoreStands};
 ghost use Rattle.script_lines.specs.Lines.{Asked, IsNumber, Command};
 ghost use Rattle.arc_script.specs.Carrying.{IsNext, HaveTakenWith, Carried, Halted};
 ghost use Rattle.arc_script.specs.Causes.{HasShown, IsOfCommand, stop_in};
@@ -42,7 +42,7 @@ pub(crate) fn command<D: Disk>(
     requires set { store.old.state.sum.text ≡ Some script.old.setup }
     ensures answered { OnOk result ((base : Summary) (before : List Asked) (clock count number : ℕ) (h : List Entry)
         → IsNext (meaning script.old.setup) clock count before (Command desk text.now) script.old.lines.items script.old.desks.items
-        → page_seen page.old ≡ blank clock → StoreStands D.seen base store.old h → IsReadable base h
+        → page_seen page.old ≡ blank clock → StoreStands D.seen base store.old h → IsReadable base h → (HasFailed D.seen store.old → ⊥)
         → Carried D.seen base (λ x s. Commands (placed base script.old.setup before) desk text.now h x s)
         number (Command desk text.now) script.old.tally script.new.tally (page_seen page.old) (page_seen page.new) store.new) }
     ensures took { OnOk result ((before : List Asked) (clock count : ℕ)
@@ -50,10 +50,9 @@ pub(crate) fn command<D: Disk>(
         → HaveTakenWith (meaning script.old.setup) count before (Command desk text.now) script.new.lines.items script.new.desks.items) }
     ensures stop { IfErr result (λ stop. (base : Summary) (before : List Asked) (clock count : ℕ) (h : List Entry)
         → IsNext (meaning script.old.setup) clock count before (Command desk text.now) script.old.lines.items script.old.desks.items
-        → page_seen page.old ≡ blank clock → StoreStands D.seen base store.old h → IsReadable base h
-        → Halted D.seen base (λ x s. ((x ≡ h) × AddedBy base h x s
-        × HasShown D.seen store.new stop clock (IsOfCommand script.old.setup before desk text.now))
-        ⊎ ((stop ≡ Stop.Memory) × Commands (placed base script.old.setup before) desk text.now h x s))
+        → page_seen page.old ≡ blank clock → StoreStands D.seen base store.old h → IsReadable base h → (HasFailed D.seen store.old → ⊥)
+        → Halted D.seen base (λ x s. HasShown D.seen base store.new x stop clock (IsOfCommand script.old.setup before desk text.now)
+        × (((x ≡ h) × AddedBy base h x s) ⊎ ((stop ≡ Stop.Memory) × Commands (placed base script.old.setup before) desk text.now h x s)))
         script.old.tally script.new.tally store.new) }
     ensures set { store.new.state.sum.text ≡ Some script.old.setup }
     ensures rest { script.new ≡ record script.old {

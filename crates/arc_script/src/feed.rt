@@ -6,7 +6,7 @@ ghost use Rattle.arc_data.specs.Digits.{bytes_spelled};
 ghost use Rattle.arc_io.specs.Memory.{sink_bytes};
 ghost use Rattle.centre_rules.specs.History.{Entry};
 ghost use Rattle.centre_rules.specs.Summary.{Summary};
-ghost use Rattle.centre_store.specs.Stores.{StoreStands};
+ghost use Rattle.centre_store.specs.Stores.{HasFailed, StoreStands};
 ghost use Rattle.dc09_frame.specs.Frames.{IsBody, frame_of};
 ghost use Rattle.script_lines.specs.Lines.{Asked, AreDigits, IsNumber, Feed, Message};
 ghost use Rattle.session_rules.specs.Inputs.{input_limit};
@@ -14,7 +14,7 @@ ghost use Rattle.arc_script.specs.Carrying.{IsNext, HaveTakenWith, Carried, Halt
 ghost use Rattle.arc_script.specs.Causes.{HasShown, IsOfFrame};
 ghost use Rattle.arc_script.specs.Ends.{FedUntil};
 ghost use Rattle.arc_script.specs.Fed.{clock_of, line_fed};
-ghost use Rattle.arc_script.specs.Feeding.{TookAt, HasFed, FeedStops};
+ghost use Rattle.arc_script.specs.Feeding.{TookAt, HasFed, FeedStops, stop_in};
 ghost use Rattle.arc_script.specs.PageWords.{page_seen};
 ghost use Rattle.arc_script.specs.Pages.{head_of, replied};
 ghost use Rattle.centre_store.specs.StoreHalls.{is_told};
@@ -49,7 +49,7 @@ pub(crate) fn feed<D: Disk>(
     requires set { store.old.state.sum.text ≡ Some script.old.setup }
     ensures fed { OnOk result ((base : Summary) (before : List Asked) (count number : ℕ) (h : List Entry)
         → IsNext (meaning script.old.setup) moment count before (Feed line digits.now) script.old.lines.items script.old.desks.items
-        → StoreStands D.seen base store.old h → IsReadable base h
+        → StoreStands D.seen base store.old h → IsReadable base h → (HasFailed D.seen store.old → ⊥)
         → Carried D.seen base (λ x s. Feeds (placed base script.old.setup before) 76 line (bytes_spelled digits.now) h x s)
         number (Feed line digits.now) script.old.tally script.new.tally (page_seen page.old) (page_seen page.new) store.new) }
     ensures took { OnOk result ((before : List Asked) (count : ℕ)
@@ -57,11 +57,11 @@ pub(crate) fn feed<D: Disk>(
         → HaveTakenWith (meaning script.old.setup) count before (Feed line digits.now) script.new.lines.items script.new.desks.items) }
     ensures stop { IfErr result (λ stop. (base : Summary) (before : List Asked) (count : ℕ) (h : List Entry)
         → IsNext (meaning script.old.setup) moment count before (Feed line digits.now) script.old.lines.items script.old.desks.items
-        → StoreStands D.seen base store.old h → IsReadable base h
-        → Halted D.seen base (λ x s.
-        ((waiting : List (List ℕ)) × FedUntil stop (placed base script.old.setup before) line (bytes_spelled digits.now) waiting h x s
-        × HasShown D.seen store.new stop moment (IsOfFrame script.old.setup moment line waiting))
-        ⊎ ((stop ≡ Stop.Memory) × Feeds (placed base script.old.setup before) 76 line (bytes_spelled digits.now) h x s))
+        → StoreStands D.seen base store.old h → IsReadable base h → (HasFailed D.seen store.old → ⊥)
+        → Halted D.seen base (λ x s. (waiting : List (List ℕ))
+        × HasShown D.seen base store.new x stop moment (IsOfFrame script.old.setup moment line waiting)
+        × (FedUntil stop (placed base script.old.setup before) line (bytes_spelled digits.now) waiting h x s
+        ⊎ ((stop ≡ Stop.Memory) × Feeds (placed base script.old.setup before) 76 line (bytes_spelled digits.now) h x s)))
         script.old.tally script.new.tally store.new) }
     ensures set { store.new.state.sum.text ≡ Some script.old.setup }
     ensures rest { script.new ≡ record script.old {
@@ -96,7 +96,7 @@ pub(crate) fn message<D: Disk>(
     requires set { store.old.state.sum.text ≡ Some script.old.setup }
     ensures fed { OnOk result ((base : Summary) (before : List Asked) (count number : ℕ) (h : List Entry)
         → IsNext (meaning script.old.setup) moment count before (Message line body.now) script.old.lines.items script.old.desks.items
-        → StoreStands D.seen base store.old h → IsReadable base h
+        → StoreStands D.seen base store.old h → IsReadable base h → (HasFailed D.seen store.old → ⊥)
         → Carried D.seen base (λ x s. Feeds (placed base script.old.setup before) 77 line (frame_of body.now) h x s)
         number (Message line body.now) script.old.tally script.new.tally (page_seen page.old) (page_seen page.new) store.new) }
     ensures took { OnOk result ((before : List Asked) (count : ℕ)
@@ -104,11 +104,11 @@ pub(crate) fn message<D: Disk>(
         → HaveTakenWith (meaning script.old.setup) count before (Message line body.now) script.new.lines.items script.new.desks.items) }
     ensures stop { IfErr result (λ stop. (base : Summary) (before : List Asked) (count : ℕ) (h : List Entry)
         → IsNext (meaning script.old.setup) moment count before (Message line body.now) script.old.lines.items script.old.desks.items
-        → StoreStands D.seen base store.old h → IsReadable base h
-        → Halted D.seen base (λ x s.
-        ((waiting : List (List ℕ)) × FedUntil stop (placed base script.old.setup before) line (frame_of body.now) waiting h x s
-        × HasShown D.seen store.new stop moment (IsOfFrame script.old.setup moment line waiting))
-        ⊎ ((stop ≡ Stop.Memory) × Feeds (placed base script.old.setup before) 77 line (frame_of body.now) h x s))
+        → StoreStands D.seen base store.old h → IsReadable base h → (HasFailed D.seen store.old → ⊥)
+        → Halted D.seen base (λ x s. (waiting : List (List ℕ))
+        × HasShown D.seen base store.new x stop moment (IsOfFrame script.old.setup moment line waiting)
+        × (FedUntil stop (placed base script.old.setup before) line (frame_of body.now) waiting h x s
+        ⊎ ((stop ≡ Stop.Memory) × Feeds (placed base script.old.setup before) 77 line (frame_of body.now) h x s)))
         script.old.tally script.new.tally store.new) }
     ensures set { store.new.state.sum.text ≡ Some script.old.setup }
     ensures rest { script.new ≡ record script.old {
@@ -131,7 +131,7 @@ fn put_fed(page: &mut Page, letter: u8, number: u64, frames: Result<Page, Stop>)
     ensures put { OnOk result (IfOk frames (λ f. (page_seen page.new).written
         ≡ append_known (page_seen page.old).written (head_of letter number ++ replied (sink_bytes f.port.sink) ++ 10 ∷ []))) }
     ensures fed { OnOk result (IsOk frames) }
-    ensures stop { IfErr result (λ s. (s ≡ Stop.Memory) ⊎ (frames ≡ Err s)) }
+    ensures stop { IfErr result (λ s. (IsOk frames × (s ≡ Stop.Memory)) ⊎ (frames ≡ Err s)) }
 {
     let frames = frames?;
     said(put_replies(page, letter, number, frames.text()))
@@ -151,14 +151,14 @@ fn fed<D: Disk>(
     requires set { store.old.state.sum.text ≡ Some script.old.setup }
     ensures fed { IfOk result (λ frames. (base : Summary) (before : List Asked) (h : List Entry) → clock_of before ≡ Some moment
         → TookAt (line_fed line before) script.old.lines.items (line - 1) → length (line_fed line before ++ bytes.now) < input_limit
-        → StoreStands D.seen base store.old h → IsReadable base h
+        → StoreStands D.seen base store.old h → IsReadable base h → (HasFailed D.seen store.old → ⊥)
         → HasFed D.seen (placed base script.old.setup before) line bytes.now h script.old.tally script.new.tally
         (sink_bytes frames.port.sink) store.new) }
     ensures took { OnOk result ((stream : List ℕ) → TookAt stream script.old.lines.items (line - 1)
         → length (stream ++ bytes.now) < input_limit → TookAt (stream ++ bytes.now) script.new.lines.items (line - 1)) }
     ensures stop { IfErr result (λ stop. (base : Summary) (before : List Asked) (h : List Entry) → clock_of before ≡ Some moment
         → TookAt (line_fed line before) script.old.lines.items (line - 1) → length (line_fed line before ++ bytes.now) < input_limit
-        → StoreStands D.seen base store.old h → IsReadable base h
+        → StoreStands D.seen base store.old h → IsReadable base h → (HasFailed D.seen store.old → ⊥)
         → FeedStops D.seen (placed base script.old.setup before) moment line bytes.now h script.old.tally script.new.tally stop store.new) }
     ensures set { store.new.state.sum.text ≡ Some script.old.setup }
     ensures others { (i : ℕ) → i ≢ line - 1 → slice_get script.new.lines.items i ≡ slice_get script.old.lines.items i }
@@ -181,9 +181,18 @@ fn fed<D: Disk>(
     script.tally.repeats = script.tally.repeats.saturating_add(repeats);
     match end {
         Ok(()) => Ok(frames),
-        Err(LineEnd::Stopped(stop)) => Err(stop),
-        // A page takes all that is written unless memory is wanted, and no line is fed as many bytes as a session may take.
-        Err(_) => Err(Stop::Memory),
+        Err(end) => Err(stop_of(end)),
+    }
+}
+
+// The stop for which a line ended. A page takes all that is written unless memory is wanted, and no line is fed as many bytes as a session
+// may take.
+fn stop_of(end: LineEnd) -> Stop
+    ensures { result ≡ stop_in end }
+{
+    match end {
+        LineEnd::Stopped(stop) => stop,
+        _ => Stop::Memory,
     }
 }
 

@@ -3,18 +3,17 @@ ghost use Rattle.std.specs.Prelude.{◌≡◌, ◌<◌, ℕ, List, Some, IfErr, 
 ghost use Rattle.std.specs.Io.KnownBytes.{append_known};
 ghost use Rattle.centre_rules.specs.History.{Entry};
 ghost use Rattle.centre_rules.specs.Summary.{Summary};
-ghost use Rattle.centre_store.specs.Begins.{begun_after, event_of_begin};
+ghost use Rattle.centre_store.specs.Begins.{begun_after};
 ghost use Rattle.centre_store.specs.Given.{HoldsRecorded};
-ghost use Rattle.centre_store.specs.Stores.{StoreStands};
+ghost use Rattle.centre_store.specs.Stores.{HasFailed, StoreStands};
 ghost use Rattle.script_lines.specs.Lines.{Reopen};
 ghost use Rattle.arc_script.specs.Begun.{Begun};
 ghost use Rattle.arc_script.specs.Between.{Between, CarriedOut, ShutAt, StoppedAt};
-ghost use Rattle.arc_script.specs.Causes.{HasShown};
-ghost use Rattle.arc_script.specs.Ends.{BegunAgain};
 ghost use Rattle.arc_script.specs.Fed.{clock_of};
 ghost use Rattle.arc_script.specs.Halting.{closing};
 ghost use Rattle.arc_script.specs.PageWords.{page_seen};
 ghost use Rattle.arc_script.specs.Pages.{counted_line};
+ghost use Rattle.arc_script.specs.Playing.{AgainStops};
 ghost use Rattle.arc_script.specs.Steps.{Place};
 ghost use Rattle.centre_store.specs.StoreHalls.{is_told};
 
@@ -76,11 +75,9 @@ fn begin_again<D: Disk>(
     ensures set { OnOk result (store.new.state.sum.text ≡ Some script.now.setup) }
     ensures text { OnOk result ((page_seen page.new).written
         ≡ append_known (page_seen page.old).written (counted_line store.new.state.sum.recorded)) }
-    ensures stop { IfErr result (λ stop. (base : Summary) (h : List Entry) → StoreStands D.seen base store.old h
-        → (x : List Entry) × StoreStands D.seen base store.new x
-        × BegunAgain stop base script.now.setup moment h x) }
-    ensures cause { IfErr result (λ s. HasShown D.seen store.new s moment
-        (λ event. event ≡ event_of_begin store.new.state.sum.text script.now.setup)) }
+    ensures stop { IfErr result (λ s. (base : Summary) (h : List Entry) → StoreStands D.seen base store.old h
+        → HoldsRecorded D.seen store.old.journal base h → AgainStops D.seen base script.now.setup moment h s store.new) }
+    ensures up { OnOk result (HasFailed D.seen store.new → ⊥) }
     ensures tells { is_told (D.seen store.new.journal.disk).told ≡ is_told (D.seen store.old.journal.disk).told }
     ensures at_open { store.new.at_open ≡ store.old.at_open }
     ensures limits { store.new.journal.limits ≡ store.old.journal.limits }

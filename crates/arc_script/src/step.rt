@@ -1,6 +1,5 @@
 // One line of a script that asks for something.
-ghost use Rattle.std.specs.Prelude.{◌≡◌, ◌≢◌, ◌<◌, ◌≤◌, ◌⊎◌, Ok, Err, Some, IfErr, IfOk, OnErr, OnOk, length};
-ghost use Rattle.centre_store.specs.Stores.{HasFailed};
+ghost use Rattle.std.specs.Prelude.{◌≡◌, ◌≢◌, ◌<◌, ◌≤◌, Ok, Some, IfErr, IfOk, OnErr, OnOk, length};
 ghost use Rattle.script_lines.specs.Lines.{IsAsked, Reopen, spelling};
 ghost use Rattle.script_lines.specs.Reading.{asked};
 ghost use Rattle.arc_script.specs.Between.{Carries, IsReady, Shuts, Stops};
@@ -45,98 +44,6 @@ pub(crate) fn carry_out<D: Disk>(
         script.old script.new store.old store.new (page_seen page.old) (page_seen page.new)) }
     ensures stop { IfErr result (λ stop. Stops D.seen moment (asked wanted.entry)
         script.old script.new store.old store.new stop) }
-    ensures up { OnOk result (HasFailed D.seen store.new → ⊥) }
-    ensures ready { OnOk result (IsReady script.new.clock script.new.setup store.new.state.sum.text) }
-    ensures rest { (script.new.setup ≡ script.old.setup) × (script.new.number ≡ script.old.number)
-        × (script.new.opened_before ≡ script.old.opened_before) }
-{
-    let done = over_store(alloc, store, script, moment, wanted, room, page);
-    unless_failed(store, done)
-}
-
-/// Carries out an `X` at the moment that was set last.
-pub(crate) fn carry_out_reopen<D: Disk>(
-    alloc: Global,
-    store: Store<D>,
-    script: &mut Script,
-    moment: u64,
-    page: &mut Page,
-) -> Result<(Store<D>, Result<(), Stop>), OpenRefused<D>>
-    requires moment { moment < 253_402_300_800 }
-    requires ready { IsReady script.old.clock script.old.setup store.state.sum.text }
-    ensures carried { IfOk result (λ r. OnOk r.1 (Carries D.seen moment Reopen
-        script.old script.new store r.0 (page_seen page.old) (page_seen page.new))) }
-    ensures stop { IfOk result (λ r. IfErr r.1 (λ stop. Stops D.seen moment Reopen
-        script.old script.new store r.0 stop)) }
-    ensures shut { IfErr result (λ r. Shuts D.seen moment Reopen script.old store r.fault r.disk) }
-    ensures closed { OnErr result (script.new.tally ≡ closing script.old.tally script.old.opened_before store.state.sum) }
-    ensures up { IfOk result (λ r. OnOk r.1 (HasFailed D.seen r.0 → ⊥)) }
-    ensures ready { IfOk result (λ r. OnOk r.1 (IsReady script.new.clock script.new.setup r.0.state.sum.text)) }
-    ensures rest { (script.new.setup ≡ script.old.setup) × (script.new.number ≡ script.old.number)
-        × (script.new.opened_before ≡ script.old.opened_before) }
-{
-    let (store, done) = over_disk(alloc, store, script, moment, page)?;
-    let done = unless_failed(&store, done);
-    Ok((store, done))
-}
-
-// The same, whether the disk failed or not.
-fn over_disk<D: Disk>(
-    alloc: Global,
-    store: Store<D>,
-    script: &mut Script,
-    moment: u64,
-    page: &mut Page,
-) -> Result<(Store<D>, Result<(), Stop>), OpenRefused<D>>
-    requires moment { moment < 253_402_300_800 }
-    requires ready { IsReady script.old.clock script.old.setup store.state.sum.text }
-    ensures carried { IfOk result (λ r. OnOk r.1 (Carries D.seen moment Reopen
-        script.old script.new store r.0 (page_seen page.old) (page_seen page.new))) }
-    ensures stop { IfOk result (λ r. IfErr r.1 (λ stop. Stops D.seen moment Reopen
-        script.old script.new store r.0 stop)) }
-    ensures shut { IfErr result (λ r. Shuts D.seen moment Reopen script.old store r.fault r.disk) }
-    ensures closed { OnErr result (script.new.tally ≡ closing script.old.tally script.old.opened_before store.state.sum) }
-    ensures ready { IfOk result (λ r. OnOk r.1 (IsReady script.new.clock script.new.setup r.0.state.sum.text)) }
-    ensures rest { (script.new.setup ≡ script.old.setup) × (script.new.number ≡ script.old.number)
-        × (script.new.opened_before ≡ script.old.opened_before) }
-{
-    reopen(alloc, store, script, moment, page)
-}
-
-// What a line did, unless the disk failed though no event met that: nothing is known then of what it holds, and so the line has no output.
-fn unless_failed<D: Disk>(store: &Store<D>, done: Result<(), Stop>) -> Result<(), Stop>
-    ensures done { OnOk result (done ≡ Ok tt) }
-    ensures up { OnOk result (HasFailed D.seen store.now → ⊥) }
-    ensures stop { IfErr result (λ s. (done ≡ Err s) ⊎ ((done ≡ Ok tt) × (s ≡ Stop.Memory))) }
-{
-    done?;
-    if store.has_failed() {
-        return Err(Stop::Memory);
-    }
-    Ok(())
-}
-
-// What it did, whether the disk failed or not.
-fn over_store<D: Disk>(
-    alloc: Global,
-    store: &mut Store<D>,
-    script: &mut Script,
-    moment: u64,
-    wanted: ScriptLine,
-    room: &mut Room,
-    page: &mut Page,
-) -> Result<(), Stop>
-    requires moment { moment < 253_402_300_800 }
-    requires ready { IsReady script.old.clock script.old.setup store.old.state.sum.text }
-    requires ranges { IsAsked (asked wanted) }
-    requires short { length (spelling (asked wanted)) ≤ line_limit }
-    requires at { moment_at script.old.clock (asked wanted) ≡ Some moment }
-    requires blank { page_seen page.old ≡ blank moment }
-    requires other { asked wanted ≢ Reopen }
-    ensures carried { OnOk result (Carries D.seen moment (asked wanted.entry)
-        script.old script.new store.old store.new (page_seen page.old) (page_seen page.new)) }
-    ensures stop { IfErr result (λ stop. Stops D.seen moment (asked wanted.entry)
-        script.old script.new store.old store.new stop) }
     ensures ready { OnOk result (IsReady script.new.clock script.new.setup store.new.state.sum.text) }
     ensures rest { (script.new.setup ≡ script.old.setup) × (script.new.number ≡ script.old.number)
         × (script.new.opened_before ≡ script.old.opened_before) }
@@ -157,4 +64,27 @@ fn over_store<D: Disk>(
         ScriptLine::Command { desk, text } => command(alloc, store, script, desk, text, page),
         ScriptLine::Reopen => Ok(()),
     }
+}
+
+/// Carries out an `X` at the moment that was set last.
+pub(crate) fn carry_out_reopen<D: Disk>(
+    alloc: Global,
+    store: Store<D>,
+    script: &mut Script,
+    moment: u64,
+    page: &mut Page,
+) -> Result<(Store<D>, Result<(), Stop>), OpenRefused<D>>
+    requires moment { moment < 253_402_300_800 }
+    requires ready { IsReady script.old.clock script.old.setup store.state.sum.text }
+    ensures carried { IfOk result (λ r. OnOk r.1 (Carries D.seen moment Reopen
+        script.old script.new store r.0 (page_seen page.old) (page_seen page.new))) }
+    ensures stop { IfOk result (λ r. IfErr r.1 (λ stop. Stops D.seen moment Reopen
+        script.old script.new store r.0 stop)) }
+    ensures shut { IfErr result (λ r. Shuts D.seen moment Reopen script.old store r.fault r.disk) }
+    ensures closed { OnErr result (script.new.tally ≡ closing script.old.tally script.old.opened_before store.state.sum) }
+    ensures ready { IfOk result (λ r. OnOk r.1 (IsReady script.new.clock script.new.setup r.0.state.sum.text)) }
+    ensures rest { (script.new.setup ≡ script.old.setup) × (script.new.number ≡ script.old.number)
+        × (script.new.opened_before ≡ script.old.opened_before) }
+{
+    reopen(alloc, store, script, moment, page)
 }

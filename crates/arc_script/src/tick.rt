@@ -4,10 +4,9 @@ ghost use Rattle.std.specs.Io.KnownBytes.{append_known};
 ghost use Rattle.centre_core.specs.Setting.{IsSetting};
 ghost use Rattle.centre_rules.specs.History.{Entry};
 ghost use Rattle.centre_rules.specs.Summary.{Summary};
+ghost use Rattle.centre_store.specs.Given.{HoldsRecorded};
 ghost use Rattle.centre_store.specs.Stores.{StoreStands};
 ghost use Rattle.desk_wire.specs.Replies.{line_of};
-ghost use Rattle.arc_script.specs.Causes.{HasShown, IsOfTime};
-ghost use Rattle.arc_script.specs.Ends.{BegunUntil};
 ghost use Rattle.arc_script.specs.PageWords.{page_seen};
 ghost use Rattle.arc_script.specs.Playing.{Ticked, TickStops};
 ghost use Rattle.centre_store.specs.StoreHalls.{is_told};
@@ -42,9 +41,8 @@ pub(crate) fn tick<D: Disk>(
     ensures clock { OnOk result (script.new.clock ≡ Some moment) }
     ensures rest { script.new ≡ record script.old { clock = script.new.clock } }
     ensures stop { IfErr result (λ s. (base : Summary) (h : List Entry) → StoreStands D.seen base store.old h
+        → HoldsRecorded D.seen store.old.journal base h
         → TickStops D.seen script.old.clock base script.old.setup moment h s store.new) }
-    ensures cause { IfErr result (λ s. HasShown D.seen store.new s moment
-        (IsOfTime store.new.state.sum.text script.old.clock script.old.setup)) }
     ensures tells { is_told (D.seen store.new.journal.disk).told ≡ is_told (D.seen store.old.journal.disk).told }
     ensures at_open { store.new.at_open ≡ store.old.at_open }
     ensures limits { store.new.journal.limits ≡ store.old.journal.limits }
@@ -79,11 +77,12 @@ fn begin_first<D: Disk>(
         → StoreStands D.seen base store.new (before_tick script.now.clock base script.now.setup moment h)) }
     ensures set { OnOk result (store.new.state.sum.text ≡ Some script.now.setup) }
     ensures ready { OnOk result (IsSetting store.new.state.sum.text) }
-    ensures stop { OnErr result ((base : Summary) (h : List Entry) → StoreStands D.seen base store.old h
-        → (x : List Entry) × StoreStands D.seen base store.new x
-        × BegunUntil script.now.clock base script.now.setup moment h x) }
-    ensures cause { IfErr result (λ s. HasShown D.seen store.new s moment
-        (IsOfTime store.new.state.sum.text script.now.clock script.now.setup)) }
+    ensures held { OnOk result ((base : Summary) (h : List Entry) → StoreStands D.seen base store.old h
+        → HoldsRecorded D.seen store.old.journal base h
+        → HoldsRecorded D.seen store.new.journal base (before_tick script.now.clock base script.now.setup moment h)) }
+    ensures stop { IfErr result (λ s. (base : Summary) (h : List Entry) → StoreStands D.seen base store.old h
+        → HoldsRecorded D.seen store.old.journal base h
+        → TickStops D.seen script.now.clock base script.now.setup moment h s store.new) }
     ensures tells { is_told (D.seen store.new.journal.disk).told ≡ is_told (D.seen store.old.journal.disk).told }
     ensures at_open { store.new.at_open ≡ store.old.at_open }
     ensures limits { store.new.journal.limits ≡ store.old.journal.limits }

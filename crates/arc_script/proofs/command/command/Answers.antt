@@ -17,9 +17,9 @@ use Rattle.arc_script.proofs.command.command.Goals as goal
 
 pub returns-in-Err-clause-stop : goal.returns-in-Err-clause-stop
 returns-in-Err-clause-stop g c =
-    λ base before clock count h next empty stands readable.
+    λ base before clock count h next empty stands readable up.
     halted_first g.D.Disk.seen c.args.store.now base c.args.script.now.setup clock c.args.desk before c.args.text.now h
-    c.args.script.now.tally c.in-Err.stop c.put_asked.result c.in-Err.is (c.in-Err.is ∙ c.in-Err.ensures.stop) stands readable
+    c.args.script.now.tally c.in-Err.stop c.put_asked.result c.in-Err.is (c.in-Err.is ∙ c.in-Err.ensures.stop) stands readable up
 
 pub take-end-requires : goal.take-end-requires
 take-end-requires g c = subst IsSetting (sym c.requires.set) c.args.script.now.valid

@@ -39,7 +39,7 @@ returns-in-Ok-put-clause-played g c =
     let q' = page_seen c.carry_out.new.page in
     let none = ap (λ (k : PortSeen). k.written) c.in-Ok.ensures.blank in
     goes_further seen script s p a c.args.moment c.requires.short c.requires.at after s' q q' c.text.result.now none (ap Some (sym c.text.ensures))
-    c.carry_out.ensures.rest.2 c.in_default-carry_out.ensures.up c.in_default-carry_out.ensures.carried (g.P.Ends.seen c.put.new.sink)
+    c.carry_out.ensures.rest.2 c.in_default-carry_out.ensures.carried (g.P.Ends.seen c.put.new.sink)
     c.in-Ok-put.field-0 c.put.result c.in-Ok-put.is c.put.ensures
 
 pub returns-clause-ended : goal.returns-clause-ended
@@ -55,5 +55,5 @@ returns-clause-ended g c b lines typed asks may so more disk tally closed =
     let q' = page_seen c.carry_out.new.page in
     let none = ap (λ (k : PortSeen). k.written) c.in-Ok.ensures.blank in
     cut_halts seen script s p a c.args.moment c.requires.short c.requires.at after s' q q' c.text.result.now none (ap Some (sym c.text.ensures))
-    c.carry_out.ensures.rest.2 c.in_default-carry_out.ensures.up c.in_default-carry_out.ensures.carried (g.P.Ends.seen c.put.new.sink)
+    c.carry_out.ensures.rest.2 c.in_default-carry_out.ensures.carried (g.P.Ends.seen c.put.new.sink)
     c.in-Err-put.field-0 c.put.result disk tally c.in-Err-put.is c.put.ensures closed b lines more typed asks may so

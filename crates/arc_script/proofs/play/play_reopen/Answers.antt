@@ -2,7 +2,6 @@ use Rattle.std.proofs.Common.{Some, ap, refl, sym, subst, arith}
 use Rattle.std.proofs.lemmas.Result.{IfErr-at_err, IfOk-at_ok}
 use Rattle.arc_io.specs.Seen.{PortSeen}
 use Rattle.centre_core.specs.declared.hall.Stop.{Stop}
-use Rattle.centre_store.specs.Stores.{HasFailed}
 use Rattle.script_lines.specs.Lines.{Reopen}
 use Rattle.arc_script.specs.Between.{Carries, Stops}
 use Rattle.arc_script.specs.PageWords.{page_seen}
@@ -65,10 +64,9 @@ returns-in-Ok-put-clause-played g c =
     let q = page_seen c.in-Ok.page in
     let q' = page_seen c.carry_out_reopen.new.page in
     let none = ap (λ (k : PortSeen). k.written) c.in-Ok.ensures.blank in
-    let up = IfOk-at_ok (λ _. HasFailed seen s' → ⊥) c.in_default-played.is c.in-Ok-carry_out_reopen.ensures.up in
     let carries = IfOk-at_ok (λ _. Carries seen c.args.moment a script after s s' q q') c.in_default-played.is c.in-Ok-carry_out_reopen.ensures.carried in
     goes_further seen script s p a c.args.moment (omega arith) c.requires.at after s' q q' c.text.result.now none (ap Some (sym c.text.ensures))
-    c.carry_out_reopen.ensures.rest.2 up carries (g.P.Ends.seen c.put.new.sink) c.in-Ok-put.field-0 c.put.result c.in-Ok-put.is c.put.ensures
+    c.carry_out_reopen.ensures.rest.2 carries (g.P.Ends.seen c.put.new.sink) c.in-Ok-put.field-0 c.put.result c.in-Ok-put.is c.put.ensures
 
 pub returns-clause-halted : goal.returns-clause-halted
 returns-clause-halted g c =
@@ -82,12 +80,11 @@ returns-clause-halted g c =
     let q = page_seen c.in-Ok.page in
     let q' = page_seen c.carry_out_reopen.new.page in
     let none = ap (λ (k : PortSeen). k.written) c.in-Ok.ensures.blank in
-    let up = IfOk-at_ok (λ _. HasFailed seen s' → ⊥) c.in_default-played.is c.in-Ok-carry_out_reopen.ensures.up in
     let carries = IfOk-at_ok (λ _. Carries seen c.args.moment a script after s s' q q') c.in_default-played.is c.in-Ok-carry_out_reopen.ensures.carried in
     let p' = g.P.Ends.seen c.put.new.sink in
     let disk = c.halt-in-Err-put.result.disk in
     let tally = c.halt-in-Err-put.new.script.tally in
     subst (λ (e : ScriptEnd). HaltsHere seen a script s p e p' disk tally) (sym c.halt-in-Err-put.ensures.end)
     (cut_halts seen script s p a c.args.moment (omega arith) c.requires.at after s' q q' c.text.result.now none (ap Some (sym c.text.ensures))
-    c.carry_out_reopen.ensures.rest.2 up carries p' c.in-Err-put.field-0 c.put.result disk tally c.in-Err-put.is c.put.ensures
+    c.carry_out_reopen.ensures.rest.2 carries p' c.in-Err-put.field-0 c.put.result disk tally c.in-Err-put.is c.put.ensures
     (record { disk_is = c.halt-in-Err-put.ensures.disk; tally_is = ap (λ (k : Script). k.tally) c.halt-in-Err-put.ensures.closed }))

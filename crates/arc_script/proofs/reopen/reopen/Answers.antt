@@ -9,12 +9,12 @@ returns-clause-carried g c =
     let mid = c.in_ok-store.store in
     let anew = made_anew seen c.args.script.now c.close-disk.new.self c.renew.new.self c.args.store mid c.begin_again-begun.new.store c.close-disk.result
     c.close-disk.ensures.later c.close-disk.ensures.disk c.close-disk.ensures.tally c.in_ok-store.ensures.opened c.in_ok-store.ensures.told
-    c.in_ok-store.ensures.limits c.in_ok-store.ensures.at_open c.in_ok-store.ensures.later c.renew.ensures.lines c.renew.ensures.desks
+    c.in_ok-store.ensures.limits c.in_ok-store.ensures.at_open c.in_ok-store.ensures.met_none c.renew.ensures.lines c.renew.ensures.desks
     c.renew.ensures.rest
     c.begin_again-begun.ensures.tells c.begin_again-begun.ensures.at_open c.begin_again-begun.ensures.limits in
     carried_on seen c.args.script.now c.renew.new.self c.args.store mid c.begin_again-begun.new.store anew c.args.moment c.begin_again-begun.result
     (page_seen c.args.page.now) (page_seen c.begin_again-begun.new.page) c.requires.clock c.begin_again-begun.ensures.begun
-    c.begin_again-begun.ensures.set
+    c.begin_again-begun.ensures.set c.begin_again-begun.ensures.up
     c.begin_again-begun.ensures.text
 
 pub returns-clause-stop : goal.returns-clause-stop
@@ -23,11 +23,11 @@ returns-clause-stop g c =
     let mid = c.in_ok-store.store in
     let anew = made_anew seen c.args.script.now c.close-disk.new.self c.renew.new.self c.args.store mid c.begin_again-begun.new.store c.close-disk.result
     c.close-disk.ensures.later c.close-disk.ensures.disk c.close-disk.ensures.tally c.in_ok-store.ensures.opened c.in_ok-store.ensures.told
-    c.in_ok-store.ensures.limits c.in_ok-store.ensures.at_open c.in_ok-store.ensures.later c.renew.ensures.lines c.renew.ensures.desks
+    c.in_ok-store.ensures.limits c.in_ok-store.ensures.at_open c.in_ok-store.ensures.met_none c.renew.ensures.lines c.renew.ensures.desks
     c.renew.ensures.rest
     c.begin_again-begun.ensures.tells c.begin_again-begun.ensures.at_open c.begin_again-begun.ensures.limits in
     stopped_on seen c.args.script.now c.renew.new.self c.args.store mid c.begin_again-begun.new.store anew c.args.moment c.begin_again-begun.result
-    c.begin_again-begun.ensures.stop c.begin_again-begun.ensures.cause
+    c.begin_again-begun.ensures.stop
 
 pub returns-in_err-store-clause-shut : goal.returns-in_err-store-clause-shut
 returns-in_err-store-clause-shut g c =
