@@ -12,7 +12,7 @@ use Rattle.arc_server.specs.Beginnings.{HasAsked, StopsAtOpening, StopsAtBeginni
 use Rattle.arc_server.specs.Handed.{Handed}
 use Rattle.arc_server.specs.Made.{status_over, status_of_fault, status_of_stop}
 use Rattle.arc_server.specs.declared.status.Status.{Status}
-use Rattle.arc_server.proofs.Kept.{kept}
+use Rattle.arc_server.proofs.Kept.{leaves_store}
 
 pub if_ok : {A E : Type 0} {P Q : A → Type 0} (r : Result A E) → ((x : A) → P x → Q x) → IfOk r P → IfOk r Q
 if_ok (Ok x) each so = each x so
@@ -46,13 +46,9 @@ unbegun {D} {seen} {status} {r} {r'} asked last stop (inl stands) cause limits l
   history = asked.past;
   is = inl refl;
   last = last;
-  stands = stands;
+  leaves = leaves_store last stands limits later handed;
   stop = stop;
   cause = cause;
-  limits = limits;
-  later = later;
-  handed = handed;
-  ends = kept last (seen r.disk).faults r'.disk stands later handed;
   status_is = is;
 }
 unbegun {D} {seen} {status} {r} {r'} asked last stop (inr stands) cause limits later handed is = record {
@@ -60,12 +56,8 @@ unbegun {D} {seen} {status} {r} {r'} asked last stop (inr stands) cause limits l
   history = adopted_after asked.base asked.past asked.setup.text asked.clock;
   is = inr refl;
   last = last;
-  stands = stands;
+  leaves = leaves_store last stands limits later handed;
   stop = stop;
   cause = cause;
-  limits = limits;
-  later = later;
-  handed = handed;
-  ends = kept last (seen r.disk).faults r'.disk stands later handed;
   status_is = is;
 }

@@ -1,12 +1,11 @@
 -- What stands behind an opening stands on where nothing is written from there.
-use Rattle.std.proofs.Common.{◌≡◌, ◌≤◌, ◌<◌, ◌⊎◌, ℕ, length, Option, Some, None, IfSome, inl, inr, refl, sym, subst, arith}
+use Rattle.std.proofs.Common.{◌≡◌, ◌≤◌, ◌<◌, ◌⊎◌, ℕ, length, Option, Some, None, IfSome, inl, inr, sym, subst, arith}
 use Rattle.arc_io.proofs.Moments.{joined}
 use Rattle.arc_io.specs.Areas.{Areas}
 use Rattle.arc_io.specs.Crashes.{Becomes, IsQuiet}
 use Rattle.arc_io.specs.Disks.{DiskSeen}
 use Rattle.centre_store.specs.Given.{GoesOn}
 use Rattle.centre_store.specs.Openings.{CanOpen}
-use Rattle.centre_store.specs.StoreHalls.{is_told}
 use Rattle.disk_journal.specs.Standing.{chosen_part, version_now}
 use Rattle.arc_server.specs.Reports.{StandsOn}
 
@@ -17,13 +16,6 @@ stands_quiet old mid new counts_now stays quiet = record {
   images = joined old mid new (λ c. (d : Areas) × old.may_leave d × GoesOn d c) mid.may_leave stays.images quiet.any_moment
       (λ c now. stays.images.each c (counts_now old.moment c stays.images.later now));
 }
-
--- a disk that tells what it holds goes on to
-pub tells_on : (before after : Option Areas) (R : Areas → Areas → Type 0) → Becomes before after R → is_told after ≡ is_told before
-tells_on None None R b = refl
-tells_on None (Some t) R b = absurd b
-tells_on (Some s) None R b = absurd b
-tells_on (Some s) (Some t) R b = refl
 
 -- what is of the second version is not of the first
 of_second : (version : ℕ) (Quiet Opens : Type 0) → Quiet ⊎ ((version ≡ 1) × Opens) → version ≡ 2 → Quiet

@@ -1,4 +1,4 @@
--- What the disk of a store has recorded.
+-- What the disk of a store has recorded, and what a run leaves of it.
 use Rattle.std.proofs.Common.{◌≡◌, ◌≤◌, ◌⊎◌, ◌∷◌, ℕ, List, inl, inr, sym, subst, arith}
 use Rattle.arc_io.specs.Areas.{Areas}
 use Rattle.arc_io.specs.Causes.{Rose}
@@ -11,7 +11,9 @@ use Rattle.centre_store.proofs.Leaving.{leaves_now}
 use Rattle.centre_store.specs.Calls.{LeavesFrom}
 use Rattle.centre_store.specs.StoreHalls.{IsReadable, store_seen}
 use Rattle.centre_store.specs.Stores.{Stored, HasFailed, StoreStands, IsNextKept}
-use Rattle.arc_server.specs.Areas.{EndsWith}
+use Rattle.arc_server.specs.Areas.{EndsWith, shipped}
+use Rattle.arc_server.specs.Handed.{Handed}
+use Rattle.arc_server.specs.Leaving.{LeavesStore}
 
 -- the later of two counts at entry rose no sooner than the earlier
 pub rose_from : (entry at_open now : ℕ) → entry ≤ at_open → Rose at_open now → Rose entry now
@@ -28,11 +30,22 @@ kept_there {D} {seen} {b} s {h} entry stands since =
       ]
     ]
 
--- the disk that a store hands back, of a run that had no more faults at its entry than the store at its opening
+-- the disk that it hands back, of a run that had no more faults at its entry than the store at its opening
 pub kept : {D : Type 0} {seen : D → DiskSeen} {b : Summary} (s : Stored D) {h : List Entry} (entry : ℕ) (disk' : D)
     → StoreStands seen b s h → entry ≤ s.at_open → disk' ≡ s.journal.disk → EndsWith entry (seen disk') b h
 kept {D} {seen} {b} s {h} entry disk' stands since handed =
     subst (λ (d : D). EndsWith entry (seen d) b h) (sym handed) (kept_there s entry stands since)
+
+pub leaves_store : {D : Type 0} {seen : D → DiskSeen} {b : Summary} {r r' : Handed D} (last : Stored D) {h : List Entry}
+    → StoreStands seen b last h → last.journal.limits ≡ shipped → (seen r.disk).faults ≤ last.at_open → r'.disk ≡ last.journal.disk
+    → LeavesStore seen r r' b h last
+leaves_store {D} {seen} {b} {r} {r'} last {h} stands limits later handed = record {
+  stands = stands;
+  limits = limits;
+  later = later;
+  handed = handed;
+  ends = kept last (seen r.disk).faults r'.disk stands later handed;
+}
 
 -- and what a crash may leave since some moment
 left_there : {D : Type 0} (seen : D → DiskSeen) {b : Summary} (s : Stored D) {t : ℕ} {k h : List Entry} (entry : ℕ) → entry ≤ s.at_open

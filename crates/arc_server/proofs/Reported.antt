@@ -15,8 +15,7 @@ use Rattle.centre_rules.specs.Sums.{summary_of}
 use Rattle.centre_rules.specs.History.{Entry, marks}
 use Rattle.centre_rules.specs.State.{State, StandsFor}
 use Rattle.centre_rules.proofs.Steps.{incidents_begin}
-use Rattle.arc_server.specs.Reports.{report_after}
-use Rattle.arc_server.specs.ServeRuns.{summary_line, line_after}
+use Rattle.arc_server.specs.ServeRuns.{summary_line}
 
 open_after : (s : State) (base : Summary) (h : List Entry) → StandsFor base s h → s.sum.incidents ≡ incidents base (marks base h)
 open_after s base h stands = sym (incidents_begin s.sum) ∙ stands.same.incidents
@@ -32,7 +31,7 @@ stand_after s base h stands =
     ∙ ap (λ (at : ℕ). standing_of (lapse_by (summary_of base h).text) at s.sum.incidents) stands.last
     ∙ ap (standing_of (lapse_by (summary_of base h).text) (summary_of base h).last) (open_after s base h stands)
 
-report_is : (s : State) (base : Summary) (past : List Entry) → StandsFor base s past → report_of s.sum ≡ report_after base past
+report_is : (s : State) (base : Summary) (past : List Entry) → StandsFor base s past → report_of s.sum ≡ report_of (summary_of base past)
 report_is s base past stands =
     ap (λ (r : ℕ). (codes "recorded " ++ ended (decimal r)) ++ table_of (last_standing s.sum)) stands.recorded
     ∙ ap (λ (is : List Incident). (codes "recorded " ++ ended (decimal (summary_of base past).recorded)) ++ table_of is) (stand_after s base past stands)
@@ -40,16 +39,16 @@ report_is s base past stands =
 abbrev line_of : ℕ → List Incident → List ℕ
 line_of r is = (codes "recorded " ++ decimal r) ++ ((codes ", open " ++ decimal (length is)) ++ codes "\n")
 
-line_is : (s : State) (base : Summary) (h : List Entry) → StandsFor base s h → summary_line s.sum ≡ line_after base h
+line_is : (s : State) (base : Summary) (h : List Entry) → StandsFor base s h → summary_line s.sum ≡ summary_line (summary_of base h)
 line_is s base h stands =
     ap (λ (r : ℕ). line_of r s.sum.incidents) stands.recorded
     ∙ ap (λ (is : List Incident). line_of (summary_of base h).recorded is) (open_after s base h stands)
 
 -- what was put of the one is what was put of the other
 pub puts_report : {T E : Type 0} {p p' : PortSeen} {result : Result T E} (s : State) (base : Summary) (past : List Entry) → StandsFor base s past
-    → Puts p p' result (report_of s.sum) → Puts p p' result (report_after base past)
+    → Puts p p' result (report_of s.sum) → Puts p p' result (report_of (summary_of base past))
 puts_report {T} {E} {p} {p'} {result} s base past stands puts = subst (λ (l : List ℕ). Puts p p' result l) (report_is s base past stands) puts
 
 pub puts_line : {T E : Type 0} {p p' : PortSeen} {result : Result T E} (s : State) (base : Summary) (h : List Entry) → StandsFor base s h
-    → Puts p p' result (summary_line s.sum) → Puts p p' result (line_after base h)
+    → Puts p p' result (summary_line s.sum) → Puts p p' result (summary_line (summary_of base h))
 puts_line {T} {E} {p} {p'} {result} s base h stands puts = subst (λ (l : List ℕ). Puts p p' result l) (line_is s base h stands) puts

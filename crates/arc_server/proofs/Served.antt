@@ -1,12 +1,12 @@
 -- What a run shows that began and served all callers.
-use Rattle.std.proofs.Common.{◌≡◌, ◌≤◌, ◌++◌, ℕ, List, [], Bool, true, false, Result, Ok, Err, IfOk, OnErr, inl, inr, refl, sym, subst, ap, ◌∙◌}
+use Rattle.std.proofs.Common.{◌≡◌, ◌≤◌, ◌++◌, ℕ, List, [], Bool, true, false, Result, Ok, Err, IfOk, OnErr, refl, sym, subst, ap, ◌∙◌}
 use Rattle.std.proofs.lemmas.List.Elements.{All-nil}
 use Rattle.arc_data.specs.declared.blob.Memory.{Memory}
 use Rattle.arc_io.specs.Causes.{Rose}
 use Rattle.arc_io.specs.Disks.{DiskSeen}
 use Rattle.arc_io.specs.Seen.{PortSeen}
 use Rattle.arc_serving.specs.Seen.{StationSeen, CameSeen}
-use Rattle.arc_serving.specs.Serving.{Serves, ServesStore, GathersStore, GoesOnFrom, GoesOnAt, IsKeptOf, all_ended}
+use Rattle.arc_serving.specs.Serving.{ServesWhole, ServesStore, GathersStore, GoesOnFrom, GoesOnAt, IsKeptOf, all_ended}
 use Rattle.arc_serving.specs.declared.station.Crew.{Crew}
 use Rattle.centre_rules.specs.Summary.{Summary}
 use Rattle.centre_rules.specs.History.{Entry}
@@ -20,16 +20,16 @@ use Rattle.line_gate.specs.declared.closed.GroupClosed.TheVariants.{Whole, Broke
 use Rattle.arc_server.specs.Areas.{shipped}
 use Rattle.arc_server.specs.Beginnings.{HasBegun}
 use Rattle.arc_server.specs.Handed.{Handed}
-use Rattle.arc_server.specs.ServeRuns.{ServesAll, HasServed, HasGathered, GathersBroken, EndsServing}
+use Rattle.arc_server.specs.ServeRuns.{ServesAll, HasServed, GathersBroken, EndsServing}
 use Rattle.arc_server.specs.declared.status.Status.{Status}
 use Rattle.arc_server.specs.declared.status.Status.TheVariants.{DiskFault}
-use Rattle.arc_server.proofs.Kept.{kept, rose_from}
+use Rattle.arc_server.proofs.Kept.{leaves_store, rose_from}
 use Rattle.arc_server.proofs.Reported.{puts_line}
 
 -- where the callers ran, at a gate of this name
 serves_ran : {D : Type 0} {seen : D → DiskSeen} (groups : Bool) (t : Terms) (came : CameSeen) (first last : Stored D) (crew : Crew)
     (status : Status) {r r' : Handed D} {p : PortSeen} {around around' : StationSeen} {h : List Entry}
-    → (begun : HasBegun seen r r'.setup p first h) → (s : Serves seen t crew around around' came last)
+    → (begun : HasBegun seen r r'.setup p first h) → (s : ServesWhole seen t crew around around' came last)
     → t.stood begun.asked.base h
     → HasServed seen groups first crew (around, around') (Ok came) last (all_ended s.all.ran)
     → last.journal.limits ≡ shipped → r'.disk ≡ last.journal.disk → last.at_open ≡ first.at_open
@@ -49,9 +49,7 @@ serves_ran {D} {seen} groups t came first last crew status {r} {r'} {p} {around}
       passes = all_ended s.all.ran;
       served = served;
       stands = all;
-      limits = limits;
-      handed = handed;
-      ends = kept last entry r'.disk all.from.stands since handed;
+      leaves = leaves_store last all.from.stands limits since handed;
       written = e.written;
       puts = puts_line last.state base all.from.history all.from.stands.centre e.puts;
       status_is = e.status_is;
@@ -78,9 +76,7 @@ serves_none {D} {seen} groups none first last crew status {r} {r'} {p} {around} 
       passes = [];
       served = served;
       stands = record { from = from; all_seen = All-nil (λ (p : PassSeen). Extends (p.since ++ h) from.history) };
-      limits = limits;
-      handed = handed;
-      ends = kept last entry r'.disk from.stands since handed;
+      leaves = leaves_store last from.stands limits since handed;
       written = e.written;
       puts = puts_line last.state base from.history from.stands.centre e.puts;
       status_is = e.status_is;
@@ -137,24 +133,14 @@ gathered_whole {D} {seen} came first last crew status closed {r} {r'} {p} {aroun
     (subst (λ (k : GroupClosed D). OnErr came ((b : Summary) (h : List Entry) → StoreStands seen b first h → GoesOnAt seen b h k)) is refused)
     untouched limits (subst (λ (k : GroupClosed D). IsKeptOf first k) is kept) handed e
 
--- What such a gate shows whose disk had failed since the opening: that it did, by these counts, and who ran.
-record BrokenShows {D : Type 0} (seen : D → DiskSeen)
-    (first : Stored D) (crew : Crew) (around around' : StationSeen) (came : Result CameSeen Memory) (disk : D) (at_open now : ℕ) : Type 0 where
-  pub now_is : now ≡ (seen disk).faults
-  pub rose : Rose at_open now
-  pub gathered : HasGathered seen first crew around around' came (Broken disk at_open now)
-
+-- The disk of such a gate, which came back alone, failed by these counts.
 broken_shows : {D : Type 0} {seen : D → DiskSeen} (came : Result CameSeen Memory) (first : Stored D) (crew : Crew) (around around' : StationSeen)
     (disk : D) (at_open now : ℕ) (b : Summary) (h : List Entry) → StoreStands seen b first h
     → IfOk came (λ came. GathersStore seen first crew around around' came (Broken disk at_open now))
     → OnErr came ((b : Summary) (h : List Entry) → StoreStands seen b first h → GoesOnAt seen b h (Broken disk at_open now))
-    → OnErr came (around' ≡ around)
-    → BrokenShows seen first crew around around' came disk at_open now
-broken_shows {D} {seen} (Ok came) first crew around around' disk at_open now b h stood served refused untouched =
-    record { now_is = served.serves.0; rose = served.serves.1.rose; gathered = served }
-broken_shows {D} {seen} (Err none) first crew around around' disk at_open now b h stood served refused untouched =
-    let both = refused b h stood in
-    record { now_is = both.0; rose = both.1; gathered = untouched }
+    → (now ≡ (seen disk).faults) × Rose at_open now
+broken_shows {D} {seen} (Ok came) first crew around around' disk at_open now b h stood served refused = (served.serves.0, served.serves.1.rose)
+broken_shows {D} {seen} (Err none) first crew around around' disk at_open now b h stood served refused = refused b h stood
 
 -- and at one with groups whose disk came back alone
 pub gathers_broken : {D : Type 0} {seen : D → DiskSeen} (came : Result CameSeen Memory) (first : Stored D) (crew : Crew) (status : Status)
@@ -167,19 +153,20 @@ pub gathers_broken : {D : Type 0} {seen : D → DiskSeen} (came : Result CameSee
     → status ≡ DiskFault (seen r.disk).faults (seen r'.disk).faults
     → GathersBroken seen crew status r r' around around'
 gathers_broken {D} {seen} came first crew status at_open now {r} {r'} {around} {around'} {h} begun served refused untouched kept is =
-    let entry : ℕ = (seen r.disk).faults in
-    let b = broken_shows came first crew around around' r'.disk at_open now begun.asked.base h begun.stands.stands served refused untouched in
-    let since : entry ≤ at_open = subst (λ (n : ℕ). entry ≤ n) (sym kept) begun.later in record {
+    let end : ℕ = (seen r'.disk).faults in
+    let counts : (now ≡ end) × Rose at_open now =
+    broken_shows came first crew around around' r'.disk at_open now begun.asked.base h begun.stands.stands served refused in
+    let closed : Broken r'.disk at_open now ≡ Broken r'.disk first.at_open end =
+    ap (λ (n : ℕ). Broken r'.disk n now) kept ∙ ap (λ (n : ℕ). Broken r'.disk first.at_open n) counts.0 in
+    let rose : Rose first.at_open end = subst (λ (n : ℕ). Rose first.at_open n) counts.0 (subst (λ (n : ℕ). Rose n now) kept counts.1) in record {
       first = first;
       h = h;
       begun = begun;
       came = came;
-      at_open = at_open;
-      now = now;
-      gathered = b.gathered;
-      now_is = b.now_is;
-      rose = rose_from entry at_open now since b.rose;
-      status_is = is ∙ ap (λ (n : ℕ). DiskFault entry n) (sym b.now_is);
+      served = subst (λ (k : GroupClosed D). IfOk came (λ w. GathersStore seen first crew around around' w k)) closed served;
+      untouched = untouched;
+      rose = rose_from (seen r.disk).faults first.at_open end begun.later rose;
+      status_is = is;
     }
 
 -- by what closing it gave

@@ -7,15 +7,17 @@ use Rattle.std.specs.Option.{option_to_list}
 use Rattle.std.proofs.lemmas.Bool.{le-leb, leb-true, not-false, eqb-true}
 use Rattle.std.proofs.lemmas.List.Elements.{All-nil, All-cons, All-head, All-tail, All-append, All-map, Contains-get_or}
 use Rattle.arc_data.specs.declared.blob.Memory.{Memory}
+use Rattle.arc_data.specs.declared.event.Event.{Event}
 use Rattle.arc_data.specs.declared.event.Event.TheVariants.{Tick}
 use Rattle.arc_doors.specs.Doors.{DoorSeen}
 use Rattle.arc_doors.specs.Pulses.{Moments}
 use Rattle.arc_io.specs.Disks.{DiskSeen}
 use Rattle.arc_io.specs.Causes.{next_count, Rose}
 use Rattle.arc_io.specs.Seen.{PortSeen}
-use Rattle.arc_serving.specs.Ran.{WorkerRan, IsWorkerRan, IsSideServed, ended_in}
+use Rattle.arc_serving.proofs.Sides.{ended_in}
+use Rattle.arc_serving.specs.Ran.{WorkerRan, IsWorkerRan, IsSideServed}
 use Rattle.arc_serving.specs.Seen.{StationSeen, CameSeen}
-use Rattle.arc_serving.specs.Serving.{Serves}
+use Rattle.arc_serving.specs.Serving.{ServesWhole}
 use Rattle.arc_serving.specs.declared.station.Crew.{Crew}
 use Rattle.arc_serving.specs.declared.session.SessionEnd.{SessionEnd}
 use Rattle.arc_serving.specs.declared.session.SessionEnd.TheVariants as Session
@@ -23,12 +25,13 @@ use Rattle.arc_serving.specs.declared.side.Side.{Side}
 use Rattle.arc_serving.specs.declared.side.Side.TheVariants.{Lines, Desks}
 use Rattle.arc_serving.specs.Served.{Served}
 use Rattle.arc_serving.specs.Ticks.{Ticking, EndsTicking}
-use Rattle.arc_serving.specs.Works.{EndsWork, IsStoppedBy, IsShown, is_memory, stop_of, other_than_memory}
+use Rattle.arc_serving.specs.Works.{EndsWork, IsStoppedBy, stop_of}
 use Rattle.arc_serving.specs.declared.working.Worked.{Worked}
 use Rattle.arc_serving.specs.declared.working.WorkerEnd.{WorkerEnd}
 use Rattle.arc_serving.specs.declared.working.WorkerEnd.TheVariants.{DoorEnded, Quota, DoorFault as WorkerFault, Stopped}
 use Rattle.centre_core.specs.declared.hall.Stop.{Stop}
 use Rattle.centre_core.specs.declared.hall.Stop.TheVariants.{Memory as MemoryWanted, Down, Full as HallFull, Worn as HallWorn}
+use Rattle.centre_rules.specs.Sums.{summary_of}
 use Rattle.centre_store.specs.Stores.{Stored}
 use Rattle.line_gate.specs.Blanks.{terms_of}
 use Rattle.line_gate.specs.Passes.{PassSeen, PassShows}
@@ -36,7 +39,7 @@ use Rattle.line_gate.specs.Terms.{Terms}
 use Rattle.arc_io.specs.Told.{Puts}
 use Rattle.arc_server.specs.Handed.{Handed}
 use Rattle.arc_server.specs.Made.{status_over}
-use Rattle.arc_server.specs.ServeRuns.{ServesAll, HasServed, line_after}
+use Rattle.arc_server.specs.ServeRuns.{ServesAll, HasServed, summary_line}
 use Rattle.arc_server.specs.Servings.{first_of, met_by, where_so, full_in, worn_in, stop_in, stops_in, door_fault_in, door_faults_in}
 use Rattle.arc_server.specs.Servings.{has_refused, was_refused}
 use Rattle.arc_server.specs.Shows.{HasEnded, HaveEnded, HasCome, IsShownBy}
@@ -309,14 +312,15 @@ rose_put (Err e) line p p' puts cut = puts.cause.failed
 
 -- Callers over a disk that has not failed since the run's entry.
 
-other_stop : (stop : Stop) → other_than_memory stop ≡ Some MemoryWanted → ⊥
-other_stop MemoryWanted is = cc
-other_stop (Down at_open now) is = cc
-other_stop (HallFull used need records) is = cc
-other_stop (HallWorn count) is = cc
+-- the pass shows the stop for some event at some reading of the clock
+abbrev IsShown : Terms → PassSeen → Stop → Type 0
+IsShown t q stop = (event : Event) × (clock : ℕ) × PassShows t q stop event clock
 
 other_end : (e : SessionEnd) → stop_of e ≡ Some MemoryWanted → ⊥
-other_end (Session.Stopped stop) is = other_stop stop is
+other_end (Session.Stopped MemoryWanted) is = cc
+other_end (Session.Stopped (Down at_open now)) is = cc
+other_end (Session.Stopped (HallFull used need records)) is = cc
+other_end (Session.Stopped (HallWorn count)) is = cc
 other_end Session.Quit is = cc
 other_end Session.InputEnded is = cc
 other_end Session.ReadFault is = cc
@@ -351,7 +355,7 @@ module _ (t : Terms) (entry end : ℕ) (since : entry ≤ t.at_open) (up : Rose 
       → q.told ≤ end → EndsTicking stop t q pulse refused ticks → MayStop stop
   ticker_may None q pulse refused ticks told ends = tt
   ticker_may (Some stop) q pulse refused ticks told ends =
-      stops_itself q stop told (λ is. true≢false (subst (λ (s : Stop). is_memory s ≡ false) is ends.other)) (Tick, ends.last.moment, ends.shown)
+      stops_itself q stop told ends.other (Tick, ends.last.moment, ends.shown)
 
   side_may : (side : Side) (count sessions : ℕ) (ran : List WorkerRan) (doors doors' : List DoorSeen) (came : List Worked)
       → IsSideServed side t count sessions ran doors doors' came → All (λ p. p.told ≤ end) (ended_in ran) → All (λ w. MayEnd w.end) came
@@ -360,11 +364,11 @@ module _ (t : Terms) (entry end : ℕ) (since : entry ≤ t.at_open) (up : Rose 
       let each : All (λ (w : WorkerRan). MayEnd w.worked.end) ran =
       all_both (λ (w : WorkerRan). IsWorkerRan side t sessions w) (λ (w : WorkerRan). w.ended.told ≤ end) (λ (w : WorkerRan). MayEnd w.worked.end) ran
       (λ w is told. worker_may w.worked.end w.ended w.door w.door' sessions is.works.served told is.works.ended) served.each tolds in
-      subst (λ (ws : List Worked). All (λ w. MayEnd w.end) ws) (sym served.stood.came_is) (All-map (λ (w : Worked). MayEnd w.end) (λ (w : WorkerRan). w.worked) ran each)
+      subst (λ (ws : List Worked). All (λ w. MayEnd w.end) ws) (sym served.came_is) (All-map (λ (w : Worked). MayEnd w.end) (λ (w : WorkerRan). w.worked) ran each)
 
 all_may : {D : Type 0} {seen : D → DiskSeen}
     (t : Terms) (crew : Crew) (around around' : StationSeen) (came : CameSeen) (last : Stored D) (entry : ℕ) (disk' : D)
-    → Serves seen t crew around around' came last → entry ≤ t.at_open → disk' ≡ last.journal.disk
+    → ServesWhole seen t crew around around' came last → entry ≤ t.at_open → disk' ≡ last.journal.disk
     → (Rose entry (seen disk').faults → ⊥) → AllMay came
 all_may {D} {seen} t crew around around' came last entry disk' s low handed up =
     let end = (seen disk').faults in
@@ -403,5 +407,5 @@ pub status_shows : {D : Type 0} (seen : D → DiskSeen) (groups : Bool) (crew : 
 status_shows seen groups crew status r r' around around' run =
     let entry = (seen r.disk).faults in
     shown run.came (is_err run.written) status entry (seen r'.disk).faults run.p r'.port run.status_is
-    (rose_put run.written (line_after run.begun.asked.base run.stands.from.history) run.p r'.port run.puts)
-    (may_come seen groups run.first run.last crew around around' run.came run.passes entry r'.disk run.served run.begun.later run.handed)
+    (rose_put run.written (summary_line (summary_of run.begun.asked.base run.stands.from.history)) run.p r'.port run.puts)
+    (may_come seen groups run.first run.last crew around around' run.came run.passes entry r'.disk run.served run.begun.later run.leaves.handed)

@@ -13,7 +13,7 @@ abbrev pub shipped : Limits
 shipped = record { bytes = 268_435_456; records = 1_000_000 }
 
 -- The areas at a run's end, after this history over a summary, of a disk that had so many faults at the run's entry: they stand for the
--- recorded entries; or the disk has failed, and they stand for these or for these with one more, a next one that may be read again. Of
--- which event that is, a session says.
+-- recorded entries; or the disk has failed since then, and they stand for these, or for these with the record of one more, with which the
+-- history can go on.
 abbrev pub EndsWith : ℕ → DiskSeen → Summary → List Entry → Type 0
 EndsWith entry disk base h = HasRecorded disk base h ⊎ (Rose entry disk.faults × IsTorn disk base h)

@@ -11,11 +11,11 @@ use Rattle.centre_rules.specs.History.{Entry}
 use Rattle.centre_store.specs.Begins.{begun_after, adopted_after, ShowsOfBegin}
 use Rattle.centre_store.specs.Given.{BeginsWith}
 use Rattle.centre_store.specs.StoreHalls.{IsStoreFor, IsReadable}
-use Rattle.centre_store.specs.Stores.{Stored, StoreStands, HasFailed}
+use Rattle.centre_store.specs.Stores.{Stored, HasFailed}
 use Rattle.disk_journal.specs.declared.fault.OpenFault.{OpenFault}
-use Rattle.arc_server.specs.Areas.{EndsWith, shipped}
 use Rattle.arc_server.specs.Handed.{Handed}
-use Rattle.arc_server.specs.Made.{status_over, status_of_fault, status_of_stop}
+use Rattle.arc_server.specs.Leaving.{LeavesStore}
+use Rattle.arc_server.specs.Made.{status_of_run, status_of_fault, status_of_stop}
 use Rattle.arc_server.specs.SetupReads.{HasSetup, IsNoSetup}
 use Rattle.arc_server.specs.declared.status.Status.{Status}
 
@@ -29,8 +29,9 @@ pub record HasAsked {D : Type 0} (seen : D → DiskSeen) (r : Handed D) (q' p' :
   pub clock : ℕ
   pub told : p' ≡ after_reading clock r.port
 
--- The run began so: the store stands for the past with the beginning of a run under the setup's text, of which all that was recorded can be
--- read again, and its disk has not failed.
+-- The run began so: the store stands for the past with the beginning of a run under the setup's text, which is in force, and all that was
+-- recorded of this history can be read again. It was opened at a count of the disk's faults that was no lower than at the run's entry, and
+-- its disk has not failed since.
 pub record HasBegun {D : Type 0} (seen : D → DiskSeen) (r : Handed D) (q' p' : PortSeen) (first : Stored D) (h : List Entry) : Type 0 where
   pub asked : HasAsked seen r q' p'
   pub is : h ≡ begun_after asked.base asked.past asked.setup.text asked.clock
@@ -49,23 +50,18 @@ pub record StopsAtOpening {D : Type 0} (seen : D → DiskSeen) (status : Status)
   pub fault : OpenFault
   pub unopened : IsUnopened fault (seen r.disk) (seen r'.disk)
   pub port : r'.port ≡ r.port
-  pub status_is : status ≡ status_over (seen r.disk).faults (seen r'.disk).faults (status_of_fault fault)
+  pub status_is : status ≡ status_of_run seen r r' (status_of_fault fault)
 
--- The beginning was stopped: the store stands for the past, or for it with the Adopt of the setup's text, and shows the stop. Its disk is
--- handed back.
+-- The beginning was stopped: it leaves the store with the past, or with it and the Adopt of the setup's text, and the store shows the stop.
 pub record StopsAtBeginning {D : Type 0} (seen : D → DiskSeen) (status : Status) (r r' : Handed D) : Type 0 where
   pub asked : HasAsked seen r r'.setup r'.port
   pub history : List Entry
   pub is : (history ≡ asked.past) ⊎ (history ≡ adopted_after asked.base asked.past asked.setup.text asked.clock)
   pub last : Stored D
-  pub stands : StoreStands seen asked.base last history
+  pub leaves : LeavesStore seen r r' asked.base history last
   pub stop : Stop
   pub cause : ShowsOfBegin seen last asked.setup.text asked.clock stop
-  pub limits : last.journal.limits ≡ shipped
-  pub later : (seen r.disk).faults ≤ last.at_open
-  pub handed : r'.disk ≡ last.journal.disk
-  pub ends : EndsWith (seen r.disk).faults (seen r'.disk) asked.base history
-  pub status_is : status ≡ status_over (seen r.disk).faults (seen r'.disk).faults (status_of_stop stop)
+  pub status_is : status ≡ status_of_run seen r r' (status_of_stop stop)
 
 -- The run stopped before it began.
 abbrev pub StopsBefore : {D : Type 0} → (D → DiskSeen) → Status → Handed D → Handed D → Type 0

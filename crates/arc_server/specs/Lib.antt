@@ -12,6 +12,7 @@ pub mod Forms
 pub mod Statuses
 pub mod Areas
 pub mod Handed
+pub mod Leaving
 pub mod Made
 pub mod SetupReads
 pub mod Beginnings

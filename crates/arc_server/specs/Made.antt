@@ -1,6 +1,7 @@
 -- Which status is made of how a run ended.
 use Rattle.std.specs.Prelude.{ℕ, if◌then◌else◌, nat_le, Result, Ok, Err}
 use Rattle.arc_io.specs.Causes.{next_count}
+use Rattle.arc_io.specs.Disks.{DiskSeen}
 use Rattle.arc_io.specs.Seen.{PortSeen}
 use Rattle.arc_io.specs.declared.traits.Failed.{Failed}
 use Rattle.arc_panel.specs.declared.play.PanelEnd.{PanelEnd}
@@ -19,6 +20,7 @@ use Rattle.mirror_centre.specs.declared.follow_end.FollowEnd.{FollowEnd}
 use Rattle.mirror_centre.specs.declared.follow_end.FollowEnd.TheVariants as Follow
 use Rattle.udp_line.specs.declared.mail_end.MailEnd.{MailEnd}
 use Rattle.udp_line.specs.declared.mail_end.MailEnd.TheVariants as Mail
+use Rattle.arc_server.specs.Handed.{Handed}
 use Rattle.arc_server.specs.declared.status.Status.{Status}
 use Rattle.arc_server.specs.declared.status.Status.TheVariants.{Done, ReadFault, WriteFault, DiskFault, Journal, Full, BadScript}
 use Rattle.arc_server.specs.declared.status.Status.TheVariants.{Memory, Spent, Worn, Behind, Strange}
@@ -27,6 +29,10 @@ use Rattle.arc_server.specs.declared.status.Which.TheVariants as Which
 -- Where the disk has failed, by the counts of its faults at the run's entry and at its end, that is the status; else it is this one.
 abbrev pub status_over : ℕ → ℕ → Status → Status
 status_over entry end status = if nat_le (next_count entry) end then DiskFault entry end else status
+
+-- the status of a run whose end makes this one, by the disk that it was handed and the one that it hands back
+abbrev pub status_of_run : {D : Type 0} → (D → DiskSeen) → Handed D → Handed D → Status → Status
+status_of_run seen r r' made = status_over (seen r.disk).faults (seen r'.disk).faults made
 
 -- of a journal that was not opened
 abbrev pub status_of_fault : OpenFault → Status

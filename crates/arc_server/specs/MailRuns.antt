@@ -1,5 +1,5 @@
 -- What a run did that serves datagrams.
-use Rattle.std.specs.Prelude.{◌≡◌, ◌≤◌, ◌⊎◌, ℕ, List}
+use Rattle.std.specs.Prelude.{◌≡◌, ℕ, List}
 use Rattle.arc_io.specs.Disks.{DiskSeen}
 use Rattle.arc_io.specs.Seen.{PortSeen}
 use Rattle.centre_rules.specs.History.{Entry}
@@ -8,15 +8,16 @@ use Rattle.centre_store.specs.StoreHalls.{store_seen}
 use Rattle.centre_store.specs.Stores.{Stored}
 use Rattle.udp_line.specs.Mails.{ReceivesMail, ServesMail}
 use Rattle.udp_line.specs.declared.mail_end.MailEnd.{MailEnd}
-use Rattle.arc_server.specs.Areas.{EndsWith, shipped}
-use Rattle.arc_server.specs.Beginnings.{HasBegun, StopsBefore}
+use Rattle.arc_server.specs.Beginnings.{HasBegun}
 use Rattle.arc_server.specs.Handed.{Handed}
-use Rattle.arc_server.specs.Made.{status_over, status_of_mail}
+use Rattle.arc_server.specs.Leaving.{LeavesStore}
+use Rattle.arc_server.specs.Made.{status_of_run, status_of_mail}
 use Rattle.arc_server.specs.declared.status.Status.{Status}
 
 -- A run began, and from there the next datagrams of a mailbox, which told m then, were received and answered, at most so many, up to an
--- end. The store stands for the history that they ended with; its disk is handed back, and has the recorded entries. A crash at any moment
--- between leaves all that was recorded when the run had begun, and of the entries since then some first ones.
+-- end. It leaves the store with the history that they ended with. A crash at any moment since the run had begun leaves all that was
+-- recorded then, and of the entries since then some first ones. Where the disk has failed, one more counts among these, with which the
+-- history can go on.
 pub record AnswersMail {D : Type 0} (seen : D → DiskSeen) (count : ℕ) (status : Status) (r r' : Handed D) (m m' : PortSeen) : Type 0 where
   pub first : Stored D
   pub h : List Entry
@@ -26,14 +27,6 @@ pub record AnswersMail {D : Type 0} (seen : D → DiskSeen) (count : ℕ) (statu
   pub receives : ReceivesMail end count given m m'
   pub last : Stored D
   pub serves : ServesMail end given begun.asked.base h (store_seen seen first) (store_seen seen last) m m'
-  pub limits : last.journal.limits ≡ shipped
-  pub later : (seen r.disk).faults ≤ last.at_open
-  pub handed : r'.disk ≡ last.journal.disk
-  pub ends : EndsWith (seen r.disk).faults (seen r'.disk) begun.asked.base serves.history
+  pub leaves : LeavesStore seen r r' begun.asked.base serves.history last
   pub any_moment : LeavesFrom (seen first.journal.disk).moment h (seen r.disk).faults (seen r'.disk) begun.asked.base serves.history
-  pub status_is : status ≡ status_over (seen r.disk).faults (seen r'.disk).faults (status_of_mail end m m')
-
--- What such a run did. Where it stopped before it began, no datagram was received.
-abbrev pub IsMailRun : {D : Type 0} → (D → DiskSeen) → ℕ → Status → Handed D → Handed D → PortSeen → PortSeen → Type 0
-IsMailRun seen count status r r' m m' =
-    (StopsBefore seen status r r' × (m' ≡ m)) ⊎ AnswersMail seen count status r r' m m'
+  pub status_is : status ≡ status_of_run seen r r' (status_of_mail end m m')

@@ -1,5 +1,5 @@
 -- What a run of `report` did.
-use Rattle.std.specs.Prelude.{◌≡◌, ◌⊎◌, ℕ, List, Result}
+use Rattle.std.specs.Prelude.{◌≡◌, List, Result}
 use Rattle.arc_io.specs.Areas.{Areas}
 use Rattle.arc_io.specs.Crashes.{Becomes, LeavesOnly}
 use Rattle.arc_io.specs.Disks.{DiskSeen}
@@ -11,14 +11,9 @@ use Rattle.centre_rules.specs.History.{Entry}
 use Rattle.centre_rules.specs.Sums.{summary_of}
 use Rattle.centre_store.specs.Given.{BeginsWith, GoesOn}
 use Rattle.arc_server.specs.Areas.{EndsWith}
-use Rattle.arc_server.specs.Beginnings.{StopsAtOpening}
 use Rattle.arc_server.specs.Handed.{Handed}
-use Rattle.arc_server.specs.Made.{status_over, status_of_text}
+use Rattle.arc_server.specs.Made.{status_of_run, status_of_text}
 use Rattle.arc_server.specs.declared.status.Status.{Status}
-
--- the report of a history: how much of it is recorded, and the incidents that are open after it
-abbrev pub report_after : Summary → List Entry → List ℕ
-report_after base past = report_of (summary_of base past)
 
 -- Whatever the areas stood for when they were to be opened, they stand for now, as reads give them; and so does all that a crash left of
 -- them at any moment between.
@@ -35,9 +30,5 @@ pub record ReportsPast {D : Type 0} (seen : D → DiskSeen) (status : Status) (r
   pub stays : StandsOn (seen r.disk) (seen r'.disk)
   pub ends : EndsWith (seen r.disk).faults (seen r'.disk) base past
   pub written : Result (Unit {0}) Failed
-  pub puts : Puts r.port r'.port written (report_after base past)
-  pub status_is : status ≡ status_over (seen r.disk).faults (seen r'.disk).faults (status_of_text written r.port r'.port)
-
--- What such a run did.
-abbrev pub IsReportRun : {D : Type 0} → (D → DiskSeen) → Status → Handed D → Handed D → Type 0
-IsReportRun seen status r r' = StopsAtOpening seen status r r' ⊎ ReportsPast seen status r r'
+  pub puts : Puts r.port r'.port written (report_of (summary_of base past))
+  pub status_is : status ≡ status_of_run seen r r' (status_of_text written r.port r'.port)

@@ -1,5 +1,5 @@
 -- What a run did that serves one session.
-use Rattle.std.specs.Prelude.{◌≡◌, ◌≤◌, ◌⊎◌, ℕ, List, codes}
+use Rattle.std.specs.Prelude.{◌≡◌, ℕ, List, codes}
 use Rattle.arc_io.specs.Disks.{DiskSeen}
 use Rattle.arc_io.specs.Seen.{PortSeen}
 use Rattle.centre_rules.specs.History.{Entry}
@@ -9,10 +9,10 @@ use Rattle.centre_store.specs.Stores.{Stored}
 use Rattle.arc_serving.specs.Sessions.{Reads, Serves}
 use Rattle.arc_serving.specs.declared.session.SessionEnd.{SessionEnd}
 use Rattle.arc_serving.specs.declared.side.Side.{Side}
-use Rattle.arc_server.specs.Areas.{EndsWith, shipped}
-use Rattle.arc_server.specs.Beginnings.{HasBegun, StopsBefore}
+use Rattle.arc_server.specs.Beginnings.{HasBegun}
 use Rattle.arc_server.specs.Handed.{Handed}
-use Rattle.arc_server.specs.Made.{status_over, status_of_session}
+use Rattle.arc_server.specs.Leaving.{LeavesStore}
+use Rattle.arc_server.specs.Made.{status_of_run, status_of_session}
 use Rattle.arc_server.specs.declared.status.Status.{Status}
 use Rattle.session_rules.specs.Sessions.{changed}
 
@@ -20,9 +20,10 @@ use Rattle.session_rules.specs.Sessions.{changed}
 abbrev pub line_name : List ℕ
 line_name = codes "line"
 
--- A run began, with a port that told p then, and from there a session of this kind read some bytes, answered them, and came to its end.
--- The store stands for the history that the session ended with; its disk is handed back, and has the recorded entries. A crash at any
--- moment of the session leaves all that was recorded when the run had begun, and of the session's entries some first ones.
+-- A run began, with a port that told p then, and from there a session of this kind read some bytes, answered them, and came to its end. It
+-- leaves the store with the history that the session ended with. A crash at any moment since the run had begun leaves all that was recorded
+-- then, and of the session's entries some first ones. Where the disk has failed, one more counts among these, with which the history can go
+-- on.
 pub record ServesRun {D : Type 0} (seen : D → DiskSeen) (side : Side) (status : Status) (r r' : Handed D) : Type 0 where
   pub p : PortSeen
   pub first : Stored D
@@ -36,13 +37,6 @@ pub record ServesRun {D : Type 0} (seen : D → DiskSeen) (side : Side) (status 
   pub last : Stored D
   pub serves : Serves side line_name end read begun.asked.base (record { from = h; to = history; made = made })
       (changed (store_seen seen first) (store_seen seen last) p r'.port)
-  pub limits : last.journal.limits ≡ shipped
-  pub later : (seen r.disk).faults ≤ last.at_open
-  pub handed : r'.disk ≡ last.journal.disk
-  pub ends : EndsWith (seen r.disk).faults (seen r'.disk) begun.asked.base history
+  pub leaves : LeavesStore seen r r' begun.asked.base history last
   pub any_moment : LeavesFrom (seen first.journal.disk).moment h (seen r.disk).faults (seen r'.disk) begun.asked.base history
-  pub status_is : status ≡ status_over (seen r.disk).faults (seen r'.disk).faults (status_of_session end p r'.port)
-
--- What such a run did.
-abbrev pub IsSessionRun : {D : Type 0} → (D → DiskSeen) → Side → Status → Handed D → Handed D → Type 0
-IsSessionRun seen side status r r' = StopsBefore seen status r r' ⊎ ServesRun seen side status r r'
+  pub status_is : status ≡ status_of_run seen r r' (status_of_session end p r'.port)

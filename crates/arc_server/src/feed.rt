@@ -5,7 +5,10 @@ ghost use Rattle.centre_rules.specs.History.{Entry};
 ghost use Rattle.centre_rules.specs.Summary.{Summary};
 ghost use Rattle.centre_store.specs.Given.{BeginsWith, HoldsRecorded};
 ghost use Rattle.centre_store.specs.Stores.{StoreStands};
-ghost use Rattle.arc_server.specs.FeedRuns.{IsFeedRun, FeedsPast, OpensQuiet};
+ghost use Rattle.arc_server.specs.Areas.{shipped};
+ghost use Rattle.arc_server.specs.Beginnings.{StopsAtOpening};
+ghost use Rattle.arc_server.specs.FeedRuns.{FeedsPast, OpensQuiet};
+ghost use Rattle.arc_server.specs.Handed.{Either};
 ghost use Rattle.arc_server.specs.Reports.{StandsOn};
 
 use crate::made::{StoppedRun, status_of_feed, status_over, unopened};
@@ -20,7 +23,7 @@ use std::alloc::Global;
 pub(crate) fn run_feed<P: Port, D: Disk>(alloc: Global, port: &mut P, disk: D) -> (Status, D)
     requires port { (P.seen port.old).ended ≡ false }
     ensures usage { result.0 ≢ Status.Usage }
-    ensures ran { (q : PortSeen) → IsFeedRun D.seen result.0
+    ensures ran { (q : PortSeen) → Either (StopsAtOpening D.seen result.0) (FeedsPast D.seen result.0)
         (record { setup = q; port = P.seen port.old; disk = disk }) (record { setup = q; port = P.seen port.new; disk = result.1 }) }
 {
     let before = disk.faults();
@@ -46,7 +49,7 @@ fn feed_from<P: Port, D: Disk>(
     ensures fed { (q : PortSeen) (disk : D) (base : Summary) (past : List Entry) → before ≡ (D.seen disk).faults
         → StoreStands D.seen base store past → HoldsRecorded D.seen store.journal base past → BeginsWith (D.seen disk) base past
         → StandsOn (D.seen disk) (D.seen store.journal.disk) → OpensQuiet (D.seen disk) (D.seen store.journal.disk)
-        → FeedsPast D.seen result.0
+        → store.journal.limits ≡ shipped → FeedsPast D.seen result.0
         (record { setup = q; port = P.seen port.old; disk = disk }) (record { setup = q; port = P.seen port.new; disk = result.1 }) }
 {
     let reads = port.read_faults();

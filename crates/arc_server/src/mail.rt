@@ -4,9 +4,9 @@ ghost use Rattle.arc_io.specs.Seen.{PortSeen};
 ghost use Rattle.centre_core.specs.Setting.{IsSetting};
 ghost use Rattle.centre_rules.specs.History.{Entry};
 ghost use Rattle.arc_server.specs.Areas.{shipped};
-ghost use Rattle.arc_server.specs.Beginnings.{HasBegun};
-ghost use Rattle.arc_server.specs.Handed.{Handed};
-ghost use Rattle.arc_server.specs.MailRuns.{IsMailRun, AnswersMail};
+ghost use Rattle.arc_server.specs.Beginnings.{HasBegun, StopsBefore};
+ghost use Rattle.arc_server.specs.Handed.{Handed, Either};
+ghost use Rattle.arc_server.specs.MailRuns.{AnswersMail};
 
 use crate::begin::begin_run;
 use crate::made::{StoppedRun, status_of_mail, status_over};
@@ -28,9 +28,10 @@ pub(crate) fn run_mailed<S: Source, P: Port, D: Disk, M: Mailbox>(
 ) -> (Status, D)
     requires setup { (S.seen source.old).ended ≡ false }
     ensures usage { result.0 ≢ Status.Usage }
-    ensures ran { IsMailRun D.seen datagrams result.0
+    ensures ran { Either (λ r r'. StopsBefore D.seen result.0 r r' × (M.seen mail.new ≡ M.seen mail.old))
+        (λ r r'. AnswersMail D.seen datagrams result.0 r r' (M.seen mail.old) (M.seen mail.new))
         (record { setup = S.seen source.old; port = P.seen port.old; disk = disk })
-        (record { setup = S.seen source.new; port = P.seen port.new; disk = result.1 }) (M.seen mail.old) (M.seen mail.new) }
+        (record { setup = S.seen source.new; port = P.seen port.new; disk = result.1 }) }
 {
     let before = disk.faults();
     match begin_run(alloc, source, port, disk) {

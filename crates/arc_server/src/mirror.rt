@@ -6,7 +6,9 @@ ghost use Rattle.centre_rules.specs.Summary.{Summary};
 ghost use Rattle.centre_store.specs.Given.{BeginsWith};
 ghost use Rattle.centre_store.specs.Stores.{StoreStands};
 ghost use Rattle.arc_server.specs.Areas.{shipped};
-ghost use Rattle.arc_server.specs.MirrorRuns.{IsMirrorRun, FollowsOn};
+ghost use Rattle.arc_server.specs.Beginnings.{StopsAtOpening};
+ghost use Rattle.arc_server.specs.Handed.{Either};
+ghost use Rattle.arc_server.specs.MirrorRuns.{FollowsOn};
 
 use crate::made::{StoppedRun, status_of_follow, status_over, unopened};
 use crate::status::Status;
@@ -20,7 +22,7 @@ use std::alloc::Global;
 pub(crate) fn run_mirror<P: Port, D: Disk>(alloc: Global, port: &mut P, disk: D) -> (Status, D)
     requires port { (P.seen port.old).ended ≡ false }
     ensures usage { result.0 ≢ Status.Usage }
-    ensures ran { (q : PortSeen) → IsMirrorRun D.seen result.0
+    ensures ran { (q : PortSeen) → Either (StopsAtOpening D.seen result.0) (FollowsOn D.seen result.0)
         (record { setup = q; port = P.seen port.old; disk = disk }) (record { setup = q; port = P.seen port.new; disk = result.1 }) }
 {
     let before = disk.faults();

@@ -5,7 +5,9 @@ ghost use Rattle.centre_rules.specs.History.{Entry};
 ghost use Rattle.centre_rules.specs.Summary.{Summary};
 ghost use Rattle.centre_store.specs.Given.{BeginsWith};
 ghost use Rattle.centre_store.specs.Stores.{StoreStands};
-ghost use Rattle.arc_server.specs.Reports.{IsReportRun, ReportsPast, StandsOn};
+ghost use Rattle.arc_server.specs.Beginnings.{StopsAtOpening};
+ghost use Rattle.arc_server.specs.Handed.{Either};
+ghost use Rattle.arc_server.specs.Reports.{ReportsPast, StandsOn};
 
 use crate::made::{StoppedRun, status_of_text, status_over, unopened};
 use crate::status::Status;
@@ -18,7 +20,7 @@ use std::alloc::Global;
 /// Opens the journal with the limits that are shipped, submits nothing, and writes the report of the centre.
 pub(crate) fn run_report<P: Port, D: Disk>(alloc: Global, port: &mut P, disk: D) -> (Status, D)
     ensures usage { result.0 ≢ Status.Usage }
-    ensures ran { (q : PortSeen) → IsReportRun D.seen result.0
+    ensures ran { (q : PortSeen) → Either (StopsAtOpening D.seen result.0) (ReportsPast D.seen result.0)
         (record { setup = q; port = P.seen port.old; disk = disk }) (record { setup = q; port = P.seen port.new; disk = result.1 }) }
 {
     let before = disk.faults();

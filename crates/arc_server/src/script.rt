@@ -2,8 +2,10 @@
 ghost use Rattle.std.specs.Prelude.{◌≡◌, ◌≢◌, false, IsOk};
 ghost use Rattle.alarm_rules.specs.Setups.{setup_of};
 ghost use Rattle.arc_io.specs.Seen.{PortSeen};
+ghost use Rattle.arc_server.specs.Beginnings.{StopsAtSetup};
+ghost use Rattle.arc_server.specs.Handed.{Either};
 ghost use Rattle.arc_server.specs.Made.{status_of_script};
-ghost use Rattle.arc_server.specs.ScriptRuns.{IsScriptRun, Scripts};
+ghost use Rattle.arc_server.specs.ScriptRuns.{Scripts};
 ghost use Rattle.arc_server.specs.SetupReads.{ReadsText};
 
 use crate::made::{read_fault, status_of_fault, status_of_stop, status_over, write_fault};
@@ -25,7 +27,7 @@ pub(crate) fn run_scripted<S: Source, P: Port, D: Disk>(
     requires setup { (S.seen source.old).ended ≡ false }
     requires port { (P.seen port.old).ended ≡ false }
     ensures usage { result.0 ≢ Status.Usage }
-    ensures ran { IsScriptRun D.seen result.0
+    ensures ran { Either (StopsAtSetup result.0) (Scripts D.seen result.0)
         (record { setup = S.seen source.old; port = P.seen port.old; disk = disk })
         (record { setup = S.seen source.new; port = P.seen port.new; disk = result.1 }) }
 {

@@ -1,12 +1,12 @@
 // A run that serves lines and desks at once.
-ghost use Rattle.std.specs.Prelude.{◌≡◌, ◌≢◌, ◌≤◌, List, false, length};
+ghost use Rattle.std.specs.Prelude.{◌≡◌, ◌≢◌, ◌≤◌, List, true, false, length};
 ghost use Rattle.arc_io.specs.Seen.{PortSeen};
 ghost use Rattle.centre_core.specs.Setting.{IsSetting};
 ghost use Rattle.centre_rules.specs.History.{Entry};
 ghost use Rattle.arc_server.specs.Areas.{shipped};
-ghost use Rattle.arc_server.specs.Beginnings.{HasBegun};
-ghost use Rattle.arc_server.specs.Handed.{Handed};
-ghost use Rattle.arc_server.specs.ServeRuns.{IsServeRun, IsGatherRun, ServesAll, GathersAll, EndsServing};
+ghost use Rattle.arc_server.specs.Beginnings.{HasBegun, StopsBefore};
+ghost use Rattle.arc_server.specs.Handed.{Handed, Either};
+ghost use Rattle.arc_server.specs.ServeRuns.{ServesAll, GathersBroken, EndsServing};
 
 use crate::begin::begin_run;
 use crate::came::status_of_serving;
@@ -53,9 +53,10 @@ pub(crate) fn run_serve<
     requires lines { crew.lines ≤ length station.lines }
     requires desks { crew.desks ≤ length station.desks }
     ensures usage { result.status ≢ Status.Usage }
-    ensures ran { IsServeRun D.seen crew result.status
+    ensures ran { Either (λ r r'. StopsBefore D.seen result.status r r' × (result.station ≡ station))
+        (λ r r'. ServesAll D.seen false crew result.status r r' station result.station)
         (record { setup = S.seen source.old; port = P.seen port.old; disk = disk })
-        (record { setup = S.seen source.new; port = P.seen port.new; disk = result.disk }) station result.station }
+        (record { setup = S.seen source.new; port = P.seen port.new; disk = result.disk }) }
 {
     let before = disk.faults();
     match begin_run(alloc, source, port, disk) {
@@ -90,9 +91,11 @@ pub(crate) fn run_gather<
     requires lines { crew.lines ≤ length station.lines }
     requires desks { crew.desks ≤ length station.desks }
     ensures usage { result.status ≢ Status.Usage }
-    ensures ran { IsGatherRun D.seen crew result.status
+    ensures ran { Either (λ r r'. StopsBefore D.seen result.status r r' × (result.station ≡ station))
+        (Either (λ r r'. ServesAll D.seen true crew result.status r r' station result.station)
+        (λ r r'. GathersBroken D.seen crew result.status r r' station result.station))
         (record { setup = S.seen source.old; port = P.seen port.old; disk = disk })
-        (record { setup = S.seen source.new; port = P.seen port.new; disk = result.disk }) station result.station }
+        (record { setup = S.seen source.new; port = P.seen port.new; disk = result.disk }) }
 {
     let before = disk.faults();
     match begin_run(alloc, source, port, disk) {
@@ -163,7 +166,9 @@ fn gather_begun<
     ensures usage { result.status ≢ Status.Usage }
     ensures served { (r : Handed D) (q' : PortSeen) (h : List Entry) → before ≡ (D.seen r.disk).faults
         → HasBegun D.seen r q' (P.seen port.old) store h
-        → GathersAll D.seen crew result.status r (record { setup = q'; port = P.seen port.new; disk = result.disk }) station result.station }
+        → Either (λ r r'. ServesAll D.seen true crew result.status r r' station result.station)
+        (λ r r'. GathersBroken D.seen crew result.status r r' station result.station)
+        r (record { setup = q'; port = P.seen port.new; disk = result.disk }) }
 {
     let GatheredStore {
         closed,

@@ -4,9 +4,9 @@ ghost use Rattle.arc_io.specs.Seen.{PortSeen};
 ghost use Rattle.centre_core.specs.Setting.{IsSetting};
 ghost use Rattle.centre_rules.specs.History.{Entry};
 ghost use Rattle.arc_server.specs.Areas.{shipped};
-ghost use Rattle.arc_server.specs.Beginnings.{HasBegun};
-ghost use Rattle.arc_server.specs.Handed.{Handed};
-ghost use Rattle.arc_server.specs.SessionRuns.{line_name, IsSessionRun, ServesRun};
+ghost use Rattle.arc_server.specs.Beginnings.{HasBegun, StopsBefore};
+ghost use Rattle.arc_server.specs.Handed.{Handed, Either};
+ghost use Rattle.arc_server.specs.SessionRuns.{line_name, ServesRun};
 
 use crate::begin::begin_run;
 use crate::made::{StoppedRun, status_of_session, status_over};
@@ -28,7 +28,7 @@ pub(crate) fn run_session<S: Source, P: Port, D: Disk>(
     requires setup { (S.seen source.old).ended ≡ false }
     requires port { (P.seen port.old).ended ≡ false }
     ensures usage { result.0 ≢ Status.Usage }
-    ensures ran { IsSessionRun D.seen side result.0
+    ensures ran { Either (StopsBefore D.seen result.0) (ServesRun D.seen side result.0)
         (record { setup = S.seen source.old; port = P.seen port.old; disk = disk })
         (record { setup = S.seen source.new; port = P.seen port.new; disk = result.1 }) }
 {

@@ -10,10 +10,17 @@ use Rattle.line_session.specs.Groups.{ServesGroup}
 use Rattle.line_session.specs.Lines.{ServesLine}
 use Rattle.line_session.specs.declared.line_end.LineEnd.{LineEnd}
 use Rattle.session_rules.specs.Sessions.{changed, Way}
-use Rattle.arc_serving.specs.Sessions.{Serves, ServesBy, line_end, IsHistoryAfter}
+use Rattle.arc_serving.specs.Sessions.{Serves, ServesBy, line_end}
 use Rattle.arc_serving.specs.declared.session.SessionEnd.{SessionEnd}
 use Rattle.arc_serving.specs.declared.side.Side.{Side}
 use Rattle.arc_serving.specs.declared.side.Side.TheVariants.{Lines, Desks}
+
+-- what is so of a session of either kind, on its way
+pub record IsHistoryAfter (b : Summary) (w : Way) (hall hall' : HallSeen) : Type 0 where
+  pub holds : hall'.stands b w.to
+  pub legal : IsLegal b w.to
+  pub own : hall'.own w.to ≡ reverse w.made ++ hall.own w.from
+  pub disk : DiskGoesOn b hall hall' w.from w.to
 
 -- a session that went so, said of its way
 after_way : (b : Summary) (w : Way) (hall hall' : HallSeen) (to made : List Entry) → w.to ≡ to → w.made ≡ made → hall'.stands b to → IsLegal b to

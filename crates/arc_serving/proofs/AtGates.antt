@@ -2,7 +2,7 @@
 use Rattle.std.proofs.Common.{◌≡◌, ◌-◌, ℕ, List, [], ◌∷◌, ◌++◌, Option, Some, None, length, take, refl, sym, ap, ◌∙◌, subst, arith, length-append, append_assoc}
 use Rattle.std.proofs.lemmas.List.{reverse-reverse, reverse-append, append_cancel_right}
 use Rattle.std.proofs.lemmas.List.Elements.{All-append, All-nil}
-use Rattle.std.specs.Prelude.{Bool, true, false, All, reverse, MatchOption}
+use Rattle.std.specs.Prelude.{Bool, true, false, All, reverse, flat_map, MatchOption}
 use Rattle.alarm_rules.specs.Setups.{meaning}
 use Rattle.arc_io.specs.Seen.{PortSeen}
 use Rattle.arc_serving.proofs.After.{is_after}
@@ -24,7 +24,10 @@ use Rattle.line_session.specs.declared.line_end.LineEnd.{LineEnd}
 use Rattle.session_rules.specs.Sessions.{changed, Goes, Way}
 use Rattle.arc_serving.proofs.DeskTurns as Desk
 use Rattle.arc_serving.proofs.LineTurns as Line
-use Rattle.arc_serving.specs.Served.{tcp, Served, ServesAtGate, IsSingle, way_at, AreServed, IsSubmittedBy, MakesEntries, entries_in, made_between}
+use Rattle.arc_serving.specs.Served.{tcp, Served, IsServed, ServesAtGate, IsSingle, InTurn, IsSubmittedBy, MakesEntries, made_between}
+
+abbrev entries_in : List Served → List Entry
+entries_in served = flat_map (λ s. s.entries) served
 
 -- A session's history begins with the one before it.
 
@@ -136,7 +139,7 @@ serves_left side t p q m read given back name end pass left named w b base from 
 makes_in_session : (side : Side) (t : Terms) (p q : PassSeen) (read : List ℕ) (s : Served) (b : Summary) (base : List Entry) → IsPass t p → t.stood b base
     → ServesAtGate side t b base p q read s → MakesEntries side p q s.entries
 makes_in_session side t p q read s b base pass from w =
-    let way = way_at base p q s.entries in
+    let way : Way = record { from = p.since ++ base; to = q.since ++ base; made = s.entries } in
     let extends = goes_extends t.groups side tcp s.end read b way (gate_seen t p) (gate_seen t q) s.given s.back w in
     let whole : q.since ++ base ≡ (extends.0 ++ p.since) ++ base = extends.1 ∙ sym (append_assoc extends.0 p.since base) in record {
       made = made_at side t p q read s.given s.back s.end b base (q.since ++ base) s.entries pass from w;
@@ -145,7 +148,7 @@ makes_in_session side t p q read s b base pass from w =
     }
 
 -- what a pass made in many
-pub makes_in_order : (side : Side) (t : Terms) (p q : PassSeen) (ss : List Served) → IsPass t p → AreServed side t p q ss → (b : Summary) (base : List Entry) → t.stood b base
+pub makes_in_order : (side : Side) (t : Terms) (p q : PassSeen) (ss : List Served) → IsPass t p → InTurn (IsServed side t) p q ss → (b : Summary) (base : List Entry) → t.stood b base
     → MakesEntries side p q (entries_in ss)
 makes_in_order side t p q [] pass w b base from = record {
   made = ap (λ (k : PassSeen). k.made) w;

@@ -15,7 +15,11 @@ use Rattle.desk_wire.specs.declared.command.Command.TheVariants.{Login, Quit, Ne
 use Rattle.line_gate.proofs.Histories.{extends_further}
 use Rattle.line_gate.specs.Entries.{Entry, Extends}
 use Rattle.session_rules.specs.Turns.{entries_of}
-use Rattle.arc_serving.specs.Served.{IsRequest}
+use Rattle.arc_serving.specs.Served.{IsSubmittedBy}
+use Rattle.arc_serving.specs.declared.side.Side.TheVariants.{Desks}
+
+abbrev IsRequest : Event → Type 0
+IsRequest event = IsSubmittedBy Desks event
 
 answered_extends : (b : Summary) (caller : ℕ) (h x : List Entry) (t : Turn) (o : Option Event) (text : List ℕ) → IsAnswered b caller h x t o text → Extends h x
 answered_extends b caller h x t None text w = w.extends

@@ -15,7 +15,11 @@ use Rattle.line_gate.proofs.Histories.{extends_further}
 use Rattle.line_gate.specs.Entries.{Entry, Extends}
 use Rattle.line_session.specs.Turns.{Turn, TakesEntry, IsAnswered, AreTurns, line_turns}
 use Rattle.session_rules.specs.Turns.{entries_of}
-use Rattle.arc_serving.specs.Served.{IsReport}
+use Rattle.arc_serving.specs.Served.{IsSubmittedBy}
+use Rattle.arc_serving.specs.declared.side.Side.TheVariants.{Lines}
+
+abbrev IsReport : Event → Type 0
+IsReport event = IsSubmittedBy Lines event
 
 entry_extends : (b : Summary) (setup : Setup) (caller : ℕ) (h x : List Entry) (t : Turn) (header : Header) (event : Event) → TakesEntry b setup caller h x t header event → Extends h x
 entry_extends b setup caller h x t header event w = extends_further h w.before x w.extends (w.entry ∷ [], w.is)

@@ -1,13 +1,19 @@
 -- One more link.
 use Rattle.std.proofs.Common.{◌≡◌, ◌≤◌, List, [], ◌∷◌, ◌++◌, Option, Some, None, refl, sym, ap, ◌∙◌, subst, arith, length-append, append_assoc, append-nil}
 use Rattle.std.proofs.lemmas.List.{map-append}
-use Rattle.std.specs.Prelude.{MatchOption}
+use Rattle.std.specs.Prelude.{MatchOption, map}
 use Rattle.arc_doors.specs.Doors.{Links, IsBackWithin, HasOneOut, HasNoneLeft, TakesLink, after_back}
 use Rattle.arc_io.specs.Seen.{PortSeen}
 use Rattle.arc_serving.specs.declared.side.Side.{Side}
 use Rattle.line_gate.specs.Passes.{PassSeen}
 use Rattle.line_gate.specs.Terms.{Terms}
-use Rattle.arc_serving.specs.Served.{Moves, Served, IsServed, AreServed, MovesLinks, given_in, back_in}
+use Rattle.arc_serving.specs.Served.{InTurn, Moves, Served, IsServed, MovesLinks}
+
+abbrev given_in : List Served → List PortSeen
+given_in served = map (λ s. s.given) served
+
+abbrev back_in : List Served → List PortSeen
+back_in served = map (λ s. s.back) served
 
 -- a link that was just given is out
 pub one_out : (p : PortSeen) (before after : Option Links) → IsBackWithin before → TakesLink p before after → HasOneOut after
@@ -31,22 +37,17 @@ one_more ss s (Some old) (Some new) out last w takes gets =
 one_more ss s None (Some new) out last w takes gets = absurd w
 one_more ss s (Some old) None out last w takes gets = absurd w
 
--- one more was served
-pub served_more : (side : Side) (t : Terms) (p m q : PassSeen) (ss : List Served) (s : Served) → AreServed side t p m ss → IsServed side t m q s → AreServed side t p q (ss ++ s ∷ [])
-served_more side t p m q [] s w one = (q, subst (λ (k : PassSeen). IsServed side t k q s) w one, refl)
-served_more side t p m q (x ∷ ss) s w one = (w.0, w.1, served_more side t w.0 m q ss s w.2 one)
+-- one more was done
+pub turn_more : {P S : Type 0} (done : P → P → S → Type 0) (p m q : P) (ss : List S) (s : S) → InTurn done p m ss → done m q s → InTurn done p q (ss ++ s ∷ [])
+turn_more {P} done p m q [] s w one = (q, subst (λ (k : P). done k q s) w one, refl)
+turn_more done p m q (x ∷ ss) s w one = (w.0, w.1, turn_more done w.0 m q ss s w.2 one)
 
--- the pass keeps its number
-pub same_number : (side : Side) (t : Terms) (p q : PassSeen) (ss : List Served) → AreServed side t p q ss → q.number ≡ p.number
-same_number side t p q [] w = ap (λ (k : PassSeen). k.number) w
-same_number side t p q (s ∷ ss) w = same_number side t w.0 q ss w.2 ∙ w.1.number
-
--- and no count of it falls
-pub no_count_falls : (side : Side) (t : Terms) (p q : PassSeen) (ss : List Served) → AreServed side t p q ss → (p.count ≤ q.count) × (p.told ≤ q.told)
-no_count_falls side t p q [] w = subst (λ (k : PassSeen). (p.count ≤ k.count) × (p.told ≤ k.told)) (sym w) (omega arith, omega arith)
+-- the pass keeps its number, and no count of it falls
+pub no_count_falls : (side : Side) (t : Terms) (p q : PassSeen) (ss : List Served) → InTurn (IsServed side t) p q ss → (q.number ≡ p.number) × (p.count ≤ q.count) × (p.told ≤ q.told)
+no_count_falls side t p q [] w = subst (λ (k : PassSeen). (k.number ≡ p.number) × (p.count ≤ k.count) × (p.told ≤ k.told)) (sym w) (refl, omega arith, omega arith)
 no_count_falls side t p q (s ∷ ss) w =
     let more = no_count_falls side t w.0 q ss w.2 in
-    (omega (arith, w.1.count, more.0), omega (arith, w.1.told, more.1))
+    (more.0 ∙ w.1.number, omega (arith, w.1.count, more.1), omega (arith, w.1.told, more.2))
 
 -- the answers of a door
 pub took : {L : Type 0} (seen : L → PortSeen) (before after : Option Links) (o : Option L) (link : L) → o ≡ Some link

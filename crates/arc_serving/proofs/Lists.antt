@@ -1,10 +1,11 @@
 -- Lists, place by place and backwards, and numbers that rise.
-use Rattle.std.proofs.Common.{◌≡◌, ◌≤◌, ◌<◌, ◌+◌, ℕ, suc, List, [], ◌∷◌, ◌++◌, Option, Some, None, length, refl, sym, ap, ◌∙◌, arith}
+use Rattle.std.proofs.Common.{◌≡◌, ◌≤◌, ◌<◌, ◌+◌, ℕ, zero, suc, List, [], ◌∷◌, ◌++◌, Option, Some, None, length, refl, sym, ap, ◌∙◌, subst, arith}
 use Rattle.std.proofs.lemmas.List.{reverse-append}
 use Rattle.std.specs.List.{AllZip}
+use Rattle.std.specs.List.Sorted.{IsStrictlyIncreasing}
 use Rattle.std.specs.Option.{option_to_list}
-use Rattle.std.specs.Prelude.{map, reverse, slice_index_or}
-use Rattle.arc_serving.specs.Rising.{AreRising}
+use Rattle.std.specs.Prelude.{map, reverse, slice_index, slice_index_or}
+use Rattle.arc_serving.specs.Jobs.{AreRising}
 
 -- what holds at each place of two lists of one length holds of them place by place
 pub zipped : {X : Type 0} (R : X → X → Type 0) (xs ys : List X) → length ys ≡ length xs
@@ -50,3 +51,12 @@ rising_from low mid (n ∷ ns) high le w = (let l = w.0 in omega (arith, le, l),
 pub rising_both : (low : ℕ) (ns ms : List ℕ) (mid high : ℕ) → AreRising low ns mid → AreRising mid ms high → AreRising low (ns ++ ms) high
 rising_both low [] ms mid high w v = rising_from low mid ms high w v
 rising_both low (n ∷ ns) ms mid high w v = (w.0, rising_both (n + 1) ns ms mid high w.1 v)
+
+-- each of them is below the next
+pub rising_increases : (low : ℕ) (ns : List ℕ) (high : ℕ) → AreRising low ns high → IsStrictlyIncreasing ns
+rising_increases low [] high w k lt = absurd (omega (arith, lt))
+rising_increases low (n ∷ []) high w k lt = absurd (omega (arith, lt))
+rising_increases low (n ∷ m ∷ ns) high w zero lt = (let l = w.1.0 in omega (arith, l))
+rising_increases low (n ∷ m ∷ ns) high w (suc k) lt =
+    let next : suc (k + 1) ≡ suc k + 1 = omega arith in
+    subst (λ (i : ℕ). slice_index (n ∷ m ∷ ns) (suc k) < slice_index (n ∷ m ∷ ns) i) next (rising_increases (n + 1) (m ∷ ns) high w.1 k (omega (arith, lt)))

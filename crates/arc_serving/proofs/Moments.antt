@@ -1,26 +1,32 @@
 -- What a ticker has done between two moments.
-use Rattle.std.proofs.Common.{◌≡◌, ◌+◌, ◌-◌, ◌^◌, ℕ, List, [], ◌∷◌, ◌++◌, false, Option, Some, None, refl, sym, ap, ◌∙◌, subst, arith, append_assoc, append-nil}
+use Rattle.std.proofs.Common.{◌≡◌, ◌+◌, ◌-◌, ◌^◌, ℕ, List, [], ◌∷◌, ◌++◌, Option, Some, None, refl, sym, ap, ◌∙◌, subst, arith, append_assoc, append-nil}
 use Rattle.std.proofs.lemmas.List.{map-append, reverse-append}
 use Rattle.std.proofs.lemmas.List.Sums.{sum_by-append}
 use Rattle.std.proofs.lemmas.Grind.{flat_map-append}
 use Rattle.std.specs.Option.{option_to_list}
-use Rattle.std.specs.Prelude.{min, cond, is_none, count_by, reverse}
+use Rattle.std.specs.Prelude.{◌≢◌, min, cond, is_none, count_by, flat_map, map, reverse}
 use Rattle.arc_doors.specs.Pulses.{Moments, HasNoMoment, TakesMoment}
 use Rattle.centre_core.specs.declared.hall.Stop.{Stop}
+use Rattle.centre_core.specs.declared.hall.Stop.TheVariants.{Memory}
 use Rattle.line_gate.proofs.Carried.{later_self, later_further}
 use Rattle.line_gate.specs.Entries.{Entry}
 use Rattle.line_gate.specs.Passes.{PassSeen, IsPass, IsLater}
 use Rattle.line_gate.specs.Terms.{Terms}
-use Rattle.arc_serving.specs.Served.{Moves}
-use Rattle.arc_serving.specs.Ticks.{Ticking, MakesTick, IsTicked, AreTicked, MovesMoments, WorksTicks, TicksOnce, ticks_in, moments_in, missed_in}
-use Rattle.arc_serving.specs.Works.{is_memory}
+use Rattle.arc_serving.proofs.Links.{turn_more}
+use Rattle.arc_serving.specs.Served.{InTurn, Moves}
+use Rattle.arc_serving.specs.Ticks.{Ticking, MakesTick, IsTicked, MovesMoments, WorksTicks, TicksOnce, missed_in}
+
+abbrev moments_in : List Ticking → List ℕ
+moments_in ticks = map (λ s. s.moment) ticks
+
+abbrev ticks_in : List Ticking → List Entry
+ticks_in ticks = flat_map (λ s. option_to_list s.entry) ticks
 
 -- these Ticks were submitted
 pub record HasTickedSo (t : Terms) (p q : PassSeen) (pulse pulse' : Option Moments) (ticks : List Ticking) : Type 0 where
-  pub each : AreTicked t p q ticks
+  pub each : InTurn (IsTicked t) p q ticks
   pub moments : Moves (MovesMoments ticks) pulse pulse'
   pub made : q.made ≡ reverse (ticks_in ticks) ++ p.made
-  pub later : IsLater p q
   pub pass : IsPass t q
 
 -- and each that has no entry was refused memory
@@ -35,11 +41,12 @@ no_moments (Some old) = record { left = refl; given = sym (append-nil old.given)
 
 -- before the first moment
 pub no_ticks : (t : Terms) (p : PassSeen) (pulse : Option Moments) → IsPass t p → TickedSoFar t p p pulse pulse 0
-no_ticks t p pulse pass = record { ticks = []; so = record { each = refl; moments = no_moments pulse; made = refl; later = later_self p; pass = pass }; refused_is = refl }
+no_ticks t p pulse pass = record { ticks = []; so = record { each = refl; moments = no_moments pulse; made = refl; pass = pass }; refused_is = refl }
 
-ticked_more : (t : Terms) (p m q : PassSeen) (ss : List Ticking) (s : Ticking) → AreTicked t p m ss → IsTicked t m q s → AreTicked t p q (ss ++ s ∷ [])
-ticked_more t p m q [] s w one = (q, subst (λ (k : PassSeen). IsTicked t k q s) w one, refl)
-ticked_more t p m q (x ∷ ss) s w one = (w.0, w.1, ticked_more t w.0 m q ss s w.2 one)
+-- what the pass has seen after Ticks begins with what it had seen
+pub ticks_later : (t : Terms) (p q : PassSeen) (ss : List Ticking) → InTurn (IsTicked t) p q ss → IsLater p q
+ticks_later t p q [] w = subst (IsLater p) (sym w) (later_self p)
+ticks_later t p q (s ∷ ss) w = later_further p w.0 q w.1.later (ticks_later t w.0 q ss w.2)
 
 moments_more : (ss : List Ticking) (s : Ticking) (pulse first last : Option Moments) → Moves (MovesMoments ss) pulse first → TakesMoment s.moment first last → Moves (MovesMoments (ss ++ s ∷ [])) pulse last
 moments_more ss s None None last w takes = subst (Moves (MovesMoments (ss ++ s ∷ [])) None) (sym takes) tt
@@ -65,10 +72,9 @@ made_more t p m q ss s w one =
 so_more : (t : Terms) (p m q : PassSeen) (pulse first last : Option Moments) (ss : List Ticking) (s : Ticking) → HasTickedSo t p m pulse first ss → TakesMoment s.moment first last → IsTicked t m q s
     → HasTickedSo t p q pulse last (ss ++ s ∷ [])
 so_more t p m q pulse first last ss s w takes one = record {
-  each = ticked_more t p m q ss s w.each one;
+  each = turn_more (IsTicked t) p m q ss s w.each one;
   moments = moments_more ss s pulse first last w.moments takes;
   made = made_more t p m q ss s w.made one;
-  later = later_further p m q w.later one.later;
   pass = one.pass;
 }
 
@@ -96,7 +102,7 @@ missed t p m q pulse first last refused refused' moment stop w takes one more =
       refused_is = omega (arith, more, w.refused_is, missed_more w.ticks s);
     }
 
-pub tick_stopped : (t : Terms) (p m q : PassSeen) (pulse first last : Option Moments) (refused moment : ℕ) (stop : Stop) → is_memory stop ≡ false → TickedSoFar t p m pulse first refused
+pub tick_stopped : (t : Terms) (p m q : PassSeen) (pulse first last : Option Moments) (refused moment : ℕ) (stop : Stop) → stop ≢ Memory → TickedSoFar t p m pulse first refused
     → TakesMoment moment first last → TicksOnce t m q moment (Some stop) → WorksTicks t p q pulse last (record { stop = Some stop; refused = refused })
 tick_stopped t p m q pulse first last refused moment stop other w takes one =
     let s : Ticking = record { moment = moment; entry = None } in
@@ -105,7 +111,6 @@ tick_stopped t p m q pulse first last refused moment stop other w takes one =
       each = so.each;
       moments = so.moments;
       made = so.made;
-      later = so.later;
       ended = record { front = w.ticks; last = s; parts = refl; none = refl; other = other; shown = one.1; missed = w.refused_is };
     }
 
@@ -116,6 +121,5 @@ pulse_ended t p q pulse first last refused w same none = record {
   each = w.so.each;
   moments = subst (Moves (MovesMoments w.ticks) pulse) (sym same) w.so.moments;
   made = w.so.made;
-  later = w.so.later;
   ended = (subst HasNoMoment (sym same) none, w.refused_is);
 }

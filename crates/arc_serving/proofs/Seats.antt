@@ -11,8 +11,7 @@ use Rattle.line_gate.proofs.Carried.{later_self, later_further}
 use Rattle.line_gate.proofs.Histories.{extends_further}
 use Rattle.line_gate.specs.Passes.{PassSeen, IsPass, IsLater}
 use Rattle.line_gate.specs.Terms.{Terms}
-use Rattle.arc_serving.specs.Jobs.{JobSeen, IsReady, AreSeated, SeatsOne, HasTaken, IsTaken, AreUnseated, doors_in, numbers_in, passes_in, worked_in}
-use Rattle.arc_serving.specs.Rising.{AreRising}
+use Rattle.arc_serving.specs.Jobs.{JobSeen, IsReady, AreRising, AreSeated, SeatsOne, HasTaken, IsTaken, AreUnseated, doors_in, numbers_in, passes_in, worked_in}
 use Rattle.arc_serving.proofs.Lists.{reverse_option, rising_more, rising_wider}
 
 -- no door was taken yet

@@ -2,6 +2,7 @@
 use Rattle.std.proofs.Common.{◌≡◌, ◌≤◌, ◌<◌, ℕ, List, [], ◌∷◌, ◌++◌, Option, Some, length, refl, sym, ap, ◌∙◌, subst, arith}
 use Rattle.std.proofs.lemmas.List.{map-append}
 use Rattle.std.proofs.lemmas.List.Elements.{All-nil, All-cons, All-append, All-weaker}
+use Rattle.std.specs.List.Sorted.{IsStrictlyIncreasing}
 use Rattle.std.specs.Prelude.{All, Result, Ok, Err, IfOk, OnErr, true, false, map, reverse}
 use Rattle.alarm_rules.specs.Setups.{meaning}
 use Rattle.arc_doors.specs.Doors.{DoorSeen}
@@ -25,14 +26,14 @@ use Rattle.line_gate.specs.Groups.{IsClosed, IsClosedBroken, ClosesGroup}
 use Rattle.line_gate.specs.declared.closed.GroupClosed.{GroupClosed}
 use Rattle.line_gate.specs.declared.closed.GroupClosed.TheVariants.{Whole, Broken}
 use Rattle.arc_serving.specs.Closing.{ServesSeated}
-use Rattle.arc_serving.specs.Jobs.{JobSeen, AreSeated, HasTaken, AreUnseated, doors_in, numbers_in, passes_in, worked_in}
-use Rattle.arc_serving.specs.Ran.{IsFresh, WorkerRan, IsSideServed, began_in, ended_in}
-use Rattle.arc_serving.specs.Rising.{AreRising}
+use Rattle.arc_serving.specs.Jobs.{JobSeen, AreRising, AreSeated, HasTaken, AreUnseated, doors_in, numbers_in, worked_in}
+use Rattle.arc_serving.specs.Ran.{IsFresh, WorkerRan, IsSideServed}
 use Rattle.arc_serving.specs.Seen.{StationSeen, CameSeen}
-use Rattle.arc_serving.specs.Serving.{Serves, ServesStore, ServesBroken, ServesAt, RanBefore, GathersStore, GoesOnFrom, GoesOnAt, IsKeptAt, IsKeptOf, StandsForAll, all_ended}
+use Rattle.arc_serving.specs.Serving.{ServesWhole, ServesStore, ServesBroken, ServesAt, RanBefore, GathersStore, GoesOnFrom, GoesOnAt, IsKeptOf, StandsForAll, all_ended}
 use Rattle.arc_serving.specs.declared.station.Crew.{Crew}
-use Rattle.arc_serving.proofs.Lists.{rising_both}
-use Rattle.arc_serving.proofs.Sides.{SideRan, side_ran}
+use Rattle.arc_serving.proofs.Lists.{rising_both, rising_increases}
+use Rattle.arc_serving.proofs.Moments.{ticks_later}
+use Rattle.arc_serving.proofs.Sides.{SideRan, ended_in, side_ran}
 
 -- the workers of a side stood at its first doors
 side_served : (side : Side) (t : Terms) (count sessions : ℕ) (last : PassSeen) (olds news : List JobSeen) (before left after : List DoorSeen) (came : List Worked)
@@ -40,12 +41,10 @@ side_served : (side : Side) (t : Terms) (count sessions : ℕ) (last : PassSeen)
     → IsSideServed side t count sessions w.ran before after came
 side_served side t count sessions last olds news before left after came seated long over worked w = record {
   count_is = w.count ∙ long;
-  stood = record {
-    unused = reverse left;
-    before = seated ∙ ap (λ (l : List DoorSeen). l ++ reverse left) w.doors;
-    after = over.parts ∙ ap (λ (l : List DoorSeen). l ++ reverse left) w.doors';
-    came_is = worked ∙ w.came;
-  };
+  unused = reverse left;
+  before = seated ∙ ap (λ (l : List DoorSeen). l ++ reverse left) w.doors;
+  after = over.parts ∙ ap (λ (l : List DoorSeen). l ++ reverse left) w.doors';
+  came_is = worked ∙ w.came;
   each = w.each;
 }
 
@@ -55,7 +54,7 @@ stands_for_all : {D : Type 0} (seen : D → DiskSeen) (t : Terms) (last : PassSe
     → StandsForAll seen b base passes s
 stands_for_all seen t last s passes closed taken b base from =
     let h = closed.stands b base from in record {
-      from = record { history = h.0; stands = h.2; begins = extends_further base (last.since ++ base) h.0 (last.since, refl) h.1; past = h.3 };
+      from = record { history = h.0; stands = h.2; past = h.3 };
       all_seen = All-weaker (λ (p : PassSeen). HasTaken last p) (λ (p : PassSeen). Extends (p.since ++ base) h.0)
           (λ p w. extends_further (p.since ++ base) (last.since ++ base) h.0 (extends_base p.since last.since base w.since) h.1) passes taken;
     }
@@ -71,16 +70,19 @@ setup_from t first pass none b base from =
     subst (λ (l : List Entry). force b (marks b (l ++ base)) ≡ Some (meaning t.text)) none (pass.of_gate.over b base from).in_force
 
 -- the numbers of the callers: of lines, of desks, and of the ticker
-numbers_from : (low one two high : ℕ) (lines desks : List JobSeen) (ticker : PassSeen) (line_ran desk_ran : List WorkerRan) → AreRising low (numbers_in lines) one
-    → AreRising one (numbers_in desks) two → two ≤ ticker.number → ticker.number < high → passes_in lines ≡ began_in line_ran → passes_in desks ≡ began_in desk_ran
-    → AreRising low (map (λ (p : PassSeen). p.number) (began_in line_ran ++ (began_in desk_ran ++ ticker ∷ []))) high
-numbers_from low one two high lines desks ticker line_ran desk_ran w v le lt line_is desk_is =
+numbers_from : (low one two high : ℕ) (lines desks : List JobSeen) (ticker ticker' : PassSeen) (line_ran desk_ran : List WorkerRan) → AreRising low (numbers_in lines) one
+    → AreRising one (numbers_in desks) two → two ≤ ticker.number → ticker.number < high → numbers_in lines ≡ map (λ (p : PassSeen). p.number) (ended_in line_ran)
+    → numbers_in desks ≡ map (λ (p : PassSeen). p.number) (ended_in desk_ran) → ticker'.number ≡ ticker.number
+    → IsStrictlyIncreasing (map (λ (p : PassSeen). p.number) (ended_in line_ran ++ (ended_in desk_ran ++ ticker' ∷ [])))
+numbers_from low one two high lines desks ticker ticker' line_ran desk_ran w v le lt line_is desk_is ticker_is =
     let number : PassSeen → ℕ = λ p. p.number in
-    let same : map number (began_in line_ran ++ (began_in desk_ran ++ ticker ∷ [])) ≡ numbers_in lines ++ (numbers_in desks ++ ticker.number ∷ []) =
-    map-append number (began_in line_ran) (began_in desk_ran ++ ticker ∷ []) ∙ ap (λ (l : List ℕ). map number (began_in line_ran) ++ l) (map-append number (began_in desk_ran) (ticker ∷ []))
-    ∙ ap (λ (l : List PassSeen). map number l ++ (map number (began_in desk_ran) ++ ticker.number ∷ [])) (sym line_is) ∙ ap (λ (l : List PassSeen). numbers_in lines ++ (map number l ++ ticker.number ∷ [])) (sym desk_is) in
-    subst (λ (l : List ℕ). AreRising low l high) (sym same)
-    (rising_both low (numbers_in lines) (numbers_in desks ++ ticker.number ∷ []) one high w (rising_both one (numbers_in desks) (ticker.number ∷ []) two high v (le, omega (arith, lt))))
+    let same : map number (ended_in line_ran ++ (ended_in desk_ran ++ ticker' ∷ [])) ≡ numbers_in lines ++ (numbers_in desks ++ ticker.number ∷ []) =
+    map-append number (ended_in line_ran) (ended_in desk_ran ++ ticker' ∷ []) ∙ ap (λ (l : List ℕ). map number (ended_in line_ran) ++ l) (map-append number (ended_in desk_ran) (ticker' ∷ []))
+    ∙ ap (λ (l : List ℕ). l ++ (map number (ended_in desk_ran) ++ ticker'.number ∷ [])) (sym line_is) ∙ ap (λ (l : List ℕ). numbers_in lines ++ (l ++ ticker'.number ∷ [])) (sym desk_is)
+    ∙ ap (λ (n : ℕ). numbers_in lines ++ (numbers_in desks ++ n ∷ [])) ticker_is in
+    subst (λ (l : List ℕ). IsStrictlyIncreasing l) (sym same)
+    (rising_increases low (numbers_in lines ++ (numbers_in desks ++ ticker.number ∷ [])) high
+    (rising_both low (numbers_in lines) (numbers_in desks ++ ticker.number ∷ []) one high w (rising_both one (numbers_in desks) (ticker.number ∷ []) two high v (le, omega (arith, lt)))))
 
 -- all that ran, before the pass that took in theirs
 pub ran_before : (t : Terms) (crew : Crew) (first given last ticker : PassSeen)
@@ -97,9 +99,8 @@ ran_before t crew first given last ticker low one two high lines desks before le
         lines = side_served Lines t crew.lines crew.sessions last lines w.lines' before.lines left.lines after.lines came.lines seated_lines.parts line_count w.lines_over w.lines_came l;
         desks = side_served Desks t crew.desks crew.sessions last desks w.desks' before.desks left.desks after.desks came.desks seated_desks.parts desk_count w.desks_over w.desks_came d;
         ticker = record { fresh = fresh; pass = w.is_pass; works = subst (λ (m : Option Moments). WorksTicks t ticker w.ticker' m after.pulse came.ticked) pulse w.ticks };
-        low = low;
-        high = high;
-        numbers = numbers_from low one two high lines desks ticker l.ran d.ran seated_lines.rising seated_desks.rising le lt l.began d.began;
+        numbers = numbers_from low one two high lines desks ticker w.ticker' l.ran d.ran seated_lines.rising seated_desks.rising le lt l.numbers d.numbers
+            (ticks_later t ticker w.ticker' w.ticks.ticks w.ticks.each).number;
         setup = setup_from t first pass none;
       };
       taken = All-append (λ (p : PassSeen). HasTaken last p) (ended_in l.ran) (ended_in d.ran ++ w.ticker' ∷ []) l.taken
@@ -108,7 +109,7 @@ ran_before t crew first given last ticker low one two high lines desks before le
 
 -- then the gate was closed with that pass
 pub serves : {D : Type 0} (seen : D → DiskSeen) (t : Terms) (last : PassSeen) (crew : Crew) (before after : StationSeen) (came : CameSeen) (s : Stored D)
-    → IsClosed seen t last s → RanBefore t last crew before after came → Serves seen t crew before after came s
+    → IsClosed seen t last s → RanBefore t last crew before after came → ServesWhole seen t crew before after came s
 serves seen t last crew before after came s closed w = record {
   all = w.all;
   stands = stands_for_all seen t last s (all_ended w.all.ran) closed w.taken;
@@ -137,9 +138,11 @@ pub goes_on_at : {D : Type 0} (seen : D → DiskSeen) (t : Terms) (last : PassSe
 goes_on_at seen t last (Whole s) closed b base from = goes_on seen t last s closed.closed b base from
 goes_on_at seen t last (Broken disk at_open now) closed b base from = (closed.now_is, closed.rose)
 
-pub kept_at : {D : Type 0} (seen : D → DiskSeen) (t : Terms) (last : PassSeen) (c : GroupClosed D) → ClosesGroup seen t last c → IsKeptAt t c
-kept_at seen t last (Whole s) closed = (closed.closed.at_open, closed.closed.limits)
-kept_at seen t last (Broken disk at_open now) closed = closed.at_open_is
+-- closed, what comes back is as the store was that the gate was made before
+pub kept_of : {D : Type 0} (seen : D → DiskSeen) (t : Terms) (last : PassSeen) (from : Stored D) (c : GroupClosed D)
+    → from.at_open ≡ t.at_open → from.journal.limits ≡ t.limits → ClosesGroup seen t last c → IsKeptOf from c
+kept_of seen t last from (Whole s) opened limits closed = (closed.closed.at_open ∙ sym opened, closed.closed.limits ∙ sym limits)
+kept_of seen t last from (Broken disk at_open now) opened limits closed = closed.at_open_is ∙ sym opened
 
 pub if_ok : {A E : Type 0} (P Q : A → Type 0) (r : Result A E) → ((x : A) → P x → Q x) → IfOk r P → IfOk r Q
 if_ok P Q (Ok x) f w = f x w
@@ -147,7 +150,7 @@ if_ok P Q (Err e) f w = tt
 
 -- at the gate that was before the store
 pub of_store : {D E : Type 0} (seen : D → DiskSeen) (gate : BlankSeen D) (from : Stored D) (crew : Crew) (before after : StationSeen)
-    (s : Stored D) (r : Result CameSeen E) → gate.store ≡ from → IfOk r (λ came. Serves seen (terms_of false seen gate) crew before after came s)
+    (s : Stored D) (r : Result CameSeen E) → gate.store ≡ from → IfOk r (λ came. ServesWhole seen (terms_of false seen gate) crew before after came s)
     → IfOk r (λ came. ServesStore seen from crew before after came s)
 of_store seen gate from crew before after s (Ok came) is w = record { gate = gate; from_is = is; serves = w }
 of_store seen gate from crew before after s (Err e) is w = tt
@@ -161,7 +164,3 @@ pub of_group : {D E : Type 0} (seen : D → DiskSeen) (gate : BlankSeen D) (from
     → IfOk r (λ came. GathersStore seen from crew before after came c)
 of_group seen gate from crew before after c (Ok came) is w = record { gate = gate; from_is = is; serves = w }
 of_group seen gate from crew before after c (Err e) is w = tt
-
-pub kept_of : {D : Type 0} (seen : D → DiskSeen) (gate : BlankSeen D) (from : Stored D) (c : GroupClosed D) → gate.store ≡ from → IsKeptAt (terms_of true seen gate) c → IsKeptOf from c
-kept_of seen gate from (Whole s) is w = (w.0 ∙ ap (λ (x : Stored _). x.at_open) is, w.1 ∙ ap (λ (x : Stored _). x.journal.limits) is)
-kept_of seen gate from (Broken disk at_open now) is w = w ∙ ap (λ (x : Stored _). x.at_open) is

@@ -1,5 +1,5 @@
 -- The workers of a side that ran, from their jobs before and after.
-use Rattle.std.proofs.Common.{◌≡◌, ℕ, suc, List, [], ◌∷◌, ◌++◌, Option, Some, length, refl, ap, ◌∙◌, subst}
+use Rattle.std.proofs.Common.{◌≡◌, ℕ, suc, List, [], ◌∷◌, ◌++◌, Option, Some, length, refl, sym, ap, ◌∙◌, subst}
 use Rattle.std.proofs.lemmas.List.Elements.{All-nil, All-cons, All-head, All-tail}
 use Rattle.std.specs.List.{AllZip}
 use Rattle.std.specs.Option.{option_to_list}
@@ -9,8 +9,12 @@ use Rattle.line_gate.specs.Passes.{PassSeen}
 use Rattle.line_gate.specs.Terms.{Terms}
 use Rattle.arc_serving.specs.declared.working.Worked.{Worked}
 use Rattle.arc_doors.specs.Doors.{DoorSeen}
-use Rattle.arc_serving.specs.Jobs.{JobSeen, IsReady, IsJobDone, WorksJob, HasTaken, IsTaken, doors_in, passes_in, worked_in}
-use Rattle.arc_serving.specs.Ran.{WorkerRan, IsWorkerRan, began_in, ended_in}
+use Rattle.arc_serving.specs.Jobs.{JobSeen, IsReady, IsJobDone, WorksJob, HasTaken, IsTaken, doors_in, numbers_in, passes_in, worked_in}
+use Rattle.arc_serving.specs.Ran.{WorkerRan, IsWorkerRan}
+use Rattle.arc_serving.proofs.Links.{no_count_falls}
+
+abbrev pub ended_in : List WorkerRan → List PassSeen
+ended_in ran = map (λ w. w.ended) ran
 
 -- jobs that were ready, done and then taken in are workers that ran
 pub record SideRan (side : Side) (t : Terms) (sessions : ℕ) (last : PassSeen) (olds news : List JobSeen) : Type 0 where
@@ -19,7 +23,7 @@ pub record SideRan (side : Side) (t : Terms) (sessions : ℕ) (last : PassSeen) 
   pub doors : doors_in olds ≡ map (λ w. w.door) ran
   pub doors' : doors_in news ≡ map (λ w. w.door') ran
   pub came : worked_in news ≡ map (λ w. w.worked) ran
-  pub began : passes_in olds ≡ began_in ran
+  pub numbers : numbers_in olds ≡ map (λ p. p.number) (ended_in ran)
   pub each : All (λ (w : WorkerRan). IsWorkerRan side t sessions w) ran
   pub taken : All (λ (p : PassSeen). HasTaken last p) (ended_in ran)
 
@@ -43,7 +47,8 @@ one_more side t sessions last old new olds news ready done taken more =
       doors = ap (λ (l : List DoorSeen). old.door ∷ l) more.doors;
       doors' = ap (λ (l : List DoorSeen). new.door ∷ l) more.doors';
       came = ap (λ (o : Option Worked). option_to_list o ++ worked_in news) d.worked_is ∙ ap (λ (l : List Worked). d.worked ∷ l) more.came;
-      began = ap (λ (o : Option PassSeen). option_to_list o ++ passes_in olds) ready.1 ∙ ap (λ (l : List PassSeen). p ∷ l) more.began;
+      numbers = ap (λ (o : Option PassSeen). map (λ (x : PassSeen). x.number) (option_to_list o ++ passes_in olds)) ready.1 ∙ ap (λ (l : List ℕ). p.number ∷ l) more.numbers
+          ∙ ap (λ (n : ℕ). n ∷ map (λ (x : PassSeen). x.number) (ended_in more.ran)) (sym (no_count_falls side t p d.pass d.works.served d.works.each).0);
       each = All-cons (λ (x : WorkerRan). IsWorkerRan side t sessions x) w more.ran (record { fresh = ready.2; pass = d.is_pass; works = d.works }) more.each;
       taken = All-cons (λ (x : PassSeen). HasTaken last x) d.pass (ended_in more.ran) (taken_from last new.pass d.pass d.pass_is taken) more.taken;
     }
@@ -56,7 +61,7 @@ side_ran side t sessions last [] [] ready done taken = record {
   doors = refl;
   doors' = refl;
   came = refl;
-  began = refl;
+  numbers = refl;
   each = All-nil (λ (w : WorkerRan). IsWorkerRan side t sessions w);
   taken = All-nil (λ (p : PassSeen). HasTaken last p);
 }

@@ -2,7 +2,7 @@
 use Rattle.std.proofs.Common.{◌≡◌, ◌≤◌, ◌<◌, ◌+◌, ℕ, List, [], ◌∷◌, ◌++◌, Bool, true, false, Option, Some, None, refl, sym, subst, arith, length-append, ⊎_elim}
 use Rattle.std.proofs.lemmas.List.Elements.{All-nil, All-push}
 use Rattle.std.proofs.lemmas.List.Sums.{sum_by-append}
-use Rattle.std.specs.Prelude.{length, cond, Result, Ok, Err}
+use Rattle.std.specs.Prelude.{length, cond, count_by, Result, Ok, Err}
 use Rattle.arc_data.specs.declared.event.Event.{Event}
 use Rattle.arc_doors.specs.Doors.{DoorSeen, HasNoneLeft}
 use Rattle.arc_io.specs.Causes.{Rose}
@@ -18,18 +18,23 @@ use Rattle.line_gate.specs.AtGates.{gate_seen}
 use Rattle.line_gate.specs.Passes.{PassSeen, IsPass, PassShows}
 use Rattle.line_gate.specs.Terms.{Terms}
 use Rattle.session_rules.specs.Sessions.{IsShownFor}
-use Rattle.arc_serving.proofs.Links.{no_count_falls, none_served, one_more, served_more, same_number}
-use Rattle.arc_serving.proofs.AtGates.{makes_in_order}
+use Rattle.arc_serving.proofs.Links.{none_served, one_more, turn_more}
 use Rattle.arc_serving.specs.Next.{ServesOne, IsAsBefore, ServesNext}
-use Rattle.arc_serving.specs.Served.{Moves, Served, AreServed, MovesLinks}
-use Rattle.arc_serving.specs.Works.{WentOn, IsShown, EndsWork, Works, is_refused, stop_of, refused_in}
+use Rattle.arc_serving.specs.Served.{InTurn, Moves, Served, IsServed, MovesLinks}
+use Rattle.arc_serving.specs.Works.{WentOn, EndsWork, Works, is_refused, stop_of}
 use Rattle.arc_serving.specs.declared.working.WorkerEnd.{WorkerEnd}
 use Rattle.arc_serving.specs.declared.working.WorkerEnd.TheVariants.{DoorEnded, Quota, DoorFault, Stopped as WorkerStopped}
 
+abbrev refused_in : List Served → ℕ
+refused_in served = count_by (λ s. is_refused s.end) served
+
+-- the pass shows the stop for some event at some reading of the clock
+abbrev IsShown : Terms → PassSeen → Stop → Type 0
+IsShown t q stop = (event : Event) × (clock : ℕ) × PassShows t q stop event clock
+
 -- these links were served
 pub record HasDone (side : Side) (t : Terms) (p q : PassSeen) (door door' : DoorSeen) (count refused sessions : ℕ) (served : List Served) : Type 0 where
-  pub first : IsPass t p
-  pub each : AreServed side t p q served
+  pub each : InTurn (IsServed side t) p q served
   pub links : Moves (MovesLinks served) door.links door'.links
   pub count_is : count ≡ length served
   pub refused_is : refused ≡ refused_in served
@@ -48,7 +53,7 @@ pub record SoFar (side : Side) (t : Terms) (p q : PassSeen) (door door' : DoorSe
 pub none_yet : (side : Side) (t : Terms) (p : PassSeen) (door : DoorSeen) (sessions : ℕ) → IsPass t p → SoFar side t p p door door 0 0 sessions
 none_yet side t p door sessions pass = record {
   served = [];
-  done = record { first = pass; each = refl; links = none_served door.links; count_is = refl; refused_is = refl; few = omega arith; most = omega arith; later = omega arith };
+  done = record { each = refl; links = none_served door.links; count_is = refl; refused_is = refl; few = omega arith; most = omega arith; later = omega arith };
   on = All-nil (λ (s : Served). stop_of s.end ≡ None);
   pass = pass;
 }
@@ -65,8 +70,7 @@ done_more : (side : Side) (t : Terms) (p m q : PassSeen) (door first last : Door
     → HasDone side t p q door last (count + 1) refused' sessions (ss ++ one.link ∷ [])
 done_more side t p m q door first last count refused refused' sessions ss end w one room is =
     let more : refused' ≡ refused + cond (is_refused one.link.end) 1 0 = subst (λ (e : SessionEnd). refused' ≡ refused + cond (is_refused e) 1 0) (sym one.ended) is in record {
-      first = w.first;
-      each = served_more side t p m q ss one.link w.each one.served;
+      each = turn_more (IsServed side t) p m q ss one.link w.each one.served;
       links = one_more ss one.link door.links first.links one.out last.links w.links one.takes one.gets;
       count_is = omega (arith, length-append ss (one.link ∷ []), w.count_is);
       refused_is = omega (arith, more, w.refused_is, sum_by-append (λ (x : Served). cond (is_refused x.end) 1 0) ss (one.link ∷ []));
@@ -90,8 +94,7 @@ so_far_more side t p m q door first last count refused refused' sessions end w o
 done_still : (side : Side) (t : Terms) (p m q : PassSeen) (door first last : DoorSeen) (count refused sessions : ℕ) (ss : List Served)
     → HasDone side t p m door first count refused sessions ss → IsAsBefore m q first last → HasDone side t p q door last count refused sessions ss
 done_still side t p m q door first last count refused sessions ss w same = record {
-  first = w.first;
-  each = subst (λ (k : PassSeen). AreServed side t p k ss) (sym same.pass) w.each;
+  each = subst (λ (k : PassSeen). InTurn (IsServed side t) p k ss) (sym same.pass) w.each;
   links = subst (Moves (MovesLinks ss) door.links) (sym same.links) w.links;
   count_is = w.count_is;
   refused_is = w.refused_is;
@@ -107,11 +110,7 @@ works : (side : Side) (t : Terms) (p q : PassSeen) (door door' : DoorSeen) (coun
 works side t p q door door' count refused sessions end served w ended = record {
   served = served;
   each = w.each;
-  number = same_number side t p q served w.each;
-  count = (no_count_falls side t p q served w.each).0;
-  told = (no_count_falls side t p q served w.each).1;
   links = w.links;
-  made = makes_in_order side t p q served w.first w.each;
   most = omega (arith, w.most, w.count_is);
   refused = w.refused_is;
   ended = ended;

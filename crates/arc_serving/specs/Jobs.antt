@@ -1,5 +1,5 @@
 -- Jobs, before they are done and after.
-use Rattle.std.specs.Prelude.{◌≡◌, ◌≤◌, ◌<◌, ℕ, List, [], ◌∷◌, ◌++◌, Option, Some, MatchOption, All, map, reverse, flat_map}
+use Rattle.std.specs.Prelude.{◌≡◌, ◌≤◌, ◌<◌, ◌+◌, ℕ, List, [], ◌∷◌, ◌++◌, Option, Some, MatchOption, All, map, reverse, flat_map}
 use Rattle.std.specs.Option.{option_to_list}
 use Rattle.arc_doors.specs.Doors.{DoorSeen}
 use Rattle.arc_serving.specs.declared.side.Side.{Side}
@@ -9,7 +9,6 @@ use Rattle.line_gate.specs.Entries.{Extends}
 use Rattle.line_gate.specs.Passes.{PassSeen, IsPass}
 use Rattle.line_gate.specs.Terms.{Terms}
 use Rattle.arc_serving.specs.Ran.{IsFresh}
-use Rattle.arc_serving.specs.Rising.{AreRising}
 
 -- of a job: what its door tells, its pass, and what came of the worker once it ended
 pub record JobSeen : Type 0 where
@@ -33,6 +32,11 @@ doors_in jobs = map (λ j. j.door) jobs
 -- the job has a fresh pass
 abbrev pub IsReady : Terms → JobSeen → Type 0
 IsReady t j = (p : PassSeen) × (j.pass ≡ Some p) × IsFresh t p
+
+-- each number is above the one before it; the first is at least `low`, and the last below `high`
+abbrev pub AreRising : ℕ → List ℕ → ℕ → Type 0
+AreRising low [] high = low ≤ high
+AreRising low (n ∷ ns) high = (low ≤ n) × AreRising (n + 1) ns high
 
 -- The first of these doors were taken into jobs, each with a fresh pass whose number is above that of the one before; the others are left,
 -- the first one last. The numbers are not below `low`, and below `high`.

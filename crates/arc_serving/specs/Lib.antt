@@ -8,7 +8,6 @@ pub mod Served
 pub mod Next
 pub mod Works
 pub mod Ticks
-pub mod Rising
 pub mod Ran
 pub mod Jobs
 pub mod Seen

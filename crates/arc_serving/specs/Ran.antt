@@ -39,23 +39,13 @@ pub record IsTickerRan (t : Terms) (w : TickerRan) (pulse pulse' : Option Moment
   pub pass : IsPass t w.ended
   pub works : WorksTicks t w.began w.ended pulse pulse' ticked
 
-abbrev pub began_in : List WorkerRan → List PassSeen
-began_in ran = map (λ w. w.began) ran
-
-abbrev pub ended_in : List WorkerRan → List PassSeen
-ended_in ran = map (λ w. w.ended) ran
-
--- The first doors of a side had a worker each, in order, and the others are as they were. What came of the workers stands in the order of
--- their doors.
-pub record StoodAt (ran : List WorkerRan) (doors doors' : List DoorSeen) (came : List Worked) : Type 0 where
+-- All that is said of the workers of one side: its first doors had a worker each, in order, and the others are as they were. What came of
+-- the workers stands in the order of their doors.
+pub record IsSideServed (side : Side) (t : Terms) (count sessions : ℕ) (ran : List WorkerRan) (doors doors' : List DoorSeen)
+    (came : List Worked) : Type 0 where
+  pub count_is : length ran ≡ count
   pub unused : List DoorSeen
   pub before : doors ≡ map (λ w. w.door) ran ++ unused
   pub after : doors' ≡ map (λ w. w.door') ran ++ unused
   pub came_is : came ≡ map (λ w. w.worked) ran
-
--- all that is said of the workers of one side
-pub record IsSideServed (side : Side) (t : Terms) (count sessions : ℕ) (ran : List WorkerRan) (doors doors' : List DoorSeen)
-    (came : List Worked) : Type 0 where
-  pub count_is : length ran ≡ count
-  pub stood : StoodAt ran doors doors' came
   pub each : All (λ w. IsWorkerRan side t sessions w) ran

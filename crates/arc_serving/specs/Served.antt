@@ -1,6 +1,6 @@
 -- What a worker did with its links, and what its pass made of them.
 use Rattle.std.specs.Prelude.{◌≡◌, ◌≤◌, ◌-◌, ◌++◌, ℕ, List, [], ◌∷◌, Bool, false, Option, Some, None}
-use Rattle.std.specs.Prelude.{All, codes, length, take, map, reverse, flat_map}
+use Rattle.std.specs.Prelude.{All, codes, length, take, map, reverse}
 use Rattle.arc_data.specs.declared.event.Event.{Event}
 use Rattle.arc_data.specs.declared.event.Event.TheVariants.{Message, Beat}
 use Rattle.arc_data.specs.declared.event.Event.TheVariants.{Next, Claim, Act, Release, Close, Show, List as Rows}
@@ -15,7 +15,7 @@ use Rattle.line_gate.specs.AtGates.{gate_seen}
 use Rattle.line_gate.specs.Entries.{Entry, Extends}
 use Rattle.line_gate.specs.Passes.{PassSeen, IsPass}
 use Rattle.line_gate.specs.Terms.{Terms}
-use Rattle.session_rules.specs.Sessions.{changed, Way}
+use Rattle.session_rules.specs.Sessions.{changed}
 
 -- the name of the line of each link that panels come by
 abbrev pub tcp : List ℕ
@@ -29,15 +29,12 @@ pub record Served : Type 0 where
   pub end : SessionEnd
   pub entries : List Entry
 
--- the way of a session of the pass over this base, which was p before it and q after it
-abbrev pub way_at : List Entry → PassSeen → PassSeen → List Entry → Way
-way_at base p q entries = record { from = p.since ++ base; to = q.since ++ base; made = entries }
-
 -- The clause of a session of this kind over the gate, from what the pass p had seen before it, over this base, to what q had seen
 -- after it. The entries are just those of the session.
 abbrev pub ServesAtGate : Side → Terms → Summary → List Entry → PassSeen → PassSeen → List ℕ → Served → Type 0
 ServesAtGate side t b base p q read s =
-    ServesBy t.groups side tcp s.end read b (way_at base p q s.entries) (changed (gate_seen t p) (gate_seen t q) s.given s.back)
+    ServesBy t.groups side tcp s.end read b (record { from = p.since ++ base; to = q.since ++ base; made = s.entries })
+    (changed (gate_seen t p) (gate_seen t q) s.given s.back)
 
 -- a session of this kind submits each event alone, at a gate that takes events together or not
 abbrev pub IsSingle : Side → Bool → Type 0
@@ -55,26 +52,16 @@ pub record IsServed (side : Side) (t : Terms) (p q : PassSeen) (s : Served) : Ty
   pub told : p.told ≤ q.told
   pub pass : IsPass t q
 
--- the links were served one after another, from the pass p to the pass q
-abbrev pub AreServed : Side → Terms → PassSeen → PassSeen → List Served → Type 0
-AreServed side t p q [] = q ≡ p
-AreServed side t p q (s ∷ ss) = (mid : PassSeen) × IsServed side t p mid s × AreServed side t mid q ss
-
--- all entries of these links, in order
-abbrev pub entries_in : List Served → List Entry
-entries_in served = flat_map (λ s. s.entries) served
-
-abbrev pub given_in : List Served → List PortSeen
-given_in served = map (λ s. s.given) served
-
-abbrev pub back_in : List Served → List PortSeen
-back_in served = map (λ s. s.back) served
+-- these were done in turn, the first of them from p on, the last to q
+abbrev pub InTurn : {P S : Type 0} → (P → P → S → Type 0) → P → P → List S → Type 0
+InTurn done p q [] = q ≡ p
+InTurn {P} done p q (s ∷ ss) = (mid : P) × done p mid s × InTurn done mid q ss
 
 -- of a door that tells its links: these were given, and got back, in order
 pub record MovesLinks (served : List Served) (old new : Links) : Type 0 where
-  pub left : old.left ≡ given_in served ++ new.left
-  pub given : new.given ≡ old.given ++ given_in served
-  pub back : new.back ≡ old.back ++ back_in served
+  pub left : old.left ≡ map (λ s. s.given) served ++ new.left
+  pub given : new.given ≡ old.given ++ map (λ s. s.given) served
+  pub back : new.back ≡ old.back ++ map (λ s. s.back) served
 
 -- of a door or a pulse: where it told it goes on to tell, and what it tells moved so; one that did not never does
 abbrev pub Moves : {A : Type 0} → (A → A → Type 0) → Option A → Option A → Type 0
@@ -82,27 +69,19 @@ Moves so None None = Unit {0}
 Moves so (Some old) (Some new) = so old new
 Moves so old new = ⊥
 
--- what panels report: a message or a heartbeat
-abbrev pub IsReport : Event → Type 0
-IsReport (Message m via) = Unit {0}
-IsReport (Beat account) = Unit {0}
-IsReport event = ⊥
-
--- what operators ask for: an order for an incident, or a question
-abbrev pub IsRequest : Event → Type 0
-IsRequest (Claim operator number) = Unit {0}
-IsRequest (Next operator) = Unit {0}
-IsRequest (Act operator number step outcome) = Unit {0}
-IsRequest (Release operator number) = Unit {0}
-IsRequest (Close operator number code) = Unit {0}
-IsRequest (Show number) = Unit {0}
-IsRequest Rows = Unit {0}
-IsRequest event = ⊥
-
--- what is submitted in sessions of a kind
+-- What is submitted in sessions of a kind: on a line what panels report, a message or a heartbeat; at a desk what operators ask for, an
+-- order for an incident or a question.
 abbrev pub IsSubmittedBy : Side → Event → Type 0
-IsSubmittedBy Lines event = IsReport event
-IsSubmittedBy Desks event = IsRequest event
+IsSubmittedBy Lines (Message m via) = Unit {0}
+IsSubmittedBy Lines (Beat account) = Unit {0}
+IsSubmittedBy Desks (Claim operator number) = Unit {0}
+IsSubmittedBy Desks (Next operator) = Unit {0}
+IsSubmittedBy Desks (Act operator number step outcome) = Unit {0}
+IsSubmittedBy Desks (Release operator number) = Unit {0}
+IsSubmittedBy Desks (Close operator number code) = Unit {0}
+IsSubmittedBy Desks (Show number) = Unit {0}
+IsSubmittedBy Desks Rows = Unit {0}
+IsSubmittedBy side event = ⊥
 
 -- What a pass made from p to q are these entries, in order, of events of this kind of session alone. What it has seen begins with
 -- what it had seen.

@@ -1,5 +1,6 @@
 -- What serving makes of a store and of what stood around it.
 use Rattle.std.specs.Prelude.{◌≡◌, ◌≤◌, ℕ, List, [], ◌∷◌, ◌++◌, true, false, Some, All, map}
+use Rattle.std.specs.List.Sorted.{IsStrictlyIncreasing}
 use Rattle.alarm_rules.specs.Setups.{meaning}
 use Rattle.arc_io.specs.Causes.{Rose}
 use Rattle.arc_io.specs.Disks.{DiskSeen}
@@ -15,8 +16,7 @@ use Rattle.line_gate.specs.Terms.{Terms, IsPastBase}
 use Rattle.line_gate.specs.declared.closed.GroupClosed.{GroupClosed}
 use Rattle.line_gate.specs.declared.closed.GroupClosed.TheVariants.{Whole, Broken}
 use Rattle.arc_serving.specs.Jobs.{HasTaken}
-use Rattle.arc_serving.specs.Ran.{WorkerRan, TickerRan, IsTickerRan, IsSideServed, began_in, ended_in}
-use Rattle.arc_serving.specs.Rising.{AreRising}
+use Rattle.arc_serving.specs.Ran.{WorkerRan, TickerRan, IsTickerRan, IsSideServed}
 use Rattle.arc_serving.specs.Seen.{StationSeen, CameSeen}
 use Rattle.arc_serving.specs.declared.station.Crew.{Crew}
 
@@ -26,18 +26,14 @@ pub record Ran : Type 0 where
   pub desks : List WorkerRan
   pub ticker : TickerRan
 
--- their passes as they began, and as they ended
-abbrev pub all_began : Ran → List PassSeen
-all_began r = began_in r.lines ++ (began_in r.desks ++ r.ticker.began ∷ [])
-
+-- their passes as they ended
 abbrev pub all_ended : Ran → List PassSeen
-all_ended r = ended_in r.lines ++ (ended_in r.desks ++ r.ticker.ended ∷ [])
+all_ended r = map (λ w. w.ended) r.lines ++ (map (λ w. w.ended) r.desks ++ r.ticker.ended ∷ [])
 
 -- the store stands for a history that begins with this one, past which stand entries of events that callers submit alone
 pub record GoesOnFrom {D : Type 0} (seen : D → DiskSeen) (b : Summary) (base : List Entry) (s : Stored D) : Type 0 where
   pub history : List Entry
   pub stands : StoreStands seen b s history
-  pub begins : Extends base history
   pub past : IsPastBase base history
 
 -- and with all that each of these passes has seen
@@ -47,20 +43,18 @@ pub record StandsForAll {D : Type 0} (seen : D → DiskSeen)
   pub all_seen : All (λ p. Extends (p.since ++ base) from.history) passes
 
 -- The callers ran beside each other at a gate of this name. Each used door has the clause of a worker, the pulse that of the ticker,
--- all under numbers of their own: lines in the order of their doors, then desks, then the ticker. The setup in force was that of the
--- history before.
+-- all under numbers of their own, which rise: lines in the order of their doors, then desks, then the ticker. The setup in force was
+-- that of the history before.
 pub record RanAll (t : Terms) (crew : Crew) (before after : StationSeen) (came : CameSeen) : Type 0 where
   pub ran : Ran
   pub lines : IsSideServed Lines t crew.lines crew.sessions ran.lines before.lines after.lines came.lines
   pub desks : IsSideServed Desks t crew.desks crew.sessions ran.desks before.desks after.desks came.desks
   pub ticker : IsTickerRan t ran.ticker before.pulse after.pulse came.ticked
-  pub low : ℕ
-  pub high : ℕ
-  pub numbers : AreRising low (map (λ p. p.number) (all_began ran)) high
+  pub numbers : IsStrictlyIncreasing (map (λ p. p.number) (all_ended ran))
   pub setup : (b : Summary) (base : List Entry) → t.stood b base → force b (marks b base) ≡ Some (meaning t.text)
 
 -- Then the gate was closed: the store stands for one history, in which all that any of them has seen stands.
-pub record Serves {D : Type 0} (seen : D → DiskSeen)
+pub record ServesWhole {D : Type 0} (seen : D → DiskSeen)
     (t : Terms) (crew : Crew) (before after : StationSeen) (came : CameSeen) (s : Stored D) : Type 0 where
   pub all : RanAll t crew before after came
   pub stands : (b : Summary) (base : List Entry) → t.stood b base → StandsForAll seen b base (all_ended all.ran) s
@@ -71,7 +65,7 @@ pub record ServesStore {D : Type 0} (seen : D → DiskSeen)
     (from : Stored D) (crew : Crew) (before after : StationSeen) (came : CameSeen) (s : Stored D) : Type 0 where
   pub gate : BlankSeen D
   pub from_is : gate.store ≡ from
-  pub serves : Serves seen (terms_of false seen gate) crew before after came s
+  pub serves : ServesWhole seen (terms_of false seen gate) crew before after came s
 
 -- The callers ran so, and this pass has taken in those of all.
 pub record RanBefore (t : Terms) (last : PassSeen) (crew : Crew) (before after : StationSeen) (came : CameSeen) : Type 0 where
@@ -87,17 +81,12 @@ pub record ServesBroken
   pub rose : Rose at_open now
   pub all_told : All (λ p. p.told ≤ now) (all_ended all.ran)
 
--- What closing a gate with groups gives: the store where its disk has not failed, else that disk with the counts of its faults at the
--- opening and now. Of either something holds.
-abbrev pub Gives : {D : Type 0} → (D → DiskSeen) → GroupClosed D → (Stored D → Type 0) → (D → ℕ → ℕ → Type 0) → Type 0
-Gives seen (Whole s) whole broken = whole s × (HasFailed seen s → ⊥)
-Gives seen (Broken disk at_open now) whole broken = broken disk at_open now
-
--- what serving at a gate with groups gives
+-- What serving at a gate with groups gives: the store where its disk has not failed, else that disk with the counts of its faults at the
+-- opening and now.
 abbrev pub ServesAt : {D : Type 0} → (D → DiskSeen) → Terms → Crew → StationSeen → StationSeen → CameSeen → GroupClosed D → Type 0
-ServesAt seen t crew before after came c = Gives seen c
-    (λ s. Serves seen t crew before after came s)
-    (λ disk at_open now. (now ≡ (seen disk).faults) × ServesBroken t crew before after came at_open now)
+ServesAt seen t crew before after came (Whole s) = ServesWhole seen t crew before after came s × (HasFailed seen s → ⊥)
+ServesAt seen t crew before after came (Broken disk at_open now) =
+    (now ≡ (seen disk).faults) × ServesBroken t crew before after came at_open now
 
 -- Where all were refused memory before the first began: a store goes on from what it was, also if its disk had failed before.
 abbrev pub GoesOnAt : {D : Type 0} → (D → DiskSeen) → Summary → List Entry → GroupClosed D → Type 0
@@ -111,12 +100,7 @@ pub record GathersStore {D : Type 0} (seen : D → DiskSeen)
   pub from_is : gate.store ≡ from
   pub serves : ServesAt seen (terms_of true seen gate) crew before after came c
 
--- what comes back was opened at the count of faults that the gate has, and a store has its limits
-abbrev pub IsKeptAt : {D : Type 0} → Terms → GroupClosed D → Type 0
-IsKeptAt t (Whole s) = (s.at_open ≡ t.at_open) × (s.journal.limits ≡ t.limits)
-IsKeptAt t (Broken disk at_open now) = at_open ≡ t.at_open
-
--- and that this store has
+-- what comes back was opened at the count of faults that this store has, and a store has its limits
 abbrev pub IsKeptOf : {D : Type 0} → Stored D → GroupClosed D → Type 0
 IsKeptOf from (Whole s) = (s.at_open ≡ from.at_open) × (s.journal.limits ≡ from.journal.limits)
 IsKeptOf from (Broken disk at_open now) = at_open ≡ from.at_open

@@ -1,9 +1,8 @@
 -- What one session over a hall and a port did, by its kind and its end.
-use Rattle.std.specs.Prelude.{◌≡◌, ◌++◌, ℕ, List, reverse, Bool, true, false, Option, Some, None, MatchOption}
+use Rattle.std.specs.Prelude.{ℕ, List, Bool, true, false, Option, Some, None, MatchOption}
 use Rattle.arc_io.specs.Seen.{PortSeen}
-use Rattle.centre_core.specs.Halls.{HallSeen, DiskGoesOn}
+use Rattle.centre_core.specs.Halls.{HallSeen}
 use Rattle.centre_rules.specs.Summary.{Summary}
-use Rattle.centre_rules.specs.Answers.{IsLegal}
 use Rattle.desk_session.specs.Desks.{ReadsDesk, ServesDesk}
 use Rattle.desk_session.specs.declared.desk_end.DeskEnd.{DeskEnd}
 use Rattle.desk_session.specs.declared.desk_end.DeskEnd.TheVariants as Desk
@@ -55,10 +54,3 @@ ServesBy false side name end read b w c = Serves side name end read b w c
 abbrev pub ShowsEnd : SessionEnd → HallSeen → Type 0
 ShowsEnd (Stopped stop) hall = IsShownFor hall stop
 ShowsEnd end hall = Unit {0}
-
--- what is so of a session of either kind, on its way
-pub record IsHistoryAfter (b : Summary) (w : Way) (hall hall' : HallSeen) : Type 0 where
-  pub holds : hall'.stands b w.to
-  pub legal : IsLegal b w.to
-  pub own : hall'.own w.to ≡ reverse w.made ++ hall.own w.from
-  pub disk : DiskGoesOn b hall hall' w.from w.to

@@ -1,15 +1,15 @@
 -- What a ticker did with the moments of its pulse, and what its pass made of them.
-use Rattle.std.specs.Prelude.{◌≡◌, ◌-◌, ◌^◌, ◌++◌, ℕ, min, List, [], ◌∷◌, false}
+use Rattle.std.specs.Prelude.{◌≡◌, ◌≢◌, ◌-◌, ◌^◌, ◌++◌, ℕ, min, List, [], ◌∷◌}
 use Rattle.std.specs.Prelude.{Option, Some, None, MatchOption, is_none, count_by, map, reverse, flat_map}
 use Rattle.std.specs.Option.{option_to_list}
 use Rattle.arc_data.specs.declared.event.Event.TheVariants.{Tick}
 use Rattle.arc_doors.specs.Pulses.{Moments, HasNoMoment}
 use Rattle.centre_core.specs.declared.hall.Stop.{Stop}
+use Rattle.centre_core.specs.declared.hall.Stop.TheVariants.{Memory}
 use Rattle.line_gate.specs.Entries.{Entry}
 use Rattle.line_gate.specs.Passes.{PassSeen, IsPass, IsLater, Makes, PassShows}
 use Rattle.line_gate.specs.Terms.{Terms}
-use Rattle.arc_serving.specs.Served.{Moves}
-use Rattle.arc_serving.specs.Works.{is_memory}
+use Rattle.arc_serving.specs.Served.{InTurn, Moves}
 use Rattle.arc_serving.specs.declared.ticking.Ticked.{Ticked}
 
 -- one moment that the pulse gave, and the entry of its Tick, where it has one
@@ -28,26 +28,14 @@ pub record IsTicked (t : Terms) (p q : PassSeen) (s : Ticking) : Type 0 where
   pub pass : IsPass t q
   pub makes : MakesTick t p q s.moment s.entry
 
--- the Ticks were submitted one after another
-abbrev pub AreTicked : Terms → PassSeen → PassSeen → List Ticking → Type 0
-AreTicked t p q [] = q ≡ p
-AreTicked t p q (s ∷ ss) = (mid : PassSeen) × IsTicked t p mid s × AreTicked t mid q ss
-
--- all entries of these Ticks, in order
-abbrev pub ticks_in : List Ticking → List Entry
-ticks_in ticks = flat_map (λ s. option_to_list s.entry) ticks
-
-abbrev pub moments_in : List Ticking → List ℕ
-moments_in ticks = map (λ s. s.moment) ticks
-
 -- how many have no entry, as a u64 counts them
 abbrev pub missed_in : List Ticking → ℕ
 missed_in ticks = min (count_by (λ s. is_none s.entry) ticks) (2 ^ 64 - 1)
 
 -- of a pulse that tells its moments: these were given, in order
 pub record MovesMoments (ticks : List Ticking) (old new : Moments) : Type 0 where
-  pub left : old.left ≡ moments_in ticks ++ new.left
-  pub given : new.given ≡ old.given ++ moments_in ticks
+  pub left : old.left ≡ map (λ s. s.moment) ticks ++ new.left
+  pub given : new.given ≡ old.given ++ map (λ s. s.moment) ticks
 
 -- The last of these Ticks was stopped, not by want of memory, as the pass shows. Each earlier one that has no entry was refused
 -- memory.
@@ -56,7 +44,7 @@ pub record IsTickStopped (t : Terms) (q : PassSeen) (stop : Stop) (refused : ℕ
   pub last : Ticking
   pub parts : ticks ≡ front ++ last ∷ []
   pub none : last.entry ≡ None
-  pub other : is_memory stop ≡ false
+  pub other : stop ≢ Memory
   pub shown : PassShows t q stop Tick last.moment
   pub missed : refused ≡ missed_in front
 
@@ -69,10 +57,9 @@ EndsTicking (Some stop) t q pulse refused ticks = IsTickStopped t q stop refused
 -- made are Ticks alone, in order, one for each moment but those that were refused memory and the one that was stopped.
 pub record WorksTicks (t : Terms) (p q : PassSeen) (pulse pulse' : Option Moments) (ticked : Ticked) : Type 0 where
   pub ticks : List Ticking
-  pub each : AreTicked t p q ticks
+  pub each : InTurn (IsTicked t) p q ticks
   pub moments : Moves (MovesMoments ticks) pulse pulse'
-  pub made : q.made ≡ reverse (ticks_in ticks) ++ p.made
-  pub later : IsLater p q
+  pub made : q.made ≡ reverse (flat_map (λ s. option_to_list s.entry) ticks) ++ p.made
   pub ended : EndsTicking ticked.stop t q pulse' ticked.refused ticks
 
 -- what one call made of a moment

@@ -5,6 +5,7 @@ mod bench;
 mod beside;
 mod closing;
 mod job;
+mod laws;
 mod link;
 mod serving;
 mod session;
@@ -14,6 +15,7 @@ mod station_gate;
 mod ticking;
 mod working;
 
+pub use laws::law_one_caller;
 pub use serving::{gather_store, serve_store};
 pub use session::{SessionEnd, serve};
 pub use side::Side;

@@ -6,7 +6,7 @@ ghost use Rattle.centre_rules.specs.Summary.{Summary};
 ghost use Rattle.centre_store.specs.Stores.{StoreStands};
 ghost use Rattle.line_gate.specs.Blanks.{Names};
 ghost use Rattle.line_gate.specs.Passes.{IsPass};
-ghost use Rattle.arc_serving.specs.Serving.{GoesOnFrom, Serves, ServesStore, RanBefore, GathersStore, ServesAt, GoesOnAt, IsKeptAt, IsKeptOf};
+ghost use Rattle.arc_serving.specs.Serving.{GoesOnFrom, ServesWhole, ServesStore, RanBefore, GathersStore, ServesAt, GoesOnAt, IsKeptOf};
 
 use crate::bench::{Room, make_room, seat};
 use crate::beside::Ticking;
@@ -117,7 +117,7 @@ fn gather_blank<
     ensures refused { OnErr result.came ((b : Summary) (h : List Entry) → N.terms.stood b h
         → GoesOnAt D.seen b h result.closed) }
     ensures untouched { OnErr result.came (result.station ≡ station) }
-    ensures kept { IsKeptAt N.terms result.closed }
+    ensures kept { IsKeptOf blank.store result.closed }
 {
     let (gate, first) = GroupGate::<D, N>::new(blank);
     let mut first = first;
@@ -148,7 +148,7 @@ fn serve_blank<
     requires single { N.terms.groups ≡ false }
     requires lines { crew.lines ≤ length station.lines }
     requires desks { crew.desks ≤ length station.desks }
-    ensures served { IfOk result.came (λ came. Serves D.seen N.terms crew station result.station came result.store) }
+    ensures served { IfOk result.came (λ came. ServesWhole D.seen N.terms crew station result.station came result.store) }
     ensures refused { OnErr result.came ((b : Summary) (h : List Entry) → N.terms.stood b h
         → GoesOnFrom D.seen b h result.store) }
     ensures untouched { OnErr result.came (result.station ≡ station) }

@@ -1,8 +1,7 @@
 // The ticker.
-ghost use Rattle.std.specs.Prelude.{◌≡◌};
+ghost use Rattle.std.specs.Prelude.{◌≡◌, ◌↔◌, IsTrue};
 ghost use Rattle.centre_rules.specs.History.{IsMoment};
 ghost use Rattle.line_gate.specs.Passes.{IsPass};
-ghost use Rattle.arc_serving.specs.Works.{is_memory};
 ghost use Rattle.arc_serving.specs.Ticks.{TicksOnce, WorksTicks};
 
 use arc_data::Event;
@@ -81,7 +80,7 @@ fn tick_at<D: Disk, R: Wait, N: GateName>(
 
 // Whether it is want of memory.
 fn is_memory(stop: Stop) -> bool
-    ensures { result ≡ is_memory stop }
+    ensures { IsTrue result ↔ (stop ≡ Stop.Memory) }
 {
     matches!(stop, Stop::Memory)
 }

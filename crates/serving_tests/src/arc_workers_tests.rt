@@ -9,7 +9,8 @@ use crate::stores::blank_of;
 use arc_doors::{ListPulse, MemDoor, Pulse};
 use arc_io::{Disk, MemDisk, MemPort, Port};
 use arc_serving::{
-    Side, SingleGate, StationGate, Ticked, Worked, WorkerEnd, desk_worker, line_worker, ticker,
+    Side, SingleGate, StationGate, Ticked, Worked, WorkerEnd, desk_worker, law_one_caller,
+    line_worker, ticker,
 };
 use centre_core::Stop;
 use disk_journal::Limits;
@@ -91,6 +92,8 @@ fn work_at<P: Port + Send + Drop, R: Wait, D: Disk + Drop, N: GateName>(
     requires names { Names D.seen N.terms blank }
     requires single { N.terms.groups ≡ false }
 {
+    // The law is of any gate.
+    law_one_caller::<N>();
     let (gate, pass) = Gate::<D, N>::new(blank);
     let at = StationGate::Single(SingleGate { gate: &gate });
     let (pass, worked) = match case.side {

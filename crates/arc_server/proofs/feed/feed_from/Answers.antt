@@ -1,14 +1,13 @@
-use Rattle.std.proofs.Common.{◌≤◌, ℕ, sym, subst}
+use Rattle.std.proofs.Common.{◌≤◌, ℕ, sym, subst, ◌∙◌}
 use Rattle.arc_io.specs.Crashes.{IsQuiet}
-use Rattle.centre_store.specs.Given.{GoesOn}
 use Rattle.arc_server.specs.Reports.{StandsOn}
-use Rattle.arc_server.proofs.Fed.{stands_quiet, tells_on}
-use Rattle.arc_server.proofs.Kept.{kept}
+use Rattle.arc_server.proofs.Fed.{stands_quiet}
+use Rattle.arc_server.proofs.Kept.{leaves_store}
 use Rattle.arc_server.proofs.Over.{over_is}
 use Rattle.arc_server.proofs.feed.feed_from.Goals as goal
 
 pub returns-clause-fed : goal.returns-clause-fed
-returns-clause-fed g c q disk base past counted stands held begins stays unwritten =
+returns-clause-fed g c q disk base past counted stands held begins stays unwritten limits =
     let seen = g.D.Disk.seen in
     let p = g.P.Ends.seen c.args.port.now in
     let first = c.args.store in
@@ -25,17 +24,14 @@ returns-clause-fed g c q disk base past counted stands held begins stays unwritt
       first = first;
       stands = stands;
       held = held;
-      tells = tells_on (seen disk).told (seen first.journal.disk).told GoesOn stays.area;
       unwritten = unwritten;
       quiet = subst (λ (d : g.row.D.Denot). IsQuiet (seen first.journal.disk) (seen d)) (sym c.close-disk.ensures) e.quiet;
       end = c.serve_feed-end.result;
       fed = e.fed base past stands;
       last = last;
       shown = e.shown;
-      later = later;
-      handed = c.close-disk.ensures;
+      leaves = leaves_store last (e.stands base past stands) (e.limits ∙ limits) later c.close-disk.ensures;
       stays = subst (λ (d : g.row.D.Denot). StandsOn (seen disk) (seen d)) (sym c.close-disk.ensures) stays_on;
-      ends = kept last (seen disk).faults c.close-disk.result (e.stands base past stands) later c.close-disk.ensures;
       status_is = over_is c.status_over.result c.status_over.ensures.over counted c.faults.ensures
           (c.status_of_feed-status.ensures.made p c.read_faults-reads.ensures c.write_faults-writes.ensures);
     }

@@ -9,7 +9,7 @@ returns-in-Ok-clause-ran g c q =
     let o = e.opened in
     inr (c.feed_from.ensures.fed q c.args.disk o.base o.past c.faults-before.ensures o.stands o.held
     (record { version = o.version; bodies = o.bodies; given = o.given; is_past = o.is_past; area = o.area }) (record { area = e.told; images = e.any_moment })
-    (opens_quiet (g.D.Disk.seen c.args.disk) (g.D.Disk.seen c.in-Ok.store.journal.disk) (g.D.Disk.seen c.args.disk).told e.long))
+    (opens_quiet (g.D.Disk.seen c.args.disk) (g.D.Disk.seen c.in-Ok.store.journal.disk) (g.D.Disk.seen c.args.disk).told e.long) e.limits)
 
 pub returns-in-Err-clause-ran : goal.returns-in-Err-clause-ran
 returns-in-Err-clause-ran g c q =

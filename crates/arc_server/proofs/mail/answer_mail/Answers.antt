@@ -1,6 +1,6 @@
 use Rattle.std.proofs.Common.{◌≤◌, ℕ, sym, subst, ◌∙◌}
 use Rattle.centre_store.proofs.Halled.{at_open_stays, limits_stay}
-use Rattle.arc_server.proofs.Kept.{kept, left_since_begun}
+use Rattle.arc_server.proofs.Kept.{leaves_store, left_since_begun}
 use Rattle.arc_server.proofs.Over.{over_is}
 use Rattle.arc_server.proofs.mail.answer_mail.Goals as goal
 
@@ -20,10 +20,7 @@ returns-clause-served g c r q' p' h counted begun =
       receives = e.mail.1;
       last = last;
       serves = serves;
-      limits = limits_stay e.kept.fixed ∙ c.requires.limits;
-      later = later;
-      handed = c.close-disk.ensures;
-      ends = kept last (seen r.disk).faults c.close-disk.result serves.holds.stands later c.close-disk.ensures;
+      leaves = leaves_store last serves.holds.stands (limits_stay e.kept.fixed ∙ c.requires.limits) later c.close-disk.ensures;
       any_moment = left_since_begun seen g.met.D.Disk.only_now c.args.store last (seen r.disk).faults c.close-disk.result begun.stands.stands begun.up begun.readable
           serves.disk later c.close-disk.ensures;
       status_is = over_is c.status_over.result c.status_over.ensures.over counted c.faults.ensures

@@ -1,6 +1,6 @@
 use Rattle.std.proofs.Common.{◌≡◌, ◌≤◌, ℕ, sym, subst, ◌∙◌, ap}
 use Rattle.centre_store.specs.Stores.{Stored, StoreStands}
-use Rattle.arc_server.proofs.Kept.{kept}
+use Rattle.arc_server.proofs.Kept.{leaves_store}
 use Rattle.arc_server.proofs.Over.{over_is}
 use Rattle.arc_server.proofs.mirror.follow_by.Goals as goal
 
@@ -23,13 +23,9 @@ returns-clause-followed g c q disk base past counted stands begins =
       begins = begins;
       history = went.0;
       last = last;
-      stands = went.1;
+      leaves = leaves_store last went.1 (e.limits ∙ ap (λ (s : Stored g.row.D.Denot). s.journal.limits) is ∙ c.requires.limits) later handed;
       end = c.follow-end.result;
       followed = went.2;
-      limits = e.limits ∙ ap (λ (s : Stored g.row.D.Denot). s.journal.limits) is ∙ c.requires.limits;
-      later = later;
-      handed = handed;
-      ends = kept last (seen disk).faults c.close-disk.result went.1 later handed;
       status_is = over_is c.status_over.result c.status_over.ensures.over counted c.faults.ensures
           (c.status_of_follow-status.ensures.made p c.read_faults-reads.ensures c.write_faults-writes.ensures);
     }

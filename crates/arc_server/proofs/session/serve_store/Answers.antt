@@ -5,7 +5,7 @@ use Rattle.centre_store.specs.StoreHalls.{store_seen}
 use Rattle.session_rules.specs.Sessions.{changed, Goes}
 use Rattle.arc_serving.specs.Sessions.{Serves}
 use Rattle.arc_server.specs.SessionRuns.{line_name}
-use Rattle.arc_server.proofs.Kept.{kept, left_since_begun}
+use Rattle.arc_server.proofs.Kept.{leaves_store, left_since_begun}
 use Rattle.arc_server.proofs.Over.{over_is}
 use Rattle.arc_server.proofs.Sessions.{stands_by, disk_by}
 use Rattle.arc_server.proofs.session.serve_store.Goals as goal
@@ -37,11 +37,9 @@ returns-clause-served g c r q' h counted begun =
       made = made;
       last = last;
       serves = went.2;
-      limits = limits_stay e.kept.fixed ∙ c.requires.limits;
-      later = later;
-      handed = c.close-disk.ensures;
-      ends = kept last (seen r.disk).faults c.close-disk.result
-          (stands_by seen c.args.side line_name end e.serves.0 base (record { from = h; to = history; made = made }) first last p p' went.2) later c.close-disk.ensures;
+      leaves = leaves_store last
+          (stands_by seen c.args.side line_name end e.serves.0 base (record { from = h; to = history; made = made }) first last p p' went.2)
+          (limits_stay e.kept.fixed ∙ c.requires.limits) later c.close-disk.ensures;
       any_moment = left_since_begun seen g.met.D.Disk.only_now first last (seen r.disk).faults c.close-disk.result begun.stands.stands begun.up begun.readable
           (disk_by seen c.args.side line_name end e.serves.0 base (record { from = h; to = history; made = made }) first last p p' went.2) later c.close-disk.ensures;
       status_is = over_is c.status_over.result c.status_over.ensures.over counted c.faults.ensures

@@ -3,7 +3,7 @@ use Rattle.centre_rules.specs.History.{Entry}
 use Rattle.centre_rules.specs.Summary.{Summary}
 use Rattle.arc_serving.specs.Seen.{CameSeen}
 use Rattle.arc_serving.specs.Serving.{GoesOnAt, ServesAt, RanBefore}
-use Rattle.arc_serving.proofs.Served.{goes_on_at, if_ok, kept_at, on_err, serves_at}
+use Rattle.arc_serving.proofs.Served.{goes_on_at, if_ok, kept_of, on_err, serves_at}
 use Rattle.arc_serving.proofs.serving.gather_blank.Goals as goal
 
 -- the gate was closed with the pass that took in those of all
@@ -17,7 +17,8 @@ returns-clause-served g c =
     (λ came w. serves_at seen t last c.args.crew c.args.station ran.result.0 came c.close.result c.close.ensures w) ran.ensures.served
 
 pub returns-clause-kept : goal.returns-clause-kept
-returns-clause-kept g c = kept_at g.D.Disk.seen g.N.GateName.terms c.serve_together-station.new.first c.close.result c.close.ensures
+returns-clause-kept g c = kept_of g.D.Disk.seen g.N.GateName.terms c.serve_together-station.new.first c.args.blank.store c.close.result
+    c.requires.names.at_open c.requires.names.limits c.close.ensures
 
 pub returns-clause-refused : goal.returns-clause-refused
 returns-clause-refused g c =

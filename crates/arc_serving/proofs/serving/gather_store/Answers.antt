@@ -5,9 +5,8 @@ use Rattle.centre_core.specs.Runs.{IsSubmitted}
 use Rattle.centre_rules.specs.History.{Entry}
 use Rattle.centre_rules.specs.Summary.{Summary}
 use Rattle.centre_store.specs.Stores.{Stored, StoreStands}
-use Rattle.line_gate.proofs.Histories.{extends_self}
-use Rattle.arc_serving.specs.Serving.{GoesOnAt}
-use Rattle.arc_serving.proofs.Served.{kept_of, of_group}
+use Rattle.arc_serving.specs.Serving.{GoesOnAt, IsKeptOf}
+use Rattle.arc_serving.proofs.Served.{of_group}
 use Rattle.arc_serving.proofs.serving.gather_store.Goals as goal
 
 pub returns-in-Ok-clause-served : goal.returns-in-Ok-clause-served
@@ -20,12 +19,11 @@ returns-in-Ok-clause-refused g c = subst (λ (x : Stored _). OnErr c.gather_blan
     → GoesOnAt g.D.Disk.seen b h c.gather_blank.result.closed)) c.in-Ok.ensures.ok c.gather_blank.ensures.refused
 
 pub returns-in-Ok-clause-kept : goal.returns-in-Ok-clause-kept
-returns-in-Ok-clause-kept g c = kept_of g.D.Disk.seen c.in-Ok.blank c.args.store c.gather_blank.result.closed c.in-Ok.ensures.ok c.gather_blank.ensures.kept
+returns-in-Ok-clause-kept g c = subst (λ (x : Stored _). IsKeptOf x c.gather_blank.result.closed) c.in-Ok.ensures.ok c.gather_blank.ensures.kept
 
 pub returns-in-Err-clause-refused : goal.returns-in-Err-clause-refused
 returns-in-Err-clause-refused g c = λ b h from. record {
   history = h;
   stands = subst (λ (x : Stored _). StoreStands g.D.Disk.seen b x h) (sym c.in-Err.ensures.refused) from;
-  begins = extends_self h;
   past = record { since = []; is = refl; submitted = All-nil (λ (e : Entry). IsSubmitted e.event) };
 }

@@ -3,7 +3,7 @@ use Rattle.centre_rules.specs.History.{Entry}
 use Rattle.centre_rules.specs.Summary.{Summary}
 use Rattle.line_gate.specs.Groups.{IsClosed}
 use Rattle.arc_serving.specs.Seen.{CameSeen}
-use Rattle.arc_serving.specs.Serving.{GoesOnFrom, Serves, RanBefore}
+use Rattle.arc_serving.specs.Serving.{GoesOnFrom, ServesWhole, RanBefore}
 use Rattle.arc_serving.proofs.Served.{goes_on, if_ok, on_err, serves}
 use Rattle.arc_serving.proofs.serving.serve_blank.Goals as goal
 
@@ -17,7 +17,7 @@ returns-clause-served g c =
     let s = c.close.result in
     let e = c.close.ensures in
     let closed : IsClosed seen t last s = record { stands = e.stands; told_is = e.told; at_open = e.at_open; limits = e.limits; text = e.text } in
-    if_ok (λ (came : CameSeen). RanBefore t last c.args.crew c.args.station ran.result.0 came) (λ (came : CameSeen). Serves seen t c.args.crew c.args.station ran.result.0 came s) ran.result.1
+    if_ok (λ (came : CameSeen). RanBefore t last c.args.crew c.args.station ran.result.0 came) (λ (came : CameSeen). ServesWhole seen t c.args.crew c.args.station ran.result.0 came s) ran.result.1
     (λ came w. serves seen t last c.args.crew c.args.station ran.result.0 came s closed w) ran.ensures.served
 
 pub returns-clause-refused : goal.returns-clause-refused

@@ -5,7 +5,6 @@ use Rattle.centre_core.specs.Runs.{IsSubmitted}
 use Rattle.centre_rules.specs.History.{Entry}
 use Rattle.centre_rules.specs.Summary.{Summary}
 use Rattle.centre_store.specs.Stores.{Stored, StoreStands}
-use Rattle.line_gate.proofs.Histories.{extends_self}
 use Rattle.arc_serving.specs.Serving.{GoesOnFrom}
 use Rattle.arc_serving.proofs.Served.{of_store}
 use Rattle.arc_serving.proofs.serving.serve_store.Goals as goal
@@ -23,6 +22,5 @@ pub returns-in-Err-clause-refused : goal.returns-in-Err-clause-refused
 returns-in-Err-clause-refused g c = λ b h from. record {
   history = h;
   stands = subst (λ (x : Stored _). StoreStands g.D.Disk.seen b x h) (sym c.in-Err.ensures.refused) from;
-  begins = extends_self h;
   past = record { since = []; is = refl; submitted = All-nil (λ (e : Entry). IsSubmitted e.event) };
 }

@@ -1,4 +1,5 @@
 use Rattle.std.proofs.Common.{sym, ◌∙◌}
+use Rattle.std.proofs.lemmas.Bool.{true≢false}
 use Rattle.arc_serving.proofs.Moments.{no_ticks, answered, missed, tick_stopped}
 use Rattle.arc_serving.proofs.ticking.ticker.Goals as goal
 
@@ -14,4 +15,4 @@ loop-preserved-in-Some-tick_at g c = missed g.N.GateName.terms c.args.pass c.loo
 
 pub returns-then-not-is_memory-clause-works : goal.returns-then-not-is_memory-clause-works
 returns-then-not-is_memory-clause-works g c = tick_stopped g.N.GateName.terms c.args.pass c.loop.pass c.tick_at.new.pass _ _ _ c.loop.refused c.in-Some-next.moment
-    c.in-Some-tick_at.stop (sym c.is_memory.ensures ∙ c.if-not-is_memory.true) c.loop.invariant c.in-Some-next.ensures.told c.in-Some-tick_at.ensures.ticks
+    c.in-Some-tick_at.stop (λ is. true≢false (sym (c.is_memory.ensures.1 is) ∙ c.if-not-is_memory.true)) c.loop.invariant c.in-Some-next.ensures.told c.in-Some-tick_at.ensures.ticks
