@@ -1,6 +1,7 @@
 pub use Rattle.arc_data.specs.LocalTime
 pub mod ContactId
 pub mod FirstFrom
+pub mod Limits
 pub mod Plans
 pub mod SetupLines
 pub mod SetupWords

@@ -10,6 +10,7 @@ use Rattle.arc_data.specs.declared.plan.Planned.{Planned}
 use Rattle.arc_data.specs.declared.signal.Class.{Class}
 use Rattle.arc_data.specs.declared.window.Window.{Window}
 use Rattle.zone_rules.specs.Zones.{Zone, fixed_zone}
+use Rattle.alarm_rules.specs.Limits.{longest_line}
 use Rattle.alarm_rules.specs.SetupWords.{word_that, account_named, key_spelled, number_between, seconds_spelled, minutes_spelled}
 use Rattle.alarm_rules.specs.SetupWords.{zone_spelled, day_named, minute_named, is_phone, is_pin, class_named, planned_named}
 
@@ -195,6 +196,6 @@ is_skipped (b ∷ bs) = b == 35
 -- what a line of at most 1,024 bytes says; none where it has more or is of no form
 abbrev pub says : List ℕ → Option Said
 says line =
-    if nat_lt 1024 (length line) then None
+    if nat_lt longest_line (length line) then None
     else if is_skipped line then Some Nothing
     else declared (words_of line)

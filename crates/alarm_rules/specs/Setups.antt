@@ -16,6 +16,7 @@ use Rattle.arc_data.specs.declared.signal.Class.{Class}
 use Rattle.arc_data.specs.declared.step.Step.{Step}
 use Rattle.arc_data.specs.declared.window.Window.{Window}
 use Rattle.zone_rules.specs.Zones.{Zone, fixed_zone}
+use Rattle.alarm_rules.specs.Limits.{largest_setup, most_accounts, most_windows, most_keyholders, most_operators}
 use Rattle.alarm_rules.specs.Plans.{steps_in}
 use Rattle.alarm_rules.specs.SetupLines.{Said, AccountLine, PlanLine, Operator, says}
 use Rattle.alarm_rules.specs.SetupLines.{Nothing, OfAccount, OfHours, OfKeyholder, OfPlan, OfOperator, OfLapse}
@@ -139,20 +140,20 @@ fault_of earlier number Nothing = None
 fault_of earlier number (OfAccount line) =
     option_or (bad_zone number line.zone)
     (option_or (two_same number (account_declared line.number earlier))
-    (too_many number 2000 (length (accounts_in earlier))))
+    (too_many number most_accounts (length (accounts_in earlier))))
 fault_of earlier number (OfHours line) =
     option_or (no_account number line.account earlier)
-    (too_many number 28 (length (windows_in line.account earlier)))
+    (too_many number most_windows (length (windows_in line.account earlier)))
 fault_of earlier number (OfKeyholder line) =
     option_or (no_account number line.account earlier)
     (option_or (two_same number (line_with (bytes_eq line.name) (keyholders_in line.account earlier)))
-    (too_many number 4 (length (keyholders_in line.account earlier))))
+    (too_many number most_keyholders (length (keyholders_in line.account earlier))))
 fault_of earlier number (OfPlan line) =
     option_or (option_and_then (λ account. no_account number account earlier) line.account)
     (two_same number (line_with (is_plan_of line.account line.class) (plans_in earlier)))
 fault_of earlier number (OfOperator line) =
     option_or (two_same number (line_with (λ operator. bytes_eq line.name operator.name) (operators_in earlier)))
-    (too_many number 64 (length (operators_in earlier)))
+    (too_many number most_operators (length (operators_in earlier)))
 fault_of earlier number (OfLapse seconds) = two_same number (line_with (λ any. true) (told lapse_part earlier))
 
 -- the fault of a line: that it is of no form, or else what is wrong with what it says
@@ -200,7 +201,7 @@ unless (Some fault) setup = Err fault
 -- line that has one.
 unfoldable pub setup_of : List ℕ → Result Setup SetupFault
 setup_of text =
-    if nat_lt 4_194_304 (length text) then Err TooLarge
+    if nat_lt largest_setup (length text) then Err TooLarge
     else unless (first_fault [] (said_lines text)) (setup_of_lines (said_lines text))
 
 -- the setup of a text; a text that is no setup means one of nothing

@@ -1,5 +1,6 @@
 // The traits of doors, mailboxes and pulses.
-ghost use Rattle.std.specs.Prelude.{◌≡◌, ◌<◌, ◌≤◌, Option, None, IfOk, IfSome};
+ghost use Rattle.std.specs.Prelude.{◌≡◌, ◌≤◌, Option, None, IfOk, IfSome};
+ghost use Rattle.arc_data.specs.Moments.{IsMoment};
 ghost use Rattle.arc_doors.specs.Doors.{DoorSeen, Gives, HasOneOut, IsBackWithin, after_back};
 ghost use Rattle.arc_doors.specs.Mails.{IsNoStream, Receives, Sends};
 ghost use Rattle.arc_doors.specs.Pulses.{Moments, GivesMoment};
@@ -77,6 +78,6 @@ pub trait Pulse {
     /// Waits for the next tick, and gives its moment: seconds since 1970 (GMT), before the year 10000. None ends it. One that does
     /// not tell its moments may end where it finds the flag set.
     fn next<R: Wait>(&mut self, rt: &R, stop: &AtomicBool) -> Option<u64>
-        ensures bound { IfSome result (λ moment. moment < 253_402_300_800) }
+        ensures bound { IfSome result (λ moment. IsMoment moment) }
         ensures told { GivesMoment (Self.moments self.old) (Self.moments self.new) result };
 }

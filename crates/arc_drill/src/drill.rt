@@ -1,5 +1,6 @@
 // The port of a drill.
 ghost use Rattle.std.specs.Prelude.{◌≡◌, ◌≤◌, ◌+◌, ◌++◌, [], length, drop, take, min, IsOk};
+ghost use Rattle.arc_data.specs.Moments.{IsMoment};
 ghost use Rattle.arc_drill.specs.Places.{number_of, last_of};
 
 use crate::lines::Lines;
@@ -150,7 +151,7 @@ impl Clock for Drill {
     ghost use Rattle.arc_drill.specs.Drills.{drill_seen};
 
     fn now(&mut self) -> u64
-        ensures bound { result < 253_402_300_800 }
+        ensures bound { IsMoment result }
         ensures told { drill_seen self.new ≡ after_reading result (drill_seen self.old) }
         ensures exact { result ≡ 1_000_000_000 }
         ensures same { self.new ≡ self.old }

@@ -1,6 +1,7 @@
 // The traits of the outside.
-ghost use Rattle.std.specs.Prelude.{◌≡◌, ◌<◌, [], false, IfOk};
+ghost use Rattle.std.specs.Prelude.{◌≡◌, [], false, IfOk};
 ghost use Rattle.std.specs.Io.{ReadsAtMost, WritesAtMost};
+ghost use Rattle.arc_data.specs.Moments.{IsMoment};
 ghost use Rattle.arc_io.specs.Seen.{PortSeen, untold};
 ghost use Rattle.arc_io.specs.Told.{Reads, Writes, after_reading, after_noise};
 
@@ -49,7 +50,7 @@ pub trait Sink: Ends {
 pub trait Clock: Ends {
     /// Seconds since 1970 (GMT), before the year 10000. A reading may be earlier than the one before.
     fn now(&mut self) -> u64
-        ensures bound { result < 253_402_300_800 }
+        ensures bound { IsMoment result }
         ensures told { Self.seen self.new ≡ after_reading result (Self.seen self.old) };
 }
 

@@ -1,5 +1,6 @@
 // How a run of a script begins.
-ghost use Rattle.std.specs.Prelude.{◌≡◌, ◌<◌, ◌≤◌, List, Some, OnOk, IfErr};
+ghost use Rattle.std.specs.Prelude.{◌≡◌, ◌≤◌, List, Some, OnOk, IfErr};
+ghost use Rattle.arc_data.specs.Moments.{IsMoment};
 ghost use Rattle.centre_rules.specs.History.{Entry};
 ghost use Rattle.centre_rules.specs.Summary.{Summary};
 ghost use Rattle.centre_store.specs.Begins.{begun_after};
@@ -22,7 +23,7 @@ pub(crate) fn begin<D: Disk>(
     script: &Script,
     moment: u64,
 ) -> Result<(), Stop>
-    requires { moment < 253_402_300_800 }
+    requires { IsMoment moment }
     ensures begun { OnOk result ((base : Summary) (h : List Entry) → StoreStands D.seen base store.old h
         → StoreStands D.seen base store.new (begun_after base h script.now.setup moment)) }
     ensures text { OnOk result (store.new.state.sum.text ≡ Some script.now.setup) }

@@ -1,6 +1,7 @@
 // The lines `L` and `M`: bytes or a frame are fed to a line.
 ghost use Rattle.std.specs.Prelude.{◌≡◌, ◌≢◌, ◌⊎◌, ◌<◌, ◌≤◌, ◌-◌, ◌++◌, ◌∷◌, [], ℕ, List, Some, Err, IfErr, IfOk, IsOk, OnOk, length, slice_get};
 ghost use Rattle.std.specs.Io.KnownBytes.{append_known};
+ghost use Rattle.arc_data.specs.Moments.{IsMoment};
 ghost use Rattle.alarm_rules.specs.Setups.{meaning};
 ghost use Rattle.arc_data.specs.Digits.{bytes_spelled};
 ghost use Rattle.arc_io.specs.Memory.{sink_bytes};
@@ -42,7 +43,7 @@ pub(crate) fn feed<D: Disk>(
     digits: &[u8],
     page: &mut Page,
 ) -> Result<(), Stop>
-    requires clock { moment < 253_402_300_800 }
+    requires clock { IsMoment moment }
     requires line { IsNumber 16 line }
     requires digits { AreDigits digits.now }
     requires few { length digits.now ≤ 16_384 }
@@ -90,7 +91,7 @@ pub(crate) fn message<D: Disk>(
     frame: &mut FrameBuf,
     page: &mut Page,
 ) -> Result<(), Stop>
-    requires clock { moment < 253_402_300_800 }
+    requires clock { IsMoment moment }
     requires line { IsNumber 16 line }
     requires body { IsBody body.now }
     requires set { store.old.state.sum.text ≡ Some script.old.setup }
@@ -146,7 +147,7 @@ fn fed<D: Disk>(
     line: usize,
     bytes: &[u8],
 ) -> Result<Page, Stop>
-    requires clock { moment < 253_402_300_800 }
+    requires clock { IsMoment moment }
     requires line { IsNumber 16 line }
     requires set { store.old.state.sum.text ≡ Some script.old.setup }
     ensures fed { IfOk result (λ frames. (base : Summary) (before : List Asked) (h : List Entry) → clock_of before ≡ Some moment

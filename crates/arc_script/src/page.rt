@@ -1,5 +1,6 @@
 // The port that a script's lines and desks are served on: it keeps what is written to it, its clock stands still, and its noise is zero.
-ghost use Rattle.std.specs.Prelude.{◌≡◌, ◌<◌, ◌≤◌, ◌-◌, ◌^◌, [], min, length, IfOk};
+ghost use Rattle.std.specs.Prelude.{◌≡◌, ◌≤◌, ◌-◌, ◌^◌, [], min, length, IfOk};
+ghost use Rattle.arc_data.specs.Moments.{IsMoment};
 ghost use Rattle.arc_io.specs.Memory.{clock_calls, clock_list, noise_list, port_seen, sink_bytes};
 ghost use Rattle.arc_script.specs.Pages.{blank};
 
@@ -32,7 +33,7 @@ impl Drop for Page {
 impl Page {
     /// Nothing is written, and the clock stands at this moment.
     pub(crate) fn new(alloc: Global, moment: u64) -> Result<Page, Memory>
-        requires { moment < 253_402_300_800 }
+        requires { IsMoment moment }
         ensures blank { IfOk result (λ page. port_seen page.port ≡ blank moment) }
     {
         let mut readings = Vec::new(alloc);

@@ -1,5 +1,6 @@
 // The lines of a script, one after another.
-ghost use Rattle.std.specs.Prelude.{◌≡◌, ◌≢◌, ◌<◌, ◌≤◌, ◌+◌, ◌++◌, ◌∷◌, [], ℕ, List, IfErr, IfOk, IfSome, OnOk, Some, length};
+ghost use Rattle.std.specs.Prelude.{◌≡◌, ◌≢◌, ◌≤◌, ◌+◌, ◌++◌, ◌∷◌, [], ℕ, List, IfErr, IfOk, IfSome, OnOk, Some, length};
+ghost use Rattle.arc_data.specs.Moments.{IsMoment};
 ghost use Rattle.arc_io.specs.Told.{OnlyWrites};
 ghost use Rattle.arc_text.specs.LineCutting.{WasFed, cut_of, line_of};
 ghost use Rattle.arc_text.specs.Lines.{ended_lines};
@@ -215,7 +216,7 @@ fn play_asked<D: Disk, P: Port>(
     wanted: ScriptLine,
     moment: u64,
 ) -> Result<(), ScriptEnd>
-    requires moment { moment < 253_402_300_800 }
+    requires moment { IsMoment moment }
     requires ready { IsReady script.old.clock script.old.setup store.old.state.sum.text }
     requires ranges { IsAsked (asked wanted) }
     requires short { length (spelling (asked wanted)) ≤ line_limit }
@@ -253,7 +254,7 @@ fn play_reopen<D: Disk, P: Port>(
     port: &mut P,
     moment: u64,
 ) -> Result<Store<D>, Halted<D>>
-    requires moment { moment < 253_402_300_800 }
+    requires moment { IsMoment moment }
     requires ready { IsReady script.old.clock script.old.setup store.state.sum.text }
     requires at { script.old.clock ≡ Some moment }
     ensures played { IfOk result (λ s. (b : Begun D) (lines : List (List ℕ)) (typed : List ℕ)

@@ -1,6 +1,7 @@
 // The line `X`: all is made anew over what the journal keeps.
-ghost use Rattle.std.specs.Prelude.{◌≡◌, ◌<◌, ℕ, List, Some, IfErr, IfOk, OnOk};
+ghost use Rattle.std.specs.Prelude.{◌≡◌, ℕ, List, Some, IfErr, IfOk, OnOk};
 ghost use Rattle.std.specs.Io.KnownBytes.{append_known};
+ghost use Rattle.arc_data.specs.Moments.{IsMoment};
 ghost use Rattle.centre_rules.specs.History.{Entry};
 ghost use Rattle.centre_rules.specs.Summary.{Summary};
 ghost use Rattle.centre_store.specs.Begins.{begun_after};
@@ -35,7 +36,7 @@ pub(crate) fn reopen<D: Disk>(
     moment: u64,
     page: &mut Page,
 ) -> Result<(Store<D>, Result<(), Stop>), OpenRefused<D>>
-    requires clock { moment < 253_402_300_800 }
+    requires clock { IsMoment moment }
     ensures carried { IfOk result (λ r. OnOk r.1 ((b : Begun D) (place : Place) (count number : ℕ) (h : List Entry)
         → Between D.seen b place count h script.old store
         → HoldsRecorded D.seen store.journal place.base h → clock_of place.asked ≡ Some moment
@@ -69,7 +70,7 @@ fn begin_again<D: Disk>(
     moment: u64,
     page: &mut Page,
 ) -> Result<(), Stop>
-    requires clock { moment < 253_402_300_800 }
+    requires clock { IsMoment moment }
     ensures begun { OnOk result ((base : Summary) (h : List Entry) → StoreStands D.seen base store.old h
         → StoreStands D.seen base store.new (begun_after base h script.now.setup moment)) }
     ensures set { OnOk result (store.new.state.sum.text ≡ Some script.now.setup) }

@@ -1,5 +1,6 @@
 // One line of a script that asks for something.
-ghost use Rattle.std.specs.Prelude.{◌≡◌, ◌≢◌, ◌<◌, ◌≤◌, Ok, Some, IfErr, IfOk, OnErr, OnOk, length};
+ghost use Rattle.std.specs.Prelude.{◌≡◌, ◌≢◌, ◌≤◌, Ok, Some, IfErr, IfOk, OnErr, OnOk, length};
+ghost use Rattle.arc_data.specs.Moments.{IsMoment};
 ghost use Rattle.script_lines.specs.Lines.{IsAsked, Reopen, spelling};
 ghost use Rattle.script_lines.specs.Reading.{asked};
 ghost use Rattle.arc_script.specs.Between.{Carries, IsReady, Shuts, Stops};
@@ -33,7 +34,7 @@ pub(crate) fn carry_out<D: Disk>(
     room: &mut Room,
     page: &mut Page,
 ) -> Result<(), Stop>
-    requires moment { moment < 253_402_300_800 }
+    requires moment { IsMoment moment }
     requires ready { IsReady script.old.clock script.old.setup store.old.state.sum.text }
     requires ranges { IsAsked (asked wanted) }
     requires short { length (spelling (asked wanted)) ≤ line_limit }
@@ -74,7 +75,7 @@ pub(crate) fn carry_out_reopen<D: Disk>(
     moment: u64,
     page: &mut Page,
 ) -> Result<(Store<D>, Result<(), Stop>), OpenRefused<D>>
-    requires moment { moment < 253_402_300_800 }
+    requires moment { IsMoment moment }
     requires ready { IsReady script.old.clock script.old.setup store.state.sum.text }
     ensures carried { IfOk result (λ r. OnOk r.1 (Carries D.seen moment Reopen
         script.old script.new store r.0 (page_seen page.old) (page_seen page.new))) }

@@ -1,6 +1,7 @@
 // The line `T`: the clock is set, and ticks.
-ghost use Rattle.std.specs.Prelude.{◌≡◌, ◌<◌, ◌≤◌, ◌++◌, List, Some, Err, IfSome, OnOk, OnErr, IfErr, codes};
+ghost use Rattle.std.specs.Prelude.{◌≡◌, ◌≤◌, ◌++◌, List, Some, Err, IfSome, OnOk, OnErr, IfErr, codes};
 ghost use Rattle.std.specs.Io.KnownBytes.{append_known};
+ghost use Rattle.arc_data.specs.Moments.{IsMoment};
 ghost use Rattle.centre_core.specs.Setting.{IsSetting};
 ghost use Rattle.centre_rules.specs.History.{Entry};
 ghost use Rattle.centre_rules.specs.Summary.{Summary};
@@ -32,7 +33,7 @@ pub(crate) fn tick<D: Disk>(
     line: &mut Line,
     page: &mut Page,
 ) -> Result<(), Stop>
-    requires clock { moment < 253_402_300_800 }
+    requires clock { IsMoment moment }
     requires set { IfSome script.old.clock (λ last. store.old.state.sum.text ≡ Some script.old.setup) }
     ensures ticked { OnOk result ((base : Summary) (h : List Entry) → StoreStands D.seen base store.old h
         → Ticked D.seen base (before_tick script.old.clock base script.old.setup moment h) moment store.new
@@ -71,7 +72,7 @@ fn begin_first<D: Disk>(
     script: &Script,
     moment: u64,
 ) -> Result<(), Stop>
-    requires clock { moment < 253_402_300_800 }
+    requires clock { IsMoment moment }
     requires set { IfSome script.now.clock (λ last. store.old.state.sum.text ≡ Some script.now.setup) }
     ensures begun { OnOk result ((base : Summary) (h : List Entry) → StoreStands D.seen base store.old h
         → StoreStands D.seen base store.new (before_tick script.now.clock base script.now.setup moment h)) }

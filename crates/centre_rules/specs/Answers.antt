@@ -15,6 +15,7 @@ use Rattle.arc_data.specs.declared.event.Token.{Token}
 use Rattle.arc_data.specs.declared.event.Token.TheVariants.{SiaDcs, AdmCid}
 use Rattle.alarm_rules.specs.Setups.{Setup, setup_of, has_account, has_operator}
 use Rattle.alarm_rules.specs.Signals.{has_signals}
+use Rattle.centre_rules.specs.Limits.{messages_kept, repeat_seconds}
 use Rattle.centre_rules.specs.Summary.{Summary, Past}
 use Rattle.centre_rules.specs.Marks.{Mark, force, messages}
 use Rattle.centre_rules.specs.Standing.{standing}
@@ -54,11 +55,11 @@ same_message a b =
 
 -- the recorded message makes this one, at this moment, a repeat: they agree, and it is at most 300 seconds older
 abbrev pub repeats : Message → ℕ → Past → Bool
-repeats m at p = same_message p.message m && nat_le at (p.at + 300)
+repeats m at p = same_message p.message m && nat_le at (p.at + repeat_seconds)
 
 -- the last 32 recorded messages of an account, the newest first
 abbrev pub recent : Summary → List Mark → List ℕ → List Past
-recent s ms account = take 32 (messages s ms account)
+recent s ms account = take messages_kept (messages s ms account)
 
 -- the moment of the newest of them that makes the message a repeat
 abbrev pub repeat_of : Summary → List Mark → Message → ℕ → Option ℕ

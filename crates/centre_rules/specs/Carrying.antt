@@ -13,6 +13,7 @@ use Rattle.arc_data.specs.declared.signal.Signal.{Signal}
 use Rattle.alarm_rules.specs.Setups.{Setup, Account, account_of, steps_of}
 use Rattle.alarm_rules.specs.Weeks.{Week, in_hours, next_close}
 use Rattle.alarm_rules.specs.Signals.{signals}
+use Rattle.centre_rules.specs.Limits.{late_seconds}
 use Rattle.centre_rules.specs.Summary.{Summary, Opened}
 use Rattle.centre_rules.specs.Marks.{Mark, Carried, force, heard, failed, opening}
 
@@ -75,7 +76,7 @@ is_silent s ms at account =
 -- it is more than 900 seconds after the first closing moment behind its opening, and no LateClose was raised since
 abbrev pub closes_late : Option Opened → Account → ℕ → Bool
 closes_late None account at = false
-closes_late (Some o) account at = not o.late && is_past (next_close account.week o.at) 900 at
+closes_late (Some o) account at = not o.late && is_past (next_close account.week o.at) late_seconds at
 
 -- an account that is open, although it should be closed since more than 900 seconds
 abbrev pub is_late : Summary → List Mark → ℕ → Account → Bool

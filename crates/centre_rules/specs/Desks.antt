@@ -13,6 +13,7 @@ use Rattle.arc_data.specs.declared.listing.View.{View}
 use Rattle.arc_data.specs.declared.step.Acted.{Acted}
 use Rattle.arc_data.specs.declared.step.Step.{Step}
 use Rattle.alarm_rules.specs.Plans.{expected_step, left}
+use Rattle.centre_rules.specs.Limits.{rows_listed}
 use Rattle.centre_rules.specs.Cases.{Incident, has_number}
 
 -- Which incident.
@@ -157,4 +158,4 @@ row_of i = record { number = i.number; class = i.class; account = i.account; hol
 
 -- how many are open, and the first 16, those that are held among them
 abbrev pub on_list : List Incident → Reply
-on_list is = Listed (record { total = length is; rows = map row_of (take 16 (sorted is)) })
+on_list is = Listed (record { total = length is; rows = map row_of (take rows_listed (sorted is)) })

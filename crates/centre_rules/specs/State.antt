@@ -3,6 +3,7 @@ use Rattle.std.specs.Prelude.{◌≡◌, ◌<◌, ◌≤◌, ◌^◌, ◌+◌, �
 use Rattle.arc_data.specs.WellFormed.{IsWellFormed}
 use Rattle.arc_data.specs.declared.event.Event.{Event}
 use Rattle.arc_data.specs.declared.reply.Reply.{Reply}
+use Rattle.centre_rules.specs.Limits.{messages_kept}
 use Rattle.centre_rules.specs.Summary.{Summary, row_of}
 use Rattle.centre_rules.specs.Marks.{Mark, Carried, text, start, keeps_row, heard, failed, opening}
 use Rattle.centre_rules.specs.Marks.{text_at, start_at, keeps_row_at, has_row, heard_at, failed_at, opening_at, messages_at}
@@ -82,4 +83,4 @@ pub record IsMarked (m : Mark) (s t : Summary) : Type 0 where
   pub failed : (account : List ℕ) → (row_of t account).failed ≡ failed_at account m (row_of s account).failed
   pub opening : (account : List ℕ) → (row_of t account).opening ≡ opening_at account m (row_of s account).opening
   pub recent : (account : List ℕ)
-      → take 32 (row_of t account).messages ≡ take 32 (messages_at account m (row_of s account).messages)
+      → take messages_kept (row_of t account).messages ≡ take messages_kept (messages_at account m (row_of s account).messages)

@@ -3,7 +3,7 @@
 use Rattle.std.specs.Prelude.{◌≡◌, ℕ, zero, suc, ◌+◌, ◌/◌, ◌%◌, Bool, ◌&&◌, nat_le, if◌then◌else◌, Option, Some, None, List, []}
 use Rattle.std.specs.Prelude.{◌∷◌, ◌++◌, codes, bytes_eq}
 pub use Rattle.arc_data.specs.Digits.{two_digits}
-pub use Rattle.arc_data.specs.Moments.{IsMoment}
+pub use Rattle.arc_data.specs.Moments.{IsMoment, moments_end}
 use Rattle.civil_time.specs.Calendar.{CivilDate, date_of}
 
 -- the number in four decimal digits
@@ -32,7 +32,7 @@ found_below test (suc n) = if test n then Some n else found_below test n
 
 -- the second from 1970 to the end of 9999 whose stamp the bytes are, if there is one
 unfoldable pub stamp_time : List ℕ → Option ℕ
-stamp_time bytes = found_below (λ t. bytes_eq bytes (stamp t)) 253_402_300_800
+stamp_time bytes = found_below (λ t. bytes_eq bytes (stamp t)) moments_end
 
 -- the stamp is at most 40 seconds older and at most 20 seconds newer than now, both ends included
 abbrev pub is_fresh : ℕ → ℕ → Bool

@@ -5,6 +5,7 @@ use Rattle.std.specs.List.{find, filter}
 use Rattle.std.specs.Str.{bytes_eq}
 use Rattle.known_accounts.specs.declared.row.Known.{Known}
 use Rattle.known_accounts.specs.declared.row.Row.{Row}
+use Rattle.centre_rules.specs.Limits.{messages_kept}
 use Rattle.centre_rules.specs.Summary.{AccountRow, row_or}
 use Rattle.centre_rules.specs.Marks.{Mark, start_at, has_row, keeps_row_at, heard_at, failed_at, opening_at, messages_at}
 
@@ -44,7 +45,7 @@ pub record Marked (m : Mark) (v w : RowsValue) : Type 0 where
   pub failed : (account : List ℕ) → (row_in w account).failed ≡ failed_at account m (row_in v account).failed
   pub opening : (account : List ℕ) → (row_in w account).opening ≡ opening_at account m (row_in v account).opening
   pub recent : (account : List ℕ)
-      → take 32 (row_in w account).messages ≡ take 32 (messages_at account m (row_in v account).messages)
+      → take messages_kept (row_in w account).messages ≡ take messages_kept (messages_at account m (row_in v account).messages)
 
 -- Which accounts have a row, and memory for those that have none.
 

@@ -12,6 +12,7 @@ use Rattle.alarm_rules.specs.Weeks.{Week, next_close}
 use Rattle.known_accounts.specs.declared.supervised_accounts.AccountPlace.{AccountPlace}
 use Rattle.known_accounts.specs.declared.supervised_accounts.FoundAccount.{FoundAccount}
 use Rattle.known_accounts.specs.Rows.{RowsValue, IsRowOf, StandsAt, row_in}
+use Rattle.centre_rules.specs.Limits.{late_seconds}
 use Rattle.centre_rules.specs.History.{IsMoment}
 use Rattle.centre_rules.specs.Summary.{Summary, AccountRow, Opened}
 
@@ -62,7 +63,7 @@ silence_of v account = silence_after (row_in v account.number) account.beat
 -- 900 seconds after the first closing moment behind the opening; none where a LateClose was raised already
 abbrev pub lateness_after : Option Opened → Week → Option ℕ
 lateness_after None week = None
-lateness_after (Some opened) week = if opened.late then None else option_map (λ moment. later moment 900) (next_close week opened.at)
+lateness_after (Some opened) week = if opened.late then None else option_map (λ moment. later moment late_seconds) (next_close week opened.at)
 
 abbrev pub lateness_of : RowsValue → Account → Option ℕ
 lateness_of v account = lateness_after (row_in v account.number).opening account.week

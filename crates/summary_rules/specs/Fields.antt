@@ -6,6 +6,7 @@ use Rattle.arc_data.specs.Steps.{is_step, fits}
 use Rattle.arc_data.specs.WellFormed.{IsMessage, IsText}
 use Rattle.arc_data.specs.declared.incident.Incident.{Incident}
 use Rattle.arc_data.specs.declared.step.Acted.{Acted}
+use Rattle.centre_rules.specs.Limits.{messages_kept}
 use Rattle.centre_rules.specs.Summary.{Summary, AccountRow, Past}
 use Rattle.summary_rules.specs.Lists.{Every}
 
@@ -42,7 +43,7 @@ pub record IsRow (r : AccountRow) : Type 0 where
   pub account : IsAccount r.account
   pub heard : Given IsLongNumber r.heard
   pub opening : Given (λ o. IsLongNumber o.at) r.opening
-  pub few : length r.messages ≤ 32
+  pub few : length r.messages ≤ messages_kept
   pub messages : Every (IsPastOf r.account) r.messages
 
 -- the claimer of the incident, and since when it was not touched: 0 where it has none

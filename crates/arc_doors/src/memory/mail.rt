@@ -1,4 +1,5 @@
 // A mailbox in memory.
+ghost use Rattle.arc_data.specs.Moments.{IsMoment};
 use super::{MemInbox, MemOutbox};
 use crate::{DATAGRAM_ROOM, Mailbox};
 use arc_io::{Clock, Ends, Failed, ListClock, ListNoise, Noise};
@@ -34,13 +35,13 @@ impl Ends for MemMail {
 }
 
 impl Clock for MemMail {
-    ghost use Rattle.std.specs.Prelude.{◌≡◌, ◌<◌};
+    ghost use Rattle.std.specs.Prelude.{◌≡◌};
     ghost use Rattle.arc_io.specs.Told.{after_reading};
     ghost use Rattle.arc_io.specs.Memory.{ClockTick};
     ghost use Rattle.arc_doors.specs.MailMemory.{mail_seen};
 
     fn now(&mut self) -> u64
-        ensures bound { result < 253_402_300_800 }
+        ensures bound { IsMoment result }
         ensures told { mail_seen self.new ≡ after_reading result (mail_seen self.old) }
         ensures exact { ClockTick self.old.clock self.new.clock result }
         ensures same { self.new ≡ record self.old { clock = self.new.clock } }

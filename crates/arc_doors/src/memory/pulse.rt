@@ -1,5 +1,6 @@
 // A pulse that goes through a list.
-ghost use Rattle.std.specs.Prelude.{◌<◌, ◌≤◌, All, vec_len};
+ghost use Rattle.std.specs.Prelude.{◌≤◌, All, vec_len};
+ghost use Rattle.arc_data.specs.Moments.{IsMoment};
 
 use crate::Pulse;
 use std::sync::Wait;
@@ -10,7 +11,7 @@ use std::sync::atomic::AtomicBool;
 pub struct ListPulse {
     moments: Vec<u64>,
     at: usize,
-    ghost in_range: { All (λ moment. moment < 253_402_300_800) moments.items },
+    ghost in_range: { All IsMoment moments.items },
     ghost within: { at ≤ vec_len moments },
 }
 
@@ -20,7 +21,7 @@ impl ListPulse {
 
     /// A pulse that gives these moments, in seconds since 1970.
     pub fn new(moments: Vec<u64>) -> Self
-        requires { All (λ moment. moment < 253_402_300_800) moments.items }
+        requires { All IsMoment moments.items }
         ensures { pulse_moments result ≡ record { left = moments.items; given = [] } }
     {
         ListPulse { moments, at: 0 }

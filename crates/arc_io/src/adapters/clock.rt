@@ -1,5 +1,6 @@
 // The machine's clock.
-ghost use Rattle.std.specs.Prelude.{◌≡◌, ◌<◌, ◌≤◌, IfOk, OnErr};
+ghost use Rattle.std.specs.Prelude.{◌≡◌, ◌≤◌, IfOk, OnErr};
+ghost use Rattle.arc_data.specs.Moments.{IsMoment};
 ghost use Rattle.arc_io.specs.Seconds.{seconds_of};
 
 use crate::{Clock, Ends};
@@ -12,7 +13,7 @@ use std::{io, time};
 pub struct RealClock<R: time::Clock> {
     pub(super) rt: R,
     last: u64,
-    ghost in_range: { last < 253_402_300_800 },
+    ghost in_range: { IsMoment last },
 }
 
 impl<R: time::Clock> RealClock<R> {
@@ -33,9 +34,9 @@ impl<R: time::Clock> Clock for RealClock<R> {
 
 // The seconds that the machine answered, where they are in range, and else the last reading.
 fn reading_after(answer: io::Result<Duration>, last: u64) -> u64
-    requires { last < 253_402_300_800 }
-    ensures bound { result < 253_402_300_800 }
-    ensures fresh { IfOk answer (λ since. seconds_of since < 253_402_300_800 → result ≡ seconds_of since) }
+    requires { IsMoment last }
+    ensures bound { IsMoment result }
+    ensures fresh { IfOk answer (λ since. IsMoment (seconds_of since) → result ≡ seconds_of since) }
     ensures late { IfOk answer (λ since. 253_402_300_800 ≤ seconds_of since → result ≡ last) }
     ensures failed { OnErr answer (result ≡ last) }
 {

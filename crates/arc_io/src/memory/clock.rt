@@ -1,5 +1,6 @@
 // A clock that goes through a list.
-ghost use Rattle.std.specs.Prelude.{◌≡◌, ◌<◌, All, min, vec_len};
+ghost use Rattle.std.specs.Prelude.{◌≡◌, All, min, vec_len};
+ghost use Rattle.arc_data.specs.Moments.{IsMoment};
 ghost use Rattle.arc_io.specs.Lists.{reading_at};
 
 use crate::count::Count;
@@ -12,7 +13,7 @@ pub struct ListClock {
     readings: Vec<u64>,
     at: usize,
     calls: Count,
-    ghost in_range: { All (λ r. r < 253_402_300_800) readings.items },
+    ghost in_range: { All IsMoment readings.items },
     ghost counted: { at ≡ min calls.number (vec_len readings) },
 }
 
@@ -21,7 +22,7 @@ impl ListClock {
 
     /// A clock that gives these readings, in seconds since 1970.
     pub fn new(readings: Vec<u64>) -> Self
-        requires { All (λ r. r < 253_402_300_800) readings.items }
+        requires { All IsMoment readings.items }
         ensures list { clock_list result ≡ readings.items }
         ensures calls { clock_calls result ≡ 0 }
     {
@@ -44,7 +45,7 @@ impl Clock for ListClock {
     ghost use Rattle.arc_io.specs.Memory.{clock_seen, ClockTick};
 
     fn now(&mut self) -> u64
-        ensures bound { result < 253_402_300_800 }
+        ensures bound { IsMoment result }
         ensures told { clock_seen self.new ≡ after_reading result (clock_seen self.old) }
         ensures exact { ClockTick self.old self.new result }
     {

@@ -1,4 +1,5 @@
 // A port in memory.
+ghost use Rattle.arc_data.specs.Moments.{IsMoment};
 use super::{ListClock, ListNoise, MemSink, MemSource};
 use crate::{Clock, Ends, Failed, Noise, Port, Sink, Source};
 
@@ -74,12 +75,12 @@ impl Sink for MemPort {
 }
 
 impl Clock for MemPort {
-    ghost use Rattle.std.specs.Prelude.{◌≡◌, ◌<◌};
+    ghost use Rattle.std.specs.Prelude.{◌≡◌};
     ghost use Rattle.arc_io.specs.Told.{after_reading};
     ghost use Rattle.arc_io.specs.Memory.{port_seen, ClockTick};
 
     fn now(&mut self) -> u64
-        ensures bound { result < 253_402_300_800 }
+        ensures bound { IsMoment result }
         ensures told { port_seen self.new ≡ after_reading result (port_seen self.old) }
         ensures exact { ClockTick self.old.clock self.new.clock result }
         ensures same { self.new ≡ record self.old { clock = self.new.clock } }
