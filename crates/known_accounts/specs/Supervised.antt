@@ -63,7 +63,8 @@ silence_of v account = silence_after (row_in v account.number) account.beat
 -- 900 seconds after the first closing moment behind the opening; none where a LateClose was raised already
 abbrev pub lateness_after : Option Opened → Week → Option ℕ
 lateness_after None week = None
-lateness_after (Some opened) week = if opened.late then None else option_map (λ moment. later moment late_seconds) (next_close week opened.at)
+lateness_after (Some opened) week =
+    if opened.late then None else option_map (λ moment. later moment late_seconds) (next_close week opened.at)
 
 abbrev pub lateness_of : RowsValue → Account → Option ℕ
 lateness_of v account = lateness_after (row_in v account.number).opening account.week

@@ -1,5 +1,6 @@
 // A mailbox in memory.
 ghost use Rattle.arc_data.specs.Moments.{IsMoment};
+
 use super::{MemInbox, MemOutbox};
 use crate::{DATAGRAM_ROOM, Mailbox};
 use arc_io::{Clock, Ends, Failed, ListClock, ListNoise, Noise};

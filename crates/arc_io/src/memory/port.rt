@@ -1,5 +1,6 @@
 // A port in memory.
 ghost use Rattle.arc_data.specs.Moments.{IsMoment};
+
 use super::{ListClock, ListNoise, MemSink, MemSource};
 use crate::{Clock, Ends, Failed, Noise, Port, Sink, Source};
 
