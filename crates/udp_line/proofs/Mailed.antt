@@ -13,12 +13,11 @@ use Rattle.arc_io.specs.Seen.{PortSeen}
 use Rattle.arc_io.proofs.KnownMore.{known_none, known_both}
 use Rattle.centre_core.proofs.OnDisk.{disk_stays, disk_then}
 use Rattle.centre_core.specs.Halls.{HallSeen, IsKept}
-use Rattle.centre_core.specs.declared.hall.Stop.{Stop}
 use Rattle.centre_rules.specs.Summary.{Summary}
 use Rattle.centre_rules.specs.History.{Entry}
 use Rattle.centre_rules.specs.Answers.{IsLegal}
 use Rattle.dc09_frame.specs.Frames.{bodies}
-use Rattle.session_rules.specs.Turns.{Rules, pieces_of, entries_of, readings_of, noise_of}
+use Rattle.session_rules.specs.Turns.{Rules, pieces_of, entries_of, readings_of, noise_of, text_of}
 use Rattle.session_rules.specs.Sessions.{changed, Ending, answered, AnswersAll, IsEnd, IsUnstopped}
 use Rattle.session_rules.proofs.Appended.{readings-append, noise-append, own_more}
 use Rattle.session_rules.proofs.Joined.{ends_under}
@@ -26,7 +25,7 @@ use Rattle.line_session.specs.Sessions.{IsLine, line_rules}
 use Rattle.line_session.specs.Turns.{Turn, line_turns, AreTurns}
 use Rattle.line_session.proofs.Followed.{line_follows}
 use Rattle.udp_line.specs.Datagrams.{AnswersDatagram, EndsDatagram, FeedsDatagram, has_bytes, sent_for, udp_name}
-use Rattle.udp_line.specs.Mails.{Datagram, HasEnded, MailAdded, ServesMail, IsMailEnd, AnswersEach, AreWhole, text_for, replies_to, turns_of, IsUnhalted}
+use Rattle.udp_line.specs.Mails.{Datagram, HasEnded, MailAdded, ServesMail, IsMailEnd, AnswersEach, IsUnsent, LacksLast, replies_to, turns_of, IsUnhalted}
 use Rattle.udp_line.specs.declared.mail_end.MailEnd.{MailEnd}
 use Rattle.udp_line.specs.declared.mail_end.MailEnd.TheVariants.{Quota, Ended, ReadFault, WriteFault, Stopped}
 
@@ -68,8 +67,10 @@ turns_more : (ds : List Datagram) (d : Datagram) → turns_of (ds ++ d ∷ []) �
 turns_more ds d = flat_map-append (λ (o : Datagram). o.turns) ds (d ∷ []) ∙ ap (λ (l : List Turn). turns_of ds ++ l) (append-nil d.turns)
 
 -- the replies to some datagrams, and to one more
-sent_more : (ds : List Datagram) (d : Datagram) → replies_to (ds ++ d ∷ []) ≡ replies_to ds ++ sent_for (text_for d ∷ [])
-sent_more ds d = ap sent_for (map-append text_for ds (d ∷ [])) ∙ filter-append has_bytes (map text_for ds) (text_for d ∷ [])
+sent_more : (ds : List Datagram) (d : Datagram) → replies_to (ds ++ d ∷ []) ≡ replies_to ds ++ sent_for (text_of line_turns d.turns ∷ [])
+sent_more ds d =
+    let text_for : Datagram → List ℕ = λ o. text_of line_turns o.turns in
+    ap sent_for (map-append text_for ds (d ∷ [])) ∙ filter-append has_bytes (map text_for ds) (text_for d ∷ [])
 
 readings_more : (ds : List Datagram) (d : Datagram) → readings_of line_turns (turns_of (ds ++ d ∷ [])) ≡ readings_of line_turns (turns_of ds) ++ readings_of line_turns d.turns
 readings_more ds d = ap (readings_of line_turns) (turns_more ds d) ∙ readings-append line_turns (turns_of ds) d.turns
@@ -113,14 +114,14 @@ serves_none b h hall p s legal = record {
   disk = disk_stays;
   up = λ _ u. u;
   told = told_by p p (record { replies = []; readings = []; noise = [] }) refl refl refl (sym (known_none p.readings)) (sym (known_none p.noise)) (sym (replies_none p.replies));
-  ended = record { whole = refl; added = refl };
+  ended = record { whole = refl; replies = refl; readings = refl; noise = refl };
 }
 
 -- of one more datagram that was answered to its end, the whole pieces are those of its turns
-whole_more : (ds : List Datagram) (bytes : List ℕ) (turns : List Turn) → AreWhole ds → bodies bytes ≡ pieces_of line_turns turns → AreWhole (ds ++ record { bytes = bytes; turns = turns } ∷ [])
-whole_more ds bytes turns whole one =
-    let d : Datagram = record { bytes = bytes; turns = turns } in
-    map-append (λ (o : Datagram). bodies o.bytes) ds (d ∷ []) ∙ ap (λ (l : List (List (List ℕ))). l ++ bodies bytes ∷ []) whole
+whole_more : (ds : List Datagram) (d : Datagram) → map (λ (o : Datagram). bodies o.bytes) ds ≡ map (λ (o : Datagram). pieces_of line_turns o.turns) ds → bodies d.bytes ≡ pieces_of line_turns d.turns
+    → map (λ (o : Datagram). bodies o.bytes) (ds ++ d ∷ []) ≡ map (λ (o : Datagram). pieces_of line_turns o.turns) (ds ++ d ∷ [])
+whole_more ds d whole one =
+    map-append (λ (o : Datagram). bodies o.bytes) ds (d ∷ []) ∙ ap (λ (l : List (List (List ℕ))). l ++ bodies d.bytes ∷ []) whole
     ∙ ap (λ (l : List (List ℕ)). map (λ (o : Datagram). pieces_of line_turns o.turns) ds ++ l ∷ []) one
     ∙ sym (map-append (λ (o : Datagram). pieces_of line_turns o.turns) ds (d ∷ []))
 
@@ -207,59 +208,30 @@ module _ (b : Summary) (h : List Entry) {given : List (List ℕ)} {hall mid : Ha
         let ds = s.datagrams in
         let d : Datagram = record { bytes = bytes; turns = line.turns } in
         behind Quota one.end (sent_for (line.added.text ∷ [])) s line one.only one.sends.1 (λ _. unstopped one.end one.sends.0) (record {
-          whole = whole_more ds bytes line.turns s.ended.whole (line.taken ∙ ap (λ (l : List (List ℕ)). pieces_of line_turns line.turns ++ l) all.none_left ∙ append-nil (pieces_of line_turns line.turns));
-          added = λ i. record {
-            replies =
-                (ap (λ (o : MailAdded). o.replies ++ sent_for (line.added.text ∷ [])) s.ended.added
-                ∙ ap (λ (o : Added). replies_to ds ++ sent_for (o.text ∷ [])) all.added
-                ∙ sym (sent_more ds d)) i;
-            readings =
-                (ap (λ (o : MailAdded). o.readings ++ line.added.readings) s.ended.added
-                ∙ ap (λ (o : Added). readings_of line_turns (turns_of ds) ++ o.readings) all.added
-                ∙ sym (readings_more ds d)) i;
-            noise =
-                (ap (λ (o : MailAdded). o.noise ++ line.added.noise) s.ended.added ∙ ap (λ (o : Added). noise_of line_turns (turns_of ds) ++ o.noise) all.added
-                ∙ sym (noise_more ds d)) i;
-          };
+          whole = whole_more ds d s.ended.whole (line.taken ∙ ap (λ (l : List (List ℕ)). pieces_of line_turns line.turns ++ l) all.none_left ∙ append-nil (pieces_of line_turns line.turns));
+          replies =
+              ap (λ (l : List (List ℕ)). l ++ sent_for (line.added.text ∷ [])) s.ended.replies ∙ ap (λ (o : Added). replies_to ds ++ sent_for (o.text ∷ [])) all.added
+              ∙ sym (sent_more ds d);
+          readings =
+              ap (λ (l : List ℕ). l ++ line.added.readings) s.ended.readings ∙ ap (λ (o : Added). readings_of line_turns (turns_of ds) ++ o.readings) all.added
+              ∙ sym (readings_more ds d);
+          noise = ap (λ (l : List ℕ). l ++ line.added.noise) s.ended.noise ∙ ap (λ (o : Added). noise_of line_turns (turns_of ds) ++ o.noise) all.added ∙ sym (noise_more ds d);
         })
 
-    -- one more datagram, whose reply was not sent
-    serves_unsent : (s : ServesMail Quota given b h hall mid p q) → AnswersDatagram (Err WriteFault) bytes b s.history mid hall' q' r → ServesMail WriteFault (given ++ bytes ∷ []) b h hall hall' p r
-    serves_unsent s one =
+    -- one more datagram, of which no reply was sent
+    serves_unsent : (end : MailEnd) (s : ServesMail Quota given b h hall mid p q) (one : AnswersDatagram (Err end) bytes b s.history mid hall' q' r) → r.replies ≡ one.fed.replies → (IsUnhalted end → IsUnstopped one.end)
+        → IsUnsent end one.end one.session.added.text
+        → ((ds : List Datagram) (a : MailAdded) → LacksLast end b hall hall' one.session.history ds a → IsMailEnd end b hall hall' one.session.history ds a) → ServesMail end (given ++ bytes ∷ []) b h hall hall' p r
+    serves_unsent end s one replies going unsent ends =
         let line = one.session in
-        let all = all_of (line_rules udp_name b mid hall') one.end line.history line.turns line.behind line.added line.left one.sends.0 line.ended in
-        let ds = s.datagrams in
         let d : Datagram = record { bytes = bytes; turns = line.turns } in
-        behind WriteFault one.end [] s line one.only (one.sends.2 ∙ sym (replies_none one.fed.replies)) (λ _. unstopped one.end one.sends.0) (record {
-          front = ds;
+        behind end one.end [] s line one.only (replies ∙ sym (replies_none one.fed.replies)) going
+        (ends (s.datagrams ++ d ∷ []) (record { replies = s.added.replies ++ []; readings = s.added.readings ++ line.added.readings; noise = s.added.noise ++ line.added.noise }) (record {
+          front = s.datagrams;
+          before = s.added;
+          sent = s.ended;
           last = d;
           split = refl;
-          whole = whole_more ds bytes line.turns s.ended.whole (line.taken ∙ ap (λ (l : List (List ℕ)). pieces_of line_turns line.turns ++ l) all.none_left ∙ append-nil (pieces_of line_turns line.turns));
-          owed = subst (λ (o : Added). has_bytes o.text ≡ true) all.added one.sends.1;
-          added = λ i. record {
-            replies = (append-nil s.added.replies ∙ ap (λ (o : MailAdded). o.replies) s.ended.added) i;
-            readings =
-                (ap (λ (o : MailAdded). o.readings ++ line.added.readings) s.ended.added
-                ∙ ap (λ (o : Added). readings_of line_turns (turns_of ds) ++ o.readings) all.added
-                ∙ sym (readings_more ds d)) i;
-            noise =
-                (ap (λ (o : MailAdded). o.noise ++ line.added.noise) s.ended.added ∙ ap (λ (o : Added). noise_of line_turns (turns_of ds) ++ o.noise) all.added
-                ∙ sym (noise_more ds d)) i;
-          };
-        })
-
-    -- one more datagram, at which the session halts
-    serves_halt : (stop : Stop) (s : ServesMail Quota given b h hall mid p q) → AnswersDatagram (Err (Stopped stop)) bytes b s.history mid hall' q' r
-        → ServesMail (Stopped stop) (given ++ bytes ∷ []) b h hall hall' p r
-    serves_halt stop s one =
-        let line = one.session in
-        let ds = s.datagrams in
-        let d : Datagram = record { bytes = bytes; turns = line.turns } in
-        behind (Stopped stop) one.end [] s line one.only (one.sends.1 ∙ sym (replies_none one.fed.replies)) (λ unhalted. absurd unhalted) (record {
-          front = ds;
-          last = d;
-          split = refl;
-          whole = s.ended.whole;
           end = one.end;
           behind = line.behind;
           line = line.added;
@@ -267,22 +239,18 @@ module _ (b : Summary) (h : List Entry) {given : List (List ℕ)} {hall mid : Ha
           taken = line.taken;
           ended = ends_under line_turns (line_rules udp_name b mid hall') (line_rules udp_name b hall hall') one.end line.history line.turns line.behind line.added line.left
               ((line_follows udp_name b kept (s.up tt) hall' h).cause line.history) line.ended;
-          halt = one.sends.0;
+          halt = unsent;
           none_behind = line.unanswered;
-          added = λ i. record {
-            replies = (append-nil s.added.replies ∙ ap (λ (o : MailAdded). o.replies) s.ended.added) i;
-            readings = ap (λ (o : MailAdded). o.readings ++ line.added.readings) s.ended.added i;
-            noise = ap (λ (o : MailAdded). o.noise ++ line.added.noise) s.ended.added i;
-          };
-        })
+          added = λ i. record { replies = append-nil s.added.replies i; readings = s.added.readings ++ line.added.readings; noise = s.added.noise ++ line.added.noise };
+        }))
 
     -- one more datagram, which was not answered
     pub serves_last : (end : MailEnd) (s : ServesMail Quota given b h hall mid p q) → AnswersDatagram (Err end) bytes b s.history mid hall' q' r → ServesMail end (given ++ bytes ∷ []) b h hall hall' p r
     serves_last Quota s one = absurd one.sends
     serves_last Ended s one = absurd one.sends
     serves_last ReadFault s one = absurd one.sends
-    serves_last WriteFault s one = serves_unsent s one
-    serves_last (Stopped stop) s one = serves_halt stop s one
+    serves_last WriteFault s one = serves_unsent WriteFault s one one.sends.2 (λ _. unstopped one.end one.sends.0) (one.sends.0, one.sends.1) (λ _ _ l. l)
+    serves_last (Stopped stop) s one = serves_unsent (Stopped stop) s one one.sends.1 (λ unhalted. absurd unhalted) one.sends.0 (λ _ _ l. l)
 
 -- why a session ended at its last datagram
 pub last_ended : (end : MailEnd) (count n : ℕ) (p p' : PortSeen) → EndsDatagram (Err end) → n ≤ count → (end ≡ WriteFault → Rose p.write_faults p'.write_faults) → HasEnded end count n p p'

@@ -14,7 +14,7 @@ use Rattle.centre_rules.specs.History.{Entry}
 use Rattle.centre_rules.specs.Answers.{IsLegal}
 use Rattle.dc09_frame.specs.Frames.{bodies}
 use Rattle.session_rules.specs.Turns.{pieces_of, entries_of, text_of, readings_of, noise_of}
-use Rattle.session_rules.specs.Sessions.{Ending, IsEnd, IsShownFor}
+use Rattle.session_rules.specs.Sessions.{Ending, answered, IsEnd, IsShownFor}
 use Rattle.line_session.specs.Turns.{Turn, line_turns, AreTurns}
 use Rattle.line_session.specs.Sessions.{line_rules}
 use Rattle.udp_line.specs.Datagrams.{has_bytes, sent_for, udp_name, IsHalt}
@@ -26,21 +26,13 @@ pub record Datagram : Type 0 where
   pub bytes : List ℕ
   pub turns : List Turn
 
--- the text that its line answers
-abbrev pub text_for : Datagram → List ℕ
-text_for d = text_of line_turns d.turns
-
--- the datagrams that go back for these: the text of each, and none where that is empty
+-- the datagrams that go back for these: the text that the line of each answers, and none where that is empty
 abbrev pub replies_to : List Datagram → List (List ℕ)
-replies_to ds = sent_for (map text_for ds)
+replies_to ds = sent_for (map (λ d. text_of line_turns d.turns) ds)
 
 -- all turns of these, in order
 abbrev pub turns_of : List Datagram → List Turn
 turns_of ds = flat_map (λ d. d.turns) ds
-
--- of each of these, the whole pieces of its bytes are those of its turns
-abbrev pub AreWhole : List Datagram → Type 0
-AreWhole ds = map (λ d. bodies d.bytes) ds ≡ map (λ d. pieces_of line_turns d.turns) ds
 
 -- what a session over a mailbox added to what that tells: replies, readings and bytes of noise
 pub record MailAdded : Type 0 where
@@ -48,65 +40,47 @@ pub record MailAdded : Type 0 where
   pub readings : List ℕ
   pub noise : List ℕ
 
--- each datagram was answered
+-- each datagram was answered: the whole pieces of its bytes are those of its turns
 pub record AnswersEach (ds : List Datagram) (a : MailAdded) : Type 0 where
-  pub whole : AreWhole ds
-  pub added : a ≡ record {
-    replies = replies_to ds;
-    readings = readings_of line_turns (turns_of ds);
-    noise = noise_of line_turns (turns_of ds);
-  }
+  pub whole : map (λ d. bodies d.bytes) ds ≡ map (λ d. pieces_of line_turns d.turns) ds
+  pub replies : a.replies ≡ replies_to ds
+  pub readings : a.readings ≡ readings_of line_turns (turns_of ds)
+  pub noise : a.noise ≡ noise_of line_turns (turns_of ds)
 
--- Each datagram was answered, but that the reply to the last was not sent. It has a byte at least, and the turns are those of all.
-pub record LacksLast (ds : List Datagram) (a : MailAdded) : Type 0 where
-  pub front : List Datagram
-  pub last : Datagram
-  pub split : ds ≡ front ++ last ∷ []
-  pub whole : AreWhole ds
-  pub owed : has_bytes (text_for last) ≡ true
-  pub added : a ≡ record {
-    replies = replies_to front;
-    readings = readings_of line_turns (turns_of ds);
-    noise = noise_of line_turns (turns_of ds);
-  }
+-- Why no reply was sent of a datagram whose line ended so, with this text: the line was stopped, or wanted memory; or all was answered,
+-- with a byte at least, and sending that failed.
+abbrev pub IsUnsent : MailEnd → Ending → List ℕ → Type 0
+IsUnsent (Stopped stop) end text = IsHalt stop end
+IsUnsent why end text = (end ≡ answered) × (has_bytes text ≡ true)
 
--- Each datagram was answered but the last, of which no reply was sent: its line was stopped, or wanted memory. Its turns are those up to
--- there.
-pub record HaltsAtLast (stop : Stop) (b : Summary) (hall hall' : HallSeen) (x : List Entry) (ds : List Datagram) (a : MailAdded)
+-- Each datagram was answered but the last, of which no reply was sent. Its turns are those up to there.
+pub record LacksLast (why : MailEnd) (b : Summary) (hall hall' : HallSeen) (x : List Entry) (ds : List Datagram) (a : MailAdded)
     : Type 0 where
   pub front : List Datagram
+  pub before : MailAdded
+  pub sent : AnswersEach front before
   pub last : Datagram
   pub split : ds ≡ front ++ last ∷ []
-  pub whole : AreWhole front
   pub end : Ending
   pub behind : List Turn
   pub line : Added
   pub left : List (List ℕ)
   pub taken : bodies last.bytes ≡ pieces_of line_turns last.turns ++ left
   pub ended : IsEnd line_turns (line_rules udp_name b hall hall') end x last.turns behind line left
-  pub halt : IsHalt stop end
+  pub halt : IsUnsent why end line.text
   pub none_behind : behind ≡ []
-  pub added : a ≡ record {
-    replies = replies_to front;
-    readings = readings_of line_turns (turns_of front) ++ line.readings;
-    noise = noise_of line_turns (turns_of front) ++ line.noise;
-  }
+  pub added : a ≡ record before { readings = before.readings ++ line.readings; noise = before.noise ++ line.noise }
 
 -- what an end says of the history behind the session, of the datagrams and of what was added
 abbrev pub IsMailEnd : MailEnd → Summary → HallSeen → HallSeen → List Entry → List Datagram → MailAdded → Type 0
-IsMailEnd Quota b hall hall' x ds a = AnswersEach ds a
-IsMailEnd Ended b hall hall' x ds a = AnswersEach ds a
-IsMailEnd ReadFault b hall hall' x ds a = AnswersEach ds a
-IsMailEnd WriteFault b hall hall' x ds a = LacksLast ds a
-IsMailEnd (Stopped stop) b hall hall' x ds a = HaltsAtLast stop b hall hall' x ds a
+IsMailEnd WriteFault b hall hall' x ds a = LacksLast WriteFault b hall hall' x ds a
+IsMailEnd (Stopped stop) b hall hall' x ds a = LacksLast (Stopped stop) b hall hall' x ds a
+IsMailEnd end b hall hall' x ds a = AnswersEach ds a
 
 -- no line of it was stopped
 abbrev pub IsUnhalted : MailEnd → Type 0
-IsUnhalted Quota = Unit {0}
-IsUnhalted Ended = Unit {0}
-IsUnhalted ReadFault = Unit {0}
-IsUnhalted WriteFault = Unit {0}
 IsUnhalted (Stopped stop) = ⊥
+IsUnhalted end = Unit {0}
 
 -- From a history on, a session over datagrams of which these bytes were given: the history for which the hall stands at its end, to
 -- which the caller's own part grew by just the turns' entries, and what it added to what the mailbox tells. What was so of the hall's
