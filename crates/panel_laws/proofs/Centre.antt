@@ -26,6 +26,11 @@ not_message : (e : Event) → is_other e ≡ true → message_in e ≡ None
 not_message (Sends m via) other = absurd (true≢false (sym other))
 not_message rest other = refl
 
+-- an item without a number is above all others
+all_below : (new : Entry) (b : Bool) (w : List Item) → AllByRecursion (IsAbove (item_of b new)) w
+all_below new b [] = tt
+all_below new b (i ∷ w) = ((λ n k none number. absurd (none-some n none)), all_below new b w)
+
 module _ (x : Schedule) (s : Setting) (ms : List Mark) (now : ℕ) (fs rs : List Copy) (ts : List Step) (h : Holds x s ms now fs rs ts)
     (clock : ℕ) (le : now ≤ clock) where
   -- the items, once the moment has passed
@@ -144,10 +149,6 @@ module _ (x : Schedule) (s : Setting) (ms : List Mark) (now : ℕ) (fs rs : List
         steps = (is, h.steps);
         spaced = (tt, h.spaced);
       }
-    where
-      all_below : (new : Entry) (b : Bool) (w : List Item) → AllByRecursion (IsAbove (item_of b new)) w
-      all_below new b [] = tt
-      all_below new b (i ∷ w) = ((λ n k none number. absurd (none-some n none)), all_below new b w)
 
   -- The centre crashes.
 
@@ -170,14 +171,10 @@ module _ (x : Schedule) (s : Setting) (ms : List Mark) (now : ℕ) (fs rs : List
           record { upto = omega (arith, moment_is s h.xs now clock left le before); of = Another refl refl },
           all_drop (IsItem s h.xs clock) d w passed,
         );
-        falls = (all_below (start_entry left clock) left, falling_dropped d w h.falls);
+        falls = (all_below (start_entry left clock) false left, falling_dropped d w h.falls);
         steps = (is, h.steps);
         spaced = (tt, h.spaced);
       }
-    where
-      all_below : (new : Entry) (w : List Item) → AllByRecursion (IsAbove (item_of false new)) w
-      all_below new [] = tt
-      all_below new (i ∷ w) = ((λ n k none number. absurd (none-some n none)), all_below new w)
 
 -- A frame or a reply is lost.
 pub lose : (x : Schedule) (s : Setting) (ms : List Mark) (now : ℕ) (fs rs : List Copy) (ts : List Step) → Holds x s ms now fs rs ts
