@@ -1,7 +1,8 @@
 -- What the calls of a panel answer is what the definitions say.
 use Rattle.std.proofs.Common.{◌≡◌, ℕ, ◌+◌, ◌-◌, ◌<◌, ◌≤◌, List, [], ◌∷◌, ◌++◌, length, get_or, set, Bool, true, false, cond, ltb, leb, eqb, ◌&&◌, Option, Some, None, refl, sym, ap, subst, ◌∙◌, arith}
 use Rattle.std.proofs.lemmas.Bool.{eq-eqb, ltb-true, ltb-false}
-use Rattle.std.specs.Option.{is_some}
+use Rattle.std.specs.Option.{is_some, option_map_or}
+use Rattle.std.specs.Str.{bytes_eq}
 use Rattle.arc_data.specs.declared.event.Token.{Token}
 use Rattle.panel_rules.specs.declared.Fate.{Fate}
 use Rattle.panel_rules.specs.declared.Fate.TheVariants.{Waiting, InFlight, Acked as IsAcked, GivenUp}
@@ -11,7 +12,7 @@ use Rattle.panel_rules.specs.declared.Queued.{Queued}
 use Rattle.panel_rules.specs.declared.Queued.TheVariants.{Taken, Full, BadData}
 use Rattle.panel_rules.specs.declared.Report.{Report}
 use Rattle.panel_rules.specs.Marks.{Mark, Acks, Steps, count, fate, in_flight, is_acked, numbered, sends, taken, waiting}
-use Rattle.panel_rules.specs.Panels.{Setting, Happening, Queue, Step, Hear, ack_body, body_of_event, body_sent, heard, heard_by, is_ack, is_ack_by, is_bad, marks, marks_heard, marks_queued, number, queued}
+use Rattle.panel_rules.specs.Panels.{Setting, Happening, Queue, Step, Hear, ack_body, body_of_event, body_sent, heard, is_ack, is_bad, marks, marks_heard, marks_queued, number, queued}
 use Rattle.panel_core.specs.declared.flight.Flight.{Flight}
 use Rattle.panel_core.specs.Sending.{body_in_flight, copied_with, copies_with, frame_sent, is_ack_of, still}
 use Rattle.panel_core.specs.Standing.{HasEnded, Flies, IsLast, Keeps, PanelValue, StandsFor}
@@ -44,11 +45,19 @@ stands_new s = record {
 -- What is heard.
 
 module _ (s : Setting) (ms : List Mark) (p : PanelValue) (k : Keeps s ms p) (body : List ℕ) where
+  -- by the event whose message is in flight
+  abbrev heard_of : Option ℕ → Heard
+  heard_of flying = option_map_or (λ n. cond (is_ack s ms n body) (Acked n) Other) flying Other
+
+  -- by what the event reports
+  abbrev acks_of : Option Report → Bool
+  acks_of told = option_map_or (λ report. bytes_eq body (ack_body s p.sent report.token)) told false
+
   heard_with : (o : Option Flight) → IsLast s ms p.sent o → heard s ms body ≡ cond (is_ack_of p body o) (Acked p.sent) Other
-  heard_with None is = ap (heard_by s ms body) (flight_none s ms p k is)
+  heard_with None is = ap heard_of (flight_none s ms p k is)
   heard_with (Some f) is =
-      let same : is_ack s ms p.sent body ≡ is_ack_of p body (Some f) = ap (is_ack_by s p.sent body) is.reports ∙ rw (k.account_is, k.line_is, is.number_is) refl in
-      ap (heard_by s ms body) (flight_some s ms p k f is) ∙ ap (λ b. cond b (Acked p.sent) Other) same
+      let same : is_ack s ms p.sent body ≡ is_ack_of p body (Some f) = ap acks_of is.reports ∙ rw (k.account_is, k.line_is, is.number_is) refl in
+      ap heard_of (flight_some s ms p k f is) ∙ ap (λ b. cond b (Acked p.sent) Other) same
 
   pub heard_is : heard s ms body ≡ cond (is_ack_of p body p.flight) (Acked p.sent) Other
   heard_is = heard_with p.flight k.last_is

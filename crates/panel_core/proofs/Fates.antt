@@ -1,19 +1,17 @@
 -- What came of an event, by its copies and by what is marked of it.
 use Rattle.std.proofs.Common.{◌≡◌, ℕ, zero, suc, ◌+◌, ◌-◌, ◌<◌, ◌≤◌, List, [], ◌∷◌, length, Bool, true, false, cond, ◌||◌, Option, Some, None, refl, sym, ap, ◌∙◌, arith}
 use Rattle.std.proofs.lemmas.Bool.{or_left, or_right, or_from, or_parts}
+use Rattle.std.specs.List.{last_or}
 use Rattle.panel_rules.specs.declared.Fate.{Fate}
 use Rattle.panel_rules.specs.declared.Fate.TheVariants.{Waiting, InFlight, Acked, GivenUp}
-use Rattle.panel_rules.specs.Marks.{Mark, Takes, Steps, Acks, copies, fate, fate_by, fate_of_sent, first_copy, is_acked, is_event, is_late, oldest}
+use Rattle.panel_rules.specs.Marks.{Mark, Takes, Steps, Acks, copies, fate, first_copy, is_acked, is_event, is_late}
+use Rattle.panel_rules.proofs.MarkLaws.{last_more}
 use Rattle.panel_core.specs.Standing.{HasEnded}
 
 -- The first copy stays, whatever is marked.
 
-oldest_more : (t : ℕ) (ts : List ℕ) (f : ℕ) → oldest ts ≡ Some f → oldest (t ∷ ts) ≡ Some f
-oldest_more t [] f is = absurd cc
-oldest_more t (u ∷ us) f is = is
-
-pub copied_more : (b : Bool) (t : ℕ) (ts : List ℕ) (f : ℕ) → oldest ts ≡ Some f → oldest (cond b (t ∷ ts) ts) ≡ Some f
-copied_more true t ts f is = oldest_more t ts f is
+pub copied_more : (b : Bool) (t : ℕ) (ts : List ℕ) (f : ℕ) → last_or None ts ≡ Some f → last_or None (cond b (t ∷ ts) ts) ≡ Some f
+copied_more true t ts f is = last_more t f ts is
 copied_more false t ts f is = is
 
 pub first_stays : (n : ℕ) (m : Mark) (ms : List Mark) (f : ℕ) → first_copy n ms ≡ Some f → first_copy n (m ∷ ms) ≡ Some f
@@ -44,7 +42,7 @@ ended_stays n m ms e = record {
 -- The fates.
 
 pub fate_unsent : (n : ℕ) (ms : List Mark) → copies n ms ≡ [] → fate ms n ≡ Waiting
-fate_unsent n ms none = ap (λ ts. fate_by n ms (oldest ts)) none
+fate_unsent n ms none = rw none refl
 
 by_end : (a l : Bool) → (a || l) ≡ true → cond a Acked (cond l GivenUp InFlight) ≡ cond a Acked GivenUp
 by_end true l is = refl
@@ -52,7 +50,7 @@ by_end false true is = refl
 by_end false false is = absurd cc
 
 pub fate_ended : (n : ℕ) (ms : List Mark) → HasEnded n ms → fate ms n ≡ cond (is_acked n ms) Acked GivenUp
-fate_ended n ms e = ap (fate_by n ms) e.copied ∙ by_end (is_acked n ms) (is_late ms e.first) e.over
+fate_ended n ms e = rw e.copied (by_end (is_acked n ms) (is_late ms e.first) e.over)
 
 by_flight : (a l : Bool) → a ≡ false → l ≡ false → cond a Acked (cond l GivenUp InFlight) ≡ InFlight
 by_flight true l ea el = absurd cc
@@ -60,4 +58,4 @@ by_flight false true ea el = absurd cc
 by_flight false false ea el = refl
 
 pub fate_flying : (n : ℕ) (ms : List Mark) (first : ℕ) → first_copy n ms ≡ Some first → is_acked n ms ≡ false → is_late ms first ≡ false → fate ms n ≡ InFlight
-fate_flying n ms first is unacked timely = ap (fate_by n ms) is ∙ by_flight (is_acked n ms) (is_late ms first) unacked timely
+fate_flying n ms first is unacked timely = rw is (by_flight (is_acked n ms) (is_late ms first) unacked timely)

@@ -1,21 +1,19 @@
 -- What a panel keeps goes on to be what it keeps, whatever is marked.
 use Rattle.std.proofs.Common.{◌≡◌, ◌≢◌, ℕ, zero, suc, ◌+◌, ◌-◌, ◌<◌, ◌≤◌, List, [], ◌∷◌, ◌++◌, length, get_or, set, Bool, true, false, cond, ltb, leb, eqb, ◌||◌, ◌&&◌, Option, Some, None, refl, sym, ap, subst, ◌∙◌, arith, length-append}
 use Rattle.std.specs.Prelude.{slice_get}
-use Rattle.std.specs.List.{list_all, list_any}
+use Rattle.std.specs.List.{last_or, list_all, list_any}
 use Rattle.std.proofs.lemmas.Bool.{ltb-true, ltb-false, leb-true, le-leb, eqb-true, eqb-false, eq-eqb, ne_eqb, and_parts, and_from, or_parts, or_from, or_left, or_right}
 use Rattle.std.proofs.lemmas.List.{get_or-set_same, get_or-set_other}
 use Rattle.panel_rules.specs.declared.Report.{Report}
-use Rattle.panel_rules.specs.Marks.{Mark, Takes, Steps, Acks, copies, count, first_copy, is_acked, is_event, is_late, last_copy, newest, numbered, oldest, steps, taken}
+use Rattle.panel_rules.specs.Marks.{Mark, Takes, Steps, Acks, copies, count, first_copy, is_acked, is_event, is_late, last_copy, numbered, steps, taken}
 use Rattle.panel_rules.specs.Panels.{Setting, next_number, number, number_after}
+use Rattle.panel_rules.proofs.MarkLaws.{numbered_more}
 use Rattle.panel_core.specs.declared.flight.Flight.{Flight}
 use Rattle.panel_core.specs.Sending.{begin_next, still}
 use Rattle.panel_core.specs.Standing.{HasEnded, Flies, IsLast, Keeps, PanelValue}
 use Rattle.panel_core.proofs.Fates.{copied_more, ended_stays, first_stays}
 
 -- An event is taken.
-
-numbered_more : (n : ℕ) (report : Report) (reports : List Report) → n < length reports + 1 → numbered n (report ∷ reports) ≡ numbered n reports
-numbered_more n report reports few = rw (ne_eqb n (length reports + 1) (λ e. absurd (omega (arith, e)))) refl
 
 numbered_newest : (n : ℕ) (report : Report) (reports : List Report) → n ≡ length reports + 1 → numbered n (report ∷ reports) ≡ Some report
 numbered_newest n report reports is = rw (eq-eqb n (length reports + 1) is) refl
@@ -146,7 +144,7 @@ module _ (s : Setting) (ms : List Mark) (p : PanelValue) (now : ℕ) (k : Keeps 
           number_is = is.number_is;
           reports = is.reports;
           first_at = first;
-          last_at = ap newest (copies_of p.sent p.sent refl);
+          last_at = ap (λ ts. slice_get ts 0) (copies_of p.sent p.sent refl);
           unacked = is.unacked;
           timely = is.timely;
         };
@@ -193,12 +191,12 @@ module _ (s : Setting) (ms : List Mark) (p : PanelValue) (now : ℕ) (k : Keeps 
           some = omega arith;
           number_is = k.next_is ∙ ap (number_after s) (sym one_less);
           reports = ap (λ n. numbered n (taken ms)) at_zero ∙ k.waits 0 some ∙ ap (λ xs. slice_get xs 0) is;
-          first_at = ap oldest only;
-          last_at = ap newest only;
+          first_at = ap (last_or None) only;
+          last_at = ap (λ ts. slice_get ts 0) only;
           unacked = k.unheard (p.sent + 1) (omega arith);
           timely = none_late (steps (Steps now None ∷ ms)) p.stepped (now + 240) (omega (arith, stepped)) k.stepped_by;
         };
-        begun_at = ap oldest only;
+        begun_at = ap (last_or None) only;
         stepped_by = k.stepped_by;
         acked_are = k.acked_are;
       }

@@ -2,12 +2,18 @@
 use Rattle.std.proofs.Common.{◌≡◌, ◌≤◌, ◌<◌, ◌+◌, ◌⊎◌, ℕ, List, [], ◌∷◌, length, Bool, true, false, cond, refl, sym, subst, true≢false, inl, inr, arith}
 use Rattle.std.specs.Prelude.{Option, Some, None, nat_lt, ◌==◌}
 use Rattle.std.specs.List.{AllByRecursion}
+use Rattle.std.specs.Option.{option_map_or}
 use Rattle.std.proofs.lemmas.Option.{none-some, same_Some}
-use Rattle.std.proofs.lemmas.Bool.{ltb-true, eqb-false, ne_eqb}
-use Rattle.panel_rules.specs.declared.Fate.TheVariants.{InFlight, Acked, GivenUp}
+use Rattle.std.proofs.lemmas.Bool.{ltb-true, eqb-false}
+use Rattle.panel_rules.specs.declared.Fate.{Fate}
+use Rattle.panel_rules.specs.declared.Fate.TheVariants.{Waiting, InFlight, Acked, GivenUp}
 use Rattle.panel_rules.specs.declared.Report.{Report}
-use Rattle.panel_rules.specs.Marks.{Mark, steps, copies, first_copy, oldest, is_acked, is_late, fate, fate_by, is_waiting, is_in_flight, numbered}
+use Rattle.panel_rules.specs.Marks.{Mark, steps, copies, first_copy, is_acked, is_late, fate, is_waiting, is_in_flight, numbered}
 use Rattle.panel_laws.proofs.Finds.{any_gives}
+
+-- what came of an event, by when the first copy of its message was sent
+abbrev fate_by : ℕ → List Mark → Option ℕ → Fate
+fate_by n ms first = option_map_or (λ t. cond (is_acked n ms) Acked (cond (is_late ms t) GivenUp InFlight)) first Waiting
 
 -- a message in flight was sent, is not acknowledged, and is not late
 pub record IsFlying (n : ℕ) (ms : List Mark) : Type 0 where
@@ -75,23 +81,6 @@ acked_by n ms (Some first) is = acked_of (is_acked n ms) (is_late ms first) is
 pub acked : (n : ℕ) (ms : List Mark) → fate ms n ≡ Acked → is_acked n ms ≡ true
 acked n ms is = acked_by n ms (first_copy n ms) is
 
--- The oldest of a list.
-
--- one more in front leaves it
-pub oldest_more : (t first : ℕ) (ts : List ℕ) → oldest ts ≡ Some first → oldest (t ∷ ts) ≡ Some first
-oldest_more t first [] is = absurd (none-some first is)
-oldest_more t first (u ∷ ts) is = is
-
--- only an empty list has none
-pub oldest_none : (ts : List ℕ) → oldest ts ≡ None → ts ≡ []
-oldest_none [] is = refl
-oldest_none (t ∷ []) is = absurd (none-some t (sym is))
-oldest_none (t ∷ u ∷ ts) is = absurd (some_oldest u ts is)
-  where
-    some_oldest : (u : ℕ) (ts : List ℕ) → oldest (u ∷ ts) ≡ None → ⊥
-    some_oldest u [] is = none-some u (sym is)
-    some_oldest u (v ∷ ts) is = some_oldest v ts is
-
 -- Steps.
 
 -- no step is after this moment
@@ -121,7 +110,3 @@ pub taken_is : (n : ℕ) (reports : List Report) → 1 ≤ n → n ≤ length re
 taken_is n [] some most = absurd (omega (arith, some, most))
 taken_is n (r ∷ reports) some most =
     taken_step n r reports (n == length reports + 1) refl (omega (arith, most)) (λ below. taken_is n reports some below)
-
--- one more leaves what the others report
-pub numbered_more : (n : ℕ) (r : Report) (reports : List Report) → n ≤ length reports → numbered n (r ∷ reports) ≡ numbered n reports
-numbered_more n r reports most = let other : (n == length reports + 1) ≡ false = ne_eqb n (length reports + 1) (omega arith) in rw other refl

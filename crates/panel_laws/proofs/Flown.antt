@@ -6,7 +6,8 @@ use Rattle.std.proofs.lemmas.Bool.{ne_eqb, eq-eqb, or_right}
 use Rattle.panel_rules.specs.declared.Report.{Report}
 use Rattle.panel_rules.specs.Marks.{Mark, Takes, Steps, Acks, steps, copies, first_copy, is_acked, numbered, taken, count}
 use Rattle.panel_laws.specs.Worlds.{IsAmong}
-use Rattle.panel_laws.proofs.Fates.{oldest_more, AreUpTo, numbered_more}
+use Rattle.panel_rules.proofs.MarkLaws.{last_more, numbered_more}
+use Rattle.panel_laws.proofs.Fates.{AreUpTo}
 use Rattle.panel_laws.proofs.Sent.{Sent, IsBefore, AreOrdered, AreCounted, IsCounted, counted, all_among, all_weaker, all_from, ordered_weaker}
 
 -- it was acknowledged
@@ -95,7 +96,7 @@ sent_idle ms now clock xs le h = record {
 -- of any event: its first copy stays
 first_stays : (n k first clock : ℕ) (ms : List Mark) (b : Bool) → (n == k) ≡ b → first_copy k ms ≡ Some first
     → first_copy k (Steps clock (Some n) ∷ ms) ≡ Some first
-first_stays n k first clock ms true is sent = rw is (oldest_more clock first (copies k ms) sent)
+first_stays n k first clock ms true is sent = rw is (last_more clock first (copies k ms) sent)
 first_stays n k first clock ms false is sent = rw is sent
 
 -- of another event

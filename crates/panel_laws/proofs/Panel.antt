@@ -2,6 +2,8 @@
 use Rattle.std.proofs.Common.{◌≡◌, ◌≤◌, ◌<◌, ◌+◌, ◌⊎◌, ℕ, List, [], ◌∷◌, ◌++◌, length, Bool, true, false, cond, refl, sym, ap, ◌∙◌, subst, true≢false, inl, inr, arith}
 use Rattle.std.specs.Prelude.{Option, Some, None, ◌==◌, nat_lt}
 use Rattle.std.specs.List.{AllByRecursion}
+use Rattle.std.specs.Option.{option_map_or}
+use Rattle.std.specs.Str.{bytes_eq}
 use Rattle.std.proofs.lemmas.Bool.{or_cases, eqb-true, lt-ltb}
 use Rattle.std.proofs.lemmas.Option.{same_Some}
 use Rattle.std.proofs.lemmas.Slice.Eq.{bytes_eq-Decides}
@@ -10,8 +12,9 @@ use Rattle.centre_laws.specs.Schedules.{Step, Deliver, Lose, Crash, Schedule, id
 use Rattle.centre_laws.specs.Schedules.{Other as Others}
 use Rattle.panel_rules.specs.declared.Report.{Report}
 use Rattle.panel_rules.specs.Marks.{Mark, Takes, Steps, Acks, steps, taken, count, numbered, first_copy, is_acked, is_late, is_in_flight, fate, in_flight, sends}
-use Rattle.panel_rules.specs.Panels.{Setting, is_setting, number, ack_body, is_bad, is_full, queued, marks_queued, is_ack, is_ack_by, heard, heard_by, marks_heard}
+use Rattle.panel_rules.specs.Panels.{Setting, is_setting, number, ack_body, is_bad, is_full, queued, marks_queued, is_ack, heard, marks_heard}
 use Rattle.panel_rules.specs.declared.Queued.TheVariants.{Taken, Full, BadData}
+use Rattle.panel_rules.specs.declared.Heard.{Heard}
 use Rattle.panel_rules.specs.declared.Heard.TheVariants.{Acked, Other}
 use Rattle.panel_laws.specs.Worlds.{Copy, IsAmong, sent_copy}
 use Rattle.panel_laws.proofs.Finds.{find_some, any_among}
@@ -170,8 +173,8 @@ module _ (x : Schedule) (s : Setting) (ms : List Mark) (now : ℕ) (fs rs : List
       let z = sent_of_copy ms now h.xs n f.first h.sent f.sent in
       let own = all_among (IsSent ms) z.sent h.xs h.sent.each z.there in
       let told : numbered n (taken ms) ≡ Some z.sent.report = subst (λ (k : ℕ). numbered k (taken ms) ≡ Some z.sent.report) z.event own.told in
-      let test : is_ack_by s n (ack_body s c.event c.report.token) (Some z.sent.report) ≡ true =
-      subst (λ (o : Option Report). is_ack_by s n (ack_body s c.event c.report.token) o ≡ true) told is in
+      let test : bytes_eq (ack_body s c.event c.report.token) (ack_body s n z.sent.report.token) ≡ true =
+      subst (λ (o : Option Report). option_map_or (λ r. bytes_eq (ack_body s c.event c.report.token) (ack_body s n r.token)) o false ≡ true) told is in
       let bytes = (bytes_eq-Decides (ack_body s c.event c.report.token) (ack_body s n z.sent.report.token)).0 test in
       let numbers : number s c.event ≡ number s n = ack_same s c.event n c.report.token z.sent.report.token bytes in
       let first : f.first ≡ z.sent.first = same_Some f.first z.sent.first
@@ -184,8 +187,12 @@ module _ (x : Schedule) (s : Setting) (ms : List Mark) (now : ℕ) (fs rs : List
       (ordered (IsAcked ms) h.xs r.of z.sent h.sent.order r.there z.there) in
       hear_acked clock n le (subst (λ (k : ℕ). HasAcked k ts) (r.copy.event ∙ same ∙ z.event) r.acked)
 
+  -- what a body tells, by the event in flight
+  abbrev heard_of : List ℕ → Option ℕ → Heard
+  heard_of body flying = option_map_or (λ n. cond (is_ack s ms n body) (Acked n) Other) flying Other
+
   hear_flight : (clock : ℕ) (c : Copy) (o : Option ℕ) → is_setting s ≡ true → now ≤ clock → IsReply h.xs ts c → clock ≤ c.at + 60
-      → in_flight ms ≡ o → Holds x s (marks_heard (heard_by s ms (ack_body s c.event c.report.token) o) ++ ms) clock fs rs ts
+      → in_flight ms ≡ o → Holds x s (marks_heard (heard_of (ack_body s c.event c.report.token) o) ++ ms) clock fs rs ts
   hear_flight clock c None ok le r soon flies = later clock le
   hear_flight clock c (Some n) ok le r soon flies =
       hear_by clock n c (is_ack s ms n (ack_body s c.event c.report.token)) ok le r soon flies refl

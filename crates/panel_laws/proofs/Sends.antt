@@ -1,9 +1,11 @@
 -- What a step sends: nothing, a further copy of an event that was sent, or the next event for the first time.
 use Rattle.std.proofs.Common.{◌≡◌, ◌≤◌, ◌<◌, ◌+◌, ◌⊎◌, ℕ, List, [], ◌∷◌, length, Bool, true, false, cond, refl, sym, ap, ◌∙◌, subst, true≢false, inl, inr, arith}
 use Rattle.std.specs.Prelude.{Option, Some, None, ◌-◌}
+use Rattle.std.specs.List.{last_or}
+use Rattle.std.specs.Option.{option_and_then}
 use Rattle.std.proofs.lemmas.Option.{none-some}
 use Rattle.std.proofs.lemmas.Bool.{cases_lt, and_parts, leb-true}
-use Rattle.panel_rules.specs.Marks.{Mark, Steps, first_copy, last_copy, oldest, is_acked, is_late, is_waiting, is_in_flight, fate, taken, in_flight, oldest_waiting, may_begin, may_repeat, is_after, is_within, if_may, sends, sends_by}
+use Rattle.panel_rules.specs.Marks.{Mark, Steps, first_copy, last_copy, is_acked, is_late, is_waiting, is_in_flight, fate, taken, in_flight, oldest_waiting, may_begin, may_repeat, is_after, is_within, sends, sends_by}
 use Rattle.panel_laws.specs.Worlds.{IsAmong}
 use Rattle.panel_laws.proofs.Finds.{IsFirst, NonePasses, find_some, find_none}
 use Rattle.panel_laws.proofs.Fates.{flying, landed, waits, unsent, late, taken_is}
@@ -30,7 +32,7 @@ sent_with n (x ∷ xs) count some most =
 -- an event of which a copy was sent is among them
 within : (ms : List Mark) (now : ℕ) (xs : List Sent) (n first : ℕ) → HasSent ms now xs → first_copy n ms ≡ Some first
     → (n ≡ 0) ⊎ (length xs < n) → ⊥
-within ms now xs n first h sent out = none-some first (sym (ap oldest (h.rest n out)) ∙ sent)
+within ms now xs n first h sent out = none-some first (sym (ap (last_or None) (h.rest n out)) ∙ sent)
 
 place : (n l : ℕ) → ((n ≡ 0) ⊎ (l < n) → ⊥) → (1 ≤ n) × (n ≤ l)
 place n l inside = elim (cases_lt 0 n) [
@@ -122,7 +124,7 @@ begin_by ms clock n xs true h found none may =
         by_late y (landed y.event ms y.first own.sent (none y.event c.some (omega (arith, c.most, h.few))))
 
 sends_waiting : (ms : List Mark) (clock : ℕ) (xs : List Sent) (o : Option ℕ) → HasSent ms clock xs → in_flight ms ≡ None
-    → oldest_waiting ms ≡ o → Sends ms clock xs (if_may (may_begin ms clock) o)
+    → oldest_waiting ms ≡ o → Sends ms clock xs (option_and_then (λ n. cond (may_begin ms clock n) (Some n) None) o)
 sends_waiting ms clock xs None h idle is = Idle refl
 sends_waiting ms clock xs (Some n) h idle is =
     begin_by ms clock n xs (may_begin ms clock n) h (find_some (λ k. is_waiting (fate ms k)) 1 (length (taken ms)) n is)

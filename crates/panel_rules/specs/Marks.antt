@@ -1,8 +1,9 @@
 -- What a panel has done, as a list of marks, the newest first: the events that it took, its steps with the copies that it sent, and what
 -- was acknowledged. Events are numbered from 1, in the order in which they were taken. Moments are seconds since 1970.
 use Rattle.std.specs.Prelude.{ℕ, ◌+◌, ◌-◌, ◌==◌, ◌&&◌, Bool, true, false, if◌then◌else◌, List, [], ◌∷◌, Option, Some, None}
-use Rattle.std.specs.Prelude.{nat_lt, nat_le, length, filter}
-use Rattle.std.specs.List.{list_any, find, range_with_len}
+use Rattle.std.specs.Prelude.{nat_lt, nat_le, length, filter, slice_get}
+use Rattle.std.specs.List.{list_any, find, last_or, range_with_len}
+use Rattle.std.specs.Option.{option_and_then, option_map_or}
 use Rattle.panel_rules.specs.declared.Fate.{Fate}
 use Rattle.panel_rules.specs.declared.Fate.TheVariants.{Waiting, InFlight, Acked, GivenUp}
 pub use Rattle.panel_rules.specs.declared.Report.{Report}
@@ -15,14 +16,10 @@ pub data Mark : Type 0 where
   Acks : (event : ℕ) → Mark
 
 -- what the events taken report, the newest first
-
-abbrev pub taken_at : Mark → List Report → List Report
-taken_at (Takes report) before = report ∷ before
-taken_at m before = before
-
 abbrev pub taken : List Mark → List Report
 taken [] = []
-taken (m ∷ ms) = taken_at m (taken ms)
+taken (Takes report ∷ ms) = report ∷ taken ms
+taken (m ∷ ms) = taken ms
 
 -- how many events were taken
 abbrev pub count : List Mark → ℕ
@@ -38,47 +35,28 @@ numbered n [] = None
 numbered n (report ∷ reports) = if n == length reports + 1 then Some report else numbered n reports
 
 -- the moments of the steps, the newest first
-
-abbrev pub steps_at : Mark → List ℕ → List ℕ
-steps_at (Steps now sent) before = now ∷ before
-steps_at m before = before
-
 abbrev pub steps : List Mark → List ℕ
 steps [] = []
-steps (m ∷ ms) = steps_at m (steps ms)
+steps (Steps now sent ∷ ms) = now ∷ steps ms
+steps (m ∷ ms) = steps ms
 
--- the number is this one
+-- there is a number, and it is this one
 abbrev pub is_event : ℕ → Option ℕ → Bool
-is_event n None = false
-is_event n (Some k) = k == n
+is_event n sent = option_map_or (λ k. k == n) sent false
 
 -- the moments at which a copy of the message of event n was sent, the newest first
-
-abbrev pub copies_at : ℕ → Mark → List ℕ → List ℕ
-copies_at n (Steps now sent) before = if is_event n sent then now ∷ before else before
-copies_at n m before = before
-
 abbrev pub copies : ℕ → List Mark → List ℕ
 copies n [] = []
-copies n (m ∷ ms) = copies_at n m (copies n ms)
+copies n (Steps now sent ∷ ms) = if is_event n sent then now ∷ copies n ms else copies n ms
+copies n (m ∷ ms) = copies n ms
 
--- the newest and the oldest of a list that stands the newest first
+-- when the first copy of the message of event n was sent, which stands last among the copies, and when the last one, which stands first
 
-abbrev pub newest : List ℕ → Option ℕ
-newest [] = None
-newest (t ∷ ts) = Some t
-
-abbrev pub oldest : List ℕ → Option ℕ
-oldest [] = None
-oldest (t ∷ []) = Some t
-oldest (t ∷ u ∷ ts) = oldest (u ∷ ts)
-
--- when the first copy of the message of event n was sent, and when the last one
 abbrev pub first_copy : ℕ → List Mark → Option ℕ
-first_copy n ms = oldest (copies n ms)
+first_copy n ms = last_or None (copies n ms)
 
 abbrev pub last_copy : ℕ → List Mark → Option ℕ
-last_copy n ms = newest (copies n ms)
+last_copy n ms = slice_get (copies n ms) 0
 
 -- its message was acknowledged while it was in flight
 
@@ -95,16 +73,9 @@ is_late ms first = list_any (λ now. nat_lt (first + 240) now) (steps ms)
 
 -- What came of event n: it waits where no copy of its message was sent, and is otherwise acknowledged, or given up by a step more than
 -- 240 seconds after the first copy, or in flight.
-
-abbrev pub fate_of_sent : ℕ → List Mark → ℕ → Fate
-fate_of_sent n ms first = if is_acked n ms then Acked else if is_late ms first then GivenUp else InFlight
-
-abbrev pub fate_by : ℕ → List Mark → Option ℕ → Fate
-fate_by n ms None = Waiting
-fate_by n ms (Some first) = fate_of_sent n ms first
-
 abbrev pub fate : List Mark → ℕ → Fate
-fate ms n = fate_by n ms (first_copy n ms)
+fate ms n =
+    option_map_or (λ first. if is_acked n ms then Acked else if is_late ms first then GivenUp else InFlight) (first_copy n ms) Waiting
 
 abbrev pub is_waiting : Fate → Bool
 is_waiting f = elim f [ Waiting ↦ true | InFlight ↦ false | Acked ↦ false | GivenUp ↦ false ]
@@ -128,13 +99,11 @@ in_flight ms = find (λ n. is_in_flight (fate ms n)) (numbers ms)
 
 -- the moment is at least so many seconds after another; where there is no other, no such demand is made
 abbrev pub is_after : ℕ → ℕ → Option ℕ → Bool
-is_after seconds now None = true
-is_after seconds now (Some before) = nat_le (before + seconds) now
+is_after seconds now before = option_map_or (λ t. nat_le (t + seconds) now) before true
 
--- the moment is at most so many seconds after another
+-- the moment is at most so many seconds after another, where there is one
 abbrev pub is_within : ℕ → ℕ → Option ℕ → Bool
-is_within seconds now None = true
-is_within seconds now (Some before) = nat_le now (before + seconds)
+is_within seconds now before = option_map_or (λ t. nat_le now (t + seconds)) before true
 
 -- The first copy of event n may be sent: the moment is at least 10 seconds after the first copy of the event before, where there is one.
 abbrev pub may_begin : List Mark → ℕ → ℕ → Bool
@@ -144,14 +113,10 @@ may_begin ms now n = is_after 10 now (first_copy (n - 1) ms)
 abbrev pub may_repeat : List Mark → ℕ → ℕ → Bool
 may_repeat ms now n = is_after 20 now (last_copy n ms) && is_within 180 now (first_copy n ms)
 
-abbrev pub if_may : (ℕ → Bool) → Option ℕ → Option ℕ
-if_may test None = None
-if_may test (Some n) = if test n then Some n else None
-
 -- by the event that is in flight once the step has given up what is too old
 abbrev pub sends_by : List Mark → ℕ → Option ℕ → Option ℕ
 sends_by ms now (Some n) = if may_repeat ms now n then Some n else None
-sends_by ms now None = if_may (may_begin ms now) (oldest_waiting ms)
+sends_by ms now None = option_and_then (λ n. if may_begin ms now n then Some n else None) (oldest_waiting ms)
 
 -- The event of whose message a step at a moment sends a copy. The step first gives up a message whose first copy is more than 240 seconds
 -- old. Where one is in flight then, a further copy of it is sent if it may be, and otherwise nothing. Where none is, the oldest event that

@@ -2,7 +2,7 @@
 use Rattle.std.specs.Prelude.{◌≡◌, ℕ, zero, suc, ◌+◌, ◌-◌, ◌/◌, ◌%◌, ◌==◌, ◌&&◌, ◌||◌, ◌++◌, Bool, true, false, not, if◌then◌else◌}
 use Rattle.std.specs.Prelude.{List, [], ◌∷◌, Option, Some, None, codes, nat_le, nat_lt, length}
 use Rattle.std.specs.List.{list_any}
-use Rattle.std.specs.Option.{option_map}
+use Rattle.std.specs.Option.{option_and_then, option_map, option_map_or}
 use Rattle.std.specs.Str.{bytes_eq}
 use Rattle.arc_data.specs.Digits.{is_capital_hex, is_between, is_hex, is_run, two_digits}
 use Rattle.arc_data.specs.declared.event.Token.{Token}
@@ -105,28 +105,19 @@ queued ms token content =
 
 -- What is heard.
 
--- whether a body acknowledges the message of event n, where there is such an event
-abbrev pub is_ack_by : Setting → ℕ → List ℕ → Option Report → Bool
-is_ack_by s n body None = false
-is_ack_by s n body (Some report) = bytes_eq body (ack_body s n report.token)
-
+-- there is an event n, and a body acknowledges its message
 abbrev pub is_ack : Setting → List Mark → ℕ → List ℕ → Bool
-is_ack s ms n body = is_ack_by s n body (numbered n (taken ms))
-
-abbrev pub heard_by : Setting → List Mark → List ℕ → Option ℕ → Heard
-heard_by s ms body None = Other
-heard_by s ms body (Some n) = if is_ack s ms n body then Acked n else Other
+is_ack s ms n body = option_map_or (λ report. bytes_eq body (ack_body s n report.token)) (numbered n (taken ms)) false
 
 -- what a body tells a panel with these marks: that the message in flight is acknowledged, where it is the plain acknowledgement of it
 abbrev pub heard : Setting → List Mark → List ℕ → Heard
-heard s ms body = heard_by s ms body (in_flight ms)
+heard s ms body = option_map_or (λ n. if is_ack s ms n body then Acked n else Other) (in_flight ms) Other
 
 -- The marks that what happened leaves, the newest first.
 
 abbrev pub marks_queued : Token → List ℕ → Queued → List Mark
 marks_queued token content (Taken n) = Takes (record { token = token; content = content }) ∷ []
-marks_queued token content Full = []
-marks_queued token content BadData = []
+marks_queued token content other = []
 
 abbrev pub marks_heard : Heard → List Mark
 marks_heard (Acked n) = Acks n ∷ []
@@ -144,8 +135,7 @@ marks s (x ∷ h) = marks_at s (marks s h) x ++ marks s h
 
 -- the body that is sent of an event, where there is one
 abbrev pub body_of_event : Setting → List Mark → Option ℕ → Option (List ℕ)
-body_of_event s ms None = None
-body_of_event s ms (Some n) = option_map (message_body s n) (numbered n (taken ms))
+body_of_event s ms sent = option_and_then (λ n. option_map (message_body s n) (numbered n (taken ms))) sent
 
 -- the body that a step at a moment sends, where it sends one, after all this happened
 abbrev pub body_sent : Setting → List Happening → ℕ → Option (List ℕ)
