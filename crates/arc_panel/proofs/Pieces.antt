@@ -14,7 +14,7 @@ use Rattle.panel_rules.specs.Panels.{Setting}
 use Rattle.session_rules.specs.Inputs.{input_limit}
 use Rattle.session_rules.proofs.Ports.{of_reads, of_writes, ports_more, ports_none, rose_since}
 use Rattle.session_rules.specs.Reading.{IsNotAhead, OnlyReadsAndWrites, lines_read}
-use Rattle.arc_panel.specs.Ends.{EndsAs, HasPlayed, Played, ReadsNoFurther}
+use Rattle.arc_panel.specs.Ends.{EndsAs, HasPlayed, Played}
 use Rattle.arc_panel.specs.Texts.{text_of}
 use Rattle.arc_panel.specs.Playing.{Finishes, Halts, HaltsAt, HaltsIn, SoFar, WholeOf}
 use Rattle.arc_panel.specs.declared.play.PanelEnd.{PanelEnd}
@@ -70,7 +70,6 @@ whole_of s p all player q so = record { history = so.history; says_all = so.says
 record Ended (s : Setting) (read : List ℕ) (end : PanelEnd) (p q : PortSeen) (all : List (List ℕ)) : Type 0 where
   played : Played all
   ends : EndsAs s read all played end p q
-  ahead : ReadsNoFurther end read played.front
 
 abbrev whole_played : (s : Setting) (p q : PortSeen) (all : List (List ℕ)) → WholeOf s p all q → Played all
 whole_played s p q all whole = record { front = all; behind = []; history = whole.history; split = sym (append-nil all); said = whole.says_all }
@@ -78,63 +77,56 @@ whole_played s p q all whole = record { front = all; behind = []; history = whol
 abbrev front_played : (s : Setting) (p q : PortSeen) (before all : List (List ℕ)) (end : PanelEnd) → HaltsIn s p before all end q → Played all
 front_played s p q before all end h = record { front = h.played; behind = h.line ∷ h.more; history = h.halts.history; split = h.all_are; said = h.halts.says_all }
 
-halted_ends : (s : Setting) (p q : PortSeen) (read : List ℕ) (before all : List (List ℕ)) (end : PanelEnd) (h : HaltsIn s p before all end q) → HaltsAt s p h.played h.line h.halts.history end q
-    → EndsAs s read all (front_played s p q before all end h) end p q
-halted_ends s p q read before all Done h is = absurd is
-halted_ends s p q read before all ReadFault h is = absurd is
-halted_ends s p q read before all Spent h is = absurd is
-halted_ends s p q read before all WriteFault h is = (
+halted_ends : (s : Setting) (p q : PortSeen) (read : List ℕ) (before all : List (List ℕ)) (end : PanelEnd) (h : HaltsIn s p before all end q) → IsNotAhead ended_lines read h.played
+    → HaltsAt s p h.played h.line h.halts.history end q → EndsAs s read all (front_played s p q before all end h) end p q
+halted_ends s p q read before all Done h near is = absurd is
+halted_ends s p q read before all ReadFault h near is = absurd is
+halted_ends s p q read before all Spent h near is = absurd is
+halted_ends s p q read before all WriteFault h near is = (
   is.1.2.0,
-  record { line = h.line; more = h.more; next = refl; happens = is.1.0; says = is.1.1; output = is.1.2.2 },
+  record { line = h.line; more = h.more; next = refl; ahead = near; happens = is.1.0; says = is.1.1; output = is.1.2.2 },
   is.0,
   is.1.2.1,
 )
-halted_ends s p q read before all (BadLine number) h is = record {
+halted_ends s p q read before all (BadLine number) h near is = record {
   line = h.line;
   more = h.more;
   next = refl;
   numbered = is.0;
+  ahead = near;
   wrong = is.1;
   output = is.2;
 }
-halted_ends s p q read before all Memory h is = record {
+halted_ends s p q read before all Memory h near is = record {
   line = h.line;
   more = h.more;
   next = refl;
+  ahead = near;
   happens = is.0.0;
   says = is.0.1;
   output = is.1 ∙ ap (append_known p.written) (sym (append-nil (text_of s h.halts.history)));
 }
-
-no_further : (s : Setting) (p q : PortSeen) (read : List ℕ) (lines front : List (List ℕ)) (line : List ℕ) (end : PanelEnd) (h : Halts s p lines line end q) → HaltsAt s p lines line h.history end q → IsNotAhead ended_lines read front → ReadsNoFurther end read front
-no_further s p q read lines front line Done h is near = absurd is
-no_further s p q read lines front line ReadFault h is near = absurd is
-no_further s p q read lines front line Spent h is near = absurd is
-no_further s p q read lines front line WriteFault h is near = near
-no_further s p q read lines front line (BadLine number) h is near = near
-no_further s p q read lines front line Memory h is near = near
 
 module _ (s : Setting) (p q : PortSeen) (read : List ℕ) (taken : p.left ≡ prepend_known read q.left) (out : q.ended ≡ true → IsAtEnd q.left) (most : length read ≤ input_limit)
     (others : OnlyReadsAndWrites p q) (all : List (List ℕ)) (these : all ≡ lines_read q.ended read) where
   ended_so : (end : PanelEnd) → Ended s read end p q all → HasPlayed s end p q
   ended_so end ended =
       let e = subst (Ended s read end p q) these ended in
-      record { read = read; taken = taken; out = out; most = most; played = e.played; ends = e.ends; ahead = e.ahead; others = others }
+      record { read = read; taken = taken; out = out; most = most; played = e.played; ends = e.ends; others = others }
 
   pub read_fault : WholeOf s p all q → length read < input_limit → Rose p.read_faults q.read_faults → HasPlayed s ReadFault p q
-  read_fault whole short rose = ended_so ReadFault (record { played = whole_played s p q all whole; ends = (rose, short, record { none_behind = refl; output = whole.output }); ahead = tt })
+  read_fault whole short rose = ended_so ReadFault (record { played = whole_played s p q all whole; ends = (rose, short, record { none_behind = refl; output = whole.output }) })
 
   pub spent : WholeOf s p all q → length read ≡ input_limit → HasPlayed s Spent p q
-  spent whole full = ended_so Spent (record { played = whole_played s p q all whole; ends = (full, record { none_behind = refl; output = whole.output }); ahead = tt })
+  spent whole full = ended_so Spent (record { played = whole_played s p q all whole; ends = (full, record { none_behind = refl; output = whole.output }) })
 
   done : WholeOf s p all q → length read < input_limit → IsReadOut q → HasPlayed s Done p q
-  done whole short is = ended_so Done (record { played = whole_played s p q all whole; ends = (is, short, record { none_behind = refl; output = whole.output }); ahead = tt })
+  done whole short is = ended_so Done (record { played = whole_played s p q all whole; ends = (is, short, record { none_behind = refl; output = whole.output }) })
 
   pub halted : (early last : List ℕ) (end : PanelEnd) → read ≡ early ++ last → length last ≤ 4096 → HaltsIn s p (ended_lines early) all end q → HasPlayed s end p q
   halted early last end parts small h = ended_so end (record {
     played = front_played s p q (ended_lines early) all end h;
-    ends = halted_ends s p q read (ended_lines early) all end h h.halts.halted;
-    ahead = no_further s p q read h.played h.played h.line end h.halts h.halts.halted (record { early = early; last = last; more = h.later; parts = parts; short = small; before = h.played_are });
+    ends = halted_ends s p q read (ended_lines early) all end h (record { early = early; last = last; more = h.later; parts = parts; short = small; before = h.played_are }) h.halts.halted;
   })
 
   pub finished : (end : PanelEnd) → Finishes s p (ended_lines read) all end q → length read < input_limit → IsReadOut q → HasPlayed s end p q

@@ -31,19 +31,24 @@ pub record IsWhole (s : Setting) (lines : List (List ℕ)) (played : Played line
   pub output : p'.written ≡ append_known p.written (text_of s played.history)
 
 -- the next line, of this number from 1 on, says nothing here; the output is that of the lines before it
-pub record IsBad (s : Setting) (lines : List (List ℕ)) (played : Played lines) (number : ℕ) (p p' : PortSeen) : Type 0 where
+pub record IsBad (s : Setting) (read : List ℕ) (lines : List (List ℕ)) (played : Played lines) (number : ℕ) (p p' : PortSeen) : Type 0 where
   pub line : List ℕ
   pub more : List (List ℕ)
   pub next : played.behind ≡ line ∷ more
   pub numbered : number ≡ length played.front + 1
+  -- all lines were played but those that end in the last bytes read
+  pub ahead : IsNotAhead ended_lines read played.front
   pub wrong : (x : Happening) → IsPlayable played.history line x → ⊥
   pub output : p'.written ≡ append_known p.written (text_of s played.history)
 
 -- the next line says something, of whose output so many bytes were written behind that of the lines before it
-pub record IsCutOff (s : Setting) (lines : List (List ℕ)) (played : Played lines) (count : ℕ) (p p' : PortSeen) : Type 0 where
+pub record IsCutOff (s : Setting) (read : List ℕ) (lines : List (List ℕ)) (played : Played lines) (count : ℕ) (p p' : PortSeen)
+    : Type 0 where
   pub line : List ℕ
   pub more : List (List ℕ)
   pub next : played.behind ≡ line ∷ more
+  -- all lines were played but those that end in the last bytes read
+  pub ahead : IsNotAhead ended_lines read played.front
   pub happens : Happening
   pub says : IsPlayable played.history line happens
   pub output : p'.written ≡ append_known p.written (text_of s played.history ++ take count (line_of s played.history happens))
@@ -56,17 +61,10 @@ EndsAs s read lines played ReadFault p p' =
     Rose p.read_faults p'.read_faults × (length read < input_limit) × IsWhole s lines played p p'
 EndsAs s read lines played Spent p p' = (length read ≡ input_limit) × IsWhole s lines played p p'
 EndsAs s read lines played WriteFault p p' =
-    (count : ℕ) × (cut : IsCutOff s lines played count p p') × Rose p.write_faults p'.write_faults
+    (count : ℕ) × (cut : IsCutOff s read lines played count p p') × Rose p.write_faults p'.write_faults
     × (count < length (line_of s played.history cut.happens))
-EndsAs s read lines played (BadLine number) p p' = IsBad s lines played number p p'
-EndsAs s read lines played Memory p p' = IsCutOff s lines played 0 p p'
-
--- Of lines of which one ended the playing: all but those that end in the last bytes read were played.
-abbrev pub ReadsNoFurther : PanelEnd → List ℕ → List (List ℕ) → Type 0
-ReadsNoFurther Done read front = Unit {0}
-ReadsNoFurther ReadFault read front = Unit {0}
-ReadsNoFurther Spent read front = Unit {0}
-ReadsNoFurther end read front = IsNotAhead ended_lines read front
+EndsAs s read lines played (BadLine number) p p' = IsBad s read lines played number p p'
+EndsAs s read lines played Memory p p' = IsCutOff s read lines played 0 p p'
 
 -- What a panel of this setting did with the bytes that were read of the port: their lines, and what was played of them. Where a read
 -- has met the input's end, the last line may lack its line feed. All but what is about reading and writing stayed.
@@ -77,5 +75,4 @@ pub record HasPlayed (s : Setting) (end : PanelEnd) (p p' : PortSeen) : Type 0 w
   pub most : length read ≤ input_limit
   pub played : Played (lines_read p'.ended read)
   pub ends : EndsAs s read (lines_read p'.ended read) played end p p'
-  pub ahead : ReadsNoFurther end read played.front
   pub others : OnlyReadsAndWrites p p'

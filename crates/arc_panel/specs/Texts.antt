@@ -1,5 +1,6 @@
 -- The lines that a panel writes: one for each that it was told.
-use Rattle.std.specs.Prelude.{◌++◌, ◌-◌, ℕ, List, [], ◌∷◌, Option, Some, None, codes, decimal, length, take}
+use Rattle.std.specs.Prelude.{◌++◌, ◌-◌, ℕ, List, [], ◌∷◌, Option, codes, decimal, length, take}
+use Rattle.std.specs.Option.{option_map_or}
 use Rattle.dc09_frame.specs.Frames.{piece_of}
 use Rattle.panel_rules.specs.declared.Heard.{Heard}
 use Rattle.panel_rules.specs.declared.Heard.TheVariants.{Acked, Other}
@@ -9,8 +10,7 @@ use Rattle.panel_rules.specs.Panels.{Setting, Happening, Queue, Step, Hear, body
 
 -- the frame of the body that was sent, without its line feed and its carriage return; or `-`
 abbrev pub sent_text : Option (List ℕ) → List ℕ
-sent_text None = codes "-"
-sent_text (Some body) = piece_of body
+sent_text sent = option_map_or piece_of sent (codes "-")
 
 -- the line of a step, by the frame that stands in the buffer behind it
 abbrev pub frame_line : List ℕ → List ℕ
