@@ -11,7 +11,9 @@ use Rattle.centre_core.specs.declared.hall.Stop.{Stop}
 use Rattle.centre_rules.specs.History.{Entry, IsMoment, recorded}
 use Rattle.centre_rules.specs.Summary.{Summary}
 use Rattle.centre_store.proofs.Entered.{held as has_recorded}
-use Rattle.centre_store.specs.Begins.{begun_after}
+use Rattle.centre_store.specs.Begins.{begun_after, event_of_begin}
+use Rattle.centre_store.proofs.Holding.{recorded_there}
+use Rattle.centre_store.specs.Calls.{LeavesFrom}
 use Rattle.centre_store.specs.Given.{GoesOn, HoldsRecorded}
 use Rattle.centre_store.specs.Openings.{IsOpened, IsRefused}
 use Rattle.centre_store.specs.Stores.{HasFailed, Stored, StoreStands}
@@ -23,13 +25,14 @@ use Rattle.script_lines.specs.Lines.{Asked, Reopen, spelling}
 use Rattle.arc_script.specs.Begun.{Begun}
 use Rattle.arc_script.specs.Between.{Between, CarriedOut, ShutAt, StoppedAt}
 use Rattle.arc_script.specs.Carrying.{CountsMore, HasRead, HaveTaken}
-use Rattle.arc_script.specs.Ends.{Tells}
+use Rattle.arc_script.specs.Ends.{Tells, LeavesUpTo}
 use Rattle.arc_script.specs.Feeding.{AreNew}
 use Rattle.arc_script.specs.Fed.{clock_of}
 use Rattle.arc_script.specs.Halting.{closing}
 use Rattle.arc_script.specs.Pages.{counted_line}
 use Rattle.arc_script.specs.Playing.{AgainStops, IsNewDesk}
 use Rattle.centre_store.specs.StoreHalls.{is_told}
+use Rattle.arc_script.specs.Standing.{LeavesOn}
 use Rattle.arc_script.specs.Steps.{Place, Step}
 use Rattle.arc_script.specs.Tallies.{count_of, is_closed, is_repeat}
 use Rattle.arc_script.specs.declared.script.Script.{Script}
@@ -37,8 +40,9 @@ use Rattle.arc_script.specs.declared.script_end.Tally.{Tally}
 use Rattle.arc_script.proofs.Begun.{Adds, adds_begun, adds_again, readable_begun}
 use Rattle.arc_script.proofs.Counts.{grows_none}
 use Rattle.arc_script.proofs.Ended.{recorded_in}
+use Rattle.arc_script.proofs.Left.{IsOpening, left_opening, left_recorded, left_since, or_begun_to}
 use Rattle.arc_script.proofs.Opening.{taken_none}
-use Rattle.arc_script.proofs.Reopening.{GoesOnFrom, goes_on_from}
+use Rattle.arc_script.proofs.Reopening.{GoesOnFrom, goes_on_from, told_some}
 use Rattle.centre_store.proofs.Readable.{becomes_told}
 
 -- Lines and desks that were made anew, behind more of the script.
@@ -68,6 +72,7 @@ taken_anew setup count before lines desks new_lines new_desks =
 -- that run.
 pub record IsAnew {D : Type 0} (seen : D → DiskSeen) (script script' : Script) (s mid s' : Stored D) : Type 0 where
   pub opened : IsOpened seen s.journal.disk mid
+  pub opening : IsOpening (seen s.journal.disk) (seen mid.journal.disk)
   pub setup : script'.setup ≡ script.setup
   pub limits : script'.limits ≡ script.limits
   pub clock : script'.clock ≡ script.clock
@@ -81,7 +86,7 @@ pub record IsAnew {D : Type 0} (seen : D → DiskSeen) (script script' : Script)
 
 pub made_anew : {D : Type 0} (seen : D → DiskSeen) (script closed script' : Script) (s mid s' : Stored D) (disk : D) → s.at_open ≤ (seen s.journal.disk).faults
     → disk ≡ s.journal.disk → closed ≡ record script { tally = closing script.tally script.opened_before s.state.sum }
-    → IsOpened seen disk mid → Becomes (seen disk).told (seen mid.journal.disk).told GoesOn
+    → IsOpened seen disk mid → IsOpening (seen disk) (seen mid.journal.disk) → Becomes (seen disk).told (seen mid.journal.disk).told GoesOn
     → mid.journal.limits ≡ closed.limits → mid.at_open ≡ (seen mid.journal.disk).faults → (seen mid.journal.disk).faults ≡ (seen disk).faults
     → AreNew script'.lines.items → All IsNewDesk script'.desks.items
     → script' ≡ record closed {
@@ -92,9 +97,10 @@ pub made_anew : {D : Type 0} (seen : D → DiskSeen) (script closed script' : Sc
     }
     → is_told (seen s'.journal.disk).told ≡ is_told (seen mid.journal.disk).told → s'.at_open ≡ mid.at_open → s'.journal.limits ≡ mid.journal.limits
     → IsAnew seen script script' s mid s'
-made_anew {D = D} seen script closed script' s mid s' disk before disk_is closed_is opened goes limits opened_at met_none lines desks rest tells at_open journal
+made_anew {D = D} seen script closed script' s mid s' disk before disk_is closed_is opened opening goes limits opened_at met_none lines desks rest tells at_open journal
     = record {
       opened = subst (λ d. IsOpened seen d mid) disk_is opened;
+      opening = subst (λ (d : D). IsOpening (seen d) (seen mid.journal.disk)) disk_is opening;
       setup = ap (λ (k : Script). k.setup) rest ∙ ap (λ (k : Script). k.setup) closed_is;
       limits = ap (λ (k : Script). k.limits) rest ∙ ap (λ (k : Script). k.limits) closed_is;
       clock = ap (λ (k : Script). k.clock) rest ∙ ap (λ (k : Script). k.clock) closed_is;
@@ -109,6 +115,21 @@ made_anew {D = D} seen script closed script' s mid s' disk before disk_is closed
           up (omega (arith, before, same, met_none, opened_at, failed));
     }
 
+-- A store that is to be closed and opened again.
+module _ {D : Type 0} (seen : D → DiskSeen) (script : Script) (s : Stored D) (b : Begun D) (place : Place) (count : ℕ) (h : List Entry)
+    (between : Between seen b place count h script s) where
+  up_before : (moment : ℕ) → clock_of place.asked ≡ Some moment → HasFailed seen s → ⊥
+  up_before moment set = subst (λ (c : Option ℕ). IfSome c (λ last. HasFailed seen s → ⊥)) (between.clock.is ∙ set) between.up
+
+  -- what a crash leaves of it behind the opening, whether that succeeds or not
+  left_again : HoldsRecorded seen s.journal place.base h → (moment : ℕ) → clock_of place.asked ≡ Some moment → (faults : ℕ) (disk : D)
+      → IsOpening (seen s.journal.disk) (seen disk) → Tells (seen b.disk)
+      → LeavesFrom (seen b.opened).moment b.past faults (seen disk) place.base h
+  left_again held moment set faults disk opening told =
+      left_opening (seen b.opened).moment b.past s.at_open faults place.base h (seen s.journal.disk) (seen disk)
+      (recorded_there seen s.journal place.base h held) (told_some (seen b.disk) (seen s.journal.disk) told between.store.tells) opening
+      (up_before moment set) (between.store.left told)
+
 module _ {D : Type 0} (seen : D → DiskSeen) (script script' : Script) (s mid s' : Stored D) (anew : IsAnew seen script script' s mid s') (moment : ℕ)
     (b : Begun D) (place : Place) (count : ℕ) (h : List Entry) (between : Between seen b place count h script s)
     (held : HoldsRecorded seen s.journal place.base h) (set : clock_of place.asked ≡ Some moment) where
@@ -120,7 +141,17 @@ module _ {D : Type 0} (seen : D → DiskSeen) (script script' : Script) (s mid s
 
   -- the disk had not failed before, and no opening that answers Ok meets a fault
   opened_up : HasFailed seen mid → ⊥
-  opened_up = anew.still (subst (λ (c : Option ℕ). IfSome c (λ last. HasFailed seen s → ⊥)) (between.clock.is ∙ set) between.up)
+  opened_up = anew.still (up_before seen script s b place count h between moment set)
+
+  -- what a crash leaves of the store that was opened
+  left_anew : Tells (seen b.disk) → LeavesFrom (seen b.opened).moment b.past mid.at_open (seen mid.journal.disk) from.anew from.kept
+  left_anew told =
+      let t = (seen b.opened).moment in
+      let opened = left_again seen script s b place count h between held moment set mid.at_open mid.journal.disk anew.opening told in
+      let kept = left_recorded t b.past mid.at_open (seen mid.journal.disk) place.base h between.store.past_recorded opened_up opened in
+      let same = from.keeps.same told in
+      subst (λ (base : Summary). LeavesFrom t b.past mid.at_open (seen mid.journal.disk) base from.kept) (sym same.0)
+      (subst (λ (l : List Entry). LeavesFrom t b.past mid.at_open (seen mid.journal.disk) place.base l) (sym same.1) kept)
 
   held_there : HoldsRecorded seen mid.journal from.anew from.kept
   held_there = has_recorded seen from.anew mid from.kept opened_up from.stands
@@ -130,6 +161,12 @@ module _ {D : Type 0} (seen : D → DiskSeen) (script script' : Script) (s mid s
 
   later : (seen b.disk).faults ≤ s'.at_open
   later = let first = between.store.later in let second = anew.later in omega (arith, first, second)
+
+  -- and of it behind more
+  left_further : (x : List Entry) → LeavesOn seen from.anew mid s' from.kept x → LeavesUpTo seen b s'.journal.disk from.anew x
+  left_further x leaves told =
+      left_since (seen b.opened).moment b.past (seen b.disk).faults s'.at_open (seen s'.journal.disk) from.anew x later
+      (leaves (seen b.opened).moment b.past (left_anew told))
 
   abbrev step_of : ℕ → List Entry → List ℕ → Step
   step_of number entries text = record { number = number; asked = Reopen; entries = entries; base = from.anew; sent = 0; text = text }
@@ -145,9 +182,10 @@ module _ {D : Type 0} (seen : D → DiskSeen) (script script' : Script) (s mid s
 
   carried : (number : ℕ) (p p' : PortSeen) → IsMoment moment
       → StoreStands seen from.anew s' (begun_after from.anew from.kept place.setup moment)
+      → LeavesOn seen from.anew mid s' from.kept (begun_after from.anew from.kept place.setup moment)
       → s'.state.sum.text ≡ Some place.setup → (HasFailed seen s' → ⊥) → p'.written ≡ append_known p.written (counted_line s'.state.sum.recorded)
       → CarriedOut seen b place count number h Reopen script.tally script' s' p p'
-  carried number p p' fits stands text up put =
+  carried number p p' fits stands left text up put =
       let x = begun_after from.anew from.kept place.setup moment in
       let adds = adds_begun from.anew place.setup moment from.kept in
       let count_is : s'.state.sum.recorded ≡ from.anew.recorded + length (recorded x) = stands.centre.recorded in
@@ -186,12 +224,14 @@ module _ {D : Type 0} (seen : D → DiskSeen) (script script' : Script) (s mid s
             tells = anew.tells ∙ between.store.tells;
             limits_are = limits_are;
             later = later;
+            past_recorded = between.store.past_recorded;
+            left = λ told. left (seen b.opened).moment b.past (left_anew told);
           };
           up = subst (λ (c : Option ℕ). IfSome c (λ last. HasFailed seen s' → ⊥)) (sym (anew.clock ∙ between.clock.is ∙ set)) up;
         };
       }
 
-  stopped : (stop : Stop) → AgainStops seen from.anew place.setup moment from.kept stop s'
+  stopped : (stop : Stop) → AgainStops seen from.anew place.setup moment from.kept stop mid s'
       → StoppedAt seen b place h Reopen stop script.tally script'.tally s'
   stopped stop at =
       let x = at.history in
@@ -214,6 +254,8 @@ module _ {D : Type 0} (seen : D → DiskSeen) (script script' : Script) (s mid s
         stands = at.stands;
         limits_are = limits_are;
         later = later;
+        left = or_begun_to (LeavesOn seen from.anew mid s' from.kept) (LeavesUpTo seen b s'.journal.disk from.anew)
+            (λ event. event ≡ event_of_begin s'.state.sum.text place.setup) s'.state.sum.text from.anew place.setup moment x left_further at.left;
         counts = counts 0 x [] adds;
       }
 
@@ -222,22 +264,25 @@ module _ {D : Type 0} (seen : D → DiskSeen) (script script' : Script) (s mid s
   pub carried_on : (r : Result (Unit {0}) Stop) (p p' : PortSeen) → IsMoment moment
       → OnOk r ((base : Summary) (k : List Entry) → StoreStands seen base mid k
       → StoreStands seen base s' (begun_after base k script'.setup moment))
+      → OnOk r ((base : Summary) (k : List Entry) → StoreStands seen base mid k
+      → LeavesOn seen base mid s' k (begun_after base k script'.setup moment))
       → OnOk r (s'.state.sum.text ≡ Some script'.setup) → OnOk r (HasFailed seen s' → ⊥)
       → OnOk r (p'.written ≡ append_known p.written (counted_line s'.state.sum.recorded))
       → OnOk r ((b : Begun D) (place : Place) (count number : ℕ) (h : List Entry) → Between seen b place count h script s
       → HoldsRecorded seen s.journal place.base h → clock_of place.asked ≡ Some moment
       → CarriedOut seen b place count number h Reopen script.tally script' s' p p')
-  carried_on (Ok done) p p' fits begun text up put = λ b place count number h between held set.
+  carried_on (Ok done) p p' fits begun left text up put = λ b place count number h between held set.
       let same = anew.setup ∙ between.setup in
       let on = from seen script script' s mid s' anew moment b place count h between held set in
       carried seen script script' s mid s' anew moment b place count h between held set number p p' fits
       (subst (λ (l : List ℕ). StoreStands seen on.anew s' (begun_after on.anew on.kept l moment)) same (begun on.anew on.kept on.stands))
+      (subst (λ (l : List ℕ). LeavesOn seen on.anew mid s' on.kept (begun_after on.anew on.kept l moment)) same (left on.anew on.kept on.stands))
       (text ∙ ap Some same) up put
-  carried_on (Err stop) p p' fits begun text up put = tt
+  carried_on (Err stop) p p' fits begun left text up put = tt
 
   pub stopped_on : (r : Result (Unit {0}) Stop)
       → IfErr r (λ stop. (base : Summary) (k : List Entry) → StoreStands seen base mid k → HoldsRecorded seen mid.journal base k
-      → AgainStops seen base script'.setup moment k stop s')
+      → AgainStops seen base script'.setup moment k stop mid s')
       → IfErr r (λ stop. (b : Begun D) (place : Place) (count : ℕ) (h : List Entry) → Between seen b place count h script s
       → HoldsRecorded seen s.journal place.base h → clock_of place.asked ≡ Some moment
       → StoppedAt seen b place h Reopen stop script.tally script'.tally s')
@@ -247,21 +292,22 @@ module _ {D : Type 0} (seen : D → DiskSeen) (script script' : Script) (s mid s
       let on = from seen script script' s mid s' anew moment b place count h between held set in
       let there = held_there seen script script' s mid s' anew moment b place count h between held set in
       stopped seen script script' s mid s' anew moment b place count h between held set stop
-      (subst (λ (l : List ℕ). AgainStops seen on.anew l moment on.kept stop s') same (stops on.anew on.kept on.stands there))
+      (subst (λ (l : List ℕ). AgainStops seen on.anew l moment on.kept stop mid s') same (stops on.anew on.kept on.stands there))
 
 -- The journal was not opened again.
 shut : {D : Type 0} (seen : D → DiskSeen) (script : Script) (s : Stored D) (r : OpenRefused D) → s.at_open ≤ (seen s.journal.disk).faults
     → IfSome (seen s.journal.disk).told (IsRefused r.fault) → HasCounts r.fault (seen s.journal.disk).faults (seen r.disk).faults
     → Becomes (seen s.journal.disk).told (seen r.disk).told GoesOn
     → LeavesOnly (seen s.journal.disk) (seen r.disk) (λ c. (d : Areas) × (seen s.journal.disk).may_leave d × GoesOn d c)
-    → (IsOfContent r.fault → IsQuiet (seen s.journal.disk) (seen r.disk))
-    → (b : Begun D) (place : Place) (count : ℕ) (h : List Entry) → Between seen b place count h script s
-    → HoldsRecorded seen s.journal place.base h → ShutAt seen b place.base h r.fault r.disk
-shut seen script s r later shown counts told any_moment unwritten b place count h between held = record {
+    → (IsOfContent r.fault → IsQuiet (seen s.journal.disk) (seen r.disk)) → IsOpening (seen s.journal.disk) (seen r.disk)
+    → (moment : ℕ) (b : Begun D) (place : Place) (count : ℕ) (h : List Entry) → Between seen b place count h script s
+    → HoldsRecorded seen s.journal place.base h → clock_of place.asked ≡ Some moment → ShutAt seen b place.base h r.fault r.disk
+shut seen script s r later shown counts told any_moment unwritten opening moment b place count h between held set = record {
   closed = s.journal.disk;
   later = (let first = between.store.later in omega (arith, first, later));
   area = recorded_in seen place.base s h s.journal.disk held refl;
   unopened = record { shown = shown; counts = counts; told = told; any_moment = any_moment; unwritten = unwritten };
+  left = left_again seen script s b place count h between held moment set (seen b.disk).faults r.disk opening;
 }
 
 pub shut_on : {A D : Type 0} (seen : D → DiskSeen) (script : Script) (s : Stored D) (disk : D) (refused : OpenRefused D) (r : Result A (OpenRefused D))
@@ -269,16 +315,17 @@ pub shut_on : {A D : Type 0} (seen : D → DiskSeen) (script : Script) (s : Stor
     → IfSome (seen disk).told (IsRefused refused.fault) → HasCounts refused.fault (seen disk).faults (seen refused.disk).faults
     → Becomes (seen disk).told (seen refused.disk).told GoesOn
     → LeavesOnly (seen disk) (seen refused.disk) (λ c. (d : Areas) × (seen disk).may_leave d × GoesOn d c)
-    → (IsOfContent refused.fault → IsQuiet (seen disk) (seen refused.disk))
+    → (IsOfContent refused.fault → IsQuiet (seen disk) (seen refused.disk)) → IsOpening (seen disk) (seen refused.disk) → (moment : ℕ)
     → IfErr r (λ o. (b : Begun D) (place : Place) (count : ℕ) (h : List Entry) → Between seen b place count h script s
-    → HoldsRecorded seen s.journal place.base h → ShutAt seen b place.base h o.fault o.disk)
-shut_on {A} {D} seen script s disk refused r is disk_is later shown counts told any_moment unwritten =
+    → HoldsRecorded seen s.journal place.base h → clock_of place.asked ≡ Some moment → ShutAt seen b place.base h o.fault o.disk)
+shut_on {A} {D} seen script s disk refused r is disk_is later shown counts told any_moment unwritten opening moment =
     let at = λ (o : OpenRefused D). (b : Begun D) (place : Place) (count : ℕ) (h : List Entry) → Between seen b place count h script s
-    → HoldsRecorded seen s.journal place.base h → ShutAt seen b place.base h o.fault o.disk in
+    → HoldsRecorded seen s.journal place.base h → clock_of place.asked ≡ Some moment → ShutAt seen b place.base h o.fault o.disk in
     subst (λ (q : Result A (OpenRefused D)). IfErr q at) (sym is)
     (shut seen script s refused later
     (subst (λ d. IfSome (seen d).told (IsRefused refused.fault)) disk_is shown)
     (subst (λ d. HasCounts refused.fault (seen d).faults (seen refused.disk).faults) disk_is counts)
     (subst (λ d. Becomes (seen d).told (seen refused.disk).told GoesOn) disk_is told)
     (subst (λ d. LeavesOnly (seen d) (seen refused.disk) (λ c. (e : Areas) × (seen d).may_leave e × GoesOn e c)) disk_is any_moment)
-    (subst (λ d. IsOfContent refused.fault → IsQuiet (seen d) (seen refused.disk)) disk_is unwritten))
+    (subst (λ d. IsOfContent refused.fault → IsQuiet (seen d) (seen refused.disk)) disk_is unwritten)
+    (subst (λ (d : D). IsOpening (seen d) (seen refused.disk)) disk_is opening) moment)

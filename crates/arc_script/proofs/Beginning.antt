@@ -1,14 +1,16 @@
 -- How a script begins over a store that was opened, and what is told where it is not read.
-use Rattle.std.proofs.Common.{◌≡◌, ◌-◌, ℕ, List, [], length, refl, ap, ◌∙◌, arith}
+use Rattle.std.proofs.Common.{◌≡◌, ◌-◌, ℕ, [], length, refl, ap, ◌∙◌, arith}
 use Rattle.arc_io.specs.Disks.{DiskSeen}
 use Rattle.arc_io.specs.Seen.{PortSeen}
-use Rattle.centre_rules.specs.History.{Entry}
 use Rattle.centre_rules.specs.Summary.{Summary}
 use Rattle.centre_store.specs.Given.{HoldsRecorded}
-use Rattle.centre_store.specs.Stores.{Stored, StoreStands}
+use Rattle.centre_store.specs.Stores.{Stored}
+use Rattle.arc_script.specs.Begun.{Begun}
+use Rattle.arc_script.specs.Between.{IsStoreSoFar}
 use Rattle.arc_script.specs.Ends.{IsUnread}
 use Rattle.arc_script.specs.declared.script_end.Tally.{Tally}
 use Rattle.arc_script.proofs.Ended.{recorded_in, tally_is}
+use Rattle.arc_script.proofs.Left.{left_there}
 
 -- what is told of a centre with which nothing was done, or so many incidents were opened
 abbrev pub untouched : Summary → ℕ → Tally
@@ -22,14 +24,17 @@ untouched sum opened = record {
 }
 
 -- memory was wanted before it was read
-pub unread : {D : Type 0} (seen : D → DiskSeen) (base : Summary) (past : List Entry) (s : Stored D) (p : PortSeen) (disk : D) (tally : Tally)
-    → StoreStands seen base s past → HoldsRecorded seen s.journal base past → disk ≡ s.journal.disk
-    → tally ≡ untouched s.state.sum 0 → IsUnread seen base past p p disk tally
-unread seen base past s p disk tally stands held is tally_as =
+pub unread : {D : Type 0} (seen : D → DiskSeen) (b : Begun D) (s : Stored D) (p : PortSeen) (disk : D) (tally : Tally)
+    → IsStoreSoFar seen b b.base b.past s → HoldsRecorded seen s.journal b.base b.past → p ≡ b.port → disk ≡ s.journal.disk
+    → tally ≡ untouched s.state.sum 0 → IsUnread seen b p disk tally
+unread seen b s p disk tally store held same is tally_as =
     let none : 0 ≡ s.state.sum.opened - s.state.sum.opened = omega arith in
     record {
-      untouched = refl;
-      area = recorded_in seen base s past disk held is;
-      counts = tally_is base s past past [] (untouched s.state.sum 0) tally s.state.sum.opened stands.centre.same.opened
-          (record { sent = refl; repeats = refl; closed = refl }) stands.centre (tally_as ∙ ap (untouched s.state.sum) none);
+      untouched = same;
+      area = recorded_in seen b.base s b.past disk held is;
+      left = record {
+        counts = tally_is b.base s b.past b.past [] (untouched s.state.sum 0) tally s.state.sum.opened store.stands.centre.same.opened
+            (record { sent = refl; repeats = refl; closed = refl }) store.stands.centre (tally_as ∙ ap (untouched s.state.sum) none);
+        any_moment = left_there seen b b.base b.past s store disk is;
+      };
     }

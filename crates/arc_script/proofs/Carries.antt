@@ -74,31 +74,32 @@ unfolding step_of
 feeds_of place number letter line asked bytes h x turns fed =
     record { turns = turns; fed = fed; entries = refl; base = refl; sent = refl; text = refl }
 
-pub carried : {D : Type 0} (seen : D → DiskSeen) (s' : Stored D) (base : Summary) (setup : List ℕ)
+pub carried : {D : Type 0} (seen : D → DiskSeen) (s s' : Stored D) (base : Summary) (setup : List ℕ)
     (moment number letter line : ℕ) (asked : Asked) (before : List Asked) (bytes : List ℕ) (h : List Entry) (t t' : Tally) (p p' : PortSeen)
     (written : List ℕ) → IsMoment moment → clock_of before ≡ Some moment
-    → HasFed seen (placed base setup before) line bytes h t t' written s'
+    → HasFed seen (placed base setup before) line bytes h t t' written s s'
     → p'.written ≡ append_known p.written (head_of letter line ++ replied written ++ 10 ∷ [])
-    → Carried seen base (λ x s. Feeds (placed base setup before) letter line bytes h x s) number asked t t' p p' s'
+    → Carried seen base s h (λ x s. Feeds (placed base setup before) letter line bytes h x s) number asked t t' p p' s'
 unfolding step_of
-carried seen s' base setup moment number letter line asked before bytes h t t' p p' written at set w put =
+carried seen s s' base setup moment number letter line asked before bytes h t t' p p' written at set w put =
     let turns = w.turns in
-    let s = step_of base number asked letter line (length turns) turns in
+    let step = step_of base number asked letter line (length turns) turns in
     let same : w.fed.clock ≡ moment = ap (λ (o : Option ℕ). unwrap_or o 0) (sym w.fed.set ∙ set) in
     let fits : IsMoment w.fed.clock = subst IsMoment (sym same) at in
     let listed_is : replied written ≡ listed (replies_of turns) =
     ap replied w.written_is ∙ replied_listed turns (are_replies (line_name line) base (meaning setup) w.fed.clock h w.history turns fits w.fed.are w.fed.readings) in
     record {
-      step = s;
+      step = step;
       history = w.history;
       number_is = refl;
       asked_is = refl;
       is = feeds_of (placed base setup before) number letter line asked bytes h w.history turns w.fed;
       stands = w.stands;
       readable = w.readable;
+      left = w.left;
       up = w.up;
       text = put ∙ ap (λ (l : List ℕ). append_known p.written (head_of letter line ++ l ++ 10 ∷ [])) listed_is;
-      counts = counts_step (placed base setup before) line bytes h w.history turns [] (length turns) t t' s w.fed w.counts refl refl;
+      counts = counts_step (placed base setup before) line bytes h w.history turns [] (length turns) t t' step w.fed w.counts refl refl;
     }
 
 -- how far it came, in the words of its contract
@@ -110,16 +111,16 @@ CameSoFar base seen s' setup moment letter line before bytes h stop x s =
     ⊎ ((stop ≡ Memory) × Feeds (placed base setup before) letter line bytes h x s))
 
 -- all was fed, and memory was wanted for the output
-pub finished : {D : Type 0} (seen : D → DiskSeen) (s' : Stored D) (base : Summary) (setup : List ℕ)
+pub finished : {D : Type 0} (seen : D → DiskSeen) (s s' : Stored D) (base : Summary) (setup : List ℕ)
     (moment letter line : ℕ) (asked : Asked) (before : List Asked) (bytes : List ℕ) (h : List Entry) (t t' : Tally) (written : List ℕ)
     (stop : Stop) → stop ≡ Memory → clock_of before ≡ Some moment
-    → HasFed seen (placed base setup before) line bytes h t t' written s'
-    → Halted seen base (λ x s. CameSoFar base seen s' setup moment letter line before bytes h stop x s) t t' s'
+    → HasFed seen (placed base setup before) line bytes h t t' written s s'
+    → Halted seen base s h (λ x s. CameSoFar base seen s' setup moment letter line before bytes h stop x s) t t' s'
 unfolding step_of
-finished seen s' base setup moment letter line asked before bytes h t t' written stop is set w =
-    let s = step_of base 0 asked letter line (length w.turns) w.turns in
+finished seen s s' base setup moment letter line asked before bytes h t t' written stop is set w =
+    let step = step_of base 0 asked letter line (length w.turns) w.turns in
     record {
-      partial = s;
+      partial = step;
       history = w.history;
       came = (
         [],
@@ -128,24 +129,26 @@ finished seen s' base setup moment letter line asked before bytes h t t' written
       );
       stands = w.stands;
       readable = w.readable;
-      counts = counts_step (placed base setup before) line bytes h w.history w.turns [] (length w.turns) t t' s w.fed w.counts refl refl;
+      left = w.left;
+      counts = counts_step (placed base setup before) line bytes h w.history w.turns [] (length w.turns) t t' step w.fed w.counts refl refl;
     }
 
 -- a frame was stopped
-pub halted_at : {D : Type 0} (seen : D → DiskSeen) (s' : Stored D) (base : Summary) (setup : List ℕ)
+pub halted_at : {D : Type 0} (seen : D → DiskSeen) (s s' : Stored D) (base : Summary) (setup : List ℕ)
     (moment letter line : ℕ) (asked : Asked) (before : List Asked) (bytes : List ℕ) (h : List Entry) (t t' : Tally) (stop : Stop)
-    → clock_of before ≡ Some moment → FeedStops seen (placed base setup before) moment line bytes h t t' stop s'
-    → Halted seen base (λ x s. CameSoFar base seen s' setup moment letter line before bytes h stop x s) t t' s'
+    → clock_of before ≡ Some moment → FeedStops seen (placed base setup before) moment line bytes h t t' stop s s'
+    → Halted seen base s h (λ x s. CameSoFar base seen s' setup moment letter line before bytes h stop x s) t t' s'
 unfolding step_of
-halted_at seen s' base setup moment letter line asked before bytes h t t' stop set w =
-    let s = step_of base 0 asked letter line w.sent w.turns in
+halted_at seen s s' base setup moment letter line asked before bytes h t t' stop set w =
+    let step = step_of base 0 asked letter line w.sent w.turns in
     record {
-      partial = s;
+      partial = step;
       history = w.history;
       came = (w.more, w.cause, inl (record { turns = w.turns; fed = w.fed; entries = refl; base = refl; sent = w.sent_is }));
       stands = w.stands;
       readable = w.readable;
-      counts = counts_step (placed base setup before) line bytes h w.history w.turns w.more w.sent t t' s w.fed w.counts refl refl;
+      left = w.left;
+      counts = counts_step (placed base setup before) line bytes h w.history w.turns w.more w.sent t t' step w.fed w.counts refl refl;
     }
 
 -- How many bytes are fed.

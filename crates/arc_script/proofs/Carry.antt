@@ -13,12 +13,13 @@ use Rattle.arc_script.specs.Begun.{Begun}
 use Rattle.arc_script.specs.Between.{Between, CarriedOut, IsClock, IsStoreSoFar, StoppedAt}
 use Rattle.arc_script.specs.Carrying.{Carried, Halted, HaveTaken, HaveTakenWith}
 use Rattle.arc_script.specs.Causes.{HasShown, Submits}
-use Rattle.arc_script.specs.Ends.{Tells, CameFor, CameTo}
+use Rattle.arc_script.specs.Ends.{Tells, CameFor, CameTo, LeavesUpTo}
 use Rattle.arc_script.specs.Fed.{clock_of}
 use Rattle.arc_script.specs.Playing.{moment_at}
 use Rattle.centre_store.specs.StoreHalls.{is_told}
 use Rattle.arc_script.specs.Steps.{Place, Step, IsStepOf}
 use Rattle.arc_script.specs.declared.script.Script.{Script}
+use Rattle.arc_script.proofs.Left.{left_behind}
 use Rattle.arc_script.proofs.Wanting.{clock_with}
 
 -- what a line over the store leaves alone
@@ -65,7 +66,7 @@ module _ {D : Type 0} (seen : D → DiskSeen) (b : Begun D) (place : Place) (cou
     (script script' : Script) (s s' : Stored D) (between : Between seen b place count h script s) (stays : Stays seen script script' s s')
     (fits : IsMoment moment) (set : moment_at (clock_of place.asked) asked ≡ Some moment) (over : IsOverStore asked) where
   pub carried_out : (number : ℕ) (p p' : PortSeen)
-      → Carried seen place.base (λ x st. IsStepOf (Tells (seen b.disk)) place h x st asked) number asked script.tally script'.tally p p' s'
+      → Carried seen place.base s h (λ x st. IsStepOf (Tells (seen b.disk)) place h x st asked) number asked script.tally script'.tally p p' s'
       → HaveTakenWith (meaning place.setup) count place.asked asked script'.lines.items script'.desks.items
       → script'.clock ≡ Some moment → s'.state.sum.text ≡ Some place.setup
       → CarriedOut seen b place count number h asked script.tally script' s' p p'
@@ -92,13 +93,15 @@ module _ {D : Type 0} (seen : D → DiskSeen) (b : Begun D) (place : Place) (cou
             tells = stays.tells ∙ between.store.tells;
             limits_are = stays.journal ∙ between.store.limits_are;
             later = subst (λ (n : ℕ). (seen b.disk).faults ≤ n) (sym stays.at_open) between.store.later;
+            past_recorded = between.store.past_recorded;
+            left = λ told. out.left (seen b.opened).moment b.past (between.store.left told);
           });
       up = subst (λ (c : Option ℕ). IfSome c (λ last. HasFailed seen s' → ⊥)) (sym clock) out.up;
     };
   }
 
   pub stopped_at : (stop : Stop)
-      → Halted seen place.base (λ x st. (waiting : List (List ℕ))
+      → Halted seen place.base s h (λ x st. (waiting : List (List ℕ))
       × HasShown seen place.base s' x stop moment (Submits s'.state.sum.text place.setup place.asked moment waiting asked)
       × (CameTo stop (Tells (seen b.disk)) place waiting h x st asked ⊎ ((stop ≡ Memory) × IsStepOf (Tells (seen b.disk)) place h x st asked)))
       script.tally script'.tally s'
@@ -110,6 +113,7 @@ module _ {D : Type 0} (seen : D → DiskSeen) (b : Begun D) (place : Place) (cou
         | inl until ↦ came_over stop Told place waiting h out.history out.partial asked over until
         | inr whole ↦ step_over Told place h out.history out.partial asked over whole.1
       ] in
+      let later = subst (λ (n : ℕ). (seen b.disk).faults ≤ n) (sym stays.at_open) between.store.later in
       record {
         waiting = waiting;
         partial = out.partial;
@@ -124,6 +128,8 @@ module _ {D : Type 0} (seen : D → DiskSeen) (b : Begun D) (place : Place) (cou
             (sym over_same) out.came.1;
         stands = subst (λ (base : Summary). StoreStands seen base s' out.history) (sym over_same) out.stands;
         limits_are = stays.journal ∙ between.store.limits_are;
-        later = subst (λ (n : ℕ). (seen b.disk).faults ≤ n) (sym stays.at_open) between.store.later;
+        later = later;
+        left = inl (subst (λ (base : Summary). LeavesUpTo seen b s'.journal.disk base out.history) (sym over_same)
+            (left_behind seen b place.base h s between.store s' out.history later out.left));
         counts = out.counts.more;
       }

@@ -51,7 +51,7 @@ stop_is stop r at memory = cc
 pub halted_first : {D : Type 0} (seen : D → DiskSeen) (s : Stored D) (base : Summary) (setup : List ℕ)
     (clock desk : ℕ) (before : List Asked) (text : List ℕ) (h : List Entry) (t : Tally) (stop : Stop) (r : Result (Unit {0}) Stop) → r ≡ Err stop
     → r ≡ Err Memory → StoreStands seen base s h → IsReadable base h → (HasFailed seen s → ⊥)
-    → Halted seen base (λ x k. CameSoFar base seen s setup clock desk before text h stop x k) t t s
+    → Halted seen base s h (λ x k. CameSoFar base seen s setup clock desk before text h stop x k) t t s
 halted_first seen s base setup clock desk before text h t stop r at memory stands readable up =
     let partial : Step = record { number = 0; asked = Command desk text; entries = []; base = base; sent = 0; text = [] } in
     record {
@@ -63,6 +63,7 @@ halted_first seen s base setup clock desk before text h t stop r at memory stand
       );
       stands = stands;
       readable = readable;
+      left = λ t k was. was;
       counts = record {
         more = record {
           sent = grows_none 0 t.sent refl;
@@ -91,7 +92,7 @@ module _ {D : Type 0} (seen : D → DiskSeen) (s s' : Stored D) (setup : List �
   ended : (end : DeskEnd) → ReadsNothing (Err end) → r ≡ Err end → Closings s.state s'.state t t'
       → (base : Summary) (before : List Asked) (clock count : ℕ) (h : List Entry) → IsNext (meaning setup) clock count before (Command desk text) lines desks
       → p ≡ blank clock → StoreStands seen base s h → IsReadable base h → (HasFailed seen s → ⊥)
-      → Halted seen base (λ x k. CameSoFar base seen s' setup clock desk before text h (stop_in end) x k) t t' s'
+      → Halted seen base s h (λ x k. CameSoFar base seen s' setup clock desk before text h (stop_in end) x k) t t' s'
   ended InputEnded reads is sums base before clock count h next empty stands readable up = absurd reads
   ended ReadFault reads is sums base before clock count h next empty stands readable up = absurd reads
   ended WriteFault reads is sums base before clock count h next empty stands readable up =
@@ -121,6 +122,7 @@ module _ {D : Type 0} (seen : D → DiskSeen) (s s' : Stored D) (setup : List �
         );
         stands = w.stands;
         readable = w.readable;
+        left = w.left;
         counts = w.counts;
       }
   ended (Stopped stop) reads is sums base before clock count h next empty stands readable up =
@@ -131,8 +133,8 @@ module _ {D : Type 0} (seen : D → DiskSeen) (s s' : Stored D) (setup : List �
   pub ended_as : (end : DeskEnd) (stop : Stop) → r ≡ Err end → stop ≡ stop_in end → ReadsNothing r → Closings s.state s'.state t t'
       → (base : Summary) (before : List Asked) (clock count : ℕ) (h : List Entry) → IsNext (meaning setup) clock count before (Command desk text) lines desks
       → p ≡ blank clock → StoreStands seen base s h → IsReadable base h → (HasFailed seen s → ⊥)
-      → Halted seen base (λ x k. CameSoFar base seen s' setup clock desk before text h stop x k) t t' s'
+      → Halted seen base s h (λ x k. CameSoFar base seen s' setup clock desk before text h stop x k) t t' s'
   ended_as end stop is same reads sums base before clock count h next empty stands readable up =
-      subst (λ (k : Stop). Halted seen base (λ x q. CameSoFar base seen s' setup clock desk before text h k x q) t t'
+      subst (λ (k : Stop). Halted seen base s h (λ x q. CameSoFar base seen s' setup clock desk before text h k x q) t t'
       s')
       (sym same) (ended end (subst ReadsNothing is reads) is sums base before clock count h next empty stands readable up)

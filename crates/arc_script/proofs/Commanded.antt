@@ -32,7 +32,7 @@ use Rattle.arc_script.specs.Causes.{HasShown}
 use Rattle.arc_script.proofs.Feeds.{PageTells}
 use Rattle.arc_script.proofs.Readings.{still}
 use Rattle.centre_store.specs.StoreHalls.{store_seen}
-use Rattle.arc_script.specs.Standing.{IsReadable}
+use Rattle.arc_script.specs.Standing.{IsReadable, LeavesOn}
 
 -- The line that a text and the end of a line make.
 
@@ -142,19 +142,20 @@ turned_by base setup operator clock n text h x t line are legal own readings =
     }
 
 -- The desk answered the line, or would have: the store, whose disk has not failed, stands for the history with its turn.
-pub record Answers {D : Type 0} (seen : D → DiskSeen) (s' : Stored D)
+pub record Answers {D : Type 0} (seen : D → DiskSeen) (s s' : Stored D)
     (base : Summary) (setup : List ℕ) (operator : Option (List ℕ)) (clock : ℕ) (text : List ℕ) (h : List Entry) : Type 0 where
   pub turn : Turn
   pub history : List Entry
   pub turned : Turned base setup operator clock text h history turn
   pub stands : StoreStands seen base s' history
   pub readable : IsReadable base history
+  pub left : LeavesOn seen base s s' h history
   pub up : HasFailed seen s' → ⊥
 
 -- all was answered
-pub record Said {D : Type 0} (seen : D → DiskSeen) (s' : Stored D)
+pub record Said {D : Type 0} (seen : D → DiskSeen) (s s' : Stored D)
     (base : Summary) (setup : List ℕ) (operator : Option (List ℕ)) (clock : ℕ) (text : List ℕ) (h : List Entry) (p p' : PortSeen) : Type 0 where
-  pub answers : Answers seen s' base setup operator clock text h
+  pub answers : Answers seen s s' base setup operator clock text h
   pub text_is : p'.written ≡ append_known p.written answers.turn.reply
 
 one_added : {D : Type 0} (seen : D → DiskSeen) (s s' : Stored D) (base : Summary) (setup : List ℕ)
@@ -162,9 +163,9 @@ one_added : {D : Type 0} (seen : D → DiskSeen) (s s' : Stored D) (base : Summa
     → (page : PageTells clock p p') → text ∷ [] ≡ pieces_of desk_turns turns ++ []
     → AreTurns base (meaning setup) 0 operator h x turns → IsLegal base x → x ≡ reverse (entries_of desk_turns turns) ++ h
     → p'.readings ≡ append_known p.readings readings → readings ≡ readings_of desk_turns turns
-    → StoreStands seen base s' x → IsReadable base x → (HasFailed seen s' → ⊥)
-    → (answers : Answers seen s' base setup operator clock text h) × (text_of desk_turns turns ≡ answers.turn.reply)
-one_added seen s s' base setup operator clock text h x p p' turns readings page whole are legal own tells same stands readable up =
+    → StoreStands seen base s' x → IsReadable base x → LeavesOn seen base s s' h x → (HasFailed seen s' → ⊥)
+    → (answers : Answers seen s s' base setup operator clock text h) × (text_of desk_turns turns ≡ answers.turn.reply)
+one_added seen s s' base setup operator clock text h x p p' turns readings page whole are legal own tells same stands readable left up =
     let one = one_turn turns text whole in
     let t = one.turn in
     let list = option_to_list t.reading ++ [] in
@@ -180,6 +181,7 @@ one_added seen s s' base setup operator clock text h x p p' turns readings page 
             (own ∙ ap (λ (ts : List Turn). reverse (entries_of desk_turns ts) ++ h) one.is) at.same;
         stands = stands;
         readable = readable;
+        left = left;
         up = up;
       },
       ap (text_of desk_turns) one.is ∙ append-nil t.reply,
@@ -218,7 +220,7 @@ pub says : {D : Type 0} (seen : D → DiskSeen) (s s' : Stored D) (base : Summar
     → EndsAs stream text → quits (ended_lines stream) ≡ false
     → ServesLines (Ok tt) (ended_lines stream) (ended_lines (stream ++ (text ++ 13 ∷ 10 ∷ []))) base h (store_seen seen s)
     (store_seen seen s') p p'
-    → Said seen s' base setup (acts_over (meaning setup) None (ended_lines stream)) clock text h p p'
+    → Said seen s s' base setup (acts_over (meaning setup) None (ended_lines stream)) clock text h p p'
 says seen s s' base setup clock stream text h p p' same readable up page ends none serves =
     let session = serves.desk.session in
     let turns = session.turns in
@@ -229,8 +231,9 @@ says seen s s' base setup clock stream text h p p' same readable up page ends no
     let whole : text ∷ [] ≡ pieces_of desk_turns turns ++ [] =
     sym more ∙ session.taken ∙ ap (λ l. pieces_of desk_turns turns ++ l) session.ended.none_left in
     let one = one_added seen s s' base (text_in s.state) operator clock text h session.history p p' turns session.added.readings page whole
-    session.each.0 session.legal session.own (ap (λ (q : PortSeen). q.readings) told_of) (ap (λ a. a.readings) added) session.holds.stands (readable.0, session.disk.reads readable.1) (session.up tt up) in
-    subst (λ (t : List ℕ). Said seen s' base t (acts_over (meaning t) None (ended_lines stream)) clock text h p p') same
+    session.each.0 session.legal session.own (ap (λ (q : PortSeen). q.readings) told_of) (ap (λ a. a.readings) added) session.holds.stands (readable.0, session.disk.reads readable.1)
+    (session.disk.leaves readable.1) (session.up tt up) in
+    subst (λ (t : List ℕ). Said seen s s' base t (acts_over (meaning t) None (ended_lines stream)) clock text h p p') same
     (record {
       answers = one.0;
       text_is = ap (λ (q : PortSeen). q.written) told_of ∙ ap (λ (l : List ℕ). append_known p.written l) (ap (λ a. a.text) added ∙ one.1);
@@ -242,7 +245,7 @@ pub says_quit : {D : Type 0} (seen : D → DiskSeen) (s s' : Stored D) (base : S
     → EndsAs stream text → quits (ended_lines stream) ≡ false
     → ServesLines (Err Quit) (ended_lines stream) (ended_lines (stream ++ (text ++ 13 ∷ 10 ∷ []))) base h (store_seen seen s)
     (store_seen seen s') p p'
-    → Said seen s' base setup (acts_over (meaning setup) None (ended_lines stream)) clock text h p p'
+    → Said seen s s' base setup (acts_over (meaning setup) None (ended_lines stream)) clock text h p p'
 says_quit seen s s' base setup clock stream text h p p' same readable up page ends none serves =
     says seen s s' base setup clock stream text h p p' same readable up page ends none (record { more = serves.more; came = serves.came; desk = serves.desk })
 
@@ -253,7 +256,7 @@ pub unsaid : {D : Type 0} (seen : D → DiskSeen) (s s' : Stored D) (base : Summ
     → EndsAs stream text → quits (ended_lines stream) ≡ false
     → ServesLines (Err WriteFault) (ended_lines stream) (ended_lines (stream ++ (text ++ 13 ∷ 10 ∷ []))) base h
     (store_seen seen s) (store_seen seen s') p p'
-    → Answers seen s' base setup (acts_over (meaning setup) None (ended_lines stream)) clock text h
+    → Answers seen s s' base setup (acts_over (meaning setup) None (ended_lines stream)) clock text h
 unsaid seen s s' base setup clock stream text h p p' same readable up page ends none serves =
     let session = serves.desk.session in
     let turns = session.turns in
@@ -263,23 +266,25 @@ unsaid seen s s' base setup clock stream text h p p' same readable up page ends 
     let whole : text ∷ [] ≡ pieces_of desk_turns turns ++ [] = only_left turns ended.front session.behind ended.last text session.left ended.split
     (sym more ∙ session.taken) in
     let one = one_added seen s s' base (text_in s.state) operator clock text h session.history p p' turns session.added.readings page whole
-    session.each.0 session.legal session.own (ap (λ (q : PortSeen). q.readings) session.adds.told) (ap (λ a. a.readings) ended.added) session.holds.stands (readable.0, session.disk.reads readable.1) (session.up tt up) in
-    subst (λ (t : List ℕ). Answers seen s' base t (acts_over (meaning t) None (ended_lines stream)) clock text h) same one.0
+    session.each.0 session.legal session.own (ap (λ (q : PortSeen). q.readings) session.adds.told) (ap (λ a. a.readings) ended.added) session.holds.stands (readable.0, session.disk.reads readable.1)
+    (session.disk.leaves readable.1) (session.up tt up) in
+    subst (λ (t : List ℕ). Answers seen s s' base t (acts_over (meaning t) None (ended_lines stream)) clock text h) same one.0
 
 -- the store stopped for the line
-pub record StoppedFor {D : Type 0} (seen : D → DiskSeen) (s' : Stored D)
+pub record StoppedFor {D : Type 0} (seen : D → DiskSeen) (s s' : Stored D)
     (base : Summary) (setup : List ℕ) (operator : Option (List ℕ)) (clock : ℕ) (text : List ℕ) (h : List Entry) (stop : Stop) : Type 0 where
   pub stands : StoreStands seen base s' h
+  pub left : LeavesOn seen base s s' h h
   pub cause : HasShown seen base s' h stop clock (λ event. event_of operator (command_in text) ≡ Some event)
 
 pub stops : {D : Type 0} (seen : D → DiskSeen) (s s' : Stored D) (base : Summary) (setup : List ℕ)
-    (clock : ℕ) (stream text : List ℕ) (h : List Entry) (p p' : PortSeen) (stop : Stop) → text_in s.state ≡ setup → (HasFailed seen s → ⊥)
+    (clock : ℕ) (stream text : List ℕ) (h : List Entry) (p p' : PortSeen) (stop : Stop) → text_in s.state ≡ setup → IsReadable base h → (HasFailed seen s → ⊥)
     → (page : PageTells clock p p')
     → EndsAs stream text → quits (ended_lines stream) ≡ false
     → ServesLines (Err (Stopped stop)) (ended_lines stream) (ended_lines (stream ++ (text ++ 13 ∷ 10 ∷ []))) base h
     (store_seen seen s) (store_seen seen s') p p'
-    → StoppedFor seen s' base setup (acts_over (meaning setup) None (ended_lines stream)) clock text h stop
-stops seen s s' base setup clock stream text h p p' stop same up page ends none serves =
+    → StoppedFor seen s s' base setup (acts_over (meaning setup) None (ended_lines stream)) clock text h stop
+stops seen s s' base setup clock stream text h p p' stop same readable up page ends none serves =
     let session = serves.desk.session in
     let turns = session.turns in
     let ended = session.ended in
@@ -297,9 +302,10 @@ stops seen s s' base setup clock stream text h p p' stop same up page ends none 
     (ap (λ a. a.readings) ended.added ∙ ap (λ (ts : List Turn). readings_of desk_turns ts ++ list) none_done.turns) in
     let at : ended.reading ≡ clock = ap (λ (l : List ℕ). slice_index l 0) (still page.list page.calls clock list page.one known).same in
     let cause = ended.cause in
-    subst (λ (t : List ℕ). StoppedFor seen s' base t (acts_over (meaning t) None (ended_lines stream)) clock text h stop) same
+    subst (λ (t : List ℕ). StoppedFor seen s s' base t (acts_over (meaning t) None (ended_lines stream)) clock text h stop) same
     (record {
       stands = subst (λ (x : List Entry). StoreStands seen base s' x) back session.holds.stands;
+      left = subst (λ (x : List Entry). LeavesOn seen base s s' h x) back (session.disk.leaves readable.1);
       cause = inr (
         cause.0,
         ap (λ (o : Option (List ℕ)). event_of o (command_in text)) last ∙ ap (λ (l : List ℕ). event_of serves.desk.last (command_in l)) (sym none_done.piece) ∙ cause.1,

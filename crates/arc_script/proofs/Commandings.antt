@@ -122,7 +122,7 @@ pub goes_on : {D : Type 0} (seen : D → DiskSeen) (s s' : Stored D) (base : Sum
     → Closings s.state s'.state t t'
     → (before : List Asked) (clock count number : ℕ) (h : List Entry) → IsNext (meaning setup) clock count before (Command desk text) lines desks
     → p ≡ blank clock → StoreStands seen base s h → IsReadable base h → (HasFailed seen s → ⊥)
-    → Carried seen base (λ x k. Commands (placed base setup before) desk text h x k) number (Command desk text) t t' p (page_seen page') s'
+    → Carried seen base s h (λ x k. Commands (placed base setup before) desk text h x k) number (Command desk text) t t' p (page_seen page') s'
 goes_on seen s s' base setup desk text lines desks was now t t' p page page' given g closings before clock count number h next empty stands readable up =
     let w = has_served seen s s' base setup clock count desk before text h lines desks was now p page page' given (Ok tt) g next empty stands readable in
     let said = says seen s s' base setup clock w.has.stream text h (page_seen page) (page_seen page') (text_is s setup g.set) readable up w.page w.ends w.none w.serves in
@@ -135,7 +135,7 @@ pub quits_on : {D : Type 0} (seen : D → DiskSeen) (s s' : Stored D) (base : Su
     → Closings s.state s'.state t t'
     → (before : List Asked) (clock count number : ℕ) (h : List Entry) → IsNext (meaning setup) clock count before (Command desk text) lines desks
     → p ≡ blank clock → StoreStands seen base s h → IsReadable base h → (HasFailed seen s → ⊥)
-    → Carried seen base (λ x k. Commands (placed base setup before) desk text h x k) number (Command desk text) t t' p (page_seen page') s'
+    → Carried seen base s h (λ x k. Commands (placed base setup before) desk text h x k) number (Command desk text) t t' p (page_seen page') s'
 quits_on seen s s' base setup desk text lines desks was now t t' p page page' given g closings before clock count number h next empty stands readable up =
     let w = has_served seen s s' base setup clock count desk before text h lines desks was now p page page' given (Err Quit) g next empty stands readable in
     let said = says_quit seen s s' base setup clock w.has.stream text h (page_seen page) (page_seen page') (text_is s setup g.set) readable up w.page w.ends w.none w.serves in
@@ -149,13 +149,13 @@ pub stops_at : {D : Type 0} (seen : D → DiskSeen) (s s' : Stored D) (base : Su
     → IsGiven seen s s' setup desk text desks was now p page page' given (Err (Stopped stop)) → Closings s.state s'.state t t'
     → (before : List Asked) (clock count : ℕ) (h : List Entry) → IsNext (meaning setup) clock count before (Command desk text) lines desks
     → p ≡ blank clock → StoreStands seen base s h → IsReadable base h → (HasFailed seen s → ⊥)
-    → Halted seen base (λ x k. CameSoFar base seen s' setup clock desk before text h stop x k) t t' s'
+    → Halted seen base s h (λ x k. CameSoFar base seen s' setup clock desk before text h stop x k) t t' s'
 stops_at seen s s' base setup desk text lines desks was now t t' p page page' given stop g closings before clock count h next empty stands readable up =
     let w = has_served seen s s' base setup clock count desk before text h lines desks was now p page page' given (Err (Stopped stop)) g next empty stands readable in
-    let stopped = stops seen s s' base setup clock w.has.stream text h (page_seen page) (page_seen page') stop (text_is s setup g.set) up w.page w.ends w.none w.serves in
+    let stopped = stops seen s s' base setup clock w.has.stream text h (page_seen page) (page_seen page') stop (text_is s setup g.set) readable up w.page w.ends w.none w.serves in
     let cause = subst (λ (ls : List (List ℕ)). HasShown seen base s' h stop clock
     (λ event. event_of (acts_over (meaning setup) None ls) (command_in text) ≡ Some event)) w.has.ended stopped.cause in
-    halted_before seen s s' base setup clock desk before text h t t' stop stands stopped.stands readable cause closings
+    halted_before seen s s' base setup clock desk before text h t t' stop stands stopped.stands readable stopped.left cause closings
 
 -- A write failed, or nothing like that can be.
 pub fails_at : {D : Type 0} (seen : D → DiskSeen) (s s' : Stored D) (base : Summary) (setup : List ℕ)
@@ -164,7 +164,7 @@ pub fails_at : {D : Type 0} (seen : D → DiskSeen) (s s' : Stored D) (base : Su
     → Closings s.state s'.state t t'
     → (before : List Asked) (clock count : ℕ) (h : List Entry) → IsNext (meaning setup) clock count before (Command desk text) lines desks
     → p ≡ blank clock → StoreStands seen base s h → IsReadable base h → (HasFailed seen s → ⊥)
-    → Halted seen base (λ x k. CameSoFar base seen s' setup clock desk before text h Memory x k) t t' s'
+    → Halted seen base s h (λ x k. CameSoFar base seen s' setup clock desk before text h Memory x k) t t' s'
 fails_at seen s s' base setup desk text lines desks was now t t' p page page' given g closings before clock count h next empty stands readable up =
     let w = has_served seen s s' base setup clock count desk before text h lines desks was now p page page' given (Err WriteFault) g next empty stands readable in
     let answers = unsaid seen s s' base setup clock w.has.stream text h (page_seen page) (page_seen page') (text_is s setup g.set) readable up w.page w.ends w.none w.serves in

@@ -31,7 +31,7 @@ use Rattle.arc_script.specs.Causes.{HasShown, IsOfCommand}
 use Rattle.arc_script.specs.Ends.{AddedBy}
 use Rattle.arc_script.specs.Fed.{clock_of, desk_read}
 use Rattle.arc_script.specs.Pages.{head_of}
-use Rattle.arc_script.specs.Standing.{IsReadable}
+use Rattle.arc_script.specs.Standing.{IsReadable, LeavesOn}
 use Rattle.arc_script.specs.Steps.{placed, Commands, Step}
 use Rattle.arc_script.specs.Tallies.{count_of, is_closed, is_repeat, told}
 use Rattle.arc_script.specs.declared.script_end.Tally.{Tally}
@@ -110,9 +110,9 @@ commands_of base setup clock number desk before text lines h x turn set same w =
 pub commanded : {D : Type 0} (seen : D → DiskSeen) (s s' : Stored D) (base : Summary) (setup : List ℕ)
     (clock number desk : ℕ) (before : List Asked) (text : List ℕ) (lines : List (List ℕ)) (h : List Entry) (t t' : Tally) (p q p' : PortSeen)
     → clock_of before ≡ Some clock → lines ≡ desk_read desk before → StoreStands seen base s h
-    → Said seen s' base setup (acts_over (meaning setup) None lines) clock text h q p'
+    → Said seen s s' base setup (acts_over (meaning setup) None lines) clock text h q p'
     → q.written ≡ append_known p.written (head_of 68 desk ++ 32 ∷ []) → Closings s.state s'.state t t'
-    → Carried seen base (λ x s. Commands (placed base setup before) desk text h x s) number (Command desk text) t t' p p' s'
+    → Carried seen base s h (λ x s. Commands (placed base setup before) desk text h x s) number (Command desk text) t t' p p' s'
 unfolding step_of
 commanded seen s s' base setup clock number desk before text lines h t t' p q p' set same stands w head closings =
     let a = w.answers in
@@ -127,6 +127,7 @@ commanded seen s s' base setup clock number desk before text lines h t t' p q p'
       is = commands_of base setup clock number desk before text lines h a.history a.turn set same a.turned;
       stands = a.stands;
       readable = a.readable;
+      left = a.left;
       up = a.up;
       text = w.text_is ∙ ap (λ (k : Option (List ℕ)). append_known k a.turn.reply) head
           ∙ known_both p.written (head_of 68 desk ++ 32 ∷ []) a.turn.reply
@@ -145,8 +146,8 @@ CameSoFar base seen s' setup clock desk before text h stop x s =
 pub unsaid_all : {D : Type 0} (seen : D → DiskSeen) (s s' : Stored D) (base : Summary) (setup : List ℕ)
     (clock desk : ℕ) (before : List Asked) (text : List ℕ) (lines : List (List ℕ)) (h : List Entry) (t t' : Tally)
     → clock_of before ≡ Some clock → lines ≡ desk_read desk before → StoreStands seen base s h
-    → Answers seen s' base setup (acts_over (meaning setup) None lines) clock text h → Closings s.state s'.state t t'
-    → Halted seen base (λ x s. CameSoFar base seen s' setup clock desk before text h Memory x s) t t' s'
+    → Answers seen s s' base setup (acts_over (meaning setup) None lines) clock text h → Closings s.state s'.state t t'
+    → Halted seen base s h (λ x s. CameSoFar base seen s' setup clock desk before text h Memory x s) t t' s'
 unfolding step_of
 unsaid_all seen s s' base setup clock desk before text lines h t t' set same stands a closings =
     let entries = option_to_list a.turn.entry in
@@ -161,6 +162,7 @@ unsaid_all seen s s' base setup clock desk before text lines h t t' set same sta
       );
       stands = a.stands;
       readable = a.readable;
+      left = a.left;
       counts = command_counts base s.state s'.state t t' h a.history step entries stands.centre a.stands.centre counted closings refl refl;
     }
 
@@ -174,11 +176,11 @@ none_counted base h = record { repeats = refl; closed = omega arith }
 -- nothing was done for it
 pub halted_before : {D : Type 0} (seen : D → DiskSeen) (s s' : Stored D) (base : Summary) (setup : List ℕ)
     (clock desk : ℕ) (before : List Asked) (text : List ℕ) (h : List Entry) (t t' : Tally) (stop : Stop)
-    → StoreStands seen base s h → StoreStands seen base s' h → IsReadable base h
+    → StoreStands seen base s h → StoreStands seen base s' h → IsReadable base h → LeavesOn seen base s s' h h
     → HasShown seen base s' h stop clock (IsOfCommand setup before desk text) → Closings s.state s'.state t t'
-    → Halted seen base (λ x s. CameSoFar base seen s' setup clock desk before text h stop x s) t t' s'
+    → Halted seen base s h (λ x s. CameSoFar base seen s' setup clock desk before text h stop x s) t t' s'
 unfolding step_of
-halted_before seen s s' base setup clock desk before text h t t' stop was stands readable shown closings =
+halted_before seen s s' base setup clock desk before text h t t' stop was stands readable left shown closings =
     let step = step_of base 0 desk text [] [] in
     record {
       partial = step;
@@ -186,6 +188,7 @@ halted_before seen s s' base setup clock desk before text h t t' stop was stands
       came = (shown, inl (refl, none_added base h desk text));
       stands = stands;
       readable = readable;
+      left = left;
       counts = command_counts base s.state s'.state t t' h h step [] was.centre stands.centre (none_counted base h) closings refl refl;
     }
 

@@ -59,7 +59,7 @@ module _ {D : Type 0} (seen : D → DiskSeen) (s s' : Stored D) (setup : List �
 
   pub ended_fed : r ≡ Ok tt → (base : Summary) (before : List Asked) (h : List Entry) → clock_of before ≡ Some moment → TookAt (line_fed line before) lines place
       → length (line_fed line before ++ given) < input_limit → StoreStands seen base s h → IsReadable base h → (HasFailed seen s → ⊥)
-      → HasFed seen (placed base setup before) line given h t t' (sink_bytes page'.port.sink) s'
+      → HasFed seen (placed base setup before) line given h t t' (sink_bytes page'.port.sink) s s'
   ended_fed is = all_fed seen s s' setup moment line place lines was page page' given t t' sums (taking_as (Ok tt) is)
 
   -- Of the ends that are no stops a failed write alone can come: memory was wanted for it.
@@ -67,7 +67,7 @@ module _ {D : Type 0} (seen : D → DiskSeen) (s s' : Stored D) (setup : List �
       → ((name stream : List ℕ) → Line.TookStream name stream was → Line.IsTaken name (Err end) stream given now) → r ≡ Err end
       → (base : Summary) (before : List Asked) (h : List Entry) → clock_of before ≡ Some moment → TookAt (line_fed line before) lines place
       → length (line_fed line before ++ given) < input_limit → StoreStands seen base s h → IsReadable base h → (HasFailed seen s → ⊥)
-      → FeedStops seen (placed base setup before) moment line given h t t' (stop_in end) s'
+      → FeedStops seen (placed base setup before) moment line given h t t' (stop_in end) s s'
   ended InputEnded now reads taken is base before h set took short stands readable up = absurd reads
   ended ReadFault now reads taken is base before h set took short stands readable up = absurd reads
   ended WriteFault now reads taken is base before h set took short stands readable up =
@@ -84,9 +84,9 @@ module _ {D : Type 0} (seen : D → DiskSeen) (s s' : Stored D) (setup : List �
       → ((name stream : List ℕ) → Line.TookStream name stream was → Line.IsTaken name r stream given now)
       → (base : Summary) (before : List Asked) (h : List Entry) → clock_of before ≡ Some moment → TookAt (line_fed line before) lines place
       → length (line_fed line before ++ given) < input_limit → StoreStands seen base s h → IsReadable base h → (HasFailed seen s → ⊥)
-      → FeedStops seen (placed base setup before) moment line given h t t' stop s'
+      → FeedStops seen (placed base setup before) moment line given h t t' stop s s'
   ended_as end stop now is same reads taken base before h set took short stands readable up =
-      subst (λ (k : Stop). FeedStops seen (placed base setup before) moment line given h t t' k s') (sym same)
+      subst (λ (k : Stop). FeedStops seen (placed base setup before) moment line given h t t' k s s') (sym same)
       (ended end now (subst ReadsNothing is reads)
       (λ name stream took. subst (λ (q : Result (Unit {0}) LineEnd). Line.IsTaken name q stream given now) is (taken name stream took)) is base before h
       set took short stands readable up)

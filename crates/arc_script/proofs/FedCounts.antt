@@ -67,15 +67,16 @@ counts_fed name base setup calls sent s s' t t' h x turns before behind are own 
 pub has_fed : {D : Type 0} (seen : D → DiskSeen) (s s' : Stored D)
     (base : Summary) (setup : List ℕ) (clock line : ℕ) (before : List Asked) (bytes : List ℕ) (h : List Entry) (t t' : Tally) (page page' : Page) (calls : ℕ)
     → StoreStands seen base s h → (page_seen page).written ≡ Some []
-    → FedBy seen s' base setup clock line before bytes h (page_seen page) (page_seen page') calls
+    → FedBy seen s s' base setup clock line before bytes h (page_seen page) (page_seen page') calls
     → Tallied calls s.state s'.state t t'
-    → HasFed seen (placed base setup before) line bytes h t t' (sink_bytes page'.port.sink) s'
+    → HasFed seen (placed base setup before) line bytes h t t' (sink_bytes page'.port.sink) s s'
 has_fed seen s s' base setup clock line before bytes h t t' page page' calls stood empty w tallied = record {
   turns = w.turns;
   history = w.history;
   fed = w.fed;
   stands = w.stands;
   readable = w.readable;
+  left = w.left;
   up = w.up;
   written_is = ap (λ (k : Option (List ℕ)). unwrap_or k []) (w.written ∙ ap (λ (k : Option (List ℕ)). append_known k (text_of line_turns w.turns)) empty);
   counts = counts_fed (line_name line) base setup calls (length w.turns) s.state s'.state t t' h w.history w.turns stood.centre w.stands.centre w.fed.are w.fed.own w.count
@@ -84,8 +85,8 @@ has_fed seen s s' base setup clock line before bytes h t t' page page' calls sto
 
 pub feed_stops : {D : Type 0} (seen : D → DiskSeen) (s s' : Stored D)
     (base : Summary) (setup : List ℕ) (clock line : ℕ) (before : List Asked) (bytes : List ℕ) (h : List Entry) (t t' : Tally) (stop : Stop) (calls : ℕ)
-    → StoreStands seen base s h → FedUpTo seen s' base setup clock line before bytes h stop calls
-    → Tallied calls s.state s'.state t t' → FeedStops seen (placed base setup before) clock line bytes h t t' stop s'
+    → StoreStands seen base s h → FedUpTo seen s s' base setup clock line before bytes h stop calls
+    → Tallied calls s.state s'.state t t' → FeedStops seen (placed base setup before) clock line bytes h t t' stop s s'
 feed_stops seen s s' base setup clock line before bytes h t t' stop calls stood w tallied = record {
   turns = w.turns;
   more = w.more;
@@ -94,6 +95,7 @@ feed_stops seen s s' base setup clock line before bytes h t t' stop calls stood 
   fed = w.fed;
   stands = w.stands;
   readable = w.readable;
+  left = w.left;
   cause = w.cause;
   sent_is = w.sent_is;
   counts = counts_fed (line_name line) base setup calls w.sent s.state s'.state t t' h w.history w.turns stood.centre w.stands.centre w.fed.are w.fed.own w.count tallied;
@@ -103,7 +105,7 @@ feed_stops seen s s' base setup clock line before bytes h t t' stop calls stood 
 pub none_fed : {D : Type 0} (seen : D → DiskSeen) (s : Stored D) (base : Summary) (setup : List ℕ)
     (clock line : ℕ) (before : List Asked) (bytes : List ℕ) (h : List Entry) (t : Tally) → clock_of before ≡ Some clock
     → StoreStands seen base s h → IsReadable base h → (HasFailed seen s → ⊥)
-    → FeedStops seen (placed base setup before) clock line bytes h t t Memory s
+    → FeedStops seen (placed base setup before) clock line bytes h t t Memory s s
 none_fed seen s base setup clock line before bytes h t set stands readable up =
     let stream = line_fed line before in
     let more = bodies_more stream bytes in
@@ -124,6 +126,7 @@ none_fed seen s base setup clock line before bytes h t set stands readable up =
       };
       stands = stands;
       readable = readable;
+      left = λ t k was. was;
       cause = wanted_up seen base s h Memory clock (IsOfFrame setup clock line more.0) refl stands up;
       sent_is = inr (refl, refl);
       counts = record { frames = grows_none 0 t.sent refl; repeats = grows_none 0 t.repeats refl; rest = refl };

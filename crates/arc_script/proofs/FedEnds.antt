@@ -68,7 +68,7 @@ module _ {D : Type 0} (seen : D → DiskSeen) (s s' : Stored D) (setup : List �
   pub all_fed : IsTaking seen s s' setup moment line place lines was page page' given (Ok tt)
       → (base : Summary) (before : List Asked) (h : List Entry) → clock_of before ≡ Some moment → TookAt (line_fed line before) lines place
       → length (line_fed line before ++ given) < input_limit → StoreStands seen base s h → IsReadable base h → (HasFailed seen s → ⊥)
-      → HasFed seen (placed base setup before) line given h t t' (sink_bytes page'.port.sink) s'
+      → HasFed seen (placed base setup before) line given h t t' (sink_bytes page'.port.sink) s s'
   all_fed g base before h set took short stands readable up =
       let serves = g.served base (line_fed line before) h (took_was (line_fed line before) lines line place was g.at g.there took) (record { stands = stands; setting = g.setting }) in
       has_fed seen s s' base setup moment line before given h t t' page page' (clock_calls page'.port.clock) stands
@@ -79,7 +79,7 @@ module _ {D : Type 0} (seen : D → DiskSeen) (s s' : Stored D) (setup : List �
   pub fed_stopped : (stop : Stop) → IsTaking seen s s' setup moment line place lines was page page' given (Err (Stopped stop))
       → (base : Summary) (before : List Asked) (h : List Entry) → clock_of before ≡ Some moment → TookAt (line_fed line before) lines place
       → length (line_fed line before ++ given) < input_limit → StoreStands seen base s h → IsReadable base h → (HasFailed seen s → ⊥)
-      → FeedStops seen (placed base setup before) moment line given h t t' stop s'
+      → FeedStops seen (placed base setup before) moment line given h t t' stop s s'
   fed_stopped stop g base before h set took short stands readable up =
       let serves = g.served base (line_fed line before) h (took_was (line_fed line before) lines line place was g.at g.there took) (record { stands = stands; setting = g.setting }) in
       feed_stops seen s s' base setup moment line before given h t t' stop (clock_calls page'.port.clock) stands
@@ -89,7 +89,7 @@ module _ {D : Type 0} (seen : D → DiskSeen) (s s' : Stored D) (setup : List �
   pub fed_failed : IsTaking seen s s' setup moment line place lines was page page' given (Err WriteFault)
       → (base : Summary) (before : List Asked) (h : List Entry) → clock_of before ≡ Some moment → TookAt (line_fed line before) lines place
       → length (line_fed line before ++ given) < input_limit → StoreStands seen base s h → IsReadable base h → (HasFailed seen s → ⊥)
-      → FeedStops seen (placed base setup before) moment line given h t t' Memory s'
+      → FeedStops seen (placed base setup before) moment line given h t t' Memory s s'
   fed_failed g base before h set took short stands readable up =
       let serves = g.served base (line_fed line before) h (took_was (line_fed line before) lines line place was g.at g.there took) (record { stands = stands; setting = g.setting }) in
       feed_stops seen s s' base setup moment line before given h t t' Memory (clock_calls page'.port.clock) stands

@@ -45,18 +45,18 @@ pub fed_ok : {D : Type 0} (seen : D → DiskSeen) (s s' : Stored D) (setup : Lis
     → OnOk r (IfOk frames (λ f. p'.written ≡ append_known p.written (head_of letter line ++ replied (sink_bytes f.port.sink) ++ 10 ∷ [])))
     → IfOk frames (λ f. (base : Summary) (before : List Asked) (h : List Entry) → clock_of before ≡ Some moment
     → TookAt (line_fed line before) lines (line - 1) → length (line_fed line before ++ given) < input_limit → StoreStands seen base s h → IsReadable base h → (HasFailed seen s → ⊥)
-    → HasFed seen (placed base setup before) line given h t t' (sink_bytes f.port.sink) s')
+    → HasFed seen (placed base setup before) line given h t t' (sink_bytes f.port.sink) s s')
     → OnOk r ((base : Summary) (before : List Asked) (count number : ℕ) (h : List Entry) → IsNext (meaning setup) moment count before asked lines desks
     → StoreStands seen base s h → IsReadable base h → (HasFailed seen s → ⊥)
-    → Carried seen base (λ x k. Feeds (placed base setup before) letter line bytes h x k) number asked t t' p p' s')
+    → Carried seen base s h (λ x k. Feeds (placed base setup before) letter line bytes h x k) number asked t t' p p' s')
 fed_ok seen s s' setup moment letter line asked given bytes lines desks t t' p p' (Ok done) (Ok page) same is ok put fed =
     λ base before count number h next stands readable up.
     let stream = line_fed line before in
     let took = took_before (meaning setup) moment count line before asked lines desks is.low next in
     let short = subst (λ (l : List ℕ). length (stream ++ l) < input_limit) (sym same) (is.short before count next) in
-    let has = subst (λ (l : List ℕ). HasFed seen (placed base setup before) line l h t t' (sink_bytes page.port.sink) s') same
+    let has = subst (λ (l : List ℕ). HasFed seen (placed base setup before) line l h t t' (sink_bytes page.port.sink) s s') same
     (fed base before h (is.set before count next) took short stands readable up) in
-    carried seen s' base setup moment number letter line asked before bytes h t t' p p' (sink_bytes page.port.sink) is.at
+    carried seen s s' base setup moment number letter line asked before bytes h t t' p p' (sink_bytes page.port.sink) is.at
     (is.set before count next) has put
 fed_ok seen s s' setup moment letter line asked given bytes lines desks t t' p p' (Ok done) (Err stop) same is ok put fed = absurd (false≢true ok)
 fed_ok seen s s' setup moment letter line asked given bytes lines desks t t' p p' (Err stop) frames same is ok put fed = tt
@@ -77,13 +77,13 @@ pub fed_stops : {D : Type 0} (seen : D → DiskSeen) (s s' : Stored D) (setup : 
     → IfErr r (λ stop. (IsOk frames × (stop ≡ Memory)) ⊎ (frames ≡ Err stop))
     → IfOk frames (λ f. (base : Summary) (before : List Asked) (h : List Entry) → clock_of before ≡ Some moment
     → TookAt (line_fed line before) lines (line - 1) → length (line_fed line before ++ given) < input_limit → StoreStands seen base s h → IsReadable base h → (HasFailed seen s → ⊥)
-    → HasFed seen (placed base setup before) line given h t t' (sink_bytes f.port.sink) s')
+    → HasFed seen (placed base setup before) line given h t t' (sink_bytes f.port.sink) s s')
     → IfErr frames (λ stop. (base : Summary) (before : List Asked) (h : List Entry) → clock_of before ≡ Some moment
     → TookAt (line_fed line before) lines (line - 1) → length (line_fed line before ++ given) < input_limit → StoreStands seen base s h → IsReadable base h → (HasFailed seen s → ⊥)
-    → FeedStops seen (placed base setup before) moment line given h t t' stop s')
+    → FeedStops seen (placed base setup before) moment line given h t t' stop s s')
     → IfErr r (λ stop. (base : Summary) (before : List Asked) (count : ℕ) (h : List Entry) → IsNext (meaning setup) moment count before asked lines desks
     → StoreStands seen base s h → IsReadable base h → (HasFailed seen s → ⊥)
-    → Halted seen base (λ x k. (waiting : List (List ℕ)) × HasShown seen base s' x stop moment (IsOfFrame setup moment line waiting)
+    → Halted seen base s h (λ x k. (waiting : List (List ℕ)) × HasShown seen base s' x stop moment (IsOfFrame setup moment line waiting)
     × (FedUntil stop (placed base setup before) line bytes waiting h x k
     ⊎ ((stop ≡ Memory) × Feeds (placed base setup before) letter line bytes h x k))) t t' s')
 fed_stops seen s s' setup moment letter line asked given bytes lines desks t t' (Ok done) frames same is stops fed stopped = tt
@@ -92,19 +92,19 @@ fed_stops seen s s' setup moment letter line asked given bytes lines desks t t' 
     let stream = line_fed line before in
     let took = took_before (meaning setup) moment count line before asked lines desks is.low next in
     let short = subst (λ (l : List ℕ). length (stream ++ l) < input_limit) (sym same) (is.short before count next) in
-    let has = subst (λ (l : List ℕ). HasFed seen (placed base setup before) line l h t t' (sink_bytes page.port.sink) s') same
+    let has = subst (λ (l : List ℕ). HasFed seen (placed base setup before) line l h t t' (sink_bytes page.port.sink) s s') same
     (fed base before h (is.set before count next) took short stands readable up) in
-    finished seen s' base setup moment letter line asked before bytes h t t' (sink_bytes page.port.sink) stop
+    finished seen s s' base setup moment letter line asked before bytes h t t' (sink_bytes page.port.sink) stop
     (memory_of page stop (Ok page) refl stops) (is.set before count next) has
 fed_stops seen s s' setup moment letter line asked given bytes lines desks t t' (Err stop) (Err other) same is stops fed stopped =
     λ base before count h next stands readable up.
     let stream = line_fed line before in
     let took = took_before (meaning setup) moment count line before asked lines desks is.low next in
     let short = subst (λ (l : List ℕ). length (stream ++ l) < input_limit) (sym same) (is.short before count next) in
-    let has = subst (λ (l : List ℕ). FeedStops seen (placed base setup before) moment line l h t t' other s') same
+    let has = subst (λ (l : List ℕ). FeedStops seen (placed base setup before) moment line l h t t' other s s') same
     (stopped base before h (is.set before count next) took short stands readable up) in
-    halted_at seen s' base setup moment letter line asked before bytes h t t' stop (is.set before count next)
-    (subst (λ (k : Stop). FeedStops seen (placed base setup before) moment line bytes h t t' k s') (stop_of stop other (Err other) refl stops) has)
+    halted_at seen s s' base setup moment letter line asked before bytes h t t' stop (is.set before count next)
+    (subst (λ (k : Stop). FeedStops seen (placed base setup before) moment line bytes h t t' k s s') (stop_of stop other (Err other) refl stops) has)
 
 -- where all was fed, the lines and desks took it
 pub took_ok : (setup : List ℕ) (moment line : ℕ) (asked : Asked) (given bytes : List ℕ) (lines lines' : List Line.LineValue)

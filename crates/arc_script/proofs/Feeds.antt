@@ -22,7 +22,7 @@ use Rattle.arc_script.proofs.Readings.{still, silent}
 use Rattle.centre_store.specs.StoreHalls.{store_seen}
 use Rattle.arc_script.specs.Fed.{clock_of, line_fed}
 use Rattle.arc_script.specs.Names.{line_name}
-use Rattle.arc_script.specs.Standing.{IsReadable}
+use Rattle.arc_script.specs.Standing.{IsReadable, LeavesOn}
 use Rattle.arc_script.specs.Steps.{placed, FeedsLine}
 
 -- what a page tells of its clock and its noise before a line is fed, and after
@@ -37,13 +37,14 @@ pub record PageTells (clock : ℕ) (p p' : PortSeen) : Type 0 where
   pub noise : Some (noise_given [] tens) ≡ p'.noise
 
 -- all frames have their turns, and the disk has not failed
-pub record FedBy {D : Type 0} (seen : D → DiskSeen) (s' : Stored D)
+pub record FedBy {D : Type 0} (seen : D → DiskSeen) (s s' : Stored D)
     (base : Summary) (setup : List ℕ) (clock line : ℕ) (before : List Asked) (bytes : List ℕ) (h : List Entry) (p p' : PortSeen) (calls : ℕ) : Type 0 where
   pub turns : List Turn
   pub history : List Entry
   pub fed : FeedsLine (placed base setup before) line bytes h history turns []
   pub stands : StoreStands seen base s' history
   pub readable : IsReadable base history
+  pub left : LeavesOn seen base s s' h history
   pub up : HasFailed seen s' → ⊥
   pub written : p'.written ≡ append_known p.written (text_of line_turns turns)
   pub count : calls ≡ length turns + 1
@@ -57,7 +58,7 @@ pub feeds : {D : Type 0} (seen : D → DiskSeen) (s s' : Stored D)
     → clock_of before ≡ Some clock → length (line_fed line before ++ bytes) < input_limit → IsReadable base h → (HasFailed seen s → ⊥)
     → (page : PageTells clock p p')
     → ServesBytes (line_name line) (Ok tt) (line_fed line before) (in_limit (line_fed line before) bytes) base h (changed (store_seen seen s) (store_seen seen s') p p')
-    → FedBy seen s' base setup clock line before bytes h p p' page.calls
+    → FedBy seen s s' base setup clock line before bytes h p p' page.calls
 feeds seen s s' base setup clock line before bytes h p p' same set short readable up page serves =
     let stream = line_fed line before in
     let session = serves.session in
@@ -90,6 +91,7 @@ feeds seen s s' base setup clock line before bytes h p p' same set short readabl
       };
       stands = session.holds.stands;
       readable = (readable.0, session.disk.reads readable.1);
+      left = session.disk.leaves readable.1;
       up = session.up tt up;
       written = ap (λ (q : PortSeen). q.written) told_of ∙ ap (λ a. append_known p.written a.text) added;
       count = stands.count ∙ ap (λ n. n + 1) (readings_count turns);

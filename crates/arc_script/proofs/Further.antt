@@ -17,7 +17,8 @@ use Rattle.script_lines.specs.Lines.{Asked, Reopen, spelling}
 use Rattle.session_rules.proofs.Ports.{rose_since}
 use Rattle.arc_script.specs.Begun.{Begun}
 use Rattle.arc_script.specs.Between.{Between, CarriedOut, StoppedAt, ShutAt, SoFar, size_of}
-use Rattle.arc_script.specs.Ends.{Tells, Played}
+use Rattle.arc_script.specs.Causes.{OrBegun, Submits}
+use Rattle.arc_script.specs.Ends.{Tells, Played, LeavesUpTo}
 use Rattle.arc_script.specs.Halting.{Halts, closing}
 use Rattle.arc_script.specs.Steps.{Place, placed, Step, IsStepOf, AreSteps, asked_after, base_after, output_of}
 use Rattle.arc_script.specs.Texts.{AreOf, IsPlayable, counted, is_passed, numbered_from}
@@ -27,6 +28,7 @@ use Rattle.arc_script.specs.declared.script_end.Tally.{Tally}
 use Rattle.arc_script.proofs.Behind.{of_last, are_last, base_last, end_of, output_last, place_last}
 use Rattle.arc_script.proofs.Counted.{counted_next, is_played}
 use Rattle.arc_script.proofs.Ended.{recorded_in, tally_is, counts_last}
+use Rattle.arc_script.proofs.Left.{left_there}
 use Rattle.arc_script.proofs.Sizes.{size_last}
 
 -- Behind these lines comes one that asks for this, with its number.
@@ -80,6 +82,9 @@ module _ {D : Type 0} (seen : D → DiskSeen) (b : Begun D) (lines : List (List 
       counts = tally_is b.base s' b.past at.history (so.steps ++ at.partial ∷ []) script'.tally tally script'.opened_before (kept ∙ so.opened_before)
           (counts_last so.steps at.partial script.tally script'.tally so.counts at.counts)
           (subst (λ (base : Summary). StandsFor base s'.state at.history) (sym (base_last b.base so.steps at.partial)) at.stands.centre) tally_as;
+      any_moment = subst (λ (d : D). OrBegun (LeavesUpTo seen b d at.partial.base)
+          (Submits s'.state.sum.text b.setup (asked_after [] so.steps) at.clock at.waiting asked) s'.state.sum.text at.partial.base b.setup at.clock at.history)
+          (sym disk_is) at.left;
     };
     more = [];
     front = sym (append-nil (counted lines));
@@ -101,8 +106,11 @@ module _ {D : Type 0} (seen : D → DiskSeen) (b : Begun D) (lines : List (List 
       area = at.area;
       unopened = at.unopened;
       output = so.written;
-      counts = tally_is b.base s b.past so.history so.steps script.tally tally script.opened_before so.opened_before so.counts
-          so.between.store.stands.centre tally_as;
+      left = record {
+        counts = tally_is b.base s b.past so.history so.steps script.tally tally script.opened_before so.opened_before so.counts
+            so.between.store.stands.centre tally_as;
+        any_moment = at.left;
+      };
     };
     more = [];
     front = sym (append-nil (counted lines));
@@ -190,8 +198,12 @@ module _ {D : Type 0} (seen : D → DiskSeen) (b : Begun D) (lines : List (List 
               ∙ ap (λ l. append_known (append_known b.port.written (output_of so.steps)) (take n l)) (text_is text is)
               ∙ known_both b.port.written (output_of so.steps) (take n out.step.text);
           area = recorded_in seen (base_after b.base steps) s' out.history disk held disk_is;
-          counts = tally_is b.base s' b.past out.history steps script'.tally tally script'.opened_before (kept ∙ so.opened_before)
-              (counts_last so.steps out.step script.tally script'.tally so.counts out.counts) stands.centre tally_as;
+          left = record {
+            counts = tally_is b.base s' b.past out.history steps script'.tally tally script'.opened_before (kept ∙ so.opened_before)
+                (counts_last so.steps out.step script.tally script'.tally so.counts out.counts) stands.centre tally_as;
+            any_moment = subst (λ (base : Summary). LeavesUpTo seen b disk base out.history) (sym (base_last b.base so.steps out.step))
+                (left_there seen b out.step.base out.history s' out.between.store disk disk_is);
+          };
         },
       );
       more = (number, line) ∷ [];

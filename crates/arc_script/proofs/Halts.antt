@@ -36,11 +36,11 @@ use Rattle.arc_script.specs.Causes.{HasShown, IsOfFrame, IsSentFor}
 use Rattle.centre_store.specs.StoreHalls.{store_seen}
 use Rattle.arc_script.specs.Fed.{clock_of, line_fed}
 use Rattle.arc_script.specs.Names.{line_name}
-use Rattle.arc_script.specs.Standing.{IsReadable}
+use Rattle.arc_script.specs.Standing.{IsReadable, LeavesOn}
 use Rattle.arc_script.specs.Steps.{placed, FeedsLine}
 
 -- the frames before the one that was stopped have their turns; that one may have taken its reading
-pub record FedUpTo {D : Type 0} (seen : D → DiskSeen) (s' : Stored D)
+pub record FedUpTo {D : Type 0} (seen : D → DiskSeen) (s s' : Stored D)
     (base : Summary) (setup : List ℕ) (clock line : ℕ) (before : List Asked) (bytes : List ℕ) (h : List Entry) (stop : Stop) (calls : ℕ) : Type 0 where
   pub turns : List Turn
   pub more : List (List ℕ)
@@ -49,6 +49,7 @@ pub record FedUpTo {D : Type 0} (seen : D → DiskSeen) (s' : Stored D)
   pub fed : FeedsLine (placed base setup before) line bytes h history turns more
   pub stands : StoreStands seen base s' history
   pub readable : IsReadable base history
+  pub left : LeavesOn seen base s s' h history
   pub cause : HasShown seen base s' history stop clock (IsOfFrame setup clock line more)
   pub sent_is : IsSentFor stop (length turns) sent
   pub count : calls ≡ sent + 1
@@ -72,7 +73,7 @@ pub cut_short : {D : Type 0} (seen : D → DiskSeen) (s s' : Stored D)
     → (page : PageTells clock p p')
     → ServesBytes (line_name line) (Err WriteFault) (line_fed line before) (in_limit (line_fed line before) bytes) base h
     (changed (store_seen seen s) (store_seen seen s') p p')
-    → FedUpTo seen s' base setup clock line before bytes h Memory page.calls
+    → FedUpTo seen s s' base setup clock line before bytes h Memory page.calls
 cut_short seen s s' base setup clock line before bytes h p p' same set short readable up page serves =
     let stream = line_fed line before in
     let session = serves.session in
@@ -104,6 +105,7 @@ cut_short seen s s' base setup clock line before bytes h p p' same set short rea
       };
       stands = session.holds.stands;
       readable = (readable.0, session.disk.reads readable.1);
+      left = session.disk.leaves readable.1;
       cause = wanted_up seen base s' session.history Memory clock (IsOfFrame setup clock line session.left) refl session.holds.stands (session.up tt up);
       sent_is = inr (refl, refl);
       count = stands.count ∙ ap (λ n. n + 1) (readings_count turns);
@@ -161,7 +163,7 @@ pub stopped_at : {D : Type 0} (seen : D → DiskSeen) (s s' : Stored D)
     → (page : PageTells clock p p')
     → ServesBytes (line_name line) (Err (Stopped stop)) (line_fed line before) (in_limit (line_fed line before) bytes) base h
     (changed (store_seen seen s) (store_seen seen s') p p')
-    → FedUpTo seen s' base setup clock line before bytes h stop page.calls
+    → FedUpTo seen s s' base setup clock line before bytes h stop page.calls
 stopped_at seen s s' base setup clock line before bytes h p p' stop same set short readable up page serves =
     let stream = line_fed line before in
     let session = serves.session in
@@ -198,6 +200,7 @@ stopped_at seen s s' base setup clock line before bytes h p p' stop same set sho
       };
       stands = session.holds.stands;
       readable = (readable.0, session.disk.reads readable.1);
+      left = session.disk.leaves readable.1;
       cause = caused seen s s' base setup clock line ended.reading session.history stop ended.piece ended.more same at.last up session.holds.stands ended.cause;
       sent_is = inl refl;
       count = omega (arith, stands.count, size, count);

@@ -34,6 +34,7 @@ pub mod Opening
 pub mod GivenSummaries
 pub mod Reopening
 pub mod Begun
+pub mod Left
 pub mod Anew
 pub mod Playing
 pub mod Pieces

@@ -3,9 +3,11 @@ use Rattle.std.proofs.Common.{◌≡◌, ◌≤◌, ◌∷◌, ℕ, zero, suc, L
 use Rattle.std.specs.Prelude.{All, slice_get}
 use Rattle.alarm_rules.specs.Setups.{meaning}
 use Rattle.arc_io.proofs.KnownMore.{known_none}
+use Rattle.arc_io.specs.Areas.{Areas}
 use Rattle.arc_io.specs.Disks.{DiskSeen}
-use Rattle.centre_rules.specs.History.{IsMoment}
+use Rattle.centre_rules.specs.History.{Entry, IsMoment, recorded}
 use Rattle.centre_rules.specs.Summary.{Summary}
+use Rattle.centre_store.specs.Calls.{LeavesFrom}
 use Rattle.centre_store.specs.Given.{IsGiven, BeginsWith, HoldsRecorded}
 use Rattle.centre_store.specs.Openings.{IsOpened}
 use Rattle.centre_store.specs.Pasts.{AreKept}
@@ -20,6 +22,7 @@ use Rattle.arc_script.specs.Playing.{IsNewDesk}
 use Rattle.centre_store.specs.StoreHalls.{is_told}
 use Rattle.arc_script.specs.declared.script.Script.{Script}
 use Rattle.arc_script.proofs.GivenSummaries.{given_moment}
+use Rattle.arc_script.proofs.Left.{left_opened}
 use Rattle.arc_script.proofs.Reopening.{kept_recorded}
 
 all_at : {A : Type 0} (P : A → Type 0) (xs : List A) (i : ℕ) → All P xs → IfSome (slice_get xs i) P
@@ -42,10 +45,11 @@ taken_none setup lines desks new_lines new_desks = record {
 }
 
 -- what a store that was opened stands for
-pub store_opened : {D : Type 0} (seen : D → DiskSeen) (b : Begun D) (s : Stored D) (o : IsOpened seen b.disk s) → o.base ≡ b.base
+pub store_opened : {D : Type 0} (seen : D → DiskSeen) (only_now : (d : D) (c : Areas) → (seen d).left_since (seen d).moment c → (seen d).may_leave c)
+    (b : Begun D) (s : Stored D) (o : IsOpened seen b.disk s) → o.base ≡ b.base → o.past ≡ b.past → s.journal.disk ≡ b.opened
     → is_told (seen s.journal.disk).told ≡ is_told (seen b.disk).told → s.journal.limits ≡ b.limits → (seen b.disk).faults ≤ s.at_open
     → IsStoreSoFar seen b b.base o.past s
-store_opened seen b s o same tells limits later = record {
+store_opened {D} seen only_now b s o same past opened tells limits later = record {
   stands = subst (λ (base : Summary). StoreStands seen base s o.past) same o.stands;
   readable =
       let given = subst IsGiven same o.given in
@@ -53,6 +57,11 @@ store_opened seen b s o same tells limits later = record {
   tells = tells;
   limits_are = limits;
   later = later;
+  past_recorded = subst (λ (l : List Entry). recorded l ≡ l) past (kept_recorded o.past o.is_past.kept);
+  left = λ told.
+      subst (λ (d : D). LeavesFrom (seen d).moment b.past s.at_open (seen s.journal.disk) b.base o.past) opened
+      (subst (λ (l : List Entry). LeavesFrom (seen s.journal.disk).moment l s.at_open (seen s.journal.disk) b.base o.past) past
+      (left_opened seen only_now b.base o.past s s.at_open (subst (λ (base : Summary). HoldsRecorded seen s.journal base o.past) same o.held)));
 }
 
 pub held_opened : {D : Type 0} (seen : D → DiskSeen) (disk : D) (s : Stored D) (o : IsOpened seen disk s)

@@ -84,6 +84,10 @@ goes_on_as seen Told base h disk s o (Some areas) known legal readable stand eve
 is_true : (o : Option Areas) (areas : Areas) → o ≡ Some areas → is_told o ≡ true
 is_true o areas is = ap is_told is
 
+-- a disk that tells as much as one that tells what it holds
+pub told_some : (first disk : DiskSeen) → Tells first → is_told disk.told ≡ is_told first.told → disk.told ≡ None → ⊥
+told_some first disk told same none = false≢true (sym (ap is_told none) ∙ same ∙ is_true first.told told.0 told.1)
+
 pub goes_on_from : {D : Type 0} (seen : D → DiskSeen) (b : Begun D) (base : Summary) (h : List Entry) (s s' : Stored D) → IsLegal base h → IsReadable base h
     → is_told (seen s.journal.disk).told ≡ is_told (seen b.disk).told → HoldsRecorded seen s.journal base h → IsOpened seen s.journal.disk s'
     → GoesOnFrom seen (Tells (seen b.disk)) base h s'

@@ -20,8 +20,8 @@ use Rattle.arc_script.specs.Causes.{HasShown, IsOfCommand, Submits}
 use Rattle.arc_script.specs.Ends.{Tells, AddedBy, CameTo}
 use Rattle.arc_script.specs.Fed.{clock_of}
 use Rattle.arc_script.specs.Playing.{TickStops, Ticked, moment_at}
-use Rattle.arc_script.specs.Standing.{IsReadable}
-use Rattle.arc_script.specs.Steps.{Place, placed, Step, Commands, IsStepOf, before_tick}
+use Rattle.arc_script.specs.Standing.{IsReadable, LeavesOn}
+use Rattle.arc_script.specs.Steps.{Place, placed, Step, Commands, IsStepOf, before_tick, ticked_after}
 use Rattle.arc_script.specs.declared.script.Script.{Script}
 use Rattle.arc_script.specs.declared.script_end.Tally.{Tally}
 use Rattle.arc_script.proofs.Carry.{IsOverStore, Stays, carried_out, stopped_at}
@@ -45,27 +45,30 @@ module _ {D : Type 0} (seen : D → DiskSeen) (script script' : Script) (s s' : 
       → OnOk r ((base : Summary) (h : List Entry) → StoreStands seen base s h
       → Ticked seen base (before_tick script.clock base script.setup at h) at s' p p')
       → OnOk r (s'.state.sum.text ≡ Some script.setup) → OnOk r (script'.clock ≡ Some at)
+      → OnOk r ((base : Summary) (h : List Entry) → StoreStands seen base s h → LeavesOn seen base s s' h (ticked_after script.clock base script.setup at h))
       → OnOk r (Carries seen moment a script script' s s' p p')
-  time_carries p p' (Ok done) ticked text clock = λ b place count number h between next holds.
+  time_carries p p' (Ok done) ticked text clock left = λ b place count number h between next holds.
       let tally : script'.tally ≡ script.tally = ap (λ (k : Script). k.tally) rest in
       let there = subst (λ (n : ℕ). Ticked seen place.base (before_tick script.clock place.base script.setup n h) n s' p p') same
       (ticked place.base h between.store.stands) in
-      let out = time_carried seen b place count h moment script script' s s' between fits tally number p p' there in
+      let leaves = subst (λ (n : ℕ). LeavesOn seen place.base s s' h (ticked_after script.clock place.base script.setup n h)) same
+      (left place.base h between.store.stands) in
+      let out = time_carried seen b place count h moment script script' s s' between fits tally number p p' there leaves in
       let set : clock_of (Time moment ∷ place.asked) ≡ Some moment = refl in
       subst (λ (k : Asked). CarriedOut seen b place count number h k script.tally script' s' p p') (sym whose)
       (carried_out seen b place count h (Time moment) moment script script' s s' between stays fits set tt number p p' out
       (time_taken place.setup count moment place.asked script script' between.taken rest) (clock ∙ ap Some same) (text ∙ ap Some between.setup))
-  time_carries p p' (Err stop) ticked text clock = tt
+  time_carries p p' (Err stop) ticked text clock left = tt
 
   pub time_stops : (r : Result (Unit {0}) Stop)
-      → IfErr r (λ stop. (base : Summary) (h : List Entry) → StoreStands seen base s h → HoldsRecorded seen s.journal base h
-      → TickStops seen script.clock base script.setup at h stop s')
+      → IfErr r (λ stop. (base : Summary) (h : List Entry) → StoreStands seen base s h → HoldsRecorded seen s.journal base h → IsReadable base h
+      → TickStops seen script.clock base script.setup at h stop s s')
       → IfErr r (λ stop. Stops seen moment a script script' s s' stop)
   time_stops (Ok done) stops = tt
   time_stops (Err stop) stops = λ b place count h between next holds.
       let tally : script'.tally ≡ script.tally = ap (λ (k : Script). k.tally) rest in
-      let there = subst (λ (n : ℕ). TickStops seen script.clock place.base script.setup n h stop s') same
-      (stops place.base h between.store.stands holds) in
+      let there = subst (λ (n : ℕ). TickStops seen script.clock place.base script.setup n h stop s s') same
+      (stops place.base h between.store.stands holds between.store.readable) in
       subst (λ (k : Asked). StoppedAt seen b place h k stop script.tally script'.tally s') (sym whose)
       (time_stopped seen b place count h moment script script' s s' between fits tally stop stays there)
 
@@ -97,14 +100,14 @@ module _ {D : Type 0} (seen : D → DiskSeen) (script script' : Script) (s s' : 
       → ((Told : Type 0) → OnOk r ((base : Summary) (before : List Asked) (count number : ℕ) (h : List Entry)
       → IsNext (meaning script.setup) moment count before a script.lines.items script.desks.items
       → StoreStands seen base s h → IsReadable base h → (HasFailed seen s → ⊥)
-      → Carried seen base (λ x st. IsStepOf Told (placed base script.setup before) h x st a) number a script.tally script'.tally p p' s'))
+      → Carried seen base s h (λ x st. IsStepOf Told (placed base script.setup before) h x st a) number a script.tally script'.tally p p' s'))
       → OnOk r ((before : List Asked) (count : ℕ) → IsNext (meaning script.setup) moment count before a script.lines.items script.desks.items
       → HaveTakenWith (meaning script.setup) count before a script'.lines.items script'.desks.items)
       → s'.state.sum.text ≡ Some script.setup
       → OnOk r (Carries seen moment a script script' s s' p p')
   line_carries p p' (Ok done) clock fed took text = λ b place count number h between next holds.
       let n = next_with b place count h between next in
-      let out = subst (λ (l : List ℕ). Carried seen place.base (λ x st. IsStepOf (Tells (seen b.disk)) (placed place.base l place.asked) h x st a) number a
+      let out = subst (λ (l : List ℕ). Carried seen place.base s h (λ x st. IsStepOf (Tells (seen b.disk)) (placed place.base l place.asked) h x st a) number a
       script.tally script'.tally p p' s') between.setup (fed (Tells (seen b.disk)) place.base place.asked count number h n between.store.stands between.store.readable (up_here b place count h between next)) in
       let taken = subst (λ (l : List ℕ). HaveTakenWith (meaning l) count place.asked a script'.lines.items script'.desks.items) between.setup
       (took place.asked count n) in
@@ -116,29 +119,30 @@ module _ {D : Type 0} (seen : D → DiskSeen) (script script' : Script) (s s' : 
       → ((Told : Type 0) → IfErr r (λ stop. (base : Summary) (before : List Asked) (count : ℕ) (h : List Entry)
       → IsNext (meaning script.setup) moment count before a script.lines.items script.desks.items
       → StoreStands seen base s h → IsReadable base h → (HasFailed seen s → ⊥)
-      → Halted seen base (λ x st. CameSoFar base seen Told script.setup moment before a h s' stop x st) script.tally script'.tally s'))
+      → Halted seen base s h (λ x st. CameSoFar base seen Told script.setup moment before a h s' stop x st) script.tally script'.tally s'))
       → IfErr r (λ stop. Stops seen moment a script script' s s' stop)
   line_stops (Ok done) stops = tt
   line_stops (Err stop) stops = λ b place count h between next holds.
       let Told = Tells (seen b.disk) in
       let n = next_with b place count h between next in
-      let out = subst (λ (l : List ℕ). Halted seen place.base (λ x st. CameSoFar place.base seen Told l moment place.asked a h s' stop x st)
+      let out = subst (λ (l : List ℕ). Halted seen place.base s h (λ x st. CameSoFar place.base seen Told l moment place.asked a h s' stop x st)
       script.tally script'.tally s') between.setup (stops Told place.base place.asked count h n between.store.stands between.store.readable (up_here b place count h between next)) in
       stopped_at seen b place count h a moment script script' s s' between stays fits next.set over stop out
 
 -- a command that was stopped added nothing
 pub command_came : {D : Type 0} (seen : D → DiskSeen) (Told : Type 0) (base : Summary) (setup : List ℕ) (moment : ℕ) (before : List Asked) (desk : ℕ) (text : List ℕ)
-    (h : List Entry) (s' : Stored D) (stop : Stop) (t t' : Tally)
-    → Halted seen base (λ x st. HasShown seen base s' x stop moment (IsOfCommand setup before desk text)
+    (h : List Entry) (s s' : Stored D) (stop : Stop) (t t' : Tally)
+    → Halted seen base s h (λ x st. HasShown seen base s' x stop moment (IsOfCommand setup before desk text)
     × (((x ≡ h) × AddedBy base h x st) ⊎ ((stop ≡ Memory) × Commands (placed base setup before) desk text h x st))) t t' s'
-    → Halted seen base (λ x st. CameSoFar base seen Told setup moment before (Command desk text) h s' stop x st) t t' s'
-command_came {D} seen Told base setup moment before desk text h s' stop t t' out =
+    → Halted seen base s h (λ x st. CameSoFar base seen Told setup moment before (Command desk text) h s' stop x st) t t' s'
+command_came {D} seen Told base setup moment before desk text h s s' stop t t' out =
     record {
       partial = out.partial;
       history = out.history;
       came = ([], out.came.0, out.came.1);
       stands = out.stands;
       readable = out.readable;
+      left = out.left;
       counts = out.counts;
     }
 
@@ -175,10 +179,11 @@ reopen_stops seen moment a script script' s (Err e) is out = tt
 
 pub reopen_shuts : {D T : Type 0} (seen : D → DiskSeen) (moment : ℕ) (a : Asked) (script : Script) (s : Stored D) (r : Result T (OpenRefused D)) → a ≡ Reopen
     → IfErr r (λ e. (b : Begun D) (place : Place) (count : ℕ) (h : List Entry) → Between seen b place count h script s
-    → HoldsRecorded seen s.journal place.base h → ShutAt seen b place.base h e.fault e.disk)
+    → HoldsRecorded seen s.journal place.base h → clock_of place.asked ≡ Some moment → ShutAt seen b place.base h e.fault e.disk)
     → IfErr r (λ e. Shuts seen moment a script s e.fault e.disk)
 reopen_shuts seen moment a script s (Ok x) is out = tt
-reopen_shuts seen moment a script s (Err e) is out = λ b place count h between next holds. out b place count h between holds
+reopen_shuts seen moment a script s (Err e) is out = λ b place count h between next holds.
+    out b place count h between holds (set_before place.asked a moment is next.set)
 
 where_set : {A : Type 0} (o : Option A) (P : Type 0) → P → IfSome o (λ _. P)
 where_set None P holds = tt

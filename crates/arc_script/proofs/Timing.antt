@@ -16,31 +16,28 @@ use Rattle.script_lines.specs.Lines.{Asked, Time, spelling}
 use Rattle.arc_script.specs.Begun.{Begun}
 use Rattle.arc_script.specs.Between.{Between, StoppedAt}
 use Rattle.arc_script.specs.Carrying.{Carried, CountsStep, HaveTaken, HaveTakenWith}
-use Rattle.arc_script.specs.Causes.{HasShown, IsOfTime}
-use Rattle.arc_script.specs.Ends.{Tells, CameFor}
+use Rattle.arc_script.specs.Causes.{HasShown, IsOfTime, OrBegun}
+use Rattle.arc_script.specs.Ends.{Tells, CameFor, LeavesUpTo}
 use Rattle.arc_script.specs.Fed.{clock_of}
 use Rattle.arc_script.specs.Playing.{TickStops, Ticked}
-use Rattle.arc_script.specs.Standing.{IsReadable}
-use Rattle.arc_script.specs.Steps.{Place, Step, IsStepOf, before_tick}
+use Rattle.arc_script.specs.Standing.{IsReadable, LeavesOn}
+use Rattle.arc_script.specs.Steps.{Place, Step, IsStepOf, before_tick, ticked_after}
 use Rattle.arc_script.specs.Tallies.{count_of, is_closed, is_repeat}
 use Rattle.arc_script.specs.declared.script.Script.{Script}
 use Rattle.arc_script.specs.declared.script_end.Tally.{Tally}
 use Rattle.arc_script.proofs.Begun.{Adds, adds_first, adds_more, adds_until, readable_first, readable_next}
 use Rattle.arc_script.proofs.Carry.{Stays}
 use Rattle.arc_script.proofs.Counts.{grows_none}
+use Rattle.arc_script.proofs.Left.{left_behind, or_begun_to}
 use Rattle.arc_script.proofs.Passed.{taken_more}
 
--- the history behind the Tick
-abbrev ticked_by : Summary → Option ℕ → List ℕ → ℕ → List Entry → List Entry
-ticked_by base clock setup moment h = entry_after base (before_tick clock base setup moment h) Tick moment ∷ before_tick clock base setup moment h
-
-adds_tick : (clock : Option ℕ) (base : Summary) (setup : List ℕ) (moment : ℕ) (h : List Entry) → Adds h (ticked_by base clock setup moment h)
+adds_tick : (clock : Option ℕ) (base : Summary) (setup : List ℕ) (moment : ℕ) (h : List Entry) → Adds h (ticked_after clock base setup moment h)
 adds_tick clock base setup moment h =
     adds_more h (before_tick clock base setup moment h) (entry_after base (before_tick clock base setup moment h) Tick moment) refl refl
     (adds_first clock base setup moment h)
 
 readable_tick : (clock : Option ℕ) (base : Summary) (setup : List ℕ) (moment : ℕ) (h : List Entry) → IsMoment moment
-    → IsLegal base (ticked_by base clock setup moment h) → IsReadable base h → IsReadable base (ticked_by base clock setup moment h)
+    → IsLegal base (ticked_after clock base setup moment h) → IsReadable base h → IsReadable base (ticked_after clock base setup moment h)
 readable_tick clock base setup moment h fits legal kept =
     readable_next base (before_tick clock base setup moment h) (entry_after base (before_tick clock base setup moment h) Tick moment) moment refl fits refl legal
     (readable_first clock base setup moment h fits legal.1 kept)
@@ -86,33 +83,45 @@ module _ {D : Type 0} (seen : D → DiskSeen) (b : Begun D) (place : Place) (cou
       ap (λ (c : Option ℕ). before_tick c place.base script.setup moment h) between.clock.is
       ∙ ap (λ (l : List ℕ). before_tick (clock_of place.asked) place.base l moment h) between.setup
 
+  behind_is : ticked_after script.clock place.base script.setup moment h ≡ ticked_after (clock_of place.asked) place.base place.setup moment h
+  behind_is =
+      ap (λ (c : Option ℕ). ticked_after c place.base script.setup moment h) between.clock.is
+      ∙ ap (λ (l : List ℕ). ticked_after (clock_of place.asked) place.base l moment h) between.setup
+
   pub time_carried : (number : ℕ) (p p' : PortSeen)
       → Ticked seen place.base (before_tick script.clock place.base script.setup moment h) moment s' p p'
-      → Carried seen place.base (λ x st. IsStepOf (Tells (seen b.disk)) place h x st (Time moment)) number (Time moment)
+      → LeavesOn seen place.base s s' h (ticked_after script.clock place.base script.setup moment h)
+      → Carried seen place.base s h (λ x st. IsStepOf (Tells (seen b.disk)) place h x st (Time moment)) number (Time moment)
       script.tally script'.tally p p' s'
-  time_carried number p p' ticked =
+  time_carried number p p' ticked left =
       let t = subst (λ (x : List Entry). Ticked seen place.base x moment s' p p') first_is ticked in
       let adds = adds_tick (clock_of place.asked) place.base place.setup moment h in
       let st = step_of place.base number moment (clock_of place.asked) place.setup h adds.entries in
       record {
         step = st;
-        history = ticked_by place.base (clock_of place.asked) place.setup moment h;
+        history = ticked_after (clock_of place.asked) place.base place.setup moment h;
         number_is = refl;
         asked_is = refl;
         is = record { is = refl; added = adds.is; base = refl; sent = refl; text = refl };
         stands = t.stands;
         readable = readable_tick (clock_of place.asked) place.base place.setup moment h fits t.stands.centre.legal between.store.readable;
+        left = subst (λ (x : List Entry). LeavesOn seen place.base s s' h x) behind_is left;
         up = t.up;
         text = t.text;
         counts = counts_none st script.tally script'.tally refl adds.repeats adds.closed same;
       }
 
+  later_is : Stays seen script script' s s' → (seen b.disk).faults ≤ s'.at_open
+  later_is stays = subst (λ (n : ℕ). (seen b.disk).faults ≤ n) (sym stays.at_open) between.store.later
+
   stop_with : (stop : Stop) → Stays seen script script' s s' → (x : List Entry)
       → HasShown seen place.base s' x stop moment (IsOfTime s'.state.sum.text (clock_of place.asked) place.setup)
+      → OrBegun (LeavesOn seen place.base s s' h) (IsOfTime s'.state.sum.text (clock_of place.asked) place.setup) s'.state.sum.text place.base place.setup
+      moment x
       → StoreStands seen place.base s' x → (adds : Adds h x)
       → CameFor stop (Tells (seen b.disk)) place [] h x (step_of place.base 0 moment (clock_of place.asked) place.setup h adds.entries) (Time moment)
       → StoppedAt seen b place h (Time moment) stop script.tally script'.tally s'
-  stop_with stop stays x shown stands adds came =
+  stop_with stop stays x shown left stands adds came =
       let st = step_of place.base 0 moment (clock_of place.asked) place.setup h adds.entries in
       record {
         waiting = [];
@@ -124,21 +133,24 @@ module _ {D : Type 0} (seen : D → DiskSeen) (b : Begun D) (place : Place) (cou
         cause = shown;
         stands = stands;
         limits_are = stays.journal ∙ between.store.limits_are;
-        later = subst (λ (n : ℕ). (seen b.disk).faults ≤ n) (sym stays.at_open) between.store.later;
+        later = later_is stays;
+        left = or_begun_to (LeavesOn seen place.base s s' h) (LeavesUpTo seen b s'.journal.disk place.base)
+            (IsOfTime s'.state.sum.text (clock_of place.asked) place.setup) s'.state.sum.text place.base place.setup moment x
+            (λ l leaves. left_behind seen b place.base h s between.store s' l (later_is stays) leaves) left;
         counts = (counts_none st script.tally script'.tally refl adds.repeats adds.closed same).more;
       }
 
-  pub time_stopped : (stop : Stop) → Stays seen script script' s s' → TickStops seen script.clock place.base script.setup moment h stop s'
+  pub time_stopped : (stop : Stop) → Stays seen script script' s s' → TickStops seen script.clock place.base script.setup moment h stop s s'
       → StoppedAt seen b place h (Time moment) stop script.tally script'.tally s'
   time_stopped stop stays stopped =
-      let stops = subst (λ (l : List ℕ). TickStops seen (clock_of place.asked) place.base l moment h stop s') between.setup
-      (subst (λ (c : Option ℕ). TickStops seen c place.base script.setup moment h stop s') between.clock.is stopped) in
+      let stops = subst (λ (l : List ℕ). TickStops seen (clock_of place.asked) place.base l moment h stop s s') between.setup
+      (subst (λ (c : Option ℕ). TickStops seen c place.base script.setup moment h stop s s') between.clock.is stopped) in
       elim stops.came as (λ came. StoppedAt seen b place h (Time moment) stop script.tally script'.tally s') [
         | inl begun ↦
             let adds = adds_until (clock_of place.asked) place.base place.setup moment h stops.history begun in
-            stop_with stop stays stops.history stops.cause stops.stands adds (inl (begun, record { added = adds.is; base = refl; sent = refl }))
+            stop_with stop stays stops.history stops.cause stops.left stops.stands adds (inl (begun, record { added = adds.is; base = refl; sent = refl }))
         | inr whole ↦
             let adds = subst (Adds h) (sym whole.1) (adds_tick (clock_of place.asked) place.base place.setup moment h) in
-            stop_with stop stays stops.history stops.cause stops.stands adds
+            stop_with stop stays stops.history stops.cause stops.left stops.stands adds
             (inr (whole.0, inr (record { is = whole.1; added = adds.is; base = refl; sent = refl; text = refl })))
       ]

@@ -162,6 +162,17 @@ module _ (b : Summary) (h : List Entry) (setup : List ℕ) (clock : ℕ) where
   adopted_force false other =
       ap (λ (l : List Entry). is_in_force (text b (marks b l)) setup) (one_adopt b h setup clock other) ∙ (bytes_eq-Decides setup setup).1 refl
 
+  again : adopted_after b (adopted_after b h setup clock) setup clock ≡ adopted_after b h setup clock
+  again =
+      let a = adopted_after b h setup clock in
+      ap (λ (v : Bool). cond v a (adopted_entry b a setup clock ∷ a)) (adopted_force (is_in_force (text b (marks b h)) setup) refl)
+
+  -- so behind it, too, the beginning ends as it would have
+  pub begun_same : (x : List Entry) → (x ≡ h) ⊎ (x ≡ adopted_after b h setup clock) → begun_after b h setup clock ≡ begun_after b x setup clock
+  begun_same x (inl before) = ap (λ (l : List Entry). begun_after b l setup clock) (sym before)
+  begun_same x (inr adopted) =
+      ap (λ (l : List Entry). started_entry b l clock ∷ l) (sym again) ∙ ap (λ (l : List Entry). begun_after b l setup clock) (sym adopted)
+
   same_length : (v : Bool) → is_in_force (text b (marks b h)) setup ≡ v → length (adopted_after b h setup clock) ≡ length h
       → adopted_after b h setup clock ≡ h
   same_length true force few = ap (λ (w : Bool). cond w h (first ∷ h)) force
@@ -221,20 +232,23 @@ module _ (b : Summary) (h : List Entry) (setup : List ℕ) (clock : ℕ) where
         subst (λ (k : List Entry). (store_seen seen new).torn b k (event_of_begin new.state.sum.text setup) clock) (sym adopted)
         (at_start true is (subst (StoreStands seen b new) adopted w) any_moment met stands up)
 
-    -- it had: nothing was written
+    -- it had: nothing was added
+    pub none_added : (x : List Entry) → (x ≡ h) ⊎ (x ≡ adopted_after b h setup clock) → StoreStands seen b new x → new ≡ old → StoreStands seen b old h → x ≡ h
+    none_added x came w same stands = elim came as (λ _. x ≡ h) [
+      | inl before ↦ before
+      | inr adopted ↦
+          let entries = ap (λ (s : Stored D). s.state.entries) same in
+          let few : length (adopted_after b h setup clock) ≡ length h =
+          omega (arith, entries, w.centre.entries, stands.centre.entries, ap length adopted) in
+          adopted ∙ same_length (is_in_force (text b (marks b h)) setup) refl few
+    ]
+
+    -- and nothing was written
     at_none : (x : List Entry) → (x ≡ h) ⊎ (x ≡ adopted_after b h setup clock) → StoreStands seen b new x → new ≡ old → StoreStands seen b old h
         → HoldsRecorded seen old.journal b h → HasRecorded (seen new.journal.disk) b x
     at_none x came w same stands holds =
         let there = subst (λ (s : Stored D). HasRecorded (seen s.journal.disk) b h) (sym same) (recorded_there seen old.journal b h holds) in
-        let back : x ≡ h = elim came as (λ _. x ≡ h) [
-          | inl before ↦ before
-          | inr adopted ↦
-              let entries = ap (λ (s : Stored D). s.state.entries) same in
-              let few : length (adopted_after b h setup clock) ≡ length h =
-              omega (arith, entries, w.centre.entries, stands.centre.entries, ap length adopted) in
-              adopted ∙ same_length (is_in_force (text b (marks b h)) setup) refl few
-        ] in
-        subst (λ (k : List Entry). HasRecorded (seen new.journal.disk) b k) (sym back) there
+        subst (λ (k : List Entry). HasRecorded (seen new.journal.disk) b k) (sym (none_added x came w same stands)) there
 
     pub unbegun : (x : List Entry) → (x ≡ h) ⊎ (x ≡ adopted_after b h setup clock) → StoreStands seen b new x → LeavesWithin seen old new setup clock
         → TellsWithin seen old new setup clock → (HasFailed seen old → new ≡ old) → StoreStands seen b old h → HoldsRecorded seen old.journal b h

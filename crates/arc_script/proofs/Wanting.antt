@@ -16,6 +16,7 @@ use Rattle.arc_script.specs.Steps.{Place, Step}
 use Rattle.arc_script.specs.Tallies.{told}
 use Rattle.arc_script.specs.declared.script.Script.{Script}
 use Rattle.arc_script.specs.declared.script_end.Tally.{Tally}
+use Rattle.arc_script.proofs.Left.{left_there}
 
 -- a step of no entries
 abbrev none : Summary → Asked → Step
@@ -47,5 +48,6 @@ nothing_done seen b place count h asked script s moment t set between held = rec
   stands = between.store.stands;
   limits_are = between.store.limits_are;
   later = between.store.later;
+  left = inl (left_there seen b place.base h s between.store s.journal.disk refl);
   counts = record { sent = λ n is. is ∙ same n; repeats = λ n is. is ∙ same n; closed = λ n is. is ∙ same n };
 }

@@ -5,7 +5,8 @@ use Rattle.centre_rules.specs.History.{Entry}
 use Rattle.centre_rules.specs.Summary.{Summary}
 use Rattle.disk_journal.specs.declared.journal.Limits.{Limits}
 
--- over which disk, with which setup and limits, over which summary and past, and what its port told
+-- over which disk, with which setup and limits, over which summary and past, and what its port told; and the disk behind the opening of
+-- its journal
 pub record Begun (D : Type 0) : Type 0 where
   pub disk : D
   pub setup : List ℕ
@@ -13,3 +14,4 @@ pub record Begun (D : Type 0) : Type 0 where
   pub base : Summary
   pub past : List Entry
   pub port : PortSeen
+  pub opened : D

@@ -8,8 +8,9 @@ use Rattle.arc_io.specs.Seen.{PortSeen}
 use Rattle.arc_text.specs.Lines.{is_feed}
 use Rattle.centre_core.specs.declared.hall.Stop.{Stop}
 use Rattle.centre_rules.specs.Cases.{opened}
-use Rattle.centre_rules.specs.History.{Entry, IsMoment, marks}
+use Rattle.centre_rules.specs.History.{Entry, IsMoment, marks, recorded}
 use Rattle.centre_rules.specs.Summary.{Summary}
+use Rattle.centre_store.specs.Calls.{LeavesFrom}
 use Rattle.centre_store.specs.Given.{HasRecorded, HoldsRecorded}
 use Rattle.centre_store.specs.Stores.{Stored, HasFailed, StoreStands}
 use Rattle.disk_journal.specs.declared.fault.OpenFault.{OpenFault}
@@ -17,8 +18,8 @@ use Rattle.script_lines.specs.Lines.{Asked, spelling}
 use Rattle.session_rules.specs.Inputs.{input_limit}
 use Rattle.arc_script.specs.Begun.{Begun}
 use Rattle.arc_script.specs.Carrying.{CountsMore, HaveTaken, IsNext}
-use Rattle.arc_script.specs.Causes.{HasShown, Submits}
-use Rattle.arc_script.specs.Ends.{Tells, IsUnopened, CameFor}
+use Rattle.arc_script.specs.Causes.{HasShown, OrBegun, Submits}
+use Rattle.arc_script.specs.Ends.{Tells, IsUnopened, CameFor, LeavesUpTo}
 use Rattle.arc_script.specs.Fed.{clock_of}
 use Rattle.centre_store.specs.StoreHalls.{is_told}
 use Rattle.arc_script.specs.Standing.{IsReadable}
@@ -55,13 +56,15 @@ pub record IsReady (clock : Option ℕ) (setup : List ℕ) (text : Option (List 
   pub set : IfSome clock (λ last. text ≡ Some setup)
 
 -- The store stands for a history over a summary, from which it can go on. It was opened later, with these limits, over a disk that tells as
--- much.
+-- much, and of which a crash leaves all that the past has recorded, and nothing past the history.
 pub record IsStoreSoFar {D : Type 0} (seen : D → DiskSeen) (b : Begun D) (base : Summary) (h : List Entry) (s : Stored D) : Type 0 where
   pub stands : StoreStands seen base s h
   pub readable : IsReadable base h
   pub tells : is_told (seen s.journal.disk).told ≡ is_told (seen b.disk).told
   pub limits_are : s.journal.limits ≡ b.limits
   pub later : (seen b.disk).faults ≤ s.at_open
+  pub past_recorded : recorded b.past ≡ b.past
+  pub left : Tells (seen b.disk) → LeavesFrom (seen b.opened).moment b.past s.at_open (seen s.journal.disk) base h
 
 -- Where a line stands, behind so many bytes of what was asked so far: lines, desks, the clock and the store. Behind the first `T` its disk
 -- has not failed.
@@ -121,6 +124,8 @@ pub record StoppedAt {D : Type 0} (seen : D → DiskSeen) (b : Begun D) (place :
   pub stands : StoreStands seen partial.base s history
   pub limits_are : s.journal.limits ≡ b.limits
   pub later : (seen b.disk).faults ≤ s.at_open
+  pub left : OrBegun (LeavesUpTo seen b s.journal.disk partial.base)
+      (Submits s.state.sum.text place.setup place.asked clock waiting asked) s.state.sum.text partial.base place.setup clock history
   pub counts : CountsMore partial t t'
 
 -- The journal was not opened again.
@@ -130,6 +135,7 @@ pub record ShutAt {D : Type 0} (seen : D → DiskSeen) (b : Begun D) (base : Sum
   pub later : (seen b.disk).faults ≤ (seen closed).faults
   pub area : HasRecorded (seen closed) base h
   pub unopened : IsUnopened fault (seen closed) (seen disk)
+  pub left : LeavesUpTo seen b disk base h
 
 -- behind each script that comes to this line it is carried out
 abbrev pub Carries : {D : Type 0} → (D → DiskSeen) → ℕ → Asked → Script → Script → Stored D → Stored D → PortSeen → PortSeen → Type 0

@@ -16,7 +16,7 @@ use Rattle.session_rules.specs.Inputs.{input_limit}
 use Rattle.arc_script.specs.Fed.{clock_of, line_fed, desk_read}
 use Rattle.arc_script.specs.Feeding.{TookAt}
 use Rattle.arc_script.specs.Playing.{moment_at}
-use Rattle.arc_script.specs.Standing.{IsReadable}
+use Rattle.arc_script.specs.Standing.{IsReadable, LeavesOn}
 use Rattle.arc_script.specs.Steps.{Step}
 pub use Rattle.arc_script.specs.Tallies.{GrowsBy}
 use Rattle.arc_script.specs.Tallies.{count_of, is_closed, is_repeat}
@@ -66,10 +66,11 @@ pub record CountsStep (s : Step) (t t' : Tally) : Type 0 where
   pub more : CountsMore s t t'
   pub rest : t' ≡ record t { sent = t'.sent; repeats = t'.repeats; closed = t'.closed }
 
--- The line has its step: its output was put, it is counted, and the store, whose disk has not failed, stands for the history behind it.
+-- The line has its step, from a store and a history on: its output was put, it is counted, and the store, whose disk has not failed, stands
+-- for the history behind it, and a crash leaves nothing past that.
 pub record Carried {D : Type 0} (seen : D → DiskSeen)
-    (base : Summary) (IsStep : List Entry → Step → Type 0) (number : ℕ) (asked : Asked) (t t' : Tally) (p p' : PortSeen)
-    (s : Stored D) : Type 0 where
+    (base : Summary) (old : Stored D) (h : List Entry) (IsStep : List Entry → Step → Type 0) (number : ℕ) (asked : Asked) (t t' : Tally)
+    (p p' : PortSeen) (s : Stored D) : Type 0 where
   pub step : Step
   pub history : List Entry
   pub number_is : step.number ≡ number
@@ -77,16 +78,18 @@ pub record Carried {D : Type 0} (seen : D → DiskSeen)
   pub is : IsStep history step
   pub stands : StoreStands seen base s history
   pub readable : IsReadable base history
+  pub left : LeavesOn seen base old s h history
   pub up : HasFailed seen s → ⊥
   pub text : p'.written ≡ append_known p.written step.text
   pub counts : CountsStep step t t'
 
--- The line was stopped: it came so far, that is counted, and the store stands for it.
-pub record Halted {D : Type 0} (seen : D → DiskSeen) (base : Summary) (CameTo : List Entry → Step → Type 0) (t t' : Tally)
-    (s : Stored D) : Type 0 where
+-- The line was stopped: it came so far, that is counted, and the store stands for it, and a crash leaves nothing past it.
+pub record Halted {D : Type 0} (seen : D → DiskSeen) (base : Summary) (old : Stored D) (h : List Entry)
+    (CameTo : List Entry → Step → Type 0) (t t' : Tally) (s : Stored D) : Type 0 where
   pub partial : Step
   pub history : List Entry
   pub came : CameTo history partial
   pub stands : StoreStands seen base s history
   pub readable : IsReadable base history
+  pub left : LeavesOn seen base old s h history
   pub counts : CountsStep partial t t'

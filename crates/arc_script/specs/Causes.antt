@@ -9,7 +9,7 @@ use Rattle.centre_core.specs.declared.hall.Stop.{Stop}
 use Rattle.centre_core.specs.declared.hall.Stop.TheVariants.{Memory}
 use Rattle.centre_rules.specs.History.{Entry}
 use Rattle.centre_rules.specs.Summary.{Summary}
-use Rattle.centre_store.specs.Begins.{event_of_begin}
+use Rattle.centre_store.specs.Begins.{begun_after, event_of_begin}
 use Rattle.centre_store.specs.Given.{HasRecorded}
 use Rattle.centre_store.specs.StoreHalls.{store_seen}
 use Rattle.centre_store.specs.Stores.{HasFailed, Stored, Shows}
@@ -60,6 +60,11 @@ Submits force setup before clock waiting (Feed line digits) event = IsOfFrame se
 Submits force setup before clock waiting (Message line body) event = IsOfFrame setup clock line waiting event
 Submits force setup before clock waiting (Command desk text) event = IsOfCommand setup before desk text event
 Submits force setup before clock waiting Reopen event = event ≡ event_of_begin force setup
+
+-- So it is of a history; or, where the event that was stopped may be one by which a run begins, of that history with all by which it does.
+abbrev pub OrBegun : (List Entry → Type 0) → (Event → Type 0) → Option (List ℕ) → Summary → List ℕ → ℕ → List Entry → Type 0
+OrBegun IsSo IsOne force base setup clock x =
+    IsSo x ⊎ (IsOne (event_of_begin force setup) × IsSo (begun_after base x setup clock))
 
 -- the stop for which a desk ended; the other ends that it has on a page are for want of memory
 abbrev pub stop_in : DeskEnd → Stop

@@ -14,6 +14,7 @@ use Rattle.centre_core.specs.declared.hall.Stop.TheVariants.{Memory}
 use Rattle.centre_rules.specs.History.{Entry}
 use Rattle.centre_rules.specs.Summary.{Summary}
 use Rattle.centre_store.specs.Begins.{adopted_after, begun_after}
+use Rattle.centre_store.specs.Calls.{LeavesFrom}
 use Rattle.centre_store.specs.Given.{HasRecorded, BeginsWith, GoesOn}
 use Rattle.centre_store.specs.Openings.{IsRefused}
 use Rattle.centre_store.specs.Stores.{Stored, StoreStands}
@@ -27,7 +28,7 @@ use Rattle.session_rules.specs.Inputs.{input_limit}
 use Rattle.session_rules.specs.Reading.{IsNotAhead, OnlyReadsAndWrites, lines_read}
 use Rattle.session_rules.specs.Turns.{entries_of}
 use Rattle.arc_script.specs.Begun.{Begun}
-use Rattle.arc_script.specs.Causes.{HasShown, Submits, IsSentFor}
+use Rattle.arc_script.specs.Causes.{HasShown, OrBegun, Submits, IsSentFor}
 use Rattle.arc_script.specs.Fed.{clock_of}
 use Rattle.arc_script.specs.Steps.{Place, placed, Step, Keeps, FeedsLine, IsStepOf, AreSteps}
 use Rattle.arc_script.specs.Steps.{asked_after, base_after, place_after, output_of}
@@ -42,13 +43,17 @@ use Rattle.arc_script.specs.declared.script_end.Tally.{Tally}
 abbrev pub Tells : DiskSeen → Type 0
 Tells disk = (areas : Areas) × (disk.told ≡ Some areas)
 
+-- what a disk's areas stand for they stand for still, after a crash at any moment too
+abbrev pub KeepsAll : DiskSeen → DiskSeen → Type 0
+KeepsAll disk disk' = LeavesOnly disk disk' (λ c. (d : Areas) × disk.may_leave d × GoesOn d c)
+
 -- The journal of a disk was not opened, for this fault: it shows what stands there, or that the disk failed. What the areas stood for
 -- they stand for still, after a crash at any moment too.
 pub record IsUnopened (fault : OpenFault) (disk disk' : DiskSeen) : Type 0 where
   pub shown : IfSome disk.told (IsRefused fault)
   pub counts : HasCounts fault disk.faults disk'.faults
   pub told : Becomes disk.told disk'.told GoesOn
-  pub any_moment : LeavesOnly disk disk' (λ c. (d : Areas) × disk.may_leave d × GoesOn d c)
+  pub any_moment : KeepsAll disk disk'
   pub unwritten : IsOfContent fault → IsQuiet disk disk'
 
 -- What a script did, of these lines, over a past: the first of them have their steps, which go on from the past to a history. Those
@@ -62,13 +67,25 @@ pub record Played {D : Type 0} (seen : D → DiskSeen) (b : Begun D) (lines : Li
   pub of : AreOf [] front steps
   pub are : AreSteps (Tells (seen b.disk)) (placed b.base b.setup []) b.past history steps
 
+-- Where the disk tells what it holds: a crash at any moment since the journal was opened leaves all that the past has recorded, and of the
+-- entries behind it some first ones, up to this history. Where the disk has failed, one more may be left, with which it can go on.
+abbrev pub LeavesUpTo : {D : Type 0} → (D → DiskSeen) → Begun D → D → Summary → List Entry → Type 0
+LeavesUpTo seen b disk' base x =
+    Tells (seen b.disk) → LeavesFrom (seen b.opened).moment b.past (seen b.disk).faults (seen disk') base x
+
+-- the tally of these steps, up to a history, and what a crash leaves of it
+pub record IsLeft {D : Type 0} (seen : D → DiskSeen) (b : Begun D) (steps : List Step) (x : List Entry) (disk' : D) (tally : Tally)
+    : Type 0 where
+  pub counts : IsTally b.base b.past steps x tally
+  pub any_moment : LeavesUpTo seen b disk' (base_after b.base steps) x
+
 -- all lines have their steps, the output is theirs, and the area stands for the history's recorded entries
 pub record IsWhole {D : Type 0} {lines : List (ℕ × List ℕ)} (seen : D → DiskSeen) (b : Begun D) (played : Played seen b lines)
     (p' : PortSeen) (disk' : D) (tally : Tally) : Type 0 where
   pub none_behind : played.behind ≡ []
   pub output : p'.written ≡ append_known b.port.written (output_of played.steps)
   pub area : HasRecorded (seen disk') (base_after b.base played.steps) played.history
-  pub counts : IsTally b.base b.past played.steps played.history tally
+  pub left : IsLeft seen b played.steps played.history disk' tally
 
 -- the next line, of this number, asks for nothing; the output is that of the lines before it
 pub record IsBad {D : Type 0} {lines : List (ℕ × List ℕ)} (seen : D → DiskSeen) (b : Begun D) (played : Played seen b lines)
@@ -79,7 +96,7 @@ pub record IsBad {D : Type 0} {lines : List (ℕ × List ℕ)} (seen : D → Dis
   pub wrong : (asked : Asked) → IsPlayable (asked_after [] played.steps) line asked → ⊥
   pub output : p'.written ≡ append_known b.port.written (output_of played.steps)
   pub area : HasRecorded (seen disk') (base_after b.base played.steps) played.history
-  pub counts : IsTally b.base b.past played.steps played.history tally
+  pub left : IsLeft seen b played.steps played.history disk' tally
 
 -- the output of the last step was cut short: it lacks a byte at least. All that the step recorded stands.
 pub record IsCutOff {D : Type 0} {lines : List (ℕ × List ℕ)} (seen : D → DiskSeen) (b : Begun D) (played : Played seen b lines)
@@ -91,7 +108,7 @@ pub record IsCutOff {D : Type 0} {lines : List (ℕ × List ℕ)} (seen : D → 
   pub short : count < length last.text
   pub output : p'.written ≡ append_known b.port.written (output_of front ++ take count last.text)
   pub area : HasRecorded (seen disk') (base_after b.base played.steps) played.history
-  pub counts : IsTally b.base b.past played.steps played.history tally
+  pub left : IsLeft seen b played.steps played.history disk' tally
 
 -- How far a line came that was stopped: the history that it left, from h on. A `T` may have begun the run, or adopted its setup, before; so
 -- may an `X`, but over what the journal keeps, for it has closed the store, and it has begun the run only where memory was wanted; of a
@@ -170,13 +187,15 @@ pub record IsHalted {D : Type 0} {lines : List (ℕ × List ℕ)} (seen : D → 
   pub handed : disk' ≡ last.journal.disk
   pub output : p'.written ≡ append_known b.port.written (output_of played.steps)
   pub counts : IsTally b.base b.past (played.steps ++ partial ∷ []) history tally
+  pub any_moment : OrBegun (LeavesUpTo seen b disk' partial.base)
+      (Submits last.state.sum.text b.setup (asked_after [] played.steps) clock waiting asked) last.state.sum.text partial.base b.setup clock
+      history
 
 -- Memory was wanted before the script was read: nothing was done.
-pub record IsUnread {D : Type 0} (seen : D → DiskSeen) (base : Summary) (past : List Entry) (p p' : PortSeen) (disk' : D)
-    (tally : Tally) : Type 0 where
-  pub untouched : p' ≡ p
-  pub area : HasRecorded (seen disk') base past
-  pub counts : IsTally base past [] past tally
+pub record IsUnread {D : Type 0} (seen : D → DiskSeen) (b : Begun D) (p' : PortSeen) (disk' : D) (tally : Tally) : Type 0 where
+  pub untouched : p' ≡ b.port
+  pub area : HasRecorded (seen disk') b.base b.past
+  pub left : IsLeft seen b [] b.past disk' tally
 
 -- The next line, an `X`, could not open the journal again.
 pub record IsShut {D : Type 0} {lines : List (ℕ × List ℕ)} (seen : D → DiskSeen) (b : Begun D) (played : Played seen b lines)
@@ -191,7 +210,7 @@ pub record IsShut {D : Type 0} {lines : List (ℕ × List ℕ)} (seen : D → Di
   pub area : HasRecorded (seen closed) (base_after b.base played.steps) played.history
   pub unopened : IsUnopened fault (seen closed) (seen disk')
   pub output : p'.written ≡ append_known b.port.written (output_of played.steps)
-  pub counts : IsTally b.base b.past played.steps played.history tally
+  pub left : IsLeft seen b played.steps played.history disk' tally
 
 -- What a script's end says of what was played, of the bytes that were read.
 abbrev pub EndsAs : {D : Type 0} {lines : List (ℕ × List ℕ)} (seen : D → DiskSeen) (b : Begun D) → List ℕ → Played seen b lines
@@ -227,13 +246,14 @@ pub record IsTranscript {D : Type 0} (seen : D → DiskSeen) (b : Begun D) (end 
   pub ahead : ReadsNoFurther end read played.front
   pub others : OnlyReadsAndWrites b.port p'
 
--- What a script did over a disk: the journal was not opened, and nothing was read or written; or the areas stood for a past, and the
--- script is a transcript over it, or memory was wanted before it was read.
+-- What a script did over a disk: the journal was not opened, and nothing was read or written; or the areas stood for a past, and stand for
+-- it behind the opening, and the script is a transcript over it, or memory was wanted before it was read.
 abbrev pub IsScript : {D : Type 0} → (D → DiskSeen) → List ℕ → Limits → PortSeen → PortSeen → D → ScriptEnded D → Type 0
-IsScript seen setup limits p p' disk ended =
+IsScript {D} seen setup limits p p' disk ended =
     ((fault : OpenFault) × (ended.end ≡ Refused fault) × IsUnopened fault (seen disk) (seen ended.disk) × (p' ≡ p)
     × (ended.tally ≡ no_tally))
-    ⊎ ((base : Summary) × (past : List Entry) × BeginsWith (seen disk) base past
-    × (IsTranscript seen (record { disk = disk; setup = setup; limits = limits; base = base; past = past; port = p }) ended.end p'
-    ended.disk ended.tally
-    ⊎ ((ended.end ≡ Stopped Memory) × IsUnread seen base past p p' ended.disk ended.tally)))
+    ⊎ ((base : Summary) × (past : List Entry) × (opened : D) × BeginsWith (seen disk) base past × KeepsAll (seen disk) (seen opened)
+    × HasRecorded (seen opened) base past
+    × (let b : Begun D = record { disk = disk; setup = setup; limits = limits; base = base; past = past; port = p; opened = opened } in
+    IsTranscript seen b ended.end p' ended.disk ended.tally
+    ⊎ ((ended.end ≡ Stopped Memory) × IsUnread seen b p' ended.disk ended.tally)))

@@ -13,7 +13,7 @@ use Rattle.line_session.specs.declared.line_end.LineEnd.TheVariants.{Stopped}
 use Rattle.session_rules.specs.Turns.{entries_of, text_of}
 use Rattle.arc_script.specs.Causes.{HasShown, IsOfFrame, IsSentFor}
 use Rattle.arc_script.specs.Names.{line_name}
-use Rattle.arc_script.specs.Standing.{IsReadable}
+use Rattle.arc_script.specs.Standing.{IsReadable, LeavesOn}
 use Rattle.arc_script.specs.Steps.{Place, FeedsLine}
 use Rattle.arc_script.specs.Tallies.{is_repeat, count_of, GrowsBy}
 use Rattle.arc_script.specs.declared.script_end.Tally.{Tally}
@@ -34,12 +34,13 @@ pub record CountsFed (sent : ℕ) (turns : List Turn) (t t' : Tally) : Type 0 wh
 
 -- each frame has its turn, the replies were written, and the disk has not failed
 pub record HasFed {D : Type 0} (seen : D → DiskSeen) (place : Place) (line : ℕ) (bytes : List ℕ) (h : List Entry) (t t' : Tally)
-    (written : List ℕ) (s : Stored D) : Type 0 where
+    (written : List ℕ) (old s : Stored D) : Type 0 where
   pub turns : List Turn
   pub history : List Entry
   pub fed : FeedsLine place line bytes h history turns []
   pub stands : StoreStands seen place.base s history
   pub readable : IsReadable place.base history
+  pub left : LeavesOn seen place.base old s h history
   pub up : HasFailed seen s → ⊥
   pub written_is : written ≡ text_of line_turns turns
   pub counts : CountsFed (length turns) turns t t'
@@ -51,7 +52,7 @@ stop_in end = Memory
 
 -- A frame was stopped: those before it have their turns. The store showed the stop for its event.
 pub record FeedStops {D : Type 0} (seen : D → DiskSeen) (place : Place) (clock line : ℕ) (bytes : List ℕ) (h : List Entry) (t t' : Tally)
-    (stop : Stop) (s : Stored D) : Type 0 where
+    (stop : Stop) (old s : Stored D) : Type 0 where
   pub turns : List Turn
   pub more : List (List ℕ)
   pub history : List Entry
@@ -59,6 +60,7 @@ pub record FeedStops {D : Type 0} (seen : D → DiskSeen) (place : Place) (clock
   pub fed : FeedsLine place line bytes h history turns more
   pub stands : StoreStands seen place.base s history
   pub readable : IsReadable place.base history
+  pub left : LeavesOn seen place.base old s h history
   pub cause : HasShown seen place.base s history stop clock (IsOfFrame place.setup clock line more)
   pub sent_is : IsSentFor stop (length turns) sent
   pub counts : CountsFed sent turns t t'

@@ -18,9 +18,10 @@ use Rattle.desk_wire.specs.Replies.{line_of}
 use Rattle.script_lines.specs.Lines.{Asked, Time, Asks}
 use Rattle.script_lines.specs.Reading.{asked}
 use Rattle.script_lines.specs.declared.line.ScriptLine.{ScriptLine}
-use Rattle.arc_script.specs.Causes.{HasShown, IsOfTime}
+use Rattle.arc_script.specs.Causes.{HasShown, IsOfTime, OrBegun}
 use Rattle.arc_script.specs.Ends.{BegunUntil, BegunAgain}
-use Rattle.arc_script.specs.Steps.{before_tick}
+use Rattle.arc_script.specs.Standing.{LeavesOn}
+use Rattle.arc_script.specs.Steps.{ticked_after}
 use Rattle.arc_script.specs.Texts.{line_limit}
 
 -- the moment of a line, by the one that was set before: its own, or that one
@@ -37,35 +38,37 @@ IsAskedAt line clock None = (a : Asked) (moment : ℕ) → length line ≤ line_
 pub record IsNewDesk (desk : DeskValue) : Type 0 where
   pub took : (setup : Setup) → TookStream setup [] desk
 
--- It was stopped at a moment for one of these events: the store stands for a history to which this came, and shows the stop.
-pub record StopsAt {D : Type 0} (seen : D → DiskSeen) (base : Summary) (CameTo : List Entry → Type 0) (IsOne : Event → Type 0) (moment : ℕ)
-    (stop : Stop) (s : Stored D) : Type 0 where
+-- It was stopped at a moment for one of these events, from a store and a history on: the store stands for a history to which this came,
+-- and shows the stop. A crash leaves nothing past that history, or of a beginning nothing past its end.
+pub record StopsAt {D : Type 0} (seen : D → DiskSeen) (base : Summary) (CameTo : List Entry → Type 0) (IsOne : Event → Type 0)
+    (setup : List ℕ) (moment : ℕ) (h : List Entry) (stop : Stop) (old s : Stored D) : Type 0 where
   pub history : List Entry
   pub came : CameTo history
   pub stands : StoreStands seen base s history
   pub cause : HasShown seen base s history stop moment IsOne
+  pub left : OrBegun (LeavesOn seen base old s h) IsOne s.state.sum.text base setup moment history
 
 -- a run was to begin and was stopped: before its Adopt, or before its Start
-abbrev pub BeginStops : {D : Type 0} → (D → DiskSeen) → Summary → List ℕ → ℕ → List Entry → Stop → Stored D → Type 0
-BeginStops seen base setup moment h stop s =
+abbrev pub BeginStops : {D : Type 0} → (D → DiskSeen) → Summary → List ℕ → ℕ → List Entry → Stop → Stored D → Stored D → Type 0
+BeginStops seen base setup moment h stop old s =
     StopsAt seen base (λ x. (x ≡ h) ⊎ (x ≡ adopted_after base h setup moment)) (λ event. event ≡ event_of_begin s.state.sum.text setup)
-    moment stop s
+    setup moment h stop old s
 
 -- likewise where it was to begin again; or, where memory was wanted for the output, behind its beginning
-abbrev pub AgainStops : {D : Type 0} → (D → DiskSeen) → Summary → List ℕ → ℕ → List Entry → Stop → Stored D → Type 0
-AgainStops seen base setup moment h stop s =
-    StopsAt seen base (BegunAgain stop base setup moment h) (λ event. event ≡ event_of_begin s.state.sum.text setup) moment stop s
+abbrev pub AgainStops : {D : Type 0} → (D → DiskSeen) → Summary → List ℕ → ℕ → List Entry → Stop → Stored D → Stored D → Type 0
+AgainStops seen base setup moment h stop old s =
+    StopsAt seen base (BegunAgain stop base setup moment h) (λ event. event ≡ event_of_begin s.state.sum.text setup) setup moment h stop
+    old s
 
 -- how far a `T` came that was stopped: to its Tick; or, where memory was wanted for its output, behind it
 abbrev pub TickCame : Option ℕ → Summary → List ℕ → ℕ → List Entry → Stop → List Entry → Type 0
 TickCame clock base setup moment h stop x =
     BegunUntil clock base setup moment h x
-    ⊎ ((stop ≡ Memory)
-    × (x ≡ entry_after base (before_tick clock base setup moment h) Tick moment ∷ before_tick clock base setup moment h))
+    ⊎ ((stop ≡ Memory) × (x ≡ ticked_after clock base setup moment h))
 
-abbrev pub TickStops : {D : Type 0} → (D → DiskSeen) → Option ℕ → Summary → List ℕ → ℕ → List Entry → Stop → Stored D → Type 0
-TickStops seen clock base setup moment h stop s =
-    StopsAt seen base (TickCame clock base setup moment h stop) (IsOfTime s.state.sum.text clock setup) moment stop s
+abbrev pub TickStops : {D : Type 0} → (D → DiskSeen) → Option ℕ → Summary → List ℕ → ℕ → List Entry → Stop → Stored D → Stored D → Type 0
+TickStops seen clock base setup moment h stop old s =
+    StopsAt seen base (TickCame clock base setup moment h stop) (IsOfTime s.state.sum.text clock setup) setup moment h stop old s
 
 -- the store, whose disk has not failed, stands for the history with the Tick, whose reply was put behind the letter
 pub record Ticked {D : Type 0} (seen : D → DiskSeen) (base : Summary) (before : List Entry) (moment : ℕ) (s : Stored D)

@@ -50,9 +50,13 @@ abbrev pub before_tick : Option ℕ → Summary → List ℕ → ℕ → List En
 before_tick None base setup moment h = begun_after base h setup moment
 before_tick (Some last) base setup moment h = h
 
+-- and behind the Tick
+abbrev pub ticked_after : Option ℕ → Summary → List ℕ → ℕ → List Entry → List Entry
+ticked_after clock base setup moment h =
+    entry_after base (before_tick clock base setup moment h) Tick moment ∷ before_tick clock base setup moment h
+
 pub record Ticks (place : Place) (moment : ℕ) (h x : List Entry) (s : Step) : Type 0 where
-  pub is : x ≡ entry_after place.base (before_tick (clock_of place.asked) place.base place.setup moment h) Tick moment
-      ∷ before_tick (clock_of place.asked) place.base place.setup moment h
+  pub is : x ≡ ticked_after (clock_of place.asked) place.base place.setup moment h
   pub added : x ≡ reverse s.entries ++ h
   pub base : s.base ≡ place.base
   pub sent : s.sent ≡ 0

@@ -7,6 +7,7 @@ ghost use Rattle.centre_store.specs.Begins.{begun_after};
 ghost use Rattle.centre_store.specs.Given.{HoldsRecorded};
 ghost use Rattle.centre_store.specs.Stores.{HasFailed, StoreStands};
 ghost use Rattle.arc_script.specs.Playing.{BeginStops};
+ghost use Rattle.arc_script.specs.Standing.{LeavesOn};
 ghost use Rattle.centre_store.specs.StoreHalls.{is_told};
 
 use crate::script::Script;
@@ -28,7 +29,9 @@ pub(crate) fn begin<D: Disk>(
         → StoreStands D.seen base store.new (begun_after base h script.now.setup moment)) }
     ensures text { OnOk result (store.new.state.sum.text ≡ Some script.now.setup) }
     ensures stop { IfErr result (λ s. (base : Summary) (h : List Entry) → StoreStands D.seen base store.old h
-        → HoldsRecorded D.seen store.old.journal base h → BeginStops D.seen base script.now.setup moment h s store.new) }
+        → HoldsRecorded D.seen store.old.journal base h → BeginStops D.seen base script.now.setup moment h s store.old store.new) }
+    ensures left { OnOk result ((base : Summary) (h : List Entry) → StoreStands D.seen base store.old h
+        → LeavesOn D.seen base store.old store.new h (begun_after base h script.now.setup moment)) }
     ensures up { OnOk result (HasFailed D.seen store.new → ⊥) }
     ensures tells { is_told (D.seen store.new.journal.disk).told ≡ is_told (D.seen store.old.journal.disk).told }
     ensures at_open { store.new.at_open ≡ store.old.at_open }

@@ -43,7 +43,7 @@ pub(crate) fn command<D: Disk>(
     ensures answered { OnOk result ((base : Summary) (before : List Asked) (clock count number : ℕ) (h : List Entry)
         → IsNext (meaning script.old.setup) clock count before (Command desk text.now) script.old.lines.items script.old.desks.items
         → page_seen page.old ≡ blank clock → StoreStands D.seen base store.old h → IsReadable base h → (HasFailed D.seen store.old → ⊥)
-        → Carried D.seen base (λ x s. Commands (placed base script.old.setup before) desk text.now h x s)
+        → Carried D.seen base store.old h (λ x s. Commands (placed base script.old.setup before) desk text.now h x s)
         number (Command desk text.now) script.old.tally script.new.tally (page_seen page.old) (page_seen page.new) store.new) }
     ensures took { OnOk result ((before : List Asked) (clock count : ℕ)
         → IsNext (meaning script.old.setup) clock count before (Command desk text.now) script.old.lines.items script.old.desks.items
@@ -51,7 +51,7 @@ pub(crate) fn command<D: Disk>(
     ensures stop { IfErr result (λ stop. (base : Summary) (before : List Asked) (clock count : ℕ) (h : List Entry)
         → IsNext (meaning script.old.setup) clock count before (Command desk text.now) script.old.lines.items script.old.desks.items
         → page_seen page.old ≡ blank clock → StoreStands D.seen base store.old h → IsReadable base h → (HasFailed D.seen store.old → ⊥)
-        → Halted D.seen base (λ x s. HasShown D.seen base store.new x stop clock (IsOfCommand script.old.setup before desk text.now)
+        → Halted D.seen base store.old h (λ x s. HasShown D.seen base store.new x stop clock (IsOfCommand script.old.setup before desk text.now)
         × (((x ≡ h) × AddedBy base h x s) ⊎ ((stop ≡ Stop.Memory) × Commands (placed base script.old.setup before) desk text.now h x s)))
         script.old.tally script.new.tally store.new) }
     ensures set { store.new.state.sum.text ≡ Some script.old.setup }

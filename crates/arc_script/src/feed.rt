@@ -51,7 +51,7 @@ pub(crate) fn feed<D: Disk>(
     ensures fed { OnOk result ((base : Summary) (before : List Asked) (count number : ℕ) (h : List Entry)
         → IsNext (meaning script.old.setup) moment count before (Feed line digits.now) script.old.lines.items script.old.desks.items
         → StoreStands D.seen base store.old h → IsReadable base h → (HasFailed D.seen store.old → ⊥)
-        → Carried D.seen base (λ x s. Feeds (placed base script.old.setup before) 76 line (bytes_spelled digits.now) h x s)
+        → Carried D.seen base store.old h (λ x s. Feeds (placed base script.old.setup before) 76 line (bytes_spelled digits.now) h x s)
         number (Feed line digits.now) script.old.tally script.new.tally (page_seen page.old) (page_seen page.new) store.new) }
     ensures took { OnOk result ((before : List Asked) (count : ℕ)
         → IsNext (meaning script.old.setup) moment count before (Feed line digits.now) script.old.lines.items script.old.desks.items
@@ -59,7 +59,7 @@ pub(crate) fn feed<D: Disk>(
     ensures stop { IfErr result (λ stop. (base : Summary) (before : List Asked) (count : ℕ) (h : List Entry)
         → IsNext (meaning script.old.setup) moment count before (Feed line digits.now) script.old.lines.items script.old.desks.items
         → StoreStands D.seen base store.old h → IsReadable base h → (HasFailed D.seen store.old → ⊥)
-        → Halted D.seen base (λ x s. (waiting : List (List ℕ))
+        → Halted D.seen base store.old h (λ x s. (waiting : List (List ℕ))
         × HasShown D.seen base store.new x stop moment (IsOfFrame script.old.setup moment line waiting)
         × (FedUntil stop (placed base script.old.setup before) line (bytes_spelled digits.now) waiting h x s
         ⊎ ((stop ≡ Stop.Memory) × Feeds (placed base script.old.setup before) 76 line (bytes_spelled digits.now) h x s)))
@@ -98,7 +98,7 @@ pub(crate) fn message<D: Disk>(
     ensures fed { OnOk result ((base : Summary) (before : List Asked) (count number : ℕ) (h : List Entry)
         → IsNext (meaning script.old.setup) moment count before (Message line body.now) script.old.lines.items script.old.desks.items
         → StoreStands D.seen base store.old h → IsReadable base h → (HasFailed D.seen store.old → ⊥)
-        → Carried D.seen base (λ x s. Feeds (placed base script.old.setup before) 77 line (frame_of body.now) h x s)
+        → Carried D.seen base store.old h (λ x s. Feeds (placed base script.old.setup before) 77 line (frame_of body.now) h x s)
         number (Message line body.now) script.old.tally script.new.tally (page_seen page.old) (page_seen page.new) store.new) }
     ensures took { OnOk result ((before : List Asked) (count : ℕ)
         → IsNext (meaning script.old.setup) moment count before (Message line body.now) script.old.lines.items script.old.desks.items
@@ -106,7 +106,7 @@ pub(crate) fn message<D: Disk>(
     ensures stop { IfErr result (λ stop. (base : Summary) (before : List Asked) (count : ℕ) (h : List Entry)
         → IsNext (meaning script.old.setup) moment count before (Message line body.now) script.old.lines.items script.old.desks.items
         → StoreStands D.seen base store.old h → IsReadable base h → (HasFailed D.seen store.old → ⊥)
-        → Halted D.seen base (λ x s. (waiting : List (List ℕ))
+        → Halted D.seen base store.old h (λ x s. (waiting : List (List ℕ))
         × HasShown D.seen base store.new x stop moment (IsOfFrame script.old.setup moment line waiting)
         × (FedUntil stop (placed base script.old.setup before) line (frame_of body.now) waiting h x s
         ⊎ ((stop ≡ Stop.Memory) × Feeds (placed base script.old.setup before) 77 line (frame_of body.now) h x s)))
@@ -154,13 +154,14 @@ fn fed<D: Disk>(
         → TookAt (line_fed line before) script.old.lines.items (line - 1) → length (line_fed line before ++ bytes.now) < input_limit
         → StoreStands D.seen base store.old h → IsReadable base h → (HasFailed D.seen store.old → ⊥)
         → HasFed D.seen (placed base script.old.setup before) line bytes.now h script.old.tally script.new.tally
-        (sink_bytes frames.port.sink) store.new) }
+        (sink_bytes frames.port.sink) store.old store.new) }
     ensures took { OnOk result ((stream : List ℕ) → TookAt stream script.old.lines.items (line - 1)
         → length (stream ++ bytes.now) < input_limit → TookAt (stream ++ bytes.now) script.new.lines.items (line - 1)) }
     ensures stop { IfErr result (λ stop. (base : Summary) (before : List Asked) (h : List Entry) → clock_of before ≡ Some moment
         → TookAt (line_fed line before) script.old.lines.items (line - 1) → length (line_fed line before ++ bytes.now) < input_limit
         → StoreStands D.seen base store.old h → IsReadable base h → (HasFailed D.seen store.old → ⊥)
-        → FeedStops D.seen (placed base script.old.setup before) moment line bytes.now h script.old.tally script.new.tally stop store.new) }
+        → FeedStops D.seen (placed base script.old.setup before) moment line bytes.now h script.old.tally script.new.tally stop
+        store.old store.new) }
     ensures set { store.new.state.sum.text ≡ Some script.old.setup }
     ensures others { (i : ℕ) → i ≢ line - 1 → slice_get script.new.lines.items i ≡ slice_get script.old.lines.items i }
     ensures rest { script.new ≡ record script.old {

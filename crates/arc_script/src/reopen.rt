@@ -15,6 +15,7 @@ ghost use Rattle.arc_script.specs.Halting.{closing};
 ghost use Rattle.arc_script.specs.PageWords.{page_seen};
 ghost use Rattle.arc_script.specs.Pages.{counted_line};
 ghost use Rattle.arc_script.specs.Playing.{AgainStops};
+ghost use Rattle.arc_script.specs.Standing.{LeavesOn};
 ghost use Rattle.arc_script.specs.Steps.{Place};
 ghost use Rattle.centre_store.specs.StoreHalls.{is_told};
 
@@ -48,7 +49,7 @@ pub(crate) fn reopen<D: Disk>(
         → StoppedAt D.seen b place h Reopen stop script.old.tally script.new.tally r.0)) }
     ensures shut { IfErr result (λ r. (b : Begun D) (place : Place) (count : ℕ) (h : List Entry)
         → Between D.seen b place count h script.old store
-        → HoldsRecorded D.seen store.journal place.base h
+        → HoldsRecorded D.seen store.journal place.base h → clock_of place.asked ≡ Some moment
         → ShutAt D.seen b place.base h r.fault r.disk) }
     ensures closed { script.new.tally ≡ closing script.old.tally script.old.opened_before store.state.sum }
     ensures rest { (script.new.setup ≡ script.old.setup) × (script.new.clock ≡ script.old.clock)
@@ -77,7 +78,9 @@ fn begin_again<D: Disk>(
     ensures text { OnOk result ((page_seen page.new).written
         ≡ append_known (page_seen page.old).written (counted_line store.new.state.sum.recorded)) }
     ensures stop { IfErr result (λ s. (base : Summary) (h : List Entry) → StoreStands D.seen base store.old h
-        → HoldsRecorded D.seen store.old.journal base h → AgainStops D.seen base script.now.setup moment h s store.new) }
+        → HoldsRecorded D.seen store.old.journal base h → AgainStops D.seen base script.now.setup moment h s store.old store.new) }
+    ensures left { OnOk result ((base : Summary) (h : List Entry) → StoreStands D.seen base store.old h
+        → LeavesOn D.seen base store.old store.new h (begun_after base h script.now.setup moment)) }
     ensures up { OnOk result (HasFailed D.seen store.new → ⊥) }
     ensures tells { is_told (D.seen store.new.journal.disk).told ≡ is_told (D.seen store.old.journal.disk).told }
     ensures at_open { store.new.at_open ≡ store.old.at_open }

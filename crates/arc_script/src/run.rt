@@ -73,7 +73,7 @@ fn run_over<D: Disk, P: Port>(
     ensures ran { (b : Begun D) → b.setup ≡ setup → b.limits ≡ limits → b.port ≡ P.seen port.old
         → IsStoreSoFar D.seen b b.base b.past store → HoldsRecorded D.seen store.journal b.base b.past
         → IsTranscript D.seen b result.end (P.seen port.new) result.disk result.tally
-        ⊎ ((result.end ≡ ScriptEnd.Stopped Stop.Memory) × IsUnread D.seen b.base b.past (P.seen port.old) (P.seen port.new) result.disk result.tally) }
+        ⊎ ((result.end ≡ ScriptEnd.Stopped Stop.Memory) × IsUnread D.seen b (P.seen port.new) result.disk result.tally) }
 {
     match Script::new(alloc, setup, limits, store.centre()) {
         Ok(mut script) => {

@@ -10,8 +10,9 @@ ghost use Rattle.centre_store.specs.Stores.{StoreStands};
 ghost use Rattle.desk_wire.specs.Replies.{line_of};
 ghost use Rattle.arc_script.specs.PageWords.{page_seen};
 ghost use Rattle.arc_script.specs.Playing.{Ticked, TickStops};
+ghost use Rattle.arc_script.specs.Standing.{IsReadable, LeavesOn};
 ghost use Rattle.centre_store.specs.StoreHalls.{is_told};
-ghost use Rattle.arc_script.specs.Steps.{before_tick};
+ghost use Rattle.arc_script.specs.Steps.{before_tick, ticked_after};
 
 use crate::begin::begin;
 use crate::page::Page;
@@ -42,8 +43,10 @@ pub(crate) fn tick<D: Disk>(
     ensures clock { OnOk result (script.new.clock ≡ Some moment) }
     ensures rest { script.new ≡ record script.old { clock = script.new.clock } }
     ensures stop { IfErr result (λ s. (base : Summary) (h : List Entry) → StoreStands D.seen base store.old h
-        → HoldsRecorded D.seen store.old.journal base h
-        → TickStops D.seen script.old.clock base script.old.setup moment h s store.new) }
+        → HoldsRecorded D.seen store.old.journal base h → IsReadable base h
+        → TickStops D.seen script.old.clock base script.old.setup moment h s store.old store.new) }
+    ensures left { OnOk result ((base : Summary) (h : List Entry) → StoreStands D.seen base store.old h
+        → LeavesOn D.seen base store.old store.new h (ticked_after script.old.clock base script.old.setup moment h)) }
     ensures tells { is_told (D.seen store.new.journal.disk).told ≡ is_told (D.seen store.old.journal.disk).told }
     ensures at_open { store.new.at_open ≡ store.old.at_open }
     ensures limits { store.new.journal.limits ≡ store.old.journal.limits }
@@ -82,8 +85,10 @@ fn begin_first<D: Disk>(
         → HoldsRecorded D.seen store.old.journal base h
         → HoldsRecorded D.seen store.new.journal base (before_tick script.now.clock base script.now.setup moment h)) }
     ensures stop { IfErr result (λ s. (base : Summary) (h : List Entry) → StoreStands D.seen base store.old h
-        → HoldsRecorded D.seen store.old.journal base h
-        → TickStops D.seen script.now.clock base script.now.setup moment h s store.new) }
+        → HoldsRecorded D.seen store.old.journal base h → IsReadable base h
+        → TickStops D.seen script.now.clock base script.now.setup moment h s store.old store.new) }
+    ensures left { OnOk result ((base : Summary) (h : List Entry) → StoreStands D.seen base store.old h
+        → LeavesOn D.seen base store.old store.new h (before_tick script.now.clock base script.now.setup moment h)) }
     ensures tells { is_told (D.seen store.new.journal.disk).told ≡ is_told (D.seen store.old.journal.disk).told }
     ensures at_open { store.new.at_open ≡ store.old.at_open }
     ensures limits { store.new.journal.limits ≡ store.old.journal.limits }

@@ -117,7 +117,7 @@ drilled_by seen n b p' disk' tally under left is begins t =
           (subst (λ (h : List Entry). AreSteps Told (placed b.base drill_setup []) h history steps) none.1
           (subst (λ (setup : List ℕ). AreSteps Told (placed b.base setup []) b.past history steps) under t.played.are)));
       counts = subst (λ (base : Summary). IsTally base [] steps history tally) none.0
-          (subst (λ (h : List Entry). IsTally b.base h steps history tally) none.1 whole.counts);
+          (subst (λ (h : List Entry). IsTally b.base h steps history tally) none.1 whole.left.counts);
     }
 
 -- a script that was done, under the drill's setup and over the drill's port
@@ -126,9 +126,9 @@ pub drilled_to_end : {D : Type 0} (seen : D → DiskSeen) (n : ℕ) (setup : Lis
     → (seen disk).told ≡ Some (record { a = []; b = [] }) → IsScript seen setup limits p p' disk ended → IsDrilled n ended.tally
 drilled_to_end seen n setup limits p p' disk ended under done told is (inl refused) =
     let no : Done ≡ Refused refused.0 = sym done ∙ refused.1 in cc
-drilled_to_end {D} seen n setup limits p p' disk ended under done told is (inr (base, past, begins, inl t)) =
-    let b : Begun D = record { disk = disk; setup = setup; limits = limits; base = base; past = past; port = p } in
+drilled_to_end {D} seen n setup limits p p' disk ended under done told is (inr (base, past, opened, begins, keeps, there, inl t)) =
+    let b : Begun D = record { disk = disk; setup = setup; limits = limits; base = base; past = past; port = p; opened = opened } in
     drilled_by seen n b p' ended.disk ended.tally under (ap (λ (q : PortSeen). q.left) told) is begins
     (subst (λ (e : ScriptEnd). IsTranscript seen b e p' ended.disk ended.tally) done t)
-drilled_to_end seen n setup limits p p' disk ended under done told is (inr (base, past, begins, inr unread)) =
+drilled_to_end seen n setup limits p p' disk ended under done told is (inr (base, past, opened, begins, keeps, there, inr unread)) =
     let no : Done ≡ Stopped Memory = sym done ∙ unread.0 in cc

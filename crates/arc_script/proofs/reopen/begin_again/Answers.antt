@@ -13,3 +13,4 @@ pub returns-clause-stop : goal.returns-clause-stop
 returns-clause-stop g c =
     again_unsaid g.D.Disk.seen c.args.store.now c.begin.new.store
     c.said.result c.args.script.now.setup c.args.moment c.said.ensures.stop c.in_ok-begin.ensures.begun c.in_ok-begin.ensures.up
+    c.in_ok-begin.ensures.left

@@ -24,7 +24,7 @@ returns-in-Err g c = record {
   ran = λ b setup limits port store held.
       inr (
         refl,
-        unread g.D.Disk.seen b.base b.past c.args.store _ c.close.result
-            c.tally_of.result store.stands held c.close.ensures (c.tally_of.ensures ∙ ap (λ (s : State). untouched s.sum 0) c.centre-in-Err.ensures),
+        unread g.D.Disk.seen b c.args.store _ c.close.result
+            c.tally_of.result store held (sym port) c.close.ensures (c.tally_of.ensures ∙ ap (λ (s : State). untouched s.sum 0) c.centre-in-Err.ensures),
       );
 }

@@ -28,7 +28,7 @@ returns-in-Time-clause-carried g c =
     time_carries seen script after c.args.store.now c.tick.new.store (asked c.args.wanted) c.in-Time.moment c.args.moment stays rest
     c.requires.moment is same
     (page_seen c.args.page.now) (page_seen c.tick.new.page) c.tick.result c.tick.ensures.ticked c.tick.ensures.set
-    c.tick.ensures.clock
+    c.tick.ensures.clock c.tick.ensures.left
 
 pub returns-in-Time-clause-stop : goal.returns-in-Time-clause-stop
 returns-in-Time-clause-stop g c =
@@ -174,5 +174,5 @@ returns-in-Command-clause-stop g c =
     subst (λ (k : Asked). IfErr c.command.result (λ stop. Stops seen c.args.moment k script after c.args.store.now c.command.new.store stop)) (sym is)
     (line_stops seen script after c.args.store.now c.command.new.store a c.args.moment stays c.requires.moment tt refl c.command.result
     (λ Told. IfErr-weaker c.command.result _ _ (λ stop all base before count h next stands readable up.
-    command_came seen Told base script.setup c.args.moment before c.in-Command.desk c.in-Command.text.now h c.command.new.store stop script.tally after.tally
+    command_came seen Told base script.setup c.args.moment before c.in-Command.desk c.in-Command.text.now h c.args.store.now c.command.new.store stop script.tally after.tally
     (all base before c.args.moment count h next c.requires.blank stands readable up)) c.command.ensures.stop))
