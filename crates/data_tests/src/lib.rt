@@ -30,4 +30,6 @@ mod open_schedules_tests;
 #[cfg(test)]
 mod sia_codes_tests;
 #[cfg(test)]
+mod weeks;
+#[cfg(test)]
 mod zones_tests;

@@ -1,16 +1,14 @@
 // Weeks at offsets that stay: moments worked out by hand, weeks that were drawn, and the room for windows.
 ghost use Rattle.jiff_core.specs.Calendar.{IsWithin};
 
-use crate::checks::{cut, found, holds, number, same, same_found};
+use crate::checks::{cut, holds, same};
+use crate::weeks::{add_windows, compare_hours};
 use arc_data::Window;
 use civil_time::{Zone, local};
 use open_schedules::Week;
 use std::process::Abort;
 
 mod drawn;
-
-// The last second of the year 9999.
-const LAST: u64 = 253_402_300_799;
 
 #[test]
 fn hours_and_closes(rt: HostRuntime) {
@@ -26,28 +24,16 @@ fn compare(rt: &impl Abort, rows: &str) {
         let (word, rest) = cut(rt, row, ' ');
         match word {
             "W" => week = week_of(rt, rest),
-            "T" => compare_moment(rt, &week, rest),
+            "T" => compare_hours(rt, &week, rest),
             _ => {}
         }
     }
 }
 
-fn compare_moment(rt: &impl Abort, week: &Week, row: &str) {
-    let (moment, want) = cut(rt, row, ' ');
-    let (within, close) = cut(rt, want, ' ');
-    let moment = number(rt, moment);
-    assert!(rt; moment <= LAST);
-    let told = u64::from(week.in_hours(moment));
-    same(rt, told, number(rt, within), row);
-    same_found(rt, week.next_close(moment), found(rt, close), row);
-}
-
 fn week_of(rt: &impl Abort, words: &str) -> Week {
     let (offset, windows) = words.split_once(' ').unwrap_or((words, ""));
     let mut week = Week::new(Zone::fixed(offset_of(rt, offset)));
-    for window in windows.split_whitespace() {
-        add(rt, &mut week, window);
-    }
+    add_windows(rt, &mut week, windows);
     week
 }
 
@@ -57,16 +43,6 @@ fn offset_of(rt: &impl Abort, word: &str) -> i16
     let offset: i16 = word.parse().expect(rt, "an offset");
     assert!(rt; offset >= -840 && offset <= 840);
     offset
-}
-
-fn add(rt: &impl Abort, week: &mut Week, window: &str) {
-    let (weekday, minutes) = cut(rt, window, '/');
-    let (from, to) = cut(rt, minutes, '-');
-    let weekday: u8 = weekday.parse().expect(rt, "a weekday");
-    let from: u16 = from.parse().expect(rt, "a minute");
-    let to: u16 = to.parse().expect(rt, "a minute");
-    assert!(rt; weekday <= 6 && from < to && to <= 1440);
-    holds(rt, week.add(weekday, from, to), window);
 }
 
 // 1709510400 is the beginning of Monday, 4 March 2024, in GMT, and the last second of the year 9999 is a Friday.

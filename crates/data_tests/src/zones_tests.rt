@@ -1,13 +1,11 @@
 // Zones by rules, local times and weeks in them: the changes of a year of twelve rules, texts that are no rules, and the ends of time.
-use crate::checks::{cut, found, holds, integer, number, same, same_found};
+use crate::checks::{cut, holds, integer, number, same};
+use crate::weeks::{LAST, add_windows, compare_hours};
 use civil_time::{Zone, local};
 use open_schedules::Week;
 use std::process::Abort;
 
 mod changes;
-
-// The last second of the year 9999.
-const LAST: u64 = 253_402_300_799;
 
 #[test]
 fn local_times_and_hours_over_the_changes_of_a_year(rt: HostRuntime) {
@@ -40,20 +38,8 @@ fn zone_of(rt: &impl Abort, rule: &str) -> Zone {
 
 fn week_of(rt: &impl Abort, zone: &Zone, words: &str) -> Week {
     let mut week = Week::new(zone.copy());
-    for window in words.split_whitespace() {
-        add(rt, &mut week, window);
-    }
+    add_windows(rt, &mut week, words);
     week
-}
-
-fn add(rt: &impl Abort, week: &mut Week, window: &str) {
-    let (weekday, minutes) = cut(rt, window, '/');
-    let (from, to) = cut(rt, minutes, '-');
-    let weekday: u8 = weekday.parse().expect(rt, "a weekday");
-    let from: u16 = from.parse().expect(rt, "a minute");
-    let to: u16 = to.parse().expect(rt, "a minute");
-    assert!(rt; weekday <= 6 && from < to && to <= 1440);
-    holds(rt, week.add(weekday, from, to), window);
 }
 
 fn compare_local(rt: &impl Abort, zone: &Zone, row: &str) {
@@ -66,16 +52,6 @@ fn compare_local(rt: &impl Abort, zone: &Zone, row: &str) {
     same(rt, u64::from(told.weekday), number(rt, weekday), row);
     same(rt, u64::from(told.minute), number(rt, minute), row);
     holds(rt, told.day == integer(rt, day), row);
-}
-
-fn compare_hours(rt: &impl Abort, week: &Week, row: &str) {
-    let (moment, want) = cut(rt, row, ' ');
-    let (within, close) = cut(rt, want, ' ');
-    let moment = number(rt, moment);
-    assert!(rt; moment <= LAST);
-    let told = u64::from(week.in_hours(moment));
-    same(rt, told, number(rt, within), row);
-    same_found(rt, week.next_close(moment), found(rt, close), row);
 }
 
 // Sundays from eight to six in Berlin close at 16:00 GMT in September, and at 17:00 in January. 1000000000 is such a Sunday, 01:46:40
