@@ -175,8 +175,11 @@ pub works_stopped : (side : Side) (t : Terms) (p m q : PassSeen) (door first las
     → count < sessions → refused' ≡ refused + cond (is_refused end) 1 0 → stop_of end ≡ Some stop
     → Works side t p q door last sessions (record { end = WorkerStopped stop; refused = refused' })
 works_stopped side t p m q door first last count refused refused' sessions end stop w one room is stops =
+    let shown = shown_by t q end stop one.shown stops in
     works side t p q door last (count + 1) refused' sessions (WorkerStopped stop) (w.served ++ one.link ∷ [])
     (done_more side t p m q door first last count refused refused' sessions w.served end w.done one room is) (
       record { front = w.served; last = one.link; parts = refl; others = w.on; end = subst (λ (e : SessionEnd). stop_of e ≡ Some stop) (sym one.ended) stops },
-      shown_by t q end stop one.shown stops,
+      shown.0,
+      shown.1,
+      shown.2,
     )
