@@ -1,5 +1,6 @@
 -- Numbers and texts of the statuses.
 use Rattle.std.specs.Prelude.{ℕ, ◌++◌, List, [], codes, decimal}
+use Rattle.arc_data.specs.declared.setup_fault.LineKind.{LineKind}
 use Rattle.arc_data.specs.declared.setup_fault.LineKind.TheVariants.{Form, BadZone, NoAccount}
 use Rattle.arc_data.specs.declared.setup_fault.SetupFault.{SetupFault}
 use Rattle.arc_data.specs.declared.setup_fault.SetupFault.TheVariants.{TooLarge, BadLine, TwoSame, TooMany, Memory as NoMemory}
@@ -31,31 +32,28 @@ number_of (Worn count) = 12
 number_of (Behind have count) = 14
 number_of (Strange after) = 15
 
-abbrev pub at_line : ℕ → List ℕ
-at_line line = codes "setup: line " ++ decimal line
+-- a number and what is counted
+abbrev pub counted : ℕ → List ℕ → List ℕ
+counted number what = decimal number ++ what
 
-abbrev pub bad_line_text : ℕ → List ℕ
-bad_line_text line = at_line line ++ codes ": not a setup line\n"
+-- where in an area or in a text something stands
+abbrev pub at_place : List ℕ → ℕ → List ℕ
+at_place text place = text ++ counted place (codes "\n")
 
-abbrev pub two_same_text : ℕ → ℕ → List ℕ
-two_same_text line first = at_line line ++ codes ": same as line " ++ decimal first ++ codes "\n"
+-- what is wrong with a line of the setup
+abbrev pub at_line : ℕ → List ℕ → List ℕ
+at_line line text = codes "setup: line " ++ counted line text
 
-abbrev pub bad_zone_text : ℕ → List ℕ
-bad_zone_text line = at_line line ++ codes ": no such zone rule\n"
-
-abbrev pub no_account_text : ℕ → List ℕ
-no_account_text line = at_line line ++ codes ": no such account\n"
-
-abbrev pub too_many_text : ℕ → ℕ → List ℕ
-too_many_text line limit = at_line line ++ codes ": more than " ++ decimal limit ++ codes "\n"
+abbrev pub kind_text : LineKind → List ℕ
+kind_text Form = codes ": not a setup line\n"
+kind_text BadZone = codes ": no such zone rule\n"
+kind_text NoAccount = codes ": no such account\n"
 
 abbrev pub setup_text : SetupFault → List ℕ
 setup_text TooLarge = codes "setup: too large\n"
-setup_text (BadLine line Form) = bad_line_text line
-setup_text (BadLine line BadZone) = bad_zone_text line
-setup_text (BadLine line NoAccount) = no_account_text line
-setup_text (TwoSame line first) = two_same_text line first
-setup_text (TooMany line limit) = too_many_text line limit
+setup_text (BadLine line kind) = at_line line (kind_text kind)
+setup_text (TwoSame line first) = at_line line (at_place (codes ": same as line ") first)
+setup_text (TooMany line limit) = at_line line (at_place (codes ": more than ") limit)
 setup_text NoMemory = codes "out of memory\n"
 
 abbrev pub read_text : Which → List ℕ
@@ -66,14 +64,6 @@ read_text Mail = codes "read fault on mail\n"
 abbrev pub door_text : Side → List ℕ
 door_text Lines = codes "door fault on lines\n"
 door_text Desks = codes "door fault on desks\n"
-
--- a number and what is counted
-abbrev pub counted : ℕ → List ℕ → List ℕ
-counted number what = decimal number ++ what
-
--- where in the area something stands
-abbrev pub at_place : List ℕ → ℕ → List ℕ
-at_place text place = text ++ counted place (codes "\n")
 
 abbrev pub journal_text : OpenFault → List ℕ
 journal_text (Open.NotJournal byte) = at_place (codes "journal: not a journal at byte ") byte
@@ -87,14 +77,8 @@ abbrev pub full_text : ℕ → ℕ → ℕ → List ℕ
 full_text used need records =
     codes "journal full: " ++ counted used (codes " used, ") ++ counted need (codes " needed, ") ++ counted records (codes " records\n")
 
-abbrev pub bad_script_text : ℕ → List ℕ
-bad_script_text line = codes "script: line " ++ decimal line ++ codes "\n"
-
 abbrev pub behind_text : ℕ → ℕ → List ℕ
-behind_text have count = codes "mirror behind: " ++ decimal have ++ codes " of " ++ decimal count ++ codes "\n"
-
-abbrev pub strange_text : ℕ → List ℕ
-strange_text after = codes "strange message after " ++ decimal after ++ codes "\n"
+behind_text have count = codes "mirror behind: " ++ counted have (at_place (codes " of ") count)
 
 -- the line that it writes on standard error, or nothing
 unfoldable pub text_of_status : Status → List ℕ
@@ -108,10 +92,10 @@ text_of_status (WriteFault before now) = codes "write fault\n"
 text_of_status (DiskFault before now) = codes "disk fault\n"
 text_of_status (Journal fault) = journal_text fault
 text_of_status (Full used need records) = full_text used need records
-text_of_status (BadScript line) = bad_script_text line
+text_of_status (BadScript line) = at_place (codes "script: line ") line
 text_of_status (DoorFault door before now) = door_text door
 text_of_status Memory = codes "out of memory\n"
 text_of_status Spent = codes "input too long\n"
 text_of_status (Worn count) = codes "count spent\n"
 text_of_status (Behind have count) = behind_text have count
-text_of_status (Strange after) = strange_text after
+text_of_status (Strange after) = at_place (codes "strange message after ") after

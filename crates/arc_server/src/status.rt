@@ -2,7 +2,7 @@
 ghost use Rattle.std.specs.Prelude.{◌≡◌, OnOk, decimal};
 ghost use Rattle.std.specs.Io.KnownBytes.{append_known};
 ghost use Rattle.arc_io.specs.Causes.{HasCause};
-ghost use Rattle.arc_server.specs.Statuses.{number_of, text_of_status, setup_text, bad_line_text, bad_zone_text, no_account_text, two_same_text, too_many_text, at_line, at_place, counted, journal_text, full_text, bad_script_text, behind_text, strange_text};
+ghost use Rattle.arc_server.specs.Statuses.{number_of, text_of_status, setup_text, kind_text, at_line, at_place, counted, journal_text, full_text, behind_text};
 
 use arc_data::{LineKind, SetupFault};
 use arc_io::{Failed, Sink, put};
@@ -116,7 +116,7 @@ impl Status {
                 need,
                 records,
             } => put_full(out, *used, *need, *records),
-            Status::BadScript { line } => put_bad_script(out, *line),
+            Status::BadScript { line } => put_place(out, b"script: line ", *line),
             Status::DoorFault {
                 door: Side::Lines,
                 ..
@@ -129,7 +129,7 @@ impl Status {
             Status::Spent => put(out, b"input too long\n"),
             Status::Worn { .. } => put(out, b"count spent\n"),
             Status::Behind { have, count } => put_behind(out, *have, *count),
-            Status::Strange { after } => put_strange(out, *after),
+            Status::Strange { after } => put_place(out, b"strange message after ", *after),
         }
     }
 }
@@ -141,97 +141,59 @@ fn put_setup<K: Sink>(out: &mut K, fault: SetupFault) -> Result<(), Failed>
 {
     match fault {
         SetupFault::TooLarge => put(out, b"setup: too large\n"),
-        SetupFault::BadLine {
+        SetupFault::BadLine { line, kind } => put_bad_line(out, line, kind),
+        SetupFault::TwoSame { line, first } => put_number_at_line(
+            out,
             line,
-            kind: LineKind::Form,
-        } => put_bad_line(out, line),
-        SetupFault::BadLine {
+            b": same as line ",
+            first,
+        ),
+        SetupFault::TooMany { line, limit } => put_number_at_line(
+            out,
             line,
-            kind: LineKind::BadZone,
-        } => put_bad_zone(out, line),
-        SetupFault::BadLine {
-            line,
-            kind: LineKind::NoAccount,
-        } => put_no_account(out, line),
-        SetupFault::TwoSame { line, first } => put_two_same(out, line, first),
-        SetupFault::TooMany { line, limit } => put_too_many(out, line, limit),
+            b": more than ",
+            limit,
+        ),
         SetupFault::Memory => put(out, b"out of memory\n"),
     }
 }
 
 // The text of a line that is none of a setup.
-#[tactic(auto, using(arc_io::proofs::KnownMore::known_both))]
-fn put_bad_line<K: Sink>(out: &mut K, line: u64) -> Result<(), Failed>
-    ensures all { OnOk result ((K.seen out.new).written ≡ append_known (K.seen out.old).written (bad_line_text line)) }
+fn put_bad_line<K: Sink>(out: &mut K, line: u64, kind: LineKind) -> Result<(), Failed>
+    ensures all { OnOk result ((K.seen out.new).written ≡ append_known (K.seen out.old).written (at_line line (kind_text kind))) }
     ensures cause { HasCause (K.seen out.old).write_faults (K.seen out.new).write_faults result }
 {
-    put_line(out, line)?;
-    put(out, b": not a setup line\n")
+    match kind {
+        LineKind::Form => put_at_line(out, line, b": not a setup line\n"),
+        LineKind::BadZone => put_at_line(out, line, b": no such zone rule\n"),
+        LineKind::NoAccount => put_at_line(out, line, b": no such account\n"),
+    }
 }
 
-// The text of a line that names a zone by no rule.
+// What is wrong with a line of the setup.
 #[tactic(auto, using(arc_io::proofs::KnownMore::known_both))]
-fn put_bad_zone<K: Sink>(out: &mut K, line: u64) -> Result<(), Failed>
-    ensures all { OnOk result ((K.seen out.new).written ≡ append_known (K.seen out.old).written (bad_zone_text line)) }
-    ensures cause { HasCause (K.seen out.old).write_faults (K.seen out.new).write_faults result }
-{
-    put_line(out, line)?;
-    put(out, b": no such zone rule\n")
-}
-
-// The text of a line that names an account which no earlier one declares.
-#[tactic(auto, using(arc_io::proofs::KnownMore::known_both))]
-fn put_no_account<K: Sink>(out: &mut K, line: u64) -> Result<(), Failed>
-    ensures all { OnOk result ((K.seen out.new).written ≡ append_known (K.seen out.old).written (no_account_text line)) }
-    ensures cause { HasCause (K.seen out.old).write_faults (K.seen out.new).write_faults result }
-{
-    put_line(out, line)?;
-    put(out, b": no such account\n")
-}
-
-// The text of a line that declares what an earlier one does.
-#[tactic(auto, using(arc_io::proofs::KnownMore::known_both))]
-fn put_two_same<K: Sink>(out: &mut K, line: u64, first: u64) -> Result<(), Failed>
-    ensures all { OnOk result ((K.seen out.new).written ≡ append_known (K.seen out.old).written (two_same_text line first)) }
-    ensures cause { HasCause (K.seen out.old).write_faults (K.seen out.new).write_faults result }
-{
-    put_line(out, line)?;
-    put(out, b": same as line ")?;
-    put_number(out, first)?;
-    put(out, b"\n")
-}
-
-// The text of a line that is one more than there may be.
-#[tactic(auto, using(arc_io::proofs::KnownMore::known_both))]
-fn put_too_many<K: Sink>(out: &mut K, line: u64, limit: u64) -> Result<(), Failed>
-    ensures all { OnOk result ((K.seen out.new).written ≡ append_known (K.seen out.old).written (too_many_text line limit)) }
-    ensures cause { HasCause (K.seen out.old).write_faults (K.seen out.new).write_faults result }
-{
-    put_line(out, line)?;
-    put(out, b": more than ")?;
-    put_number(out, limit)?;
-    put(out, b"\n")
-}
-
-// The front of such a line, up to the line's number.
-#[tactic(auto, using(arc_io::proofs::KnownMore::known_both))]
-fn put_line<K: Sink>(out: &mut K, line: u64) -> Result<(), Failed>
-    ensures all { OnOk result ((K.seen out.new).written ≡ append_known (K.seen out.old).written (at_line line)) }
+fn put_at_line<K: Sink>(out: &mut K, line: u64, text: &[u8]) -> Result<(), Failed>
+    ensures all { OnOk result ((K.seen out.new).written ≡ append_known (K.seen out.old).written (at_line line text.now)) }
     ensures cause { HasCause (K.seen out.old).write_faults (K.seen out.new).write_faults result }
 {
     put(out, b"setup: line ")?;
-    put_number(out, line)
+    put_counted(out, line, text)
 }
 
-// The text of a line that is none of a script.
+// The same, where that ends with a number.
 #[tactic(auto, using(arc_io::proofs::KnownMore::known_both))]
-fn put_bad_script<K: Sink>(out: &mut K, line: u64) -> Result<(), Failed>
-    ensures all { OnOk result ((K.seen out.new).written ≡ append_known (K.seen out.old).written (bad_script_text line)) }
+fn put_number_at_line<K: Sink>(
+    out: &mut K,
+    line: u64,
+    text: &[u8],
+    number: u64,
+) -> Result<(), Failed>
+    ensures all { OnOk result ((K.seen out.new).written ≡ append_known (K.seen out.old).written (at_line line (at_place text.now number))) }
     ensures cause { HasCause (K.seen out.old).write_faults (K.seen out.new).write_faults result }
 {
-    put(out, b"script: line ")?;
+    put(out, b"setup: line ")?;
     put_number(out, line)?;
-    put(out, b"\n")
+    put_place(out, text, number)
 }
 
 // The line that tells what a centre that is followed has no more records of.
@@ -242,20 +204,7 @@ fn put_behind<K: Sink>(out: &mut K, have: u64, count: u64) -> Result<(), Failed>
 {
     put(out, b"mirror behind: ")?;
     put_number(out, have)?;
-    put(out, b" of ")?;
-    put_number(out, count)?;
-    put(out, b"\n")
-}
-
-// The line that tells behind how many messages none stood.
-#[tactic(auto, using(arc_io::proofs::KnownMore::known_both))]
-fn put_strange<K: Sink>(out: &mut K, after: u64) -> Result<(), Failed>
-    ensures all { OnOk result ((K.seen out.new).written ≡ append_known (K.seen out.old).written (strange_text after)) }
-    ensures cause { HasCause (K.seen out.old).write_faults (K.seen out.new).write_faults result }
-{
-    put(out, b"strange message after ")?;
-    put_number(out, after)?;
-    put(out, b"\n")
+    put_place(out, b" of ", count)
 }
 
 // The line that tells what is wrong with the journal's area.
@@ -273,7 +222,7 @@ fn put_journal<K: Sink>(out: &mut K, fault: OpenFault) -> Result<(), Failed>
     }
 }
 
-// A line that ends with the number of a place.
+// A text that ends with the number of a place.
 #[tactic(auto, using(arc_io::proofs::KnownMore::known_both))]
 fn put_place<K: Sink>(out: &mut K, text: &[u8], place: u64) -> Result<(), Failed>
     ensures all { OnOk result ((K.seen out.new).written ≡ append_known (K.seen out.old).written (at_place text.now place)) }
