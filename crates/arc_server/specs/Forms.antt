@@ -20,17 +20,9 @@ form_named word =
     else if bytes_eq word (codes "mirror") then Some Mirror
     else None
 
--- 1 to 100,000 messages, decimal without leading zeros
-abbrev pub drill_named : List ℕ → Option Form
-drill_named messages = option_map Drill (number_between 1 100_000 messages)
-
 -- an account of 3 to 16 hexadecimal digits in capitals
 abbrev pub panel_named : List ℕ → Option Form
 panel_named account = if is_run is_capital_hex 3 16 account then Some (Panel account) else None
-
--- 1 to 1,000,000 datagrams, decimal without leading zeros
-abbrev pub udp_named : List ℕ → Option Form
-udp_named datagrams = option_map Udp (number_between 1 1_000_000 datagrams)
 
 -- 1 to 64 lines, no desk to 16, and 1 to 1,000,000 sessions, decimal without leading zeros
 abbrev pub crew_named : List ℕ → List ℕ → List ℕ → Option Crew
@@ -39,13 +31,14 @@ crew_named lines desks sessions =
     after (number_between 0 16 desks) (λ desks.
     option_map (λ sessions. record { lines = lines; desks = desks; sessions = sessions }) (number_between 1 1_000_000 sessions)))
 
--- one of the words above; `drill` or `udp` and a number; `panel` and an account; `serve` or `gather` and three numbers
+-- One of the words above; `drill` and 1 to 100,000 messages; `panel` and an account; `udp` and 1 to 1,000,000 datagrams; `serve` or
+-- `gather` and three numbers. Numbers are decimal without leading zeros.
 abbrev pub form_of : List (List ℕ) → Option Form
 form_of (word ∷ []) = form_named word
 form_of (word ∷ argument ∷ []) =
-    if bytes_eq word (codes "drill") then drill_named argument
+    if bytes_eq word (codes "drill") then option_map Drill (number_between 1 100_000 argument)
     else if bytes_eq word (codes "panel") then panel_named argument
-    else if bytes_eq word (codes "udp") then udp_named argument
+    else if bytes_eq word (codes "udp") then option_map Udp (number_between 1 1_000_000 argument)
     else None
 form_of (word ∷ lines ∷ desks ∷ sessions ∷ []) =
     if bytes_eq word (codes "serve") then option_map Serve (crew_named lines desks sessions)

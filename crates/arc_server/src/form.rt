@@ -1,6 +1,8 @@
 // The forms of the words that a run is called with.
 ghost use Rattle.std.specs.Prelude.{◌≡◌, ◌≤◌, IfSome};
-ghost use Rattle.arc_server.specs.Forms.{form_of, form_named, crew_named, drill_named, panel_named, udp_named};
+ghost use Rattle.std.specs.Option.{option_map};
+ghost use Rattle.alarm_rules.specs.SetupWords.{number_between};
+ghost use Rattle.arc_server.specs.Forms.{form_of, form_named, crew_named, panel_named};
 ghost use Rattle.arc_server.specs.WholeRuns.{HasDoors, IsInRange};
 
 use accounts::number_between;
@@ -79,7 +81,7 @@ fn form_named(word: &Txt) -> Option<Form>
 
 // The form of the number behind `drill`.
 fn drill_named(messages: &Txt) -> Option<Form>
-    ensures form { result ≡ drill_named messages.now }
+    ensures form { result ≡ option_map Form.Drill (number_between 1 100_000 messages.now) }
     ensures doors { IfSome result (λ form. HasDoors form 64 16) }
     ensures range { IfSome result IsInRange }
 {
@@ -102,7 +104,7 @@ fn panel_named(account: &Txt) -> Option<Form>
 
 // The form of the number behind `udp`.
 fn udp_named(datagrams: &Txt) -> Option<Form>
-    ensures form { result ≡ udp_named datagrams.now }
+    ensures form { result ≡ option_map Form.Udp (number_between 1 1_000_000 datagrams.now) }
     ensures doors { IfSome result (λ form. HasDoors form 64 16) }
     ensures range { IfSome result IsInRange }
 {
