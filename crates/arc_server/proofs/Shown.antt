@@ -408,4 +408,4 @@ status_shows seen groups crew status r r' around around' run =
     let entry = (seen r.disk).faults in
     shown run.came (is_err run.written) status entry (seen r'.disk).faults run.p r'.port run.status_is
     (rose_put run.written (summary_line (summary_of run.begun.asked.base run.stands.from.history)) run.p r'.port run.puts)
-    (may_come seen groups run.first run.last crew around around' run.came run.passes entry r'.disk run.served run.begun.later run.leaves.handed)
+    (may_come seen groups run.begun.first run.last crew around around' run.came run.passes entry r'.disk run.served run.begun.later run.leaves.handed)

@@ -29,14 +29,16 @@ pub record HasAsked {D : Type 0} (seen : D → DiskSeen) (r : Handed D) (q' p' :
   pub clock : ℕ
   pub told : p' ≡ after_reading clock r.port
 
--- The run began so: the store stands for the past with the beginning of a run under the setup's text, which is in force, and all that was
--- recorded of this history can be read again. It was opened at a count of the disk's faults that was no lower than at the run's entry, and
--- its disk has not failed since.
-pub record HasBegun {D : Type 0} (seen : D → DiskSeen) (r : Handed D) (q' p' : PortSeen) (first : Stored D) (h : List Entry) : Type 0 where
+-- The run began with this store: it stands for the past with the beginning of a run under the setup's text, which is in force, and all that
+-- was recorded of this history can be read again. It was opened at a count of the disk's faults that was no lower than at the run's entry,
+-- and its disk has not failed since.
+pub record HasBegun {D : Type 0} (seen : D → DiskSeen) (r : Handed D) (q' p' : PortSeen) : Type 0 where
   pub asked : HasAsked seen r q' p'
-  pub is : h ≡ begun_after asked.base asked.past asked.setup.text asked.clock
-  pub stands : IsStoreFor seen asked.base first h
-  pub readable : IsReadable asked.base h
+  pub first : Stored D
+  pub history : List Entry
+  pub is : history ≡ begun_after asked.base asked.past asked.setup.text asked.clock
+  pub stands : IsStoreFor seen asked.base first history
+  pub readable : IsReadable asked.base history
   pub under : text_of first.state ≡ asked.setup.text
   pub up : HasFailed seen first → ⊥
   pub later : (seen r.disk).faults ≤ first.at_open

@@ -2,7 +2,6 @@
 use Rattle.std.specs.Prelude.{◌≡◌, ℕ, List}
 use Rattle.arc_io.specs.Disks.{DiskSeen}
 use Rattle.arc_io.specs.Seen.{PortSeen}
-use Rattle.centre_rules.specs.History.{Entry}
 use Rattle.centre_store.specs.Calls.{LeavesFrom}
 use Rattle.centre_store.specs.StoreHalls.{store_seen}
 use Rattle.centre_store.specs.Stores.{Stored}
@@ -19,14 +18,13 @@ use Rattle.arc_server.specs.declared.status.Status.{Status}
 -- recorded then, and of the entries since then some first ones. Where the disk has failed, one more counts among these, with which the
 -- history can go on.
 pub record AnswersMail {D : Type 0} (seen : D → DiskSeen) (count : ℕ) (status : Status) (r r' : Handed D) (m m' : PortSeen) : Type 0 where
-  pub first : Stored D
-  pub h : List Entry
-  pub begun : HasBegun seen r r'.setup r'.port first h
+  pub begun : HasBegun seen r r'.setup r'.port
   pub end : MailEnd
   pub given : List (List ℕ)
   pub receives : ReceivesMail end count given m m'
   pub last : Stored D
-  pub serves : ServesMail end given begun.asked.base h (store_seen seen first) (store_seen seen last) m m'
+  pub serves : ServesMail end given begun.asked.base begun.history (store_seen seen begun.first) (store_seen seen last) m m'
   pub leaves : LeavesStore seen r r' begun.asked.base serves.history last
-  pub any_moment : LeavesFrom (seen first.journal.disk).moment h (seen r.disk).faults (seen r'.disk) begun.asked.base serves.history
+  pub any_moment : LeavesFrom (seen begun.first.journal.disk).moment begun.history (seen r.disk).faults (seen r'.disk)
+      begun.asked.base serves.history
   pub status_is : status ≡ status_of_run seen r r' (status_of_mail end m m')

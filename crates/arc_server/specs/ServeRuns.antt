@@ -11,7 +11,6 @@ use Rattle.arc_serving.specs.Seen.{StationSeen, CameSeen}
 use Rattle.arc_serving.specs.Serving.{ServesStore, GathersStore, StandsForAll, all_ended}
 use Rattle.arc_serving.specs.declared.station.Crew.{Crew}
 use Rattle.centre_rules.specs.Summary.{Summary}
-use Rattle.centre_rules.specs.History.{Entry}
 use Rattle.centre_rules.specs.Sums.{summary_of}
 use Rattle.centre_store.specs.Stores.{Stored}
 use Rattle.line_gate.specs.Passes.{PassSeen}
@@ -52,14 +51,12 @@ HasServed seen true first crew (around, around') (Ok came) last passes =
 pub record ServesAll {D : Type 0} (seen : D → DiskSeen)
     (groups : Bool) (crew : Crew) (status : Status) (r r' : Handed D) (around around' : StationSeen) : Type 0 where
   pub p : PortSeen
-  pub first : Stored D
-  pub h : List Entry
-  pub begun : HasBegun seen r r'.setup p first h
+  pub begun : HasBegun seen r r'.setup p
   pub last : Stored D
   pub came : Result CameSeen Memory
   pub passes : List PassSeen
-  pub served : HasServed seen groups first crew (around, around') came last passes
-  pub stands : StandsForAll seen begun.asked.base h passes last
+  pub served : HasServed seen groups begun.first crew (around, around') came last passes
+  pub stands : StandsForAll seen begun.asked.base begun.history passes last
   pub leaves : LeavesStore seen r r' begun.asked.base stands.from.history last
   pub written : Result (Unit {0}) Failed
   pub puts : Puts p r'.port written (summary_line (summary_of begun.asked.base stands.from.history))
@@ -70,11 +67,10 @@ pub record ServesAll {D : Type 0} (seen : D → DiskSeen)
 -- the run had begun.
 pub record GathersBroken {D : Type 0} (seen : D → DiskSeen)
     (crew : Crew) (status : Status) (r r' : Handed D) (around around' : StationSeen) : Type 0 where
-  pub first : Stored D
-  pub h : List Entry
-  pub begun : HasBegun seen r r'.setup r'.port first h
+  pub begun : HasBegun seen r r'.setup r'.port
   pub came : Result CameSeen Memory
-  pub served : IfOk came (λ came. GathersStore seen first crew around around' came (Broken r'.disk first.at_open (seen r'.disk).faults))
+  pub served : IfOk came (λ came. GathersStore seen begun.first crew around around' came
+      (Broken r'.disk begun.first.at_open (seen r'.disk).faults))
   pub untouched : OnErr came (around' ≡ around)
   pub rose : Rose (seen r.disk).faults (seen r'.disk).faults
   pub status_is : status ≡ DiskFault (seen r.disk).faults (seen r'.disk).faults

@@ -26,17 +26,16 @@ line_name = codes "line"
 -- on.
 pub record ServesRun {D : Type 0} (seen : D → DiskSeen) (side : Side) (status : Status) (r r' : Handed D) : Type 0 where
   pub p : PortSeen
-  pub first : Stored D
-  pub h : List Entry
-  pub begun : HasBegun seen r r'.setup p first h
+  pub begun : HasBegun seen r r'.setup p
   pub end : SessionEnd
   pub read : List ℕ
   pub reads : Reads side end read p r'.port
   pub history : List Entry
   pub made : List Entry
   pub last : Stored D
-  pub serves : Serves side line_name end read begun.asked.base (record { from = h; to = history; made = made })
-      (changed (store_seen seen first) (store_seen seen last) p r'.port)
+  pub serves : Serves side line_name end read begun.asked.base (record { from = begun.history; to = history; made = made })
+      (changed (store_seen seen begun.first) (store_seen seen last) p r'.port)
   pub leaves : LeavesStore seen r r' begun.asked.base history last
-  pub any_moment : LeavesFrom (seen first.journal.disk).moment h (seen r.disk).faults (seen r'.disk) begun.asked.base history
+  pub any_moment : LeavesFrom (seen begun.first.journal.disk).moment begun.history (seen r.disk).faults (seen r'.disk)
+      begun.asked.base history
   pub status_is : status ≡ status_of_run seen r r' (status_of_session end p r'.port)

@@ -29,8 +29,9 @@ pub(crate) fn begin_run<S: Source, P: Port, D: Disk>(
     disk: D,
 ) -> Result<Store<D>, StoppedRun<D>>
     requires setup { (S.seen source.old).ended ≡ false }
-    ensures begun { IfOk result (λ store. (h : List Entry)
-        × HasBegun D.seen (record { setup = S.seen source.old; port = P.seen port.old; disk = disk }) (S.seen source.new) (P.seen port.new) store h) }
+    ensures begun { IfOk result (λ store.
+        (begun : HasBegun D.seen (record { setup = S.seen source.old; port = P.seen port.old; disk = disk }) (S.seen source.new) (P.seen port.new))
+        × (begun.first ≡ store)) }
     ensures ready { IfOk result (λ store. IsSetting store.state.sum.text) }
     ensures limits { IfOk result (λ store. store.journal.limits ≡ shipped) }
     ensures port { (P.seen port.new).ended ≡ (P.seen port.old).ended }
@@ -53,8 +54,8 @@ fn open_under<P: Port, D: Disk>(
     disk: D,
 ) -> Result<Store<D>, StoppedRun<D>>
     requires setting { IsOk (setup_of setup) }
-    ensures begun { IfOk result (λ store. (q q' : PortSeen) → ReadsText q q' setup → (h : List Entry)
-        × HasBegun D.seen (record { setup = q; port = P.seen port.old; disk = disk }) q' (P.seen port.new) store h) }
+    ensures begun { IfOk result (λ store. (q q' : PortSeen) → ReadsText q q' setup
+        → (begun : HasBegun D.seen (record { setup = q; port = P.seen port.old; disk = disk }) q' (P.seen port.new)) × (begun.first ≡ store)) }
     ensures ready { IfOk result (λ store. IsSetting store.state.sum.text) }
     ensures limits { IfOk result (λ store. store.journal.limits ≡ shipped) }
     ensures port { (P.seen port.new).ended ≡ (P.seen port.old).ended }
@@ -81,10 +82,10 @@ fn begin_over<P: Port, D: Disk>(
     requires setting { IsOk (setup_of setup) }
     requires before { before ≤ store.at_open }
     requires limits { store.journal.limits ≡ shipped }
-    ensures begun { IfOk result (λ begun. (r : Handed D) (q' : PortSeen) (base : Summary) (past : List Entry)
+    ensures begun { IfOk result (λ first. (r : Handed D) (q' : PortSeen) (base : Summary) (past : List Entry)
         → r.port ≡ P.seen port.old → before ≡ (D.seen r.disk).faults → ReadsText r.setup q' setup
         → BeginsWith (D.seen r.disk) base past → StoreStands D.seen base store past
-        → (h : List Entry) × HasBegun D.seen r q' (P.seen port.new) begun h) }
+        → (begun : HasBegun D.seen r q' (P.seen port.new)) × (begun.first ≡ first)) }
     ensures ready { IfOk result (λ begun. IsSetting begun.state.sum.text) }
     ensures limits { IfOk result (λ begun. begun.journal.limits ≡ shipped) }
     ensures port { (P.seen port.new).ended ≡ (P.seen port.old).ended }

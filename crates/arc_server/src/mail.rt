@@ -1,8 +1,7 @@
 // A run that serves datagrams.
-ghost use Rattle.std.specs.Prelude.{◌≡◌, ◌≢◌, List, false};
+ghost use Rattle.std.specs.Prelude.{◌≡◌, ◌≢◌, false};
 ghost use Rattle.arc_io.specs.Seen.{PortSeen};
 ghost use Rattle.centre_core.specs.Setting.{IsSetting};
-ghost use Rattle.centre_rules.specs.History.{Entry};
 ghost use Rattle.arc_server.specs.Areas.{shipped};
 ghost use Rattle.arc_server.specs.Beginnings.{HasBegun, StopsBefore};
 ghost use Rattle.arc_server.specs.Handed.{Handed, Either};
@@ -51,8 +50,8 @@ fn answer_mail<D: Disk, M: Mailbox>(
     requires ready { IsSetting store.state.sum.text }
     requires limits { store.journal.limits ≡ shipped }
     ensures usage { result.0 ≢ Status.Usage }
-    ensures served { (r : Handed D) (q' p' : PortSeen) (h : List Entry) → before ≡ (D.seen r.disk).faults
-        → HasBegun D.seen r q' p' store h
+    ensures served { (r : Handed D) (q' p' : PortSeen) → before ≡ (D.seen r.disk).faults
+        → (begun : HasBegun D.seen r q' p') → begun.first ≡ store
         → AnswersMail D.seen datagrams result.0 r (record { setup = q'; port = p'; disk = result.1 }) (M.seen mail.old) (M.seen mail.new) }
 {
     let receives = mail.receive_faults();

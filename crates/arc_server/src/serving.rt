@@ -1,8 +1,7 @@
 // A run that serves lines and desks at once.
-ghost use Rattle.std.specs.Prelude.{◌≡◌, ◌≢◌, ◌≤◌, List, true, false, length};
+ghost use Rattle.std.specs.Prelude.{◌≡◌, ◌≢◌, ◌≤◌, true, false, length};
 ghost use Rattle.arc_io.specs.Seen.{PortSeen};
 ghost use Rattle.centre_core.specs.Setting.{IsSetting};
-ghost use Rattle.centre_rules.specs.History.{Entry};
 ghost use Rattle.arc_server.specs.Areas.{shipped};
 ghost use Rattle.arc_server.specs.Beginnings.{HasBegun, StopsBefore};
 ghost use Rattle.arc_server.specs.Handed.{Handed, Either};
@@ -130,8 +129,8 @@ fn serve_begun<
     requires lines { crew.lines ≤ length station.lines }
     requires desks { crew.desks ≤ length station.desks }
     ensures usage { result.status ≢ Status.Usage }
-    ensures served { (r : Handed D) (q' : PortSeen) (h : List Entry) → before ≡ (D.seen r.disk).faults
-        → HasBegun D.seen r q' (P.seen port.old) store h
+    ensures served { (r : Handed D) (q' : PortSeen) → before ≡ (D.seen r.disk).faults
+        → (begun : HasBegun D.seen r q' (P.seen port.old)) → begun.first ≡ store
         → ServesAll D.seen false crew result.status r (record { setup = q'; port = P.seen port.new; disk = result.disk }) station result.station }
 {
     let ServedStore {
@@ -164,8 +163,8 @@ fn gather_begun<
     requires lines { crew.lines ≤ length station.lines }
     requires desks { crew.desks ≤ length station.desks }
     ensures usage { result.status ≢ Status.Usage }
-    ensures served { (r : Handed D) (q' : PortSeen) (h : List Entry) → before ≡ (D.seen r.disk).faults
-        → HasBegun D.seen r q' (P.seen port.old) store h
+    ensures served { (r : Handed D) (q' : PortSeen) → before ≡ (D.seen r.disk).faults
+        → (begun : HasBegun D.seen r q' (P.seen port.old)) → begun.first ≡ store
         → Either (λ r r'. ServesAll D.seen true crew result.status r r' station result.station)
         (λ r r'. GathersBroken D.seen crew result.status r r' station result.station)
         r (record { setup = q'; port = P.seen port.new; disk = result.disk }) }

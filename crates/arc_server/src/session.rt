@@ -1,8 +1,7 @@
 // A run that serves one session, of a line or of a desk.
-ghost use Rattle.std.specs.Prelude.{◌≡◌, ◌≢◌, List, false};
+ghost use Rattle.std.specs.Prelude.{◌≡◌, ◌≢◌, false};
 ghost use Rattle.arc_io.specs.Seen.{PortSeen};
 ghost use Rattle.centre_core.specs.Setting.{IsSetting};
-ghost use Rattle.centre_rules.specs.History.{Entry};
 ghost use Rattle.arc_server.specs.Areas.{shipped};
 ghost use Rattle.arc_server.specs.Beginnings.{HasBegun, StopsBefore};
 ghost use Rattle.arc_server.specs.Handed.{Handed, Either};
@@ -51,8 +50,8 @@ fn serve_store<P: Port, D: Disk>(
     requires port { (P.seen port.old).ended ≡ false }
     requires limits { store.journal.limits ≡ shipped }
     ensures usage { result.0 ≢ Status.Usage }
-    ensures served { (r : Handed D) (q' : PortSeen) (h : List Entry) → before ≡ (D.seen r.disk).faults
-        → HasBegun D.seen r q' (P.seen port.old) store h
+    ensures served { (r : Handed D) (q' : PortSeen) → before ≡ (D.seen r.disk).faults
+        → (begun : HasBegun D.seen r q' (P.seen port.old)) → begun.first ≡ store
         → ServesRun D.seen side result.0 r (record { setup = q'; port = P.seen port.new; disk = result.1 }) }
 {
     let reads = port.read_faults();

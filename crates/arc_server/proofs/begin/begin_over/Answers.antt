@@ -20,7 +20,6 @@ returns-in-Ok-clause-begun g c r q' base past port counted read begins stands =
     let since : c.args.before ≤ first.at_open = subst (λ (n : ℕ). c.args.before ≤ n) (sym e.at_open) c.requires.before in
     let begun = e.begun base past stands in
     let kept : AreKept (recorded past) = subst AreKept (sym (kept_recorded past begins.is_past.kept)) begins.is_past.kept in (
-      begun_after base past c.args.setup c.now-clock.result,
       record {
         asked = record {
           setup = record { text = c.args.setup; read = read; is = c.requires.setting };
@@ -30,6 +29,8 @@ returns-in-Ok-clause-begun g c r q' base past port counted read begins stands =
           clock = c.now-clock.result;
           told = c.now-clock.ensures.told ∙ ap (λ (p : PortSeen). after_reading c.now-clock.result p) (sym port);
         };
+        first = first;
+        history = begun_after base past c.args.setup c.now-clock.result;
         is = refl;
         stands = record { stands = begun; setting = subst (λ t. IsSetting t) (sym e.text) c.requires.setting };
         readable = readable_begun base past c.args.setup c.now-clock.result c.now-clock.ensures.bound begun.centre.legal
@@ -38,6 +39,7 @@ returns-in-Ok-clause-begun g c r q' base past port counted read begins stands =
         up = λ failed. let told = e.down.0 failed in cc;
         later = subst (λ (n : ℕ). n ≤ first.at_open) counted since;
       },
+      refl,
     )
 
 pub returns-in-Ok-clause-ready : goal.returns-in-Ok-clause-ready

@@ -6,10 +6,10 @@ use Rattle.arc_server.proofs.laws.law_stop_shows.Goals as goal
 pub returns-clause-session : goal.returns-clause-session
 returns-clause-session g c side status r r' run =
     let seen = g.D.Disk.seen in
-    end_shows side line_name run.end run.read run.begun.asked.base (record { from = run.h; to = run.history; made = run.made })
-    (store_seen seen run.first) (store_seen seen run.last) run.p r'.port run.serves
+    end_shows side line_name run.end run.read run.begun.asked.base (record { from = run.begun.history; to = run.history; made = run.made })
+    (store_seen seen run.begun.first) (store_seen seen run.last) run.p r'.port run.serves
 
 pub returns-clause-mail : goal.returns-clause-mail
 returns-clause-mail g c count status r r' m m' run =
     let seen = g.D.Disk.seen in
-    mail_shows run.end run.given run.begun.asked.base run.h (store_seen seen run.first) (store_seen seen run.last) m m' run.serves
+    mail_shows run.end run.given run.begun.asked.base run.begun.history (store_seen seen run.begun.first) (store_seen seen run.last) m m' run.serves

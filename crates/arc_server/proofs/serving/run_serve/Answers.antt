@@ -6,7 +6,7 @@ returns-in-Ok-clause-ran g c =
     let begun = c.in-Ok.ensures.begun in
     inr (c.serve_begun.ensures.served
     (record { setup = g.S.Ends.seen c.args.source.now; port = g.P.Ends.seen c.args.port.now; disk = c.args.disk })
-    (g.S.Ends.seen c.begin_run.new.source) begun.0 c.faults-before.ensures begun.1)
+    (g.S.Ends.seen c.begin_run.new.source) c.faults-before.ensures begun.0 begun.1)
 
 pub returns-in-Err-clause-ran : goal.returns-in-Err-clause-ran
 returns-in-Err-clause-ran g c = inl (c.in-Err.ensures.stopped, refl)

@@ -1,7 +1,8 @@
-use Rattle.std.proofs.Common.{◌≤◌, ℕ, List, sym, subst, ◌∙◌}
+use Rattle.std.proofs.Common.{◌≡◌, ◌≤◌, ℕ, List, sym, subst, ap, ◌∙◌}
 use Rattle.centre_rules.specs.History.{Entry}
 use Rattle.centre_store.proofs.Halled.{at_open_stays, limits_stay}
-use Rattle.centre_store.specs.StoreHalls.{store_seen}
+use Rattle.centre_store.specs.StoreHalls.{IsStoreFor, store_seen}
+use Rattle.centre_store.specs.Stores.{Stored}
 use Rattle.session_rules.specs.Sessions.{changed, Goes}
 use Rattle.arc_serving.specs.Sessions.{Serves}
 use Rattle.arc_server.specs.SessionRuns.{line_name}
@@ -11,24 +12,29 @@ use Rattle.arc_server.proofs.Sessions.{stands_by, disk_by}
 use Rattle.arc_server.proofs.session.serve_store.Goals as goal
 
 pub returns-clause-served : goal.returns-clause-served
-returns-clause-served g c r q' h counted begun =
+returns-clause-served g c r q' counted begun begins =
     let seen = g.D.Disk.seen in
     let p = g.P.Ends.seen c.args.port.now in
     let p' = g.P.Ends.seen c.serve-end.new.port in
-    let first = c.args.store in
+    let store = c.args.store in
+    let first = begun.first in
+    let h = begun.history in
     let last = c.serve-end.new.hall in
     let end = c.serve-end.result in
     let e = c.serve-end.ensures in
     let base = begun.asked.base in
+    let stands : IsStoreFor seen base store h = subst (λ (s : Stored g.row.D.Denot). IsStoreFor seen base s h) begins begun.stands in
+    let goes : Goes h (λ w. Serves c.args.side line_name end e.serves.0 base w (changed (store_seen seen store) (store_seen seen last) p p')) =
+    subst (λ (n : List ℕ). Goes h (λ w. Serves c.args.side n end e.serves.0 base w (changed (store_seen seen store) (store_seen seen last) p p'))) c.line-name.ensures
+    (e.serves.2 base h stands) in
     let went : Goes h (λ w. Serves c.args.side line_name end e.serves.0 base w (changed (store_seen seen first) (store_seen seen last) p p')) =
-    subst (λ (n : List ℕ). Goes h (λ w. Serves c.args.side n end e.serves.0 base w (changed (store_seen seen first) (store_seen seen last) p p'))) c.line-name.ensures
-    (e.serves.2 base h begun.stands) in
+    subst (λ (s : Stored g.row.D.Denot). Goes h (λ w. Serves c.args.side line_name end e.serves.0 base w (changed (store_seen seen s) (store_seen seen last) p p')))
+    (sym begins) goes in
     let history : List Entry = went.0 in
     let made : List Entry = went.1 in
-    let later : (seen r.disk).faults ≤ last.at_open = subst (λ (n : ℕ). (seen r.disk).faults ≤ n) (sym (at_open_stays e.kept.fixed)) begun.later in record {
+    let opened : last.at_open ≡ first.at_open = at_open_stays e.kept.fixed ∙ ap (λ (s : Stored g.row.D.Denot). s.at_open) (sym begins) in
+    let later : (seen r.disk).faults ≤ last.at_open = subst (λ (n : ℕ). (seen r.disk).faults ≤ n) (sym opened) begun.later in record {
       p = p;
-      first = first;
-      h = h;
       begun = begun;
       end = end;
       read = e.serves.0;
