@@ -349,7 +349,7 @@ module _ (t : Terms) (entry end : ℕ) (since : entry ≤ t.at_open) (up : Rose 
   worker_may Quota q door door' sessions served told ends = tt
   worker_may (WorkerFault before now) q door door' sessions served told ends = tt
   worker_may (Stopped stop) q door door' sessions served told ends =
-      stops_itself q stop told (no_memory_stop stop served ends.0) ends.1
+      stops_itself q stop told (no_memory_stop stop served ends.0) (ends.1, ends.2, ends.3)
 
   ticker_may : (stop : Option Stop) (q : PassSeen) (pulse : Option Moments) (refused : ℕ) (ticks : List Ticking)
       → q.told ≤ end → EndsTicking stop t q pulse refused ticks → MayStop stop

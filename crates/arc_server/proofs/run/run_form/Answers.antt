@@ -7,3 +7,7 @@ returns-in-Session-clause-ran g c =
 
 pub returns-in-Gather-clause-ran : goal.returns-in-Gather-clause-ran
 returns-in-Gather-clause-ran g c = rw (c.in-Gather.is) (refl, c.run_gather.ensures.ran)
+
+pub returns-in-Udp-clause-ran : goal.returns-in-Udp-clause-ran
+returns-in-Udp-clause-ran g c =
+    rw (c.in-Udp.is, c.unserved-in-Udp.ensures.status, c.unserved-in-Udp.ensures.disk, c.unserved-in-Udp.ensures.station) (refl, c.run_mailed.ensures.ran)
