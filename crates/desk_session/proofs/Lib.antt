@@ -1,5 +1,4 @@
 pub mod Acting
-pub mod Completed
 pub mod Fed
 pub mod Followed
 pub mod Known

@@ -13,10 +13,10 @@ use Rattle.centre_core.specs.Halls.{HallSeen, IsKept}
 use Rattle.centre_rules.specs.Summary.{Summary}
 use Rattle.centre_rules.specs.History.{Entry}
 use Rattle.session_rules.specs.Inputs.{input_limit, in_limit}
-use Rattle.session_rules.specs.Sessions.{changed, answered, ReadsNoFurther, Goes}
-use Rattle.session_rules.proofs.Ahead.{reads_no_further}
+use Rattle.session_rules.specs.Sessions.{changed, answered, IsComplete, Goes}
+use Rattle.session_rules.proofs.Ahead.{all_complete, completes}
 use Rattle.session_rules.proofs.Joined.{all_pieces, session_read, session_then}
-use Rattle.session_rules.specs.Turns.{entries_of}
+use Rattle.session_rules.specs.Turns.{entries_of, text_of}
 use Rattle.session_rules.specs.Reading.{lines_read}
 use Rattle.desk_session.specs.Desks.{typed_lines, ServesBytes, ServesLines, ServesDesk, IsTaken, IsFinished, HasEnded, DeskValue}
 use Rattle.desk_session.specs.Events.{acts_over, quits, up_to_quit}
@@ -24,7 +24,6 @@ use Rattle.desk_session.specs.Sessions.{IsDesk, ending_of, desk_rules}
 use Rattle.desk_session.specs.Turns.{desk_turns}
 use Rattle.desk_session.specs.declared.desk_end.DeskEnd.{DeskEnd}
 use Rattle.desk_session.specs.declared.desk_end.DeskEnd.TheVariants.{Quit, InputEnded, ReadFault, WriteFault, Spent, Stopped}
-use Rattle.desk_session.proofs.Completed.{completes}
 use Rattle.desk_session.proofs.Followed.{desk_then}
 use Rattle.desk_session.proofs.Quitting.{up_all}
 use Rattle.desk_session.proofs.Served.{desk_read}
@@ -42,7 +41,7 @@ module _ (b : Summary) (h : List Entry) where
   desk_rests read {hall} {hall'} {p} {q} {r} goes_on not_ended only d =
       let same : up_to_quit (lines_read r.ended read) ≡ ended_lines read = ap up_to_quit (read_lines r.ended read not_ended) ∙ up_all (ended_lines read) goes_on in
       let all = desk_read same only d in
-      (all.session.history, entries_of desk_turns all.session.turns, record { desk = all; to = refl; made = refl; ahead = tt; complete = completes all })
+      (all.session.history, entries_of desk_turns all.session.turns, record { desk = all; to = refl; made = refl; complete = all_complete desk_turns typed_lines read all.session })
 
   module _ (stream : List ℕ) (goes_on : quits (ended_lines stream) ≡ false) {hall mid : HallSeen} {p q q' : PortSeen} (kept : IsKept hall mid) (only : OnlyReads q q')
       (first : IsDesk answered b None (ended_lines stream) h (changed hall mid p q)) where
@@ -76,10 +75,9 @@ module _ (b : Summary) (h : List Entry) where
             desk = all;
             to = refl;
             made = refl;
-            ahead = subst (λ (l : List ℕ). ReadsNoFurther desk_turns typed_lines (ending_of (Err end)) l (first.session.turns ++ n.desk.session.turns) n.desk.session.behind) (sym parts)
-                (reads_no_further desk_turns typed_lines stream piece first.session.turns short (up_all (ended_lines stream) goes_on ∙ all_pieces desk_turns first.session)
-                (desk_rules b mid hall' (acts_over (meaning mid.text) None (ended_lines stream)) n.desk.last) (ending_of (Err end)) n.desk.session.history n.desk.session.turns n.desk.session.behind n.desk.session.added n.desk.session.left n.desk.session.ended);
-            complete = completes all;
+            complete = subst (λ (l : List ℕ). IsComplete desk_turns typed_lines (ending_of (Err end)) l (up_to_quit (lines_read r.ended read)) (first.session.turns ++ n.desk.session.turns) n.desk.session.behind (text_of desk_turns first.session.turns ++ n.desk.session.added.text)) (sym parts)
+                (completes desk_turns typed_lines stream piece first.session.turns short (up_all (ended_lines stream) goes_on ∙ all_pieces desk_turns first.session)
+                (desk_rules b mid hall' (acts_over (meaning mid.text) None (ended_lines stream)) n.desk.last) (ending_of (Err end)) n.desk.session.history (up_to_quit (lines_read r.ended read)) n.desk.session.turns n.desk.session.behind n.desk.session.added n.desk.session.left n.desk.session.ended all.session.taken);
           },
         )
 

@@ -12,9 +12,8 @@ use Rattle.centre_rules.specs.Summary.{Summary}
 use Rattle.centre_rules.specs.History.{Entry}
 use Rattle.session_rules.specs.Inputs.{input_limit, in_limit}
 use Rattle.session_rules.specs.Reading.{lines_read}
-use Rattle.session_rules.specs.Sessions.{changed, ReadsNoFurther, Way}
+use Rattle.session_rules.specs.Sessions.{changed, IsComplete, Way}
 use Rattle.session_rules.specs.Turns.{entries_of}
-use Rattle.desk_session.specs.Completeness.{IsComplete}
 use Rattle.desk_session.specs.Events.{acts_over, quits, up_to_quit}
 use Rattle.desk_session.specs.Sessions.{IsDesk, ending_of}
 use Rattle.desk_session.specs.Turns.{desk_turns}
@@ -117,6 +116,5 @@ pub record ServesDesk (end : DeskEnd) (read : List ℕ) (b : Summary) (w : Way) 
   pub desk : IsDesk (ending_of (Err end)) b None (up_to_quit (lines_read p'.ended read)) w.from (changed hall hall' p p')
   pub to : w.to ≡ desk.session.history
   pub made : w.made ≡ entries_of desk_turns desk.session.turns
-  pub ahead : ReadsNoFurther desk_turns typed_lines (ending_of (Err end)) read desk.session.turns desk.session.behind
-  pub complete : IsComplete (ending_of (Err end)) desk.session.turns desk.session.behind desk.session.added.text
-      (up_to_quit (lines_read p'.ended read))
+  pub complete : IsComplete desk_turns typed_lines (ending_of (Err end)) read (up_to_quit (lines_read p'.ended read))
+      desk.session.turns desk.session.behind desk.session.added.text

@@ -1,7 +1,6 @@
 pub use Rattle.alarm_rules.specs.Setups
 pub use Rattle.centre_rules.specs.Answers
 pub mod Asking
-pub mod Completeness
 pub mod Desks
 pub mod Events
 pub mod Holding

@@ -295,7 +295,7 @@ module _ (name : List ℕ) (b : Summary) (h : List Entry) (bodies : List (List �
       (record {
         met = m.port;
         session = next;
-        sent = refl;
+        sent = inr refl;
         ahead = readings_in (next_one.more ++ later);
         few = omega (arith, length-map (next_one.more ++ later) (λ (a : Asked). a.reading), length-map (next_one.more ++ later) (λ (a : Asked). a.body));
         reads_ahead = m.ahead;
@@ -342,7 +342,7 @@ module _ (name : List ℕ) (b : Summary) (h : List Entry) (bodies : List (List �
       (record {
         met = m.port;
         session = next;
-        sent = tt;
+        sent = inl refl;
         ahead = readings_in (s.rest ++ later);
         few = omega (arith, length-map (s.rest ++ later) (λ (a : Asked). a.reading), length-map (s.rest ++ later) (λ (a : Asked). a.body));
         reads_ahead = m.ahead;

@@ -1,7 +1,6 @@
 -- Line sessions over a port whose frames are taken together, read piece by piece.
-use Rattle.std.proofs.Common.{◌≡◌, ◌≤◌, ◌++◌, ℕ, List, [], length, false, Ok, Err, refl, arith}
+use Rattle.std.proofs.Common.{◌≡◌, ◌≤◌, ◌++◌, ℕ, List, [], length, false, Ok, Err, refl, inr, arith}
 use Rattle.std.specs.Io.KnownBytes.{prepend_known}
-use Rattle.arc_io.specs.Added.{Added}
 use Rattle.arc_io.specs.Seen.{PortSeen}
 use Rattle.arc_io.specs.Told.{OnlyReads}
 use Rattle.alarm_rules.specs.Setups.{meaning}
@@ -9,18 +8,17 @@ use Rattle.centre_core.specs.Halls.{HallSeen, IsKept}
 use Rattle.centre_rules.specs.Summary.{Summary}
 use Rattle.centre_rules.specs.History.{Entry}
 use Rattle.dc09_frame.specs.Frames.{bodies}
-use Rattle.session_rules.specs.Sessions.{answered, cut_off, stopped, changed, Ending, Goes, IsEnd, IsSession}
-use Rattle.session_rules.proofs.Ahead.{reads_no_further}
+use Rattle.session_rules.specs.Sessions.{answered, changed, Goes}
+use Rattle.session_rules.proofs.Ahead.{all_complete, completes}
 use Rattle.session_rules.proofs.Joined.{session_read, session_then, all_pieces}
 use Rattle.session_rules.specs.Turns.{entries_of}
-use Rattle.line_session.specs.Completeness.{IsComplete}
 use Rattle.line_session.specs.Groups.{group_rules, ServesGroupBytes, ServesGroup}
 use Rattle.line_session.specs.Lines.{LineValue, TookStream}
-use Rattle.line_session.specs.Sessions.{ending_of, line_rules}
-use Rattle.line_session.specs.Turns.{Turn, line_turns}
+use Rattle.line_session.specs.Sessions.{ending_of}
+use Rattle.line_session.specs.Turns.{line_turns}
 use Rattle.line_session.specs.declared.line_end.LineEnd.{LineEnd}
 use Rattle.line_session.specs.declared.line_end.LineEnd.TheVariants.{InputEnded, ReadFault, WriteFault, Spent, Stopped}
-use Rattle.line_session.proofs.Completed.{complete_by}
+use Rattle.line_session.proofs.Completed.{acknowledged}
 use Rattle.line_session.proofs.Grouped.{IsGroup, group_follows, group_of_answered, reads_none}
 use Rattle.line_session.proofs.Ported.{IsAtRest}
 
@@ -34,29 +32,29 @@ pub record GroupSoFar (name : List ℕ) (state : LineValue) (hall hall' : HallSe
   pub writes : p.write_faults ≤ p'.write_faults
   pub session : (b : Summary) (h : List Entry) → hall.stands b h → IsGroup name answered b (bodies stream) h (changed hall hall' p p')
 
-ends_so : (name : List ℕ) (b : Summary) (hall hall' : HallSeen) (end : Ending) (x : List Entry) (turns behind : List Turn) (a : Added) (rest : List (List ℕ))
-    → IsEnd line_turns (group_rules name b hall hall') end x turns behind a rest → IsEnd line_turns (line_rules name b hall hall') end x turns behind a rest
-ends_so name b hall hall' answered x turns behind a rest e = e
-ends_so name b hall hall' cut_off x turns behind a rest e = e
-ends_so name b hall hall' (stopped stop) x turns behind a rest e = e
-
--- a session is complete
-pub group_completes : (name : List ℕ) {end : Ending} {b : Summary} {xs : List (List ℕ)} {h : List Entry} {hall hall' : HallSeen} {p p' : PortSeen} (s : IsSession line_turns (group_rules name b hall hall') end b xs h (changed hall hall' p p'))
-    → IsComplete end (meaning hall.text) s.turns s.behind s.added.text xs
-group_completes name {end} {b} {xs} {h} {hall} {hall'} {p} {p'} s =
-    complete_by name end b hall hall' h s.history xs s.left s.turns s.behind s.added s.taken (ends_so name b hall hall' end s.history s.turns s.behind s.added s.left s.ended) s.each
-
 module _ (name : List ℕ) (b : Summary) (h : List Entry) where
   answered_group : (end : LineEnd) (read : List ℕ) {hall hall' : HallSeen} {p p' : PortSeen} → IsAtRest end → IsGroup name answered b (bodies read) h (changed hall hall' p p') → Goes h (λ w. ServesGroup name end read b w (changed hall hall' p p'))
   answered_group InputEnded read {hall} {hall'} {p} {p'} rest s = (
     s.history,
     entries_of line_turns s.turns,
-    record { line = record { met = p'; session = s; sent = tt; ahead = []; few = omega arith; reads_ahead = reads_none p' }; to = refl; made = refl; ahead = tt; complete = group_completes name s },
+    record {
+      line = record { met = p'; session = s; sent = inr s.ended.none_behind; ahead = []; few = omega arith; reads_ahead = reads_none p' };
+      to = refl;
+      made = refl;
+      complete = all_complete line_turns bodies read s;
+      acknowledged = acknowledged name b (meaning hall.text) hall.caller h s.history s.turns s.each;
+    },
   )
   answered_group ReadFault read {hall} {hall'} {p} {p'} rest s = (
     s.history,
     entries_of line_turns s.turns,
-    record { line = record { met = p'; session = s; sent = tt; ahead = []; few = omega arith; reads_ahead = reads_none p' }; to = refl; made = refl; ahead = tt; complete = group_completes name s },
+    record {
+      line = record { met = p'; session = s; sent = inr s.ended.none_behind; ahead = []; few = omega arith; reads_ahead = reads_none p' };
+      to = refl;
+      made = refl;
+      complete = all_complete line_turns bodies read s;
+      acknowledged = acknowledged name b (meaning hall.text) hall.caller h s.history s.turns s.each;
+    },
   )
   answered_group Spent read rest s = absurd rest
   answered_group WriteFault read rest s = absurd rest
@@ -88,7 +86,7 @@ module _ (name : List ℕ) (b : Summary) (h : List Entry) where
             line = record { met = line.met; session = session; sent = line.sent; ahead = line.ahead; few = line.few; reads_ahead = line.reads_ahead };
             to = refl;
             made = refl;
-            ahead = reads_no_further line_turns bodies stream piece first.turns short (all_pieces line_turns first) (group_rules name b mid hall') (ending_of (Err end)) line.session.history line.session.turns line.session.behind line.session.added line.session.left line.session.ended;
-            complete = group_completes name session;
+            complete = completes line_turns bodies stream piece first.turns short (all_pieces line_turns first) (group_rules name b mid hall') (ending_of (Err end)) line.session.history (bodies (stream ++ piece)) line.session.turns line.session.behind line.session.added line.session.left line.session.ended session.taken;
+            acknowledged = acknowledged name b (meaning hall.text) hall.caller h session.history session.turns session.each;
           },
         )

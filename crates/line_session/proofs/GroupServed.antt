@@ -1,5 +1,5 @@
 -- Line sessions over the bytes of a stream, whose frames are taken together.
-use Rattle.std.proofs.Common.{◌≡◌, ◌∷◌, ◌++◌, ℕ, List, [], Result, Ok, Err, refl, sym, ◌∙◌, ap, subst, append_assoc, append-nil, arith}
+use Rattle.std.proofs.Common.{◌≡◌, ◌∷◌, ◌++◌, ℕ, List, [], Result, Ok, Err, refl, sym, ◌∙◌, ap, subst, append_assoc, append-nil, inr, arith}
 use Rattle.arc_io.specs.Seen.{PortSeen}
 use Rattle.centre_core.specs.Halls.{HallSeen}
 use Rattle.centre_rules.specs.Answers.{IsLegal}
@@ -84,7 +84,7 @@ module _ (name stream : List ℕ) (b : Summary) (h : List Entry) where
     ended =
         s.ended ∙ ap (λ (l : List (List ℕ)). bodies stream ++ l)
         (ap (λ (l : List Asked). s.some ++ bodies_in l) (sym (append-nil s.asked)) ∙ next.1 ∙ append-nil next.0);
-    session = group_line_of (group_still name next.2.reads_ahead next.2.session) tt;
+    session = let same = group_still name next.2.reads_ahead next.2.session in group_line_of same (inr same.ended.none_behind);
   }
   serves_all_held bytes w' {w} {c} {hall} {hall'} {p} {p'} (Err end) s next = record {
     whole = s.some ++ bodies_in (s.asked ++ []);

@@ -1,5 +1,5 @@
 -- Sessions of a line whose frames are taken together: behind one another, and over what a batch brought.
-use Rattle.std.proofs.Common.{◌≡◌, ◌≤◌, ◌+◌, ◌∷◌, ◌++◌, ℕ, List, [], length, Option, Some, None, refl, sym, ◌∙◌, ap, subst, arith, append_assoc, append-nil, length-append}
+use Rattle.std.proofs.Common.{◌≡◌, ◌≤◌, ◌⊎◌, ◌+◌, ◌∷◌, ◌++◌, ℕ, List, [], length, Option, Some, None, refl, sym, ◌∙◌, ap, subst, inr, arith, append-nil, length-append}
 use Rattle.std.specs.Prelude.{reverse}
 use Rattle.std.specs.Io.KnownBytes.{append_known}
 use Rattle.std.specs.List.{AllByRecursion}
@@ -16,11 +16,11 @@ use Rattle.centre_rules.specs.Answers.{IsLegal}
 use Rattle.centre_rules.specs.Marks.{force}
 use Rattle.centre_rules.specs.Summary.{Summary}
 use Rattle.centre_rules.specs.History.{Entry, marks}
-use Rattle.session_rules.specs.Turns.{pieces_of, entries_of}
+use Rattle.session_rules.specs.Turns.{entries_of}
 use Rattle.session_rules.specs.Sessions.{Change, changed, Ending, answered, cut_off, stopped, IsEnd, IsSession, IsUnstopped}
-use Rattle.session_rules.proofs.Joined.{Follows, IsEarly, session_then}
+use Rattle.session_rules.proofs.Joined.{Follows, IsEarly, session_then, session_wider}
 use Rattle.line_session.specs.Dues.{bodies_in}
-use Rattle.line_session.specs.Groups.{group_rules, ReadsClock, IsGroupLine, IsAnsweredAtStop, readings_at}
+use Rattle.line_session.specs.Groups.{group_rules, ReadsClock, IsGroupLine, readings_at}
 use Rattle.line_session.specs.Sessions.{IsLine, line_rules}
 use Rattle.line_session.specs.Turns.{Turn, line_turns}
 use Rattle.line_session.proofs.Apart.{calls_on}
@@ -134,7 +134,7 @@ few_at name b hall hall' (stopped stop) x turns behind a rest e = let long = ap 
 
 -- a session of which nothing was read ahead
 pub group_line_of : {name : List ℕ} {end : Ending} {b : Summary} {bodies : List (List ℕ)} {h : List Entry} {hall hall' : HallSeen} {p p' : PortSeen} (s : IsGroup name end b bodies h (changed hall hall' p p'))
-    → IsAnsweredAtStop end s.behind → IsGroupLine name end b bodies h (changed hall hall' p p')
+    → (end ≡ cut_off) ⊎ (s.behind ≡ []) → IsGroupLine name end b bodies h (changed hall hall' p p')
 group_line_of {name} {end} {b} {bodies} {h} {hall} {hall'} {p} {p'} s sent = record {
   met = p';
   session = s;
@@ -144,16 +144,11 @@ group_line_of {name} {end} {b} {bodies} {h} {hall} {hall'} {p} {p'} s sent = rec
   reads_ahead = reads_none p';
 }
 
-answered_at : (end : Ending) (behind : List Turn) → behind ≡ [] → IsAnsweredAtStop end behind
-answered_at answered behind none = tt
-answered_at cut_off behind none = tt
-answered_at (stopped stop) behind none = none
-
 -- one whose frames are answered one after another
 pub group_line_of_line : (name : List ℕ) {end : Ending} {b : Summary} {bodies : List (List ℕ)} {h : List Entry} {hall hall' : HallSeen} {p p' : PortSeen} → IsLine name end b bodies h (changed hall hall' p p')
     → IsGroupLine name end b bodies h (changed hall hall' p p')
 unfolding group_of_line
-group_line_of_line name {end} s = group_line_of (group_of_line name s) (answered_at end s.behind s.unanswered)
+group_line_of_line name {end} s = group_line_of (group_of_line name s) (inr s.unanswered)
 
 -- where all was answered nothing was read ahead
 pub group_of_answered : {name : List ℕ} {b : Summary} {bodies : List (List ℕ)} {h : List Entry} {hall hall' : HallSeen} {p p' : PortSeen} → IsGroupLine name answered b bodies h (changed hall hall' p p')
@@ -166,50 +161,18 @@ group_of_answered {name} {b} {bodies} {h} {hall} {hall'} {p} {p'} s =
     none_of [] short = refl
     none_of (x ∷ l) short = absurd (omega (arith, short))
 
-ends_wider : (name : List ℕ) (b : Summary) (hall hall' : HallSeen) (end : Ending) (x : List Entry) (turns behind : List Turn) (a : Added) (rest more : List (List ℕ)) → IsEarly end
-    → IsEnd line_turns (group_rules name b hall hall') end x turns behind a rest → IsEnd line_turns (group_rules name b hall hall') end x turns behind a (rest ++ more)
-ends_wider name b hall hall' answered x turns behind a rest more early e = absurd early
-ends_wider name b hall hall' cut_off x turns behind a rest more early e = e
-ends_wider name b hall hall' (stopped stop) x turns behind a rest more early e = record {
-  front = e.front;
-  piece = e.piece;
-  more = e.more ++ more;
-  reading = e.reading;
-  split = e.split;
-  next = ap (λ (l : List (List ℕ)). l ++ more) e.next;
-  added = e.added;
-  cause = e.cause;
-}
-
 -- A session that ended early, over more pieces: it left them too.
 pub group_wider : {name : List ℕ} {end : Ending} {b : Summary} {bodies : List (List ℕ)} {h : List Entry} {hall hall' : HallSeen} {p p' : PortSeen} (more : List (List ℕ)) → IsEarly end
     → IsGroupLine name end b bodies h (changed hall hall' p p') → IsGroupLine name end b (bodies ++ more) h (changed hall hall' p p')
-group_wider {name} {end} {b} {bodies} {h} {hall} {hall'} {p} {p'} more early line =
-    let s = line.session in
-    record {
-      met = line.met;
-      session = record {
-        turns = s.turns;
-        behind = s.behind;
-        history = s.history;
-        added = s.added;
-        left = s.left ++ more;
-        taken = ap (λ (l : List (List ℕ)). l ++ more) s.taken ∙ append_assoc (pieces_of line_turns s.turns) s.left more;
-        each = s.each;
-        holds = s.holds;
-        legal = s.legal;
-        own = s.own;
-        disk = s.disk;
-        up = s.up;
-        adds = s.adds;
-        ended = ends_wider name b hall hall' end s.history s.turns s.behind s.added s.left more early s.ended;
-        unanswered = s.unanswered;
-      };
-      sent = line.sent;
-      ahead = line.ahead;
-      few = omega (arith, line.few, length-append s.left more);
-      reads_ahead = line.reads_ahead;
-    }
+unfolding session_wider
+group_wider {name} {end} {b} {bodies} {h} {hall} {hall'} {p} {p'} more early line = record {
+  met = line.met;
+  session = session_wider line_turns more early line.session;
+  sent = line.sent;
+  ahead = line.ahead;
+  few = omega (arith, line.few, length-append line.session.left more);
+  reads_ahead = line.reads_ahead;
+}
 
 -- What a hall did with the events of these, which have their replies.
 pub record Batched (name : List ℕ) (b : Summary) (hall hall' : HallSeen) (g : List Entry) (replied : List Replied) : Type 0 where

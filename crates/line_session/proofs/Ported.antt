@@ -2,6 +2,7 @@
 use Rattle.std.proofs.Common.{◌≡◌, ◌<◌, ◌≤◌, ◌↔◌, ◌-◌, ◌++◌, ℕ, List, length, Bool, true, false, Option, Ok, Err, refl, ◌∙◌, ap, length-append, arith}
 use Rattle.std.specs.Io.KnownBytes.{prepend_known}
 use Rattle.std.proofs.lemmas.List.{take_all}
+use Rattle.alarm_rules.specs.Setups.{meaning}
 use Rattle.arc_io.specs.Causes.{Rose}
 use Rattle.arc_io.specs.Seen.{PortSeen}
 use Rattle.arc_io.specs.Told.{OnlyReads}
@@ -11,7 +12,7 @@ use Rattle.centre_rules.specs.Summary.{Summary}
 use Rattle.centre_rules.specs.History.{Entry}
 use Rattle.dc09_frame.specs.Frames.{bodies}
 use Rattle.session_rules.specs.Sessions.{answered, changed, Goes}
-use Rattle.session_rules.proofs.Ahead.{reads_no_further}
+use Rattle.session_rules.proofs.Ahead.{all_complete, completes}
 use Rattle.session_rules.proofs.Joined.{session_read, session_then, all_pieces}
 use Rattle.session_rules.specs.Inputs.{in_limit, input_limit}
 use Rattle.session_rules.specs.Turns.{entries_of}
@@ -20,7 +21,7 @@ use Rattle.line_session.specs.Sessions.{IsLine, ending_of, line_rules}
 use Rattle.line_session.specs.Turns.{line_turns}
 use Rattle.line_session.specs.declared.line_end.LineEnd.{LineEnd}
 use Rattle.line_session.specs.declared.line_end.LineEnd.TheVariants.{InputEnded, ReadFault, WriteFault, Spent, Stopped}
-use Rattle.line_session.proofs.Completed.{completes}
+use Rattle.line_session.proofs.Completed.{acknowledged}
 use Rattle.line_session.proofs.Followed.{line_follows}
 
 -- an end at which nothing more was read
@@ -33,8 +34,16 @@ IsAtRest (Stopped stop) = ⊥
 
 module _ (name : List ℕ) (b : Summary) (h : List Entry) where
   answered_line : (end : LineEnd) (read : List ℕ) {hall hall' : HallSeen} {p p' : PortSeen} → IsAtRest end → IsLine name answered b (bodies read) h (changed hall hall' p p') → Goes h (λ w. ServesLine name end read b w (changed hall hall' p p'))
-  answered_line InputEnded read rest s = (s.history, entries_of line_turns s.turns, record { session = s; to = refl; made = refl; ahead = tt; complete = completes name s })
-  answered_line ReadFault read rest s = (s.history, entries_of line_turns s.turns, record { session = s; to = refl; made = refl; ahead = tt; complete = completes name s })
+  answered_line InputEnded read {hall} {hall'} {p} {p'} rest s = (
+    s.history,
+    entries_of line_turns s.turns,
+    record { session = s; to = refl; made = refl; complete = all_complete line_turns bodies read s; acknowledged = acknowledged name b (meaning hall.text) hall.caller h s.history s.turns s.each },
+  )
+  answered_line ReadFault read {hall} {hall'} {p} {p'} rest s = (
+    s.history,
+    entries_of line_turns s.turns,
+    record { session = s; to = refl; made = refl; complete = all_complete line_turns bodies read s; acknowledged = acknowledged name b (meaning hall.text) hall.caller h s.history s.turns s.each },
+  )
   answered_line Spent read rest s = absurd rest
   answered_line WriteFault read rest s = absurd rest
   answered_line (Stopped stop) read rest s = absurd rest
@@ -63,8 +72,8 @@ module _ (name : List ℕ) (b : Summary) (h : List Entry) where
             session = session;
             to = refl;
             made = refl;
-            ahead = reads_no_further line_turns bodies stream piece first.turns short (all_pieces line_turns first) (line_rules name b mid hall') (ending_of (Err end)) n.session.history n.session.turns n.session.behind n.session.added n.session.left n.session.ended;
-            complete = completes name session;
+            complete = completes line_turns bodies stream piece first.turns short (all_pieces line_turns first) (line_rules name b mid hall') (ending_of (Err end)) n.session.history (bodies (stream ++ piece)) n.session.turns n.session.behind n.session.added n.session.left n.session.ended session.taken;
+            acknowledged = acknowledged name b (meaning hall.text) hall.caller h session.history session.turns session.each;
           },
         )
 

@@ -21,7 +21,7 @@ use Rattle.dc09_message.specs.declared.outcome.Verdict.{Verdict}
 use Rattle.session_rules.specs.Sessions.{changed, stopped}
 use Rattle.session_rules.specs.Turns.{entries_of}
 use Rattle.session_rules.proofs.Made.{session_sent, session_cut, session_stopped}
-use Rattle.line_session.specs.Turns.{Turn, line_turns, IsAckBy, IsAnswered, IsTurn, TakesEntry, event_of}
+use Rattle.line_session.specs.Turns.{Turn, line_turns, IsAckBy, IsAnswered, TakesEntry, event_of}
 use Rattle.line_session.specs.Sessions.{IsLine, ending_of, line_rules}
 use Rattle.line_session.specs.Replies.{Reported, Reports}
 use Rattle.line_session.specs.declared.line_end.LineEnd.{LineEnd}
@@ -39,7 +39,7 @@ sealed_ack true key h reading noise reply is a = a
 sealed_ack false key h reading noise reply is a = absurd (cc)
 
 -- the turn of a verdict that is known
-pub turn_is : (name : List ℕ) (b : Summary) (setup : Setup) (caller : ℕ) (h x : List Entry) (v : Verdict) (t : Turn) → verdict_of setup t.reading t.body ≡ v → IsAnswered name b setup caller h x t v → IsTurn name b setup caller h x t
+pub turn_is : (name : List ℕ) (b : Summary) (setup : Setup) (caller : ℕ) (h x : List Entry) (v : Verdict) (t : Turn) → verdict_of setup t.reading t.body ≡ v → IsAnswered name b setup caller h x t v → IsAnswered name b setup caller h x t (verdict_of setup t.reading t.body)
 turn_is name b setup caller h x v t is a = subst (IsAnswered name b setup caller h x t) (sym is) a
 
 -- the verdict under the setup of this text
@@ -48,7 +48,7 @@ verdict_is text kept body reading told v same exact is = ap (λ (t : List ℕ). 
 
 module _ (name : List ℕ) (b : Summary) (h : List Entry) (hall hall' : HallSeen) (p p' : PortSeen) where
   -- A session over one whole piece, whose reply was sent or cut off.
-  session_turn : (end : Result (Unit {0}) LineEnd) (x : List Entry) (t : Turn) → IsTurn name b (meaning hall.text) hall.caller h x t → hall'.stands b x → IsLegal b x
+  session_turn : (end : Result (Unit {0}) LineEnd) (x : List Entry) (t : Turn) → IsAnswered name b (meaning hall.text) hall.caller h x t (verdict_of (meaning hall.text) t.reading t.body) → hall'.stands b x → IsLegal b x
       → hall'.own x ≡ reverse (entries_of line_turns (t ∷ [])) ++ hall.own h → DiskGoesOn b hall hall' h x → (hall.up → hall'.up) → Puts (after_noise t.noise (after_reading t.reading p)) p' end t.reply → IfErr end (λ e. e ≡ WriteFault)
       → IsLine name (ending_of end) b (t.body ∷ []) h (changed hall hall' p p')
   session_turn (Ok tt) x t turn s legal own disk up put ends =

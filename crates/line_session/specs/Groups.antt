@@ -1,5 +1,5 @@
 -- What a line session did whose frames are taken together, by its end.
-use Rattle.std.specs.Prelude.{◌≡◌, ◌≤◌, ◌+◌, ◌++◌, ℕ, List, [], Result, Ok, Err, length}
+use Rattle.std.specs.Prelude.{◌≡◌, ◌≤◌, ◌⊎◌, ◌+◌, ◌++◌, ℕ, List, [], Result, Ok, Err, length}
 use Rattle.alarm_rules.specs.Setups.{meaning}
 use Rattle.arc_io.specs.Added.{Adds}
 use Rattle.arc_io.specs.Seen.{PortSeen}
@@ -7,9 +7,9 @@ use Rattle.centre_core.specs.Halls.{HallSeen, IsKept}
 use Rattle.centre_rules.specs.Summary.{Summary}
 use Rattle.centre_rules.specs.History.{Entry}
 use Rattle.dc09_frame.specs.Frames.{bodies}
-use Rattle.session_rules.specs.Sessions.{Change, Ending, answered, stopped, IsSession, ReadsNoFurther, Way, changed}
+use Rattle.session_rules.specs.Sessions.{Change, Ending, answered, cut_off, stopped, IsComplete, IsSession, Way, changed}
 use Rattle.session_rules.specs.Turns.{Rules, entries_of}
-use Rattle.line_session.specs.Completeness.{IsComplete}
+use Rattle.line_session.specs.Completeness.{AreAcknowledged}
 use Rattle.line_session.specs.Dues.{Asked, AreWaiting, bodies_in, readings_in}
 use Rattle.line_session.specs.Sessions.{line_rules, ending_of}
 use Rattle.line_session.specs.Turns.{Turn, line_turns}
@@ -18,20 +18,12 @@ use Rattle.line_session.specs.declared.waiting.Waiting.{Waiting}
 
 -- the rules of a line's session, but for one thing: turns of one batch may stand recorded behind one whose reply was cut off
 abbrev pub group_rules : List ℕ → Summary → HallSeen → HallSeen → Rules Turn
-group_rules name b hall hall' = record {
-  are_turns = (line_rules name b hall hall').are_turns;
-  is_cause = (line_rules name b hall hall').is_cause;
-  may_be_behind = λ behind. length (entries_of line_turns behind) ≤ 64;
-}
+group_rules name b hall hall' =
+    record (line_rules name b hall hall') { may_be_behind = λ behind. length (entries_of line_turns behind) ≤ 64 }
 
 -- only these readings were taken
 abbrev pub ReadsClock : List ℕ → PortSeen → PortSeen → Type 0
 ReadsClock readings p p' = Adds p p' (record { text = []; readings = readings; noise = [] })
-
--- where the hall stopped, no turn stands recorded without its reply
-abbrev pub IsAnsweredAtStop : Ending → List Turn → Type 0
-IsAnsweredAtStop (stopped stop) behind = behind ≡ []
-IsAnsweredAtStop end behind = Unit {0}
 
 -- how many readings an end itself tells: that of the piece at which the hall stopped, which has no turn
 abbrev pub readings_at : Ending → ℕ
@@ -40,11 +32,11 @@ readings_at end = 0
 
 -- A session of a line of this name over whole pieces of these bodies, from a history on, as `IsLine` has it, but that the port is as it
 -- then is but for readings of the clock: pieces that have no turn took theirs already, at most one each. So where all is answered there
--- are none.
+-- are none. Only behind a reply that was cut off may turns stand recorded without theirs.
 pub record IsGroupLine (name : List ℕ) (end : Ending) (b : Summary) (bodies : List (List ℕ)) (h : List Entry) (c : Change) : Type 0 where
   pub met : PortSeen
   pub session : IsSession line_turns (group_rules name b c.hall c.hall') end b bodies h (changed c.hall c.hall' c.port met)
-  pub sent : IsAnsweredAtStop end session.behind
+  pub sent : (end ≡ cut_off) ⊎ (session.behind ≡ [])
   pub ahead : List ℕ
   pub few : readings_at end + length ahead ≤ length session.left
   pub reads_ahead : ReadsClock ahead met c.port'
@@ -61,9 +53,9 @@ pub record ServesGroup (name : List ℕ) (end : LineEnd) (read : List ℕ) (b : 
   pub line : IsGroupLine name (ending_of (Err end)) b (bodies read) w.from c
   pub to : w.to ≡ line.session.history
   pub made : w.made ≡ entries_of line_turns line.session.turns
-  pub ahead : ReadsNoFurther line_turns bodies (ending_of (Err end)) read line.session.turns line.session.behind
-  pub complete : IsComplete (ending_of (Err end)) (meaning c.hall.text)
-      line.session.turns line.session.behind line.session.added.text (bodies read)
+  pub complete : IsComplete line_turns bodies (ending_of (Err end)) read (bodies read)
+      line.session.turns line.session.behind line.session.added.text
+  pub acknowledged : AreAcknowledged (meaning c.hall.text) line.session.turns
 
 -- Within one piece of bytes: those of some first bodies are answered, these wait for their answers, and later ones took their readings too.
 pub record IsHeld (name : List ℕ) (b : Summary) (h : List Entry) (bodies : List (List ℕ)) (asked later : List Asked) (w : Waiting)

@@ -9,9 +9,9 @@ use Rattle.centre_rules.specs.History.{Entry}
 use Rattle.dc09_frame.specs.Cutting.{CutterValue, WasFed}
 use Rattle.dc09_frame.specs.Frames.{bodies}
 use Rattle.session_rules.specs.Inputs.{input_limit}
-use Rattle.session_rules.specs.Sessions.{Change, ReadsNoFurther, Way}
+use Rattle.session_rules.specs.Sessions.{Change, IsComplete, Way}
 use Rattle.session_rules.specs.Turns.{entries_of}
-use Rattle.line_session.specs.Completeness.{IsComplete}
+use Rattle.line_session.specs.Completeness.{AreAcknowledged}
 use Rattle.line_session.specs.Sessions.{IsLine, ending_of}
 use Rattle.line_session.specs.Turns.{line_turns}
 use Rattle.line_session.specs.declared.line_end.LineEnd.{LineEnd}
@@ -66,5 +66,5 @@ pub record ServesLine (name : List ℕ) (end : LineEnd) (read : List ℕ) (b : S
   pub session : IsLine name (ending_of (Err end)) b (bodies read) w.from c
   pub to : w.to ≡ session.history
   pub made : w.made ≡ entries_of line_turns session.turns
-  pub ahead : ReadsNoFurther line_turns bodies (ending_of (Err end)) read session.turns session.behind
-  pub complete : IsComplete (ending_of (Err end)) (meaning c.hall.text) session.turns session.behind session.added.text (bodies read)
+  pub complete : IsComplete line_turns bodies (ending_of (Err end)) read (bodies read) session.turns session.behind session.added.text
+  pub acknowledged : AreAcknowledged (meaning c.hall.text) session.turns

@@ -82,12 +82,9 @@ IsAnswered name b setup caller h x t (Duh header why) = TakesNothing h x t (fram
 IsAnswered name b setup caller h x t (Beat header account) = TakesEntry b setup caller h x t header (Heartbeat account)
 IsAnswered name b setup caller h x t (Numbered header m) = TakesEntry b setup caller h x t header (Sent m name)
 
--- the turn is that of its body's verdict under the setup, at its reading
-abbrev pub IsTurn : List ℕ → Summary → Setup → ℕ → List Entry → List Entry → Turn → Type 0
-IsTurn name b setup caller h x t = IsAnswered name b setup caller h x t (verdict_of setup t.reading t.body)
-
--- From h on, to x: the turns of a line of this name stand behind one another, with entries of others between them.
+-- From h on, to x: the turns of a line of this name stand behind one another, with entries of others between them. Each is that of its
+-- body's verdict under the setup, at its reading.
 abbrev pub AreTurns : List ℕ → Summary → Setup → ℕ → List Entry → List Entry → List Turn → Type 0
 AreTurns name b setup caller h x [] = Extends h x
 AreTurns name b setup caller h x (t ∷ ts) =
-    (mid : List Entry) × IsTurn name b setup caller h mid t × AreTurns name b setup caller mid x ts
+    (mid : List Entry) × IsAnswered name b setup caller h mid t (verdict_of setup t.reading t.body) × AreTurns name b setup caller mid x ts

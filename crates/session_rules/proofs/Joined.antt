@@ -93,7 +93,7 @@ module _ {T : Type 0} (kind : Kind T) where
     unanswered = s.unanswered;
   }
 
-  ends_wider : (rules : Rules T) (end : Ending) (x : List Entry) (turns behind : List T) (a : Added) (rest more : List (List ℕ)) → IsEarly end → IsEnd kind rules end x turns behind a rest → IsEnd kind rules end x turns behind a (rest ++ more)
+  pub ends_wider : (rules : Rules T) (end : Ending) (x : List Entry) (turns behind : List T) (a : Added) (rest more : List (List ℕ)) → IsEarly end → IsEnd kind rules end x turns behind a rest → IsEnd kind rules end x turns behind a (rest ++ more)
   ends_wider rules answered x turns behind a rest more early e = absurd early
   ends_wider rules cut_off x turns behind a rest more early e = e
   ends_wider rules (stopped stop) x turns behind a rest more early e = record {
@@ -108,7 +108,7 @@ module _ {T : Type 0} (kind : Kind T) where
   }
 
   -- A session that ended early, over more pieces: it left them too.
-  pub session_wider : {rules : Rules T} {end : Ending} {b : Summary} {xs : List (List ℕ)} {h : List Entry} {hall hall' : HallSeen} {p p' : PortSeen} (more : List (List ℕ))
+  unfoldable pub session_wider : {rules : Rules T} {end : Ending} {b : Summary} {xs : List (List ℕ)} {h : List Entry} {hall hall' : HallSeen} {p p' : PortSeen} (more : List (List ℕ))
       → IsEarly end → IsSession kind rules end b xs h (changed hall hall' p p') → IsSession kind rules end b (xs ++ more) h (changed hall hall' p p')
   session_wider {rules} {end} {b} {xs} {h} {hall} {hall'} {p} {p'} more early s = record {
     turns = s.turns;

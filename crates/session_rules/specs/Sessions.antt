@@ -48,11 +48,7 @@ pub record IsStopped {T : Type 0} (kind : Kind T) (IsCause : List ℕ → ℕ �
   pub reading : ℕ
   pub split : turns ≡ front ++ behind
   pub next : rest ≡ piece ∷ more
-  pub added : a ≡ record {
-    text = text_of kind front;
-    readings = readings_of kind turns ++ reading ∷ [];
-    noise = noise_of kind front;
-  }
+  pub added : a ≡ record (added_by kind front) { readings = readings_of kind turns ++ reading ∷ [] }
   pub cause : IsCause piece reading
 
 -- The end of a session, of the history behind it, its turns, those among them that are recorded and not answered, what it added, and
@@ -117,11 +113,15 @@ abbrev pub HasShown : HallSeen → Ending → Type 0
 HasShown hall (stopped stop) = IsShownFor hall stop
 HasShown hall end = Unit {0}
 
--- Of a session that a write fault or a stop cut short: all pieces but those that end in the last bytes read were answered. No input can
--- foresee those ends, so one that reads further ahead than this, or reads on after them, is none.
-abbrev pub ReadsNoFurther : {T : Type 0} → Kind T → (List ℕ → List (List ℕ)) → Ending → List ℕ → List T → List T → Type 0
-ReadsNoFurther {T} kind cut answered read turns behind = Unit {0}
-ReadsNoFurther {T} kind cut cut_off read turns behind =
-    (front : List T) × (last : T) × (turns ≡ front ++ last ∷ behind) × IsNotAhead cut read (pieces_of kind front)
-ReadsNoFurther {T} kind cut (stopped stop) read turns behind =
-    (front : List T) × (turns ≡ front ++ behind) × IsNotAhead cut read (pieces_of kind front)
+-- Completeness: how much of the bytes read was answered, which have these pieces. Where neither a write failed nor a stop came, every
+-- piece has its turn. Else all pieces but those that end in the last bytes read have one that was answered: no input can foresee those
+-- ends, so one that reads further ahead than this, or reads on after them, is none. The replies of the turns that were answered make up
+-- the text, but for the part of one that was cut off.
+abbrev pub IsComplete :
+    {T : Type 0} → Kind T → (List ℕ → List (List ℕ)) → Ending → List ℕ → List (List ℕ) → List T → List T → List ℕ → Type 0
+IsComplete {T} kind cut answered read pieces turns behind text = (pieces ≡ pieces_of kind turns) × (text ≡ text_of kind turns)
+IsComplete {T} kind cut cut_off read pieces turns behind text =
+    (front : List T) × (last : T) × (part : List ℕ) × (turns ≡ front ++ last ∷ behind) × (text ≡ text_of kind front ++ part)
+    × IsNotAhead cut read (pieces_of kind front)
+IsComplete {T} kind cut (stopped stop) read pieces turns behind text =
+    (front : List T) × (turns ≡ front ++ behind) × (text ≡ text_of kind front) × IsNotAhead cut read (pieces_of kind front)
