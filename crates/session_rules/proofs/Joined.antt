@@ -11,7 +11,7 @@ use Rattle.centre_core.specs.declared.hall.Stop.{Stop}
 use Rattle.centre_rules.specs.Summary.{Summary}
 use Rattle.centre_rules.specs.History.{Entry}
 use Rattle.session_rules.specs.Turns.{Kind, Rules, pieces_of, entries_of, added_by}
-use Rattle.session_rules.specs.Sessions.{changed, Ending, answered, cut_off, stopped, IsEnd, IsSession, IsUnstopped}
+use Rattle.session_rules.specs.Sessions.{changed, Ending, answered, cut_off, stopped, IsEnd, IsSession}
 use Rattle.session_rules.proofs.Appended.{pieces-append, ends_more, own_more}
 
 -- What holds of some turns, and then of others behind them, holds of all.

@@ -1,5 +1,5 @@
 -- What no call of a hall, and no session over it, changes.
-use Rattle.std.proofs.Common.{◌≡◌, ◌≤◌, refl, ◌∙◌, arith}
+use Rattle.std.proofs.Common.{refl, ◌∙◌, arith}
 use Rattle.centre_core.specs.Halls.{HallSeen, IsKept}
 
 -- nothing was called
