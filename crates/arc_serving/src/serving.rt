@@ -121,7 +121,8 @@ fn gather_blank<
 {
     let (gate, first) = GroupGate::<D, N>::new(blank);
     let mut first = first;
-    let (station, came) = serve_together(rt, alloc, &gate, &mut first, station, crew);
+    let at = StationGate::Group(&gate);
+    let (station, came) = serve_at(rt, alloc, &at, &mut first, station, crew);
     GatheredStore {
         closed: gate.close(first),
         station,
@@ -156,68 +157,13 @@ fn serve_blank<
 {
     let (gate, first) = Gate::<D, N>::new(blank);
     let mut first = first;
-    let (station, came) = serve_alone(rt, alloc, &gate, &mut first, station, crew);
+    let at = StationGate::Single(SingleGate { gate: &gate });
+    let (station, came) = serve_at(rt, alloc, &at, &mut first, station, crew);
     ServedStore {
         store: gate.close(first),
         station,
         came,
     }
-}
-
-// Serves all callers at a gate that takes each event alone.
-fn serve_alone<
-    A: Door + Send + Drop,
-    B: Door + Send + Drop,
-    T: Pulse + Send + Drop,
-    D: Disk + Send,
-    R: Threads + Wait + Sync,
-    N: GateName + Send + Sync,
->(
-    rt: &R,
-    alloc: Global,
-    gate: &Gate<D, N>,
-    first: &mut Pass<N>,
-    station: Station<A, B, T>,
-    crew: Crew,
-) -> (Station<A, B, T>, Result<Came, Memory>)
-    requires single { N.terms.groups ≡ false }
-    requires first { IsPass N.terms first.old × (first.old.since ≡ []) }
-    requires lines { crew.lines ≤ length station.lines }
-    requires desks { crew.desks ≤ length station.desks }
-    ensures pass { IsPass N.terms first.new }
-    ensures served { IfOk result.1 (λ came. RanBefore N.terms first.new crew station result.0 came) }
-    ensures untouched { OnErr result.1 (result.0 ≡ station) }
-{
-    let gate = StationGate::Single(SingleGate { gate });
-    serve_at(rt, alloc, &gate, first, station, crew)
-}
-
-// Serves all callers at a gate that takes events together.
-fn serve_together<
-    A: Door + Send + Drop,
-    B: Door + Send + Drop,
-    T: Pulse + Send + Drop,
-    D: Disk + Send,
-    R: Threads + Wait + Sync,
-    N: GateName + Send + Sync,
->(
-    rt: &R,
-    alloc: Global,
-    gate: &GroupGate<D, N>,
-    first: &mut Pass<N>,
-    station: Station<A, B, T>,
-    crew: Crew,
-) -> (Station<A, B, T>, Result<Came, Memory>)
-    requires groups { N.terms.groups ≡ true }
-    requires first { IsPass N.terms first.old × (first.old.since ≡ []) }
-    requires lines { crew.lines ≤ length station.lines }
-    requires desks { crew.desks ≤ length station.desks }
-    ensures pass { IsPass N.terms first.new }
-    ensures served { IfOk result.1 (λ came. RanBefore N.terms first.new crew station result.0 came) }
-    ensures untouched { OnErr result.1 (result.0 ≡ station) }
-{
-    let gate = StationGate::Group(gate);
-    serve_at(rt, alloc, &gate, first, station, crew)
 }
 
 // Serves all callers at a gate, of which there is the first pass, until all have ended. The pass has then taken in those of all.

@@ -12,7 +12,7 @@ pub returns-clause-served : goal.returns-clause-served
 returns-clause-served g c =
     let seen = g.D.Disk.seen in
     let t = g.N.GateName.terms in
-    let ran = c.serve_alone-station in
+    let ran = c.serve_at-station in
     let last = ran.new.first in
     let s = c.close.result in
     let e = c.close.ensures in
@@ -24,8 +24,8 @@ pub returns-clause-refused : goal.returns-clause-refused
 returns-clause-refused g c =
     let seen = g.D.Disk.seen in
     let t = g.N.GateName.terms in
-    let last = c.serve_alone-station.new.first in
+    let last = c.serve_at-station.new.first in
     let s = c.close.result in
     let e = c.close.ensures in
     let closed : IsClosed seen t last s = record { stands = e.stands; told_is = e.told; at_open = e.at_open; limits = e.limits; text = e.text } in
-    on_err c.serve_alone-station.result.1 ((b : Summary) (h : List Entry) → t.stood b h → GoesOnFrom seen b h s) (goes_on seen t last s closed)
+    on_err c.serve_at-station.result.1 ((b : Summary) (h : List Entry) → t.stood b h → GoesOnFrom seen b h s) (goes_on seen t last s closed)
