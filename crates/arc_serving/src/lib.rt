@@ -22,4 +22,4 @@ pub use side::Side;
 pub use station::{Came, Crew, GatheredStore, ServedStore, Station};
 pub use station_gate::{SingleGate, StationGate};
 pub use ticking::{Ticked, ticker};
-pub use working::{Worked, WorkerEnd, desk_worker, line_worker, worker};
+pub use working::{Worked, WorkerEnd, worker};

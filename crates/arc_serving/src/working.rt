@@ -1,6 +1,5 @@
 // The workers.
 ghost use Rattle.std.specs.Prelude.{◌≡◌};
-ghost use Rattle.arc_serving.specs.declared.side.Side.TheVariants.{Lines, Desks};
 ghost use Rattle.line_gate.specs.Passes.{IsPass};
 ghost use Rattle.arc_serving.specs.Works.{Works, is_refused, stop_of};
 
@@ -33,36 +32,6 @@ pub enum WorkerEnd {
 pub struct Worked {
     pub end: WorkerEnd,
     pub refused: u64,
-}
-
-/// Serves lines, as `worker` does.
-pub fn line_worker<'a, A: Door, D: Disk, R: Wait, N: GateName>(
-    rt: &R,
-    alloc: Global,
-    gate: &StationGate<'a, D, N>,
-    pass: Pass<N>,
-    door: &mut A,
-    sessions: u32,
-) -> (Pass<N>, Worked)
-    ensures pass { IsPass N.terms result.0 }
-    ensures works { Works Lines N.terms pass result.0 (A.seen door.old) (A.seen door.new) sessions result.1 }
-{
-    worker(Side::Lines, rt, alloc, gate, pass, door, sessions)
-}
-
-/// Serves desks, as `worker` does.
-pub fn desk_worker<'a, A: Door, D: Disk, R: Wait, N: GateName>(
-    rt: &R,
-    alloc: Global,
-    gate: &StationGate<'a, D, N>,
-    pass: Pass<N>,
-    door: &mut A,
-    sessions: u32,
-) -> (Pass<N>, Worked)
-    ensures pass { IsPass N.terms result.0 }
-    ensures works { Works Desks N.terms pass result.0 (A.seen door.old) (A.seen door.new) sessions result.1 }
-{
-    worker(Side::Desks, rt, alloc, gate, pass, door, sessions)
 }
 
 /// Takes links from the door, one after the other, at most so many, serves each by a session of this kind as the caller of the pass,

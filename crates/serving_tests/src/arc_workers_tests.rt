@@ -9,8 +9,7 @@ use crate::stores::blank_of;
 use arc_doors::{ListPulse, MemDoor, Pulse};
 use arc_io::{Disk, MemDisk, MemPort, Port};
 use arc_serving::{
-    Side, SingleGate, StationGate, Ticked, Worked, WorkerEnd, desk_worker, law_one_caller,
-    line_worker, ticker,
+    Side, SingleGate, StationGate, Ticked, Worked, WorkerEnd, law_one_caller, ticker, worker,
 };
 use centre_core::Stop;
 use disk_journal::Limits;
@@ -96,10 +95,7 @@ fn work_at<P: Port + Send + Drop, R: Wait, D: Disk + Drop, N: GateName>(
     law_one_caller::<N>();
     let (gate, pass) = Gate::<D, N>::new(blank);
     let at = StationGate::Single(SingleGate { gate: &gate });
-    let (pass, worked) = match case.side {
-        Side::Lines => line_worker(rt, alloc, &at, pass, door, case.sessions),
-        Side::Desks => desk_worker(rt, alloc, &at, pass, door, case.sessions),
-    };
+    let (pass, worked) = worker(case.side, rt, alloc, &at, pass, door, case.sessions);
     let store = gate.close(pass);
     let entries = store.centre().entries();
     // Given to `drop`, since its parts needn't be looked at here.
