@@ -6,7 +6,7 @@ ghost use Rattle.line_gate.specs.Passes.{IsPass};
 ghost use Rattle.arc_serving.specs.Served.{tcp as tcp_name, IsServed, IsSingle, made_between};
 ghost use Rattle.arc_serving.specs.Next.{ServesNext};
 
-use crate::session::{SessionEnd, serve, session_end};
+use crate::session::{SessionEnd, end_of_line, serve};
 use crate::side::Side;
 use crate::station_gate::StationGate;
 use arc_data::Txt;
@@ -151,7 +151,7 @@ fn serve_at_group<P: Port, D: Disk, R: Wait, N: GateName>(
     let _ = pass.number();
     let mut hall = AtGroup { rt, gate, pass };
     let name = tcp();
-    let end = session_end(serve_group(alloc, &mut hall, link, &name));
+    let end = end_of_line(serve_group(alloc, &mut hall, link, &name));
     let pass = hall.leave();
     let _ = pass.number();
     (pass, end)

@@ -6,7 +6,7 @@ ghost use Rattle.centre_core.specs.Halls.{IsKept};
 ghost use Rattle.centre_rules.specs.Summary.{Summary};
 ghost use Rattle.centre_rules.specs.History.{Entry};
 ghost use Rattle.session_rules.specs.Sessions.{changed, Goes};
-ghost use Rattle.arc_serving.specs.Sessions.{Reads, Serves, ShowsEnd, line_end};
+ghost use Rattle.arc_serving.specs.Sessions.{Reads, Serves, ShowsEnd, line_end, desk_end};
 
 use crate::side::Side;
 use arc_data::Txt;
@@ -54,34 +54,13 @@ pub fn serve<H: Hall, P: Port>(
     ensures kept { IsKept (H.seen hall.old) (H.seen hall.new) }
 {
     match side {
-        Side::Lines => serve_one_line(name, alloc, hall, port),
-        Side::Desks => serve_one_desk(alloc, hall, port),
+        Side::Lines => end_of_line(serve_line(alloc, hall, port, name)),
+        Side::Desks => end_of_desk(serve_desk(alloc, hall, port)),
     }
 }
 
-// Serves one line.
-fn serve_one_line<H: Hall, P: Port>(
-    name: &Txt,
-    alloc: Global,
-    hall: &mut H,
-    port: &mut P,
-) -> SessionEnd
-    requires ready { (H.seen hall.old).ready }
-    requires name { is_name name.now ≡ true }
-    requires not_ended { (P.seen port.old).ended ≡ false }
-    ensures serves { (read : List ℕ) × Reads Side.Lines result read (P.seen port.old) (P.seen port.new)
-        × ((b : Summary) (h : List Entry) → (H.seen hall.old).stands b h →
-        Goes h (λ w. Serves Side.Lines name.now result read b w (changed (H.seen hall.old) (H.seen hall.new) (P.seen port.old) (P.seen port.new)))) }
-    ensures stop { ShowsEnd result (H.seen hall.new) }
-    ensures read { result ≡ SessionEnd.ReadFault → Rose (P.seen port.old).read_faults (P.seen port.new).read_faults }
-    ensures write { result ≡ SessionEnd.WriteFault → Rose (P.seen port.old).write_faults (P.seen port.new).write_faults }
-    ensures kept { IsKept (H.seen hall.old) (H.seen hall.new) }
-{
-    session_end(serve_line(alloc, hall, port, name))
-}
-
 /// The end of a line as that of a session.
-pub(crate) fn session_end(end: LineEnd) -> SessionEnd
+pub(crate) fn end_of_line(end: LineEnd) -> SessionEnd
     ensures { line_end result ≡ Some end }
 {
     match end {
@@ -93,19 +72,11 @@ pub(crate) fn session_end(end: LineEnd) -> SessionEnd
     }
 }
 
-// Serves one desk.
-fn serve_one_desk<H: Hall, P: Port>(alloc: Global, hall: &mut H, port: &mut P) -> SessionEnd
-    requires ready { (H.seen hall.old).ready }
-    requires not_ended { (P.seen port.old).ended ≡ false }
-    ensures serves { (read : List ℕ) × Reads Side.Desks result read (P.seen port.old) (P.seen port.new)
-        × ((b : Summary) (h : List Entry) → (H.seen hall.old).stands b h →
-        Goes h (λ w. Serves Side.Desks [] result read b w (changed (H.seen hall.old) (H.seen hall.new) (P.seen port.old) (P.seen port.new)))) }
-    ensures stop { ShowsEnd result (H.seen hall.new) }
-    ensures read { result ≡ SessionEnd.ReadFault → Rose (P.seen port.old).read_faults (P.seen port.new).read_faults }
-    ensures write { result ≡ SessionEnd.WriteFault → Rose (P.seen port.old).write_faults (P.seen port.new).write_faults }
-    ensures kept { IsKept (H.seen hall.old) (H.seen hall.new) }
+// The end of a desk as that of a session.
+fn end_of_desk(end: DeskEnd) -> SessionEnd
+    ensures { desk_end result ≡ end }
 {
-    match serve_desk(alloc, hall, port) {
+    match end {
         DeskEnd::Quit => SessionEnd::Quit,
         DeskEnd::InputEnded => SessionEnd::InputEnded,
         DeskEnd::ReadFault => SessionEnd::ReadFault,

@@ -9,7 +9,7 @@ pub returns-clause-served : goal.returns-clause-served
 returns-clause-served g c =
     let t = g.N.GateName.terms in
     let one = c.serve_group.ensures.line in
-    let end = c.session_end-end in
+    let end = c.end_of_line-end in
     let left : c.leave-pass.result ≡ c.serve_group.new.hall.pass = c.leave-pass.ensures in record {
       read = one.0;
       reads = reads_together end.result c.serve_group.result one.0 _ _ end.ensures one.1;
