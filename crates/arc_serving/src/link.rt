@@ -31,7 +31,6 @@ pub(crate) fn serve_next<'a, A: Door, D: Disk, R: Wait, N: GateName>(
     ensures pass { IsPass N.terms result.0 }
     ensures next { ServesNext side N.terms pass result.0 (A.seen door.old) (A.seen door.new) result.1 }
 {
-    let _ = pass.number();
     match door.next(rt) {
         Err(Failed) => (pass, Err(Failed)),
         Ok(None) => (pass, Ok(None)),
@@ -120,12 +119,10 @@ fn serve_at_gate<P: Port, D: Disk, R: Wait, N: GateName>(
     }) }
     ensures stop { ShowsEnd result.1 (gate_seen N.terms result.0) }
 {
-    let _ = pass.number();
     let mut hall = AtGate { rt, gate, pass };
     let name = tcp();
     let end = serve(side, &name, alloc, &mut hall, link);
     let pass = hall.leave();
-    let _ = pass.number();
     (pass, end)
 }
 
@@ -148,12 +145,10 @@ fn serve_at_group<P: Port, D: Disk, R: Wait, N: GateName>(
     }) }
     ensures stop { ShowsEnd result.1 (gate_seen N.terms result.0) }
 {
-    let _ = pass.number();
     let mut hall = AtGroup { rt, gate, pass };
     let name = tcp();
     let end = end_of_line(serve_group(alloc, &mut hall, link, &name));
     let pass = hall.leave();
-    let _ = pass.number();
     (pass, end)
 }
 

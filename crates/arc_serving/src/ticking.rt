@@ -34,7 +34,6 @@ pub fn ticker<T: Pulse, D: Disk, R: Wait, N: GateName>(
     ensures pass { IsPass N.terms result.0 }
     ensures works { WorksTicks N.terms pass result.0 (T.moments pulse.old) (T.moments pulse.new) result.1 }
 {
-    let _ = pass.number();
     let mut pass = pass;
     let mut refused: u64 = 0;
     for _ in rt.forever() {

@@ -49,7 +49,6 @@ pub fn worker<'a, A: Door, D: Disk, R: Wait, N: GateName>(
     ensures pass { IsPass N.terms result.0 }
     ensures works { Works side N.terms pass result.0 (A.seen door.old) (A.seen door.new) sessions result.1 }
 {
-    let _ = pass.number();
     let before = door.faults();
     let mut pass = pass;
     let mut refused = 0;

@@ -1,5 +1,5 @@
-use Rattle.std.proofs.Common.{◌≡◌, ◌≤◌, ap, sym, ◌∙◌, subst}
-use Rattle.line_gate.specs.Passes.{PassSeen}
+use Rattle.std.proofs.Common.{◌≡◌, ◌≤◌, ap, sym, ◌∙◌, subst, rules}
+use Rattle.line_gate.specs.Passes.{PassSeen, IsPass}
 use Rattle.arc_serving.specs.declared.side.Side.TheVariants.{Lines}
 use Rattle.arc_serving.proofs.AtGates.{goes_together, reads_together, serves_left}
 use Rattle.arc_serving.proofs.link.serve_at_group.Goals as goal
@@ -8,15 +8,16 @@ use Rattle.arc_serving.proofs.link.serve_at_group.Goals as goal
 pub returns-clause-served : goal.returns-clause-served
 returns-clause-served g c =
     let t = g.N.GateName.terms in
+    let began : IsPass t c.args.pass = search rules in
     let one = c.serve_group.ensures.line in
     let end = c.end_of_line-end in
     let left : c.leave-pass.result ≡ c.serve_group.new.hall.pass = c.leave-pass.ensures in record {
       read = one.0;
       reads = reads_together end.result c.serve_group.result one.0 _ _ end.ensures one.1;
-      serves = serves_left Lines t c.args.pass c.leave-pass.result c.serve_group.new.hall.pass one.0 _ _ c.tcp-name.result end.result c.number.ensures.pass left
+      serves = serves_left Lines t c.args.pass c.leave-pass.result c.serve_group.new.hall.pass one.0 _ _ c.tcp-name.result end.result began left
           c.tcp-name.ensures (λ b h w. goes_together t.groups c.tcp-name.result end.result c.serve_group.result one.0 b h _ _ _ _ c.requires.named end.ensures (one.2 b h w));
       number = ap (λ (k : PassSeen). k.number) left ∙ c.serve_group.ensures.kept.caller;
       count = subst (λ (k : PassSeen). c.args.pass.count ≤ k.count) (sym left) c.serve_group.ensures.kept.count;
       told = subst (λ (k : PassSeen). c.args.pass.told ≤ k.told) (sym left) c.serve_group.ensures.kept.told;
-      pass = c.number-2.ensures.pass;
+      pass = search rules;
     }

@@ -1,10 +1,13 @@
-use Rattle.std.proofs.Common.{sym, ◌∙◌}
+use Rattle.std.proofs.Common.{sym, ◌∙◌, rules}
 use Rattle.std.proofs.lemmas.Bool.{true≢false}
+use Rattle.line_gate.specs.Passes.{IsPass}
 use Rattle.arc_serving.proofs.Moments.{no_ticks, answered, missed, tick_stopped}
 use Rattle.arc_serving.proofs.ticking.ticker.Goals as goal
 
 pub loop-init : goal.loop-init
-loop-init g c = no_ticks g.N.GateName.terms c.args.pass _ c.number.ensures.pass
+loop-init g c =
+    let pass : IsPass g.N.GateName.terms c.args.pass = search rules in
+    no_ticks g.N.GateName.terms c.args.pass _ pass
 
 pub loop-preserved : goal.loop-preserved
 loop-preserved g c = answered g.N.GateName.terms c.args.pass c.loop.pass c.tick_at.new.pass _ _ _ c.loop.refused c.in-Some-next.moment c.loop.invariant c.in-Some-next.ensures.told c.in_default-tick_at.ensures.ticks

@@ -1,12 +1,15 @@
-use Rattle.std.proofs.Common.{◌≡◌, ◌+◌, ℕ, sym, ap, ◌∙◌, subst, arith}
+use Rattle.std.proofs.Common.{◌≡◌, ◌+◌, ℕ, sym, ap, ◌∙◌, subst, arith, rules}
 use Rattle.std.specs.Prelude.{Bool, cond}
+use Rattle.line_gate.specs.Passes.{IsPass}
 use Rattle.arc_serving.proofs.SoFar.{none_yet, so_far_more, next_served, works_quota, works_ended, works_faulted, works_stopped}
 use Rattle.arc_serving.proofs.working.worker.Goals.{then-is_refused, else-is_refused}
 use Rattle.arc_serving.proofs.working.worker.Goals as goal
 use Rattle.arc_serving.specs.Works.{Works, is_refused}
 
 pub loop-count-init : goal.loop-count-init
-loop-count-init g c = none_yet c.args.side g.N.GateName.terms c.args.pass _ c.args.sessions c.number.ensures.pass
+loop-count-init g c =
+    let pass : IsPass g.N.GateName.terms c.args.pass = search rules in
+    none_yet c.args.side g.N.GateName.terms c.args.pass _ c.args.sessions pass
 
 pub returns-clause-works : goal.returns-clause-works
 returns-clause-works g c =
