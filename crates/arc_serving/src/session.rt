@@ -1,5 +1,5 @@
 // One session over a hall, of either kind.
-ghost use Rattle.std.specs.Prelude.{◌≡◌, ◌≤◌, [], true, false, Some, List, ℕ};
+ghost use Rattle.std.specs.Prelude.{◌≡◌, true, false, Some, List, ℕ};
 ghost use Rattle.arc_data.specs.Digits.{is_name};
 ghost use Rattle.arc_io.specs.Causes.{Rose};
 ghost use Rattle.centre_core.specs.Halls.{IsKept};
