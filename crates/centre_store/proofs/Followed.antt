@@ -19,7 +19,7 @@ use Rattle.disk_journal.specs.declared.fault.BodyFault.TheVariants.{DiskFault, M
 use Rattle.disk_journal.specs.Journal.{Holds}
 use Rattle.disk_journal.specs.declared.journal.Journal.{Journal}
 use Rattle.event_codec.specs.Spelling.{spelling_in, HasSpellingIn}
-use Rattle.centre_store.specs.Bodies.{bodies_in, bodies_of, body_in, need_of}
+use Rattle.centre_store.specs.Bodies.{bodies_in, body_in, need_of}
 use Rattle.centre_store.specs.Followings.{since_of, body_of_number, GoesOnWith, HasNext, ShowsOfReplay}
 use Rattle.centre_store.specs.Given.{IsKeptAs, StandForIn, HoldsRecorded, HasRecorded}
 use Rattle.centre_store.specs.Stores.{Stored, HasFailed, IsOverWith, StoreStands}
@@ -42,12 +42,12 @@ bodies_both version k l =
 
 -- of the bodies that a journal has, those of the later entries, each is that of the number behind all that is summed up
 kept_at : (b : Summary) (h : List Entry) (first : Option (List ℕ)) (bodies : List (List ℕ)) (kept : IsKeptAs 2 b h first bodies) (i place : ℕ)
-    → place ≡ length (recorded kept.summed) + i → slice_index_or bodies i [] ≡ slice_index_or (bodies_of h) place []
+    → place ≡ length (recorded kept.summed) + i → slice_index_or bodies i [] ≡ slice_index_or (bodies_in 2 h) place []
 kept_at b h first bodies kept i place is =
-    let parts : bodies_of h ≡ bodies_in 2 kept.summed ++ bodies = ap (bodies_in 2) kept.split ∙ bodies_both 2 kept.later kept.summed
+    let parts : bodies_in 2 h ≡ bodies_in 2 kept.summed ++ bodies = ap (bodies_in 2) kept.split ∙ bodies_both 2 kept.later kept.summed
     ∙ ap (λ (l : List (List ℕ)). bodies_in 2 kept.summed ++ l) (sym kept.bodies_are) in
     let there : place ≡ length (bodies_in 2 kept.summed) + i = omega (arith, is, bodies_count 2 kept.summed) in
-    sym (ap (λ (n : ℕ). slice_index_or (bodies_of h) n []) there ∙ ap (λ (l : List (List ℕ)). slice_index_or l (length (bodies_in 2 kept.summed) + i) []) parts
+    sym (ap (λ (n : ℕ). slice_index_or (bodies_in 2 h) n []) there ∙ ap (λ (l : List (List ℕ)). slice_index_or l (length (bodies_in 2 kept.summed) + i) []) parts
     ∙ get_or-append-add (bodies_in 2 kept.summed) bodies i [])
 
 -- the one body that was put there is what comes off

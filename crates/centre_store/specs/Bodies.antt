@@ -12,10 +12,6 @@ body_in version e = spelling_in version e.event e.at
 unfoldable pub bodies_in : ℕ → List Entry → List (List ℕ)
 bodies_in version h = reverse (map (body_in version) (recorded h))
 
--- as they are written
-abbrev pub bodies_of : List Entry → List (List ℕ)
-bodies_of h = bodies_in 2 h
-
 -- each message came by a line that the version tells: in the first by the one of the one name
 abbrev pub AreNamedIn : ℕ → List Entry → Type 0
 AreNamedIn version [] = Unit {0}

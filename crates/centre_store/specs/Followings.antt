@@ -8,7 +8,7 @@ use Rattle.arc_io.specs.Disks.{DiskSeen}
 use Rattle.centre_rules.specs.Summary.{Summary}
 use Rattle.centre_rules.specs.History.{Entry}
 use Rattle.event_codec.specs.Spelling.{spelling}
-use Rattle.centre_store.specs.Bodies.{bodies_of}
+use Rattle.centre_store.specs.Bodies.{bodies_in}
 use Rattle.centre_store.specs.Stores.{Stored, HasFailed, IsNextKept, IsOverWith, ShowsAt, StoreStands}
 use Rattle.centre_store.specs.declared.following.Found.{Found}
 use Rattle.centre_store.specs.declared.following.Found.TheVariants.{Body, InSummary, Ahead}
@@ -23,7 +23,7 @@ place_of since recorded number = if nat_le number since then InSummary else (if 
 
 -- the body of the recorded entry of a number, which is counted from 1, those of the summary with it
 abbrev pub body_of_number : Summary → List Entry → ℕ → List ℕ
-body_of_number b h number = slice_index_or (bodies_of h) (number - b.recorded - 1) []
+body_of_number b h number = slice_index_or (bodies_in 2 h) (number - b.recorded - 1) []
 
 -- the body is that of an entry that goes on from the history and is recorded
 pub record GoesOnWith (b : Summary) (h : List Entry) (body : List ℕ) (e : Entry) : Type 0 where
