@@ -4,13 +4,14 @@ use Rattle.std.specs.Prelude.{◌&&◌, IsOk, is_ok, unwrap_or, option_and_then}
 use Rattle.std.specs.Result.{result_ok}
 use Rattle.std.specs.List.{filter, flat_map}
 use Rattle.std.specs.Str.{bytes_eq}
+use Rattle.std.specs.Option.{option_map_or}
 use Rattle.std.proofs.lemmas.Bool.{false≢true}
 use Rattle.arc_data.specs.WellFormed.{IsWellFormed, IsMessage, IsSent, IsText}
 use Rattle.arc_data.specs.declared.event.Event.{Event}
 use Rattle.arc_data.specs.declared.event.Event.TheVariants.{Adopt, Start, Message as Sent, Beat, Tick, Claim, Next, Act as Do, Release, Close, Show, List as Rows}
 use Rattle.arc_data.specs.declared.event.Message.{Message}
 use Rattle.arc_data.specs.declared.reply.Reply.{Reply}
-use Rattle.arc_data.specs.declared.reply.Reply.TheVariants.{Adopted, Claimed, Recorded, Released, Closed, HeldBy, Expected, NotYours}
+use Rattle.arc_data.specs.declared.reply.Reply.TheVariants.{Adopted, Claimed, Recorded, Released, Closed, HeldBy, Expected, NotYours, NotOpen, BusyWith, NoneWaiting}
 use Rattle.arc_data.specs.declared.signal.Class.{Class}
 use Rattle.arc_data.specs.declared.signal.Class.TheVariants.{CommFail, Irregular, LateClose}
 use Rattle.arc_data.specs.declared.signal.Signal.{Signal}
@@ -27,7 +28,7 @@ use Rattle.centre_rules.specs.Marks.{Mark, Adopts, Starts, Sends, Hears, Carries
 use Rattle.centre_rules.specs.Cases.{Incident}
 use Rattle.centre_rules.specs.Standing.{standing}
 use Rattle.centre_rules.specs.Carrying.{carried, carried_sent, own_signal, if_in_force, is_irregular, sent, raised, raised_where, is_silent, is_late}
-use Rattle.centre_rules.specs.Desks.{numbered, held_by, best, claim_unless, claim_from, claim_of, on_claim, next_of, on_next, holds, act_when, act_of, on_act}
+use Rattle.centre_rules.specs.Desks.{numbered, held_by, best, claim_unless, claim_from, on_claim, on_next, holds, act_when, on_act, if_held, claimed}
 use Rattle.centre_rules.specs.History.{is_recorded, claim_marks, act_marks, release_marks, close_marks, marks_of, acted_by}
 use Rattle.centre_rules.specs.Answers.{if_known, knows_account, knows_operator, taken_or, repeat_of, answer_over}
 use Rattle.summary_rules.specs.Lists.{Every}
@@ -193,12 +194,12 @@ by_holder : (operator : List ℕ) (is : List Incident) (i : Incident) (h : Optio
 by_holder operator is i None c = by_mine (held_by operator is) i c
 by_holder operator is i (Some x) c = by_same operator x is i (bytes_eq x operator) c
 
-by_found : (operator : List ℕ) (is : List Incident) (number : ℕ) (found : Option Incident) → claims (claim_of operator is number found) ≡ true → held_by operator is ≡ None
+by_found : (operator : List ℕ) (is : List Incident) (number : ℕ) (found : Option Incident) → claims (option_map_or (λ (i : Incident). claim_from operator is i i.holder) found (NotOpen number)) ≡ true → held_by operator is ≡ None
 unfolding claims
 by_found operator is number None c = absurd (false≢true c)
 by_found operator is number (Some i) c = by_holder operator is i i.holder c
 
-by_next : (mine waiting : Option Incident) → claims (next_of mine waiting) ≡ true → mine ≡ None
+by_next : (mine waiting : Option Incident) → claims (option_map_or (λ (j : Incident). BusyWith j.number) mine (option_map_or claimed waiting NoneWaiting)) ≡ true → mine ≡ None
 unfolding claims
 by_next None waiting c = refl
 by_next (Some j) waiting c = absurd (false≢true c)
@@ -252,7 +253,7 @@ act_held at number n acted is i true good moment found held c = act_expected at 
 act_held at number n acted is i false good moment found held c = absurd (cc)
 
 act_found : (at number n : ℕ) (acted : Acted) (is : List Incident) (f : Option Incident) → IsGoodAct acted → acted.at ≡ at → numbered number is ≡ f
-    → acts_on (act_of acted number f) ≡ Some n → IsActedAt at n acted is
+    → acts_on (if_held acted.operator number f (λ i. act_when acted i (expected_step i.steps i.acts))) ≡ Some n → IsActedAt at n acted is
 unfolding acts_on
 act_found at number n acted is None good moment found c = absurd (cc)
 act_found at number n acted is (Some i) good moment found c = act_held at number n acted is i (holds acted.operator i) good moment found refl c
