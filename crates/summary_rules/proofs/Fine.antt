@@ -32,7 +32,7 @@ use Rattle.centre_rules.specs.Desks.{numbered, held_by, best, claim_unless, clai
 use Rattle.centre_rules.specs.History.{is_recorded, claim_marks, act_marks, release_marks, close_marks, marks_of, acted_by}
 use Rattle.centre_rules.specs.Answers.{if_known, knows_account, knows_operator, taken_or, repeat_of, answer_over}
 use Rattle.summary_rules.specs.Lists.{Every}
-use Rattle.summary_rules.specs.Fields.{Given, IsAccount, IsShortText, IsLineText}
+use Rattle.summary_rules.specs.Fields.{Given, IsAccount, IsTextUpTo}
 use Rattle.summary_rules.proofs.Everies.{every_append, every_map, every_filter}
 use Rattle.summary_rules.proofs.SetupMeaning.{IsGoodAccount, IsGoodSetup, setup_good}
 use Rattle.summary_rules.proofs.PlanSteps.{AreGoodSteps, steps_good}
@@ -59,8 +59,8 @@ pub record IsHeardAt (at : ℕ) (account : List ℕ) (moment : ℕ) : Type 0 whe
 pub record IsCarriedAt (at : ℕ) (x : Carried) : Type 0 where
   pub moment_is : x.at ≡ at
   pub account_ok : IsAccount x.account
-  pub code : IsShortText x.signal.code
-  pub via : IsLineText x.via
+  pub code : IsTextUpTo 32 x.signal.code
+  pub via : IsTextUpTo 16 x.via
   pub good_steps : AreGoodSteps x.steps
 
 -- a claim at this moment, of an operator that holds none of these as they stand
@@ -118,17 +118,17 @@ under_any : (at : ℕ) (o : Option Setup) (f : Setup → List Carried) → Given
 under_any at None f w g = tt
 under_any at (Some setup) f w g = g setup w
 
-carried_good : (setup : Setup) (account : List ℕ) (at : ℕ) (by_tick : Bool) (via : List ℕ) (x : Signal) → IsGoodSetup setup → IsAccount account → IsLineText via
-    → IsShortText x.code → IsCarriedAt at (carried setup account at by_tick via x)
+carried_good : (setup : Setup) (account : List ℕ) (at : ℕ) (by_tick : Bool) (via : List ℕ) (x : Signal) → IsGoodSetup setup → IsAccount account → IsTextUpTo 16 via
+    → IsTextUpTo 32 x.code → IsCarriedAt at (carried setup account at by_tick via x)
 carried_good setup account at by_tick via x w ok line code =
     record { moment_is = refl; account_ok = ok; code = code; via = line; good_steps = steps_good setup account x.class at w }
 
 -- the code of a signal that no panel sent
-dash : (class : Class) → IsShortText (own_signal class).code
+dash : (class : Class) → IsTextUpTo 32 (own_signal class).code
 dash class = record { size = omega arith; bytes = (omega arith, tt) }
 
 -- no line
-no_line : IsLineText []
+no_line : IsTextUpTo 16 []
 no_line = record { size = omega arith; bytes = tt }
 
 irregular_at : (at : ℕ) (b : Bool) (x y : Carried) → IsCarriedAt at x → IsCarriedAt at y → Every (IsCarriedAt at) (x ∷ cond b (y ∷ []) [])
@@ -143,7 +143,7 @@ sent_at : (s : Summary) (ms : List Mark) (m : Message) (via : List ℕ) (at : �
 sent_at s ms m via at formed =
     let ok = formed.message.account in
     under_any at (force s ms) (λ setup. flat_map (carried_sent setup m.account via at) (unwrap_or (signals m.token m.content) [])) (force_good (text s ms))
-    (λ setup w. every_flat_of (λ (x : Signal). IsShortText x.code) (IsCarriedAt at) (carried_sent setup m.account via at)
+    (λ setup w. every_flat_of (λ (x : Signal). IsTextUpTo 32 x.code) (IsCarriedAt at) (carried_sent setup m.account via at)
     (λ x code. irregular_at at (is_irregular (account_of setup m.account) x.kind at) (carried setup m.account at false via x) (carried setup m.account at false [] (own_signal Irregular))
     (carried_good setup m.account at false via x w ok (line_short via formed.line_name) code) (carried_good setup m.account at false [] (own_signal Irregular) w ok no_line (dash Irregular)))
     (unwrap_or (signals m.token m.content) []) (codes_of m.token m.content formed.message.bytes))
