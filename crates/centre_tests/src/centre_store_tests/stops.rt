@@ -13,16 +13,6 @@ use std::process::Abort;
 use test_fixtures::moments::BEGIN;
 use test_fixtures::stores::opened;
 
-/// What a stop may leave of a byte that was not synced: the old one, the new one, or another one.
-pub(super) const FILLS: [Fill; 6] = [
-    Fill::Old,
-    Fill::New,
-    Fill::Torn(0),
-    Fill::Torn(1),
-    Fill::Torn(0x0b),
-    Fill::Torn(0xff),
-];
-
 /// The bytes of both areas.
 #[derive(Drop)]
 pub(super) struct Both {
@@ -273,7 +263,14 @@ fn compare_fills(
     call: (u64, u64),
     row: &str,
 ) {
-    for rest in FILLS {
+    for rest in [
+        Fill::Old,
+        Fill::New,
+        Fill::Torn(0),
+        Fill::Torn(1),
+        Fill::Torn(0x0b),
+        Fill::Torn(0xff),
+    ] {
         compare_stop(rt, alloc, case, disk, (call, Fill::Old, rest), row);
         compare_stop(rt, alloc, case, disk, (call, Fill::New, rest), row);
         compare_stop(rt, alloc, case, disk, (call, Fill::Torn(1), rest), row);
