@@ -2,7 +2,7 @@
 use Rattle.std.proofs.Common.{◌≡◌, ◌≤◌, ◌<◌, ℕ, List, [], ◌∷◌, Bool, true, false, Option, Some, None, Result, Ok, Err, IsOk, length, map, Bor, refl, sym, ap, ◌∙◌, is_some, slice_get, arith}
 use Rattle.std.specs.Prelude.{if◌then◌else◌, option_and_then, IfSome}
 use Rattle.std.specs.List.{find, position}
-use Rattle.std.specs.Option.{option_copied, option_map, option_or, unwrap_or}
+use Rattle.std.specs.Option.{option_copied, option_map, option_map_or, option_or, unwrap_or}
 use Rattle.std.specs.Result.{result_unwrap_or}
 use Rattle.std.proofs.lemmas.Bool.{le-ltb, lt-ltb}
 use Rattle.std.proofs.lemmas.List.{length-map}
@@ -15,8 +15,8 @@ use Rattle.arc_data.specs.declared.setup_fault.SetupFault.{SetupFault}
 use Rattle.arc_data.specs.declared.setup_fault.SetupFault.TheVariants.{TooLarge}
 use Rattle.arc_data.specs.declared.signal.Class.{Class}
 use Rattle.alarm_rules.specs.SetupLines.{AccountLine, PlanLine, Operator}
-use Rattle.alarm_rules.specs.Setups.{Account, Setup, Line, said_lines, first_fault, unless, told, things, accounts_in, operators_in, plans_in, lapse_part, account_with, is_plan_of}
-use Rattle.alarm_rules.specs.Setups.{setup_of, setup_of_lines, meaning, account_of, place_of, has_account, has_number, key_of, has_name, operator_of, words_for, plan_of}
+use Rattle.alarm_rules.specs.Setups.{Account, Setup, Line, said_lines, first_fault, told, things, accounts_in, operators_in, plans_in, lapse_part, account_with, is_plan_of}
+use Rattle.alarm_rules.specs.Setups.{setup_of, setup_of_lines, meaning, account_of, place_of, has_account, has_number, key_of, operator_of, words_for, plan_of}
 use Rattle.accounts.specs.declared.entry.Entry.{Entry}
 use Rattle.accounts.specs.declared.operator_table.OperatorEntry.{OperatorEntry}
 use Rattle.accounts.specs.declared.plan_list.ClassPlan.{ClassPlan}
@@ -33,7 +33,7 @@ use Rattle.accounts.proofs.TakenLemmas.{plans-found}
 
 -- the result of a text, by whether it is too large and by the fault of its lines
 abbrev result_of : List ℕ → Bool → Option SetupFault → Result Setup SetupFault
-result_of text large fault = if large then Err TooLarge else unless fault (setup_of_lines (said_lines text))
+result_of text large fault = if large then Err TooLarge else option_map_or Err fault (Ok (setup_of_lines (said_lines text)))
 
 pub setup_of-large : (text : List ℕ) → 4194304 < length text → setup_of text ≡ Err TooLarge
 unfolding setup_of
@@ -130,7 +130,7 @@ module _ (text : List ℕ) (table : Table) (read : IsReadFrom text table) where
   pub operator-read : (name : List ℕ) (entry : Option OperatorEntry) → entry ≡ find_name name table.operators
       → option_map operator_kept entry ≡ operator_of (meaning text) name
   operator-read name entry is =
-      ap (option_map operator_kept) is ∙ sym (ap (find (has_name name)) operators-read ∙ find-map operator_kept (has_name name) table.operators)
+      ap (option_map operator_kept) is ∙ sym (ap (find (λ (o : Operator). bytes_eq name o.name)) operators-read ∙ find-map operator_kept (λ (o : Operator). bytes_eq name o.name) table.operators)
 
   -- The lapse.
 

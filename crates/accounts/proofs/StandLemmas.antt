@@ -13,7 +13,7 @@ use Rattle.std.proofs.lemmas.Slice.Eq.{bytes_eq-Decides}
 use Rattle.arc_data.specs.declared.window.Window.{Window}
 use Rattle.alarm_rules.specs.SetupLines.{Said}
 use Rattle.alarm_rules.specs.SetupLines.{AccountLine, PlanLine}
-use Rattle.alarm_rules.specs.Setups.{Line, told, told_at, things, account_part, hours_part, keyholder_part, operator_part, lapse_part}
+use Rattle.alarm_rules.specs.Setups.{Line, told, things, account_part, hours_part, keyholder_part, operator_part, lapse_part}
 use Rattle.alarm_rules.specs.Setups.{accounts_in, windows_in, keyholders_in, operators_in, account_declared, zone_or_gmt}
 use Rattle.accounts.specs.declared.entry.Entry.{Entry}
 use Rattle.accounts.specs.declared.keyholders.Keyholder.{Keyholder}
@@ -83,7 +83,7 @@ number-none (Some thing) is = cc
 -- One more line.
 
 pub told-more : {A : Type 0} (part : Said → Option A) (lines : List Line) (l : Line) → told part (lines ++ l ∷ []) ≡ told part lines ++ told part (l ∷ [])
-told-more part lines l = filter_map-append (told_at part) lines (l ∷ [])
+told-more part lines l = filter_map-append (λ (l : Line). option_map (λ thing. (l.0, thing)) (option_and_then part l.1)) lines (l ∷ [])
 
 told-same : {A : Type 0} (part : Said → Option A) (lines : List Line) (l : Line) → told part (l ∷ []) ≡ [] → told part (lines ++ l ∷ []) ≡ told part lines
 told-same part lines l none = told-more part lines l ∙ ap (λ more. told part lines ++ more) none ∙ append-nil (told part lines)

@@ -4,7 +4,7 @@ use Rattle.std.proofs.Common.{refl, sym, ap, ◌∙◌, arith, append-nil}
 use Rattle.std.specs.Prelude.{if◌then◌else◌, IfSome}
 use Rattle.std.specs.Bool.{OnTrue}
 use Rattle.std.specs.List.{find, cons_option, position}
-use Rattle.std.specs.Option.{option_map, option_or}
+use Rattle.std.specs.Option.{option_eq, option_map, option_or}
 use Rattle.std.specs.Str.{bytes_eq}
 use Rattle.std.proofs.lemmas.Bool.{le-ltb, lt-ltb}
 use Rattle.std.proofs.lemmas.List.{length-map, map-append}
@@ -17,7 +17,7 @@ use Rattle.arc_data.specs.declared.window.Window.{Window}
 use Rattle.alarm_rules.specs.SetupLines.{Said, Nothing, OfAccount, OfHours, OfKeyholder, OfPlan, OfOperator, OfLapse}
 use Rattle.alarm_rules.specs.SetupLines.{AccountLine, HoursLine, KeyholderLine, PlanLine, Operator}
 use Rattle.alarm_rules.specs.Setups.{Line, told, things, accounts_in, windows_in, keyholders_in, plans_in, operators_in, lapse_part}
-use Rattle.alarm_rules.specs.Setups.{line_with, account_declared, same_target, is_plan_of, bad_zone, no_account, two_same, too_many, fault_of}
+use Rattle.alarm_rules.specs.Setups.{line_with, account_declared, is_plan_of, bad_zone, no_account, two_same, too_many, fault_of}
 use Rattle.accounts.specs.declared.entry.Entry.{Entry}
 use Rattle.accounts.specs.declared.keyholders.Keyholder.{Keyholder}
 use Rattle.accounts.specs.declared.line.AccountLine.{AccountLine as KeptAccount}
@@ -62,7 +62,7 @@ plans-found account class ((n, Some (OfAccount line)) ∷ lines) = plans-found a
 plans-found account class ((n, Some (OfHours line)) ∷ lines) = plans-found account class lines
 plans-found account class ((n, Some (OfKeyholder line)) ∷ lines) = plans-found account class lines
 plans-found account class ((n, Some (OfPlan line)) ∷ lines) =
-    own-plan (same_target account line.account) (same_class class line.class) (n, line) (plans_in lines) (plans_for account lines)
+    own-plan (option_eq bytes_eq account line.account) (same_class class line.class) (n, line) (plans_in lines) (plans_for account lines)
     (λ thing. is_plan_of account class thing.1) (λ thing. same_class class thing.1.class) refl (plans-found account class lines)
 plans-found account class ((n, Some (OfOperator line)) ∷ lines) = plans-found account class lines
 plans-found account class ((n, Some (OfLapse seconds)) ∷ lines) = plans-found account class lines

@@ -1,11 +1,12 @@
 -- What the lines so far declare, as it is kept.
 use Rattle.std.specs.Prelude.{◌≡◌, ◌⊎◌, ℕ, List, [], ◌∷◌, ◌++◌, true, Option, Some, None, Result, Ok, Err, if◌then◌else◌, length, map}
 use Rattle.std.specs.List.{find}
-use Rattle.std.specs.Option.{option_map}
+use Rattle.std.specs.Option.{option_eq, option_map}
+use Rattle.std.specs.Str.{bytes_eq}
 use Rattle.arc_data.specs.declared.setup_fault.SetupFault.{SetupFault}
 use Rattle.arc_data.specs.declared.setup_fault.SetupFault.TheVariants.{Memory}
 use Rattle.alarm_rules.specs.SetupLines.{Said, OfPlan, AccountLine, PlanLine, Operator}
-use Rattle.alarm_rules.specs.Setups.{Line, told, things, same_target, account_declared, fault_at, zone_or_gmt}
+use Rattle.alarm_rules.specs.Setups.{Line, told, things, account_declared, fault_at, zone_or_gmt}
 use Rattle.alarm_rules.specs.Setups.{accounts_in, windows_in, keyholders_in, operators_in, lapse_part}
 use Rattle.accounts.specs.declared.entry.Entry.{Entry}
 use Rattle.accounts.specs.declared.keyholders.Keyholder.{Keyholder}
@@ -38,7 +39,7 @@ plan_said account plan = OfPlan (record { account = account; class = plan.class;
 
 -- the plans of an account, or of all
 abbrev pub plan_for : Option (List ℕ) → Said → Option PlanLine
-plan_for account (OfPlan line) = if same_target account line.account then Some line else None
+plan_for account (OfPlan line) = if option_eq bytes_eq account line.account then Some line else None
 plan_for account other = None
 
 abbrev pub plans_for : Option (List ℕ) → List Line → List (ℕ × PlanLine)

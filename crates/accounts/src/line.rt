@@ -2,7 +2,7 @@
 ghost use Rattle.std.specs.Prelude.{◌≡◌, IfSome, codes};
 ghost use Rattle.std.specs.Option.{option_map};
 ghost use Rattle.jiff_core.specs.Calendar.{IsWithin};
-ghost use Rattle.alarm_rules.specs.SetupWords.{key_spelled, seconds_spelled, minutes_spelled};
+ghost use Rattle.alarm_rules.specs.SetupWords.{key_spelled, minutes_spelled, number_between};
 ghost use Rattle.alarm_rules.specs.SetupLines.{account_line, hours_line, keyholder_line, plan_line, operator_line, lapse_line};
 ghost use Rattle.alarm_rules.specs.SetupLines.{declared, is_skipped, optional, plan_words, rule_named, says, target_named, words_of, zone_named};
 ghost use Rattle.accounts.specs.Said.{said, said_account, said_hours, said_keyholder, said_plan, said_operator, IsValid, IsValidWindow};
@@ -144,7 +144,7 @@ fn key_option(words: &mut Words) -> Option<Option<Key>>
 
 /// `beat` and the seconds of an interval.
 fn beat_option(words: &mut Words) -> Option<Option<u64>>
-    ensures { option_map (λ beat. (beat, words.new)) result ≡ optional (codes "beat") seconds_spelled words.old }
+    ensures { option_map (λ beat. (beat, words.new)) result ≡ optional (codes "beat") (number_between 1 1_000_000) words.old }
 {
     match words.option(b"beat")? {
         Some(word) => Some(Some(seconds(word)?)),

@@ -2,7 +2,7 @@
 ghost use Rattle.std.specs.Prelude.{◌≡◌, ◌<◌, ◌≤◌, ℕ, IfSome};
 ghost use Rattle.jiff_core.specs.Calendar.{IsWithin};
 ghost use Rattle.arc_data.specs.Digits.{is_name};
-ghost use Rattle.alarm_rules.specs.SetupWords.{account_named, key_spelled, seconds_spelled, minutes_spelled, zone_spelled, number_between};
+ghost use Rattle.alarm_rules.specs.SetupWords.{account_named, key_spelled, minutes_spelled, zone_spelled, number_between};
 ghost use Rattle.alarm_rules.specs.SetupWords.{is_dialled, is_phone, is_pin, word_that};
 
 use aes_chain::Key;
@@ -40,7 +40,7 @@ pub(crate) fn key(word: &[u8]) -> Option<Key>
 
 /// The seconds of an interval, from 1 to 1,000,000.
 pub(crate) fn seconds(word: &[u8]) -> Option<u64>
-    ensures { result ≡ seconds_spelled word.now }
+    ensures { result ≡ number_between 1 1_000_000 word.now }
 {
     number_between(1, 1_000_000, word)
 }

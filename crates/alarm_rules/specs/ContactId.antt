@@ -53,13 +53,9 @@ contact_id_table =
     ∷ (Program, codes "627" ∷ codes "628" ∷ [])
     ∷ []
 
--- the row has the code
-abbrev pub lists_code : List ℕ → Class × List (List ℕ) → Bool
-lists_code code row = list_any (bytes_eq code) row.1
-
 -- the class that lists the code; a code that none lists is Unlisted
 unfoldable pub contact_id_class : List ℕ → Class
-contact_id_class code = option_map_or (λ row. row.0) (find (lists_code code) contact_id_table) Unlisted
+contact_id_class code = option_map_or (λ row. row.0) (find (λ row. list_any (bytes_eq code) row.1) contact_id_table) Unlisted
 
 -- the kind that stands in the column of the qualifier: 1, 3 or 6
 abbrev pub by_qualifier : Kind → Kind → Kind → ℕ → Kind

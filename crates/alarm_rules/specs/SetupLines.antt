@@ -11,7 +11,7 @@ use Rattle.arc_data.specs.declared.signal.Class.{Class}
 use Rattle.arc_data.specs.declared.window.Window.{Window}
 use Rattle.zone_rules.specs.Zones.{Zone, fixed_zone}
 use Rattle.alarm_rules.specs.Limits.{longest_line}
-use Rattle.alarm_rules.specs.SetupWords.{word_that, account_named, key_spelled, number_between, seconds_spelled, minutes_spelled}
+use Rattle.alarm_rules.specs.SetupWords.{word_that, account_named, key_spelled, number_between, minutes_spelled}
 use Rattle.alarm_rules.specs.SetupWords.{zone_spelled, day_named, minute_named, is_phone, is_pin, class_named, planned_named}
 
 -- an account: its number in capitals, the bytes of its key and the seconds of its interval, where it has them, and its zone, which
@@ -71,19 +71,6 @@ is_nil (x ∷ xs) = false
 abbrev pub provided : {A : Type 0} → Bool → A → Option A
 provided test value = if test then Some value else None
 
--- what two, three or four words are, and none where there are more or fewer
-abbrev pub two : List (List ℕ) → Option (List ℕ × List ℕ)
-two (a ∷ b ∷ []) = Some (a, b)
-two other = None
-
-abbrev pub three : List (List ℕ) → Option (List ℕ × List ℕ × List ℕ)
-three (a ∷ b ∷ c ∷ []) = Some (a, b, c)
-three other = None
-
-abbrev pub four : List (List ℕ) → Option (List ℕ × List ℕ × List ℕ × List ℕ)
-four (a ∷ b ∷ c ∷ d ∷ []) = Some (a, b, c, d)
-four other = None
-
 -- An option of a line: where the next word is its name, the word behind that has to be its value. It gives the value, or none, and
 -- the words that follow.
 abbrev pub value_first : {A : Type 0} → (List ℕ → Option A) → List (List ℕ) → Option (Option A × List (List ℕ))
@@ -113,27 +100,27 @@ account_line [] = None
 account_line (number ∷ words) =
     after (account_named number) (λ account.
     after (optional (codes "key") key_spelled words) (λ key.
-    after (optional (codes "beat") seconds_spelled key.1) (λ beat.
+    after (optional (codes "beat") (number_between 1 1_000_000) key.1) (λ beat.
     after (zone_named beat.1) (λ zone.
     provided (is_nil zone.1) (record { number = account; key = key.0; beat = beat.0; zone = zone.0 })))))
 
 -- `hours ACC DAY HH:MM HH:MM`: the first time is from 00:00 to 23:59, the second is later and may be 24:00
 abbrev pub hours_line : List (List ℕ) → Option HoursLine
-hours_line words =
-    after (four words) (λ word.
-    after (account_named word.0) (λ account.
-    after (day_named word.1) (λ weekday.
-    after (minute_named 1439 word.2) (λ from.
-    after (minute_named 1440 word.3) (λ to.
-    provided (nat_lt from to) (record { account = account; window = record { weekday = weekday; from = from; to = to } }))))))
+hours_line (number ∷ day ∷ first ∷ second ∷ []) =
+    after (account_named number) (λ account.
+    after (day_named day) (λ weekday.
+    after (minute_named 1439 first) (λ from.
+    after (minute_named 1440 second) (λ to.
+    provided (nat_lt from to) (record { account = account; window = record { weekday = weekday; from = from; to = to } })))))
+hours_line other = None
 
 -- `keyholder ACC NAME PHONE`
 abbrev pub keyholder_line : List (List ℕ) → Option KeyholderLine
-keyholder_line words =
-    after (three words) (λ word.
-    after (account_named word.0) (λ account.
-    after (word_that is_name word.1) (λ name.
-    provided (is_phone word.2) (record { account = account; name = name }))))
+keyholder_line (number ∷ word ∷ phone ∷ []) =
+    after (account_named number) (λ account.
+    after (word_that is_name word) (λ name.
+    provided (is_phone phone) (record { account = account; name = name })))
+keyholder_line other = None
 
 -- whose plan it is: that of an account, or with `*` that of all accounts that have none of their own
 abbrev pub target_named : List ℕ → Option (Option (List ℕ))
@@ -155,21 +142,18 @@ plan_words words = after (each_read planned_named words) (λ plan. provided (not
 
 -- `plan ACC CLASS WORDS` or `plan * CLASS WORDS`
 abbrev pub plan_line : List (List ℕ) → Option PlanLine
-plan_line [] = None
-plan_line (whose ∷ []) = None
 plan_line (whose ∷ name ∷ words) =
     after (target_named whose) (λ account.
     after (class_named name) (λ class.
     after (plan_words words) (λ plan.
     Some (record { account = account; class = class; words = plan }))))
+plan_line other = None
 
 -- `operator NAME PIN`
 abbrev pub operator_line : List (List ℕ) → Option Operator
-operator_line words =
-    after (two words) (λ word.
-    after (word_that is_name word.0) (λ name.
-    after (word_that is_pin word.1) (λ pin.
-    Some (record { name = name; pin = pin }))))
+operator_line (word ∷ digits ∷ []) =
+    after (word_that is_name word) (λ name. option_map (λ pin. record { name = name; pin = pin }) (word_that is_pin digits))
+operator_line other = None
 
 -- `lapse SECONDS`: 60 to 86,400
 abbrev pub lapse_line : List (List ℕ) → Option ℕ

@@ -39,10 +39,6 @@ key_spelled word = option_map bytes_spelled (word_that is_key word)
 abbrev pub number_between : ℕ → ℕ → List ℕ → Option ℕ
 number_between low high word = first_from (λ n. bytes_eq word (decimal n)) low (high + 1 - low)
 
--- the seconds of an interval: 1 to 1,000,000
-abbrev pub seconds_spelled : List ℕ → Option ℕ
-seconds_spelled word = number_between 1 1_000_000 word
-
 -- minutes from -840 to 840, with a minus before those below 0; `-0` is none
 abbrev pub minutes_spelled : List ℕ → Option ℤ
 minutes_spelled [] = None
@@ -51,13 +47,9 @@ minutes_spelled (b ∷ bs) =
 
 -- Zones.
 
--- 1 to 64 bytes
-abbrev pub is_zone_text : List ℕ → Bool
-is_zone_text word = nat_lt 0 (length word) && nat_le (length word) 64
-
--- the zone that a text of this length names, or that it is no rule
+-- the zone that a text of 1 to 64 bytes names, or that it is no rule
 abbrev pub zone_spelled : List ℕ → Option (Option Zone)
-zone_spelled word = option_map zone_of (word_that is_zone_text word)
+zone_spelled word = option_map zone_of (word_that (λ text. nat_lt 0 (length text) && nat_le (length text) 64) word)
 
 -- Days and times of day.
 

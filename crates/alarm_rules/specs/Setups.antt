@@ -2,7 +2,7 @@
 use Rattle.std.specs.Prelude.{ℕ, ◌&&◌, pos, Bool, true, false, if◌then◌else◌, List, [], ◌∷◌, ◌++◌, Option, Some, None, is_some}
 use Rattle.std.specs.Prelude.{option_and_then, Result, Ok, Err, nat_lt, length, map}
 use Rattle.std.specs.List.{enumerate_from, filter_map, find, position}
-use Rattle.std.specs.Option.{option_map, option_or, unwrap_or}
+use Rattle.std.specs.Option.{option_eq, option_map, option_map_or, option_or, unwrap_or}
 use Rattle.std.specs.Result.{result_unwrap_or}
 use Rattle.std.specs.Str.{bytes_eq}
 use Rattle.std.specs.Str.Lines.{lines}
@@ -49,12 +49,8 @@ abbrev pub said_lines : List ℕ → List Line
 said_lines text = enumerate_from 1 (map says (lines text))
 
 -- what the lines tell of one kind of thing, each with the number of its line
-
-abbrev pub told_at : {A : Type 0} → (Said → Option A) → Line → Option (ℕ × A)
-told_at part line = option_map (λ thing. (line.0, thing)) (option_and_then part line.1)
-
 abbrev pub told : {A : Type 0} → (Said → Option A) → List Line → List (ℕ × A)
-told part lines = filter_map (told_at part) lines
+told part lines = filter_map (λ line. option_map (λ thing. (line.0, thing)) (option_and_then part line.1)) lines
 
 -- the parts of what is said
 
@@ -108,15 +104,9 @@ line_with test things = option_map (λ thing. thing.0) (find (λ thing. test thi
 abbrev pub account_declared : List ℕ → List Line → Option ℕ
 account_declared number lines = line_with (λ account. bytes_eq number account.number) (accounts_in lines)
 
--- two plans are for the same account, or both for all
-abbrev pub same_target : Option (List ℕ) → Option (List ℕ) → Bool
-same_target None None = true
-same_target None (Some b) = false
-same_target (Some a) None = false
-same_target (Some a) (Some b) = bytes_eq a b
-
+-- the plan is for this class, and for this account, or for all accounts where none is named
 abbrev pub is_plan_of : Option (List ℕ) → Class → PlanLine → Bool
-is_plan_of account class plan = same_target account plan.account && same_class class plan.class
+is_plan_of account class plan = option_eq bytes_eq account plan.account && same_class class plan.class
 
 -- BadZone, where the text that names the zone is no rule
 abbrev pub bad_zone : ℕ → Option Zone → Option SetupFault
@@ -193,16 +183,12 @@ setup_of_lines lines = record {
   lapse = find (λ any. true) (things (told lapse_part lines));
 }
 
-abbrev pub unless : {A : Type 0} → Option SetupFault → A → Result A SetupFault
-unless None setup = Ok setup
-unless (Some fault) setup = Err fault
-
 -- The setup that a text means, or its fault: that it has more than 4,194,304 bytes, and otherwise the fault of the first
 -- line that has one.
 unfoldable pub setup_of : List ℕ → Result Setup SetupFault
 setup_of text =
     if nat_lt largest_setup (length text) then Err TooLarge
-    else unless (first_fault [] (said_lines text)) (setup_of_lines (said_lines text))
+    else option_map_or Err (first_fault [] (said_lines text)) (Ok (setup_of_lines (said_lines text)))
 
 -- the setup of a text; a text that is no setup means one of nothing
 abbrev pub meaning : List ℕ → Setup
@@ -227,11 +213,8 @@ has_account setup number = is_some (account_of setup number)
 abbrev pub place_of : Setup → List ℕ → Option ℕ
 place_of setup number = position (has_number number) setup.accounts
 
-abbrev pub has_name : List ℕ → Operator → Bool
-has_name name operator = bytes_eq name operator.name
-
 abbrev pub operator_of : Setup → List ℕ → Option Operator
-operator_of setup name = find (has_name name) setup.operators
+operator_of setup name = find (λ operator. bytes_eq name operator.name) setup.operators
 
 abbrev pub has_operator : Setup → List ℕ → Bool
 has_operator setup name = is_some (operator_of setup name)
@@ -248,7 +231,5 @@ plan_of setup number class =
 -- the steps of an incident of the account and class that opens at the moment; of an account that the setup lacks there are none
 abbrev pub steps_of : Setup → List ℕ → Class → ℕ → List Step
 steps_of setup number class moment =
-    elim (account_of setup number) [
-      | None ↦ []
-      | Some account ↦ steps_in (in_hours account.week moment) account.holders (plan_of setup number class)
-    ]
+    option_map_or (λ account. steps_in (in_hours account.week moment) account.holders (plan_of setup number class))
+    (account_of setup number) []

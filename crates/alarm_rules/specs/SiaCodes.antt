@@ -51,12 +51,11 @@ event_of code rest = Event code (address_at rest) (before_first is_slash (drop (
 -- The item that begins a text: two lower-case letters and then the longest run of digits, `:`, `-` and `.`; or two upper-case
 -- letters, which are a code, and then the rest of an event.
 unfoldable pub item_at : List ℕ → Option Item
-item_at [] = None
-item_at (a ∷ []) = None
 item_at (a ∷ b ∷ rest) =
     if is_lower a && is_lower b then Some (Modifier (a ∷ b ∷ []) (take_while is_modifier_byte rest))
     else if is_upper a && is_upper b then Some (event_of (a ∷ b ∷ []) rest)
     else None
+item_at other = None
 
 -- before an item, and after the last one, one `/` may stand
 abbrev pub after_slash : List ℕ → List ℕ
@@ -122,13 +121,9 @@ sia_table =
     ∷ (Test, LogOnly, codes "RP" ∷ codes "RX" ∷ [])
     ∷ []
 
--- the row has the code
-abbrev pub has_code : List ℕ → Class × Kind × List (List ℕ) → Bool
-has_code code row = list_any (bytes_eq code) row.2
-
 -- the class and kind that list the code; a code that none lists is Unlisted and New
 unfoldable pub sia_meaning : List ℕ → Class × Kind
-sia_meaning code = option_map_or (λ row. (row.0, row.1)) (find (has_code code) sia_table) (Unlisted, New)
+sia_meaning code = option_map_or (λ row. (row.0, row.1)) (find (λ row. list_any (bytes_eq code) row.2) sia_table) (Unlisted, New)
 
 -- The signals.
 

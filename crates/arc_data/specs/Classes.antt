@@ -20,11 +20,7 @@ priority_of Trouble = 4
 priority_of Irregular = 4
 priority_of LateClose = 4
 priority_of Unlisted = 4
-priority_of Test = 0
-priority_of OpenClose = 0
-priority_of Bypass = 0
-priority_of Cancel = 0
-priority_of Program = 0
+priority_of other = 0
 
 -- its name in a setup text and at a desk
 abbrev pub name_of : Class → List ℕ

@@ -3,7 +3,7 @@ use Rattle.std.specs.Prelude.{ℕ, Bool, true, false, not, if◌then◌else◌, 
 use Rattle.std.specs.Cmp.{IsEquivalence, on_equiv, nat_eq_equiv}
 use Rattle.arc_data.specs.Digits.{is_between}
 use Rattle.arc_data.specs.declared.step.Outcome.{Outcome}
-use Rattle.arc_data.specs.declared.step.Outcome.TheVariants.{Reached, NoAnswer, Done}
+use Rattle.arc_data.specs.declared.step.Outcome.TheVariants.{Reached, Done}
 use Rattle.arc_data.specs.declared.step.Step.{Step}
 use Rattle.arc_data.specs.declared.step.Step.TheVariants.{Premises, Holder, Police, Fire, Ambulance, Guard, Note}
 
@@ -33,21 +33,15 @@ is_step other = true
 abbrev pub is_call : Step → Bool
 is_call Premises = true
 is_call (Holder number) = true
-is_call Police = false
-is_call Fire = false
-is_call Ambulance = false
-is_call Guard = false
-is_call Note = false
+is_call other = false
 
 abbrev pub is_reached : Outcome → Bool
 is_reached Reached = true
-is_reached NoAnswer = false
-is_reached Done = false
+is_reached other = false
 
 abbrev pub is_done : Outcome → Bool
-is_done Reached = false
-is_done NoAnswer = false
 is_done Done = true
+is_done other = false
 
 -- calls are recorded as reached or unanswered, all other steps as done
 abbrev pub fits : Step → Outcome → Bool

@@ -1,18 +1,18 @@
 -- Events whose fields are in their ranges.
-use Rattle.std.specs.Prelude.{◌≡◌, ◌<◌, ◌≤◌, ◌^◌, ℕ, List, Bool, true, Option, Some, None, length}
+use Rattle.std.specs.Prelude.{◌≡◌, ◌<◌, ◌≤◌, ◌^◌, ℕ, List, Bool, true, Option, length}
+use Rattle.std.specs.Option.{option_map_or}
 use Rattle.arc_data.specs.Digits.{is_run, is_hex, is_capital_hex, is_name, AreBytes}
 use Rattle.arc_data.specs.Steps.{is_step, fits}
 use Rattle.arc_data.specs.declared.event.Event.{Event}
-use Rattle.arc_data.specs.declared.event.Event.TheVariants.{Adopt, Start, Message as Sent, Beat, Tick}
-use Rattle.arc_data.specs.declared.event.Event.TheVariants.{Claim, Next, Act, Release, Close, Show, List as Rows}
+use Rattle.arc_data.specs.declared.event.Event.TheVariants.{Adopt, Message as Sent, Beat}
+use Rattle.arc_data.specs.declared.event.Event.TheVariants.{Claim, Next, Act, Release, Close, Show}
 use Rattle.arc_data.specs.declared.event.Message.{Message}
 use Rattle.arc_data.specs.declared.step.Outcome.{Outcome}
 use Rattle.arc_data.specs.declared.step.Step.{Step}
 
 -- no `R` field, or 1 to 6 hexadecimal digits
 abbrev pub is_receiver : Option (List ℕ) → Bool
-is_receiver None = true
-is_receiver (Some digits) = is_run is_hex 1 6 digits
+is_receiver digits = option_map_or (is_run is_hex 1 6) digits true
 
 -- a message: an account of 3 to 16 hexadecimal digits in capitals, an `R` field or none, an `L` field, a sequence of four
 -- digits, and at most 4,095 bytes
@@ -52,14 +52,12 @@ pub record IsAct (operator : List ℕ) (number : ℕ) (step : Step) (outcome : O
 -- the fields of an event are in their ranges
 abbrev pub IsWellFormed : Event → Type 0
 IsWellFormed (Adopt text) = IsText text
-IsWellFormed Start = Unit {0}
 IsWellFormed (Sent m via) = IsSent m via
 IsWellFormed (Beat account) = is_run is_capital_hex 3 16 account ≡ true
-IsWellFormed Tick = Unit {0}
 IsWellFormed (Claim operator number) = IsOrder operator number
 IsWellFormed (Next operator) = is_name operator ≡ true
 IsWellFormed (Act operator number step outcome) = IsAct operator number step outcome
 IsWellFormed (Release operator number) = IsOrder operator number
 IsWellFormed (Close operator number code) = IsOrder operator number
 IsWellFormed (Show number) = IsNumber number
-IsWellFormed Rows = Unit {0}
+IsWellFormed other = Unit {0}

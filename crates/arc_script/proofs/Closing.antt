@@ -2,7 +2,7 @@
 use Rattle.std.proofs.Common.{◌≡◌, ◌≤◌, ◌+◌, ℕ, suc, List, [], ◌∷◌, ◌++◌, Bool, true, false, cond, Option, Some, None, length, map, reverse, refl, sym, ap, subst, ◌∙◌, arith}
 use Rattle.std.specs.Prelude.{not}
 use Rattle.std.specs.List.{filter}
-use Rattle.std.specs.Option.{option_to_list}
+use Rattle.std.specs.Option.{option_to_list, option_map_or}
 use Rattle.std.proofs.lemmas.Bool.{eqb-true, false≢true, ne_eqb}
 use Rattle.std.proofs.lemmas.List.{length-map}
 use Rattle.alarm_rules.specs.Plans.{expected_step}
@@ -10,7 +10,7 @@ use Rattle.alarm_rules.specs.Setups.{meaning}
 use Rattle.arc_data.specs.declared.event.Event.{Event}
 use Rattle.arc_data.specs.declared.event.Event.TheVariants as E
 use Rattle.arc_data.specs.declared.reply.Reply.{Reply}
-use Rattle.arc_data.specs.declared.reply.Reply.TheVariants.{Claimed, Closed, NotYours, Recorded, Released, Repeat}
+use Rattle.arc_data.specs.declared.reply.Reply.TheVariants.{Claimed, Closed, NotYours, Recorded, Released, Repeat, Missing}
 use Rattle.arc_data.specs.declared.step.Acted.{Acted}
 use Rattle.arc_data.specs.declared.step.Step.{Step}
 use Rattle.centre_laws.proofs.Numbering.{rise}
@@ -21,7 +21,7 @@ use Rattle.centre_store.specs.Given.{IsGiven}
 use Rattle.arc_script.proofs.GivenSummaries.{given_ascends}
 use Rattle.centre_rules.specs.Answers.{answer, if_known, knows_operator, IsLegal}
 use Rattle.centre_rules.specs.Cases.{has_number, incidents, opened, Ascends, Incident}
-use Rattle.centre_rules.specs.Desks.{close_of, close_when, holds, numbered}
+use Rattle.centre_rules.specs.Desks.{holds, numbered, if_held}
 use Rattle.centre_rules.specs.History.{Entry, act_marks, acted_by, claim_marks, close_marks, is_recorded, marks, marks_of, onto, release_marks}
 use Rattle.centre_rules.specs.Marks.{force, lapse, Acts, Claims, Closes, Mark, Releases}
 use Rattle.centre_rules.specs.Standing.{standing}
@@ -156,16 +156,16 @@ record Found (number n : ℕ) (f : Option Incident) : Type 0 where
   is : f ≡ Some incident
   same : n ≡ number
 
-done_found : (number n : ℕ) (i : Incident) (step : Option Step) → close_when number step ≡ Closed n → Found number n (Some i)
+done_found : (number n : ℕ) (i : Incident) (step : Option Step) → option_map_or Missing step (Closed number) ≡ Closed n → Found number n (Some i)
 done_found number n i None is = record { incident = i; is = refl; same = cc }
 done_found number n i (Some step) is = absurd cc
 
-holds_found : (b : Bool) (number n : ℕ) (i : Incident) (step : Option Step) → cond b (close_when number step) (NotYours number) ≡ Closed n
+holds_found : (b : Bool) (number n : ℕ) (i : Incident) (step : Option Step) → cond b (option_map_or Missing step (Closed number)) (NotYours number) ≡ Closed n
     → Found number n (Some i)
 holds_found true number n i step is = done_found number n i step is
 holds_found false number n i step is = absurd cc
 
-close_found : (b : Bool) (operator : List ℕ) (number n : ℕ) (f : Option Incident) → if_known b (close_of operator number f) ≡ Closed n → Found number n f
+close_found : (b : Bool) (operator : List ℕ) (number n : ℕ) (f : Option Incident) → if_known b (if_held operator number f (λ i. option_map_or Missing (expected_step i.steps i.acts) (Closed number))) ≡ Closed n → Found number n f
 close_found true operator number n None is = absurd cc
 close_found true operator number n (Some i) is = holds_found (holds operator i) number n i (expected_step i.steps i.acts) is
 close_found false operator number n f is = absurd cc
@@ -175,7 +175,7 @@ numbers : (base : Summary) → IsGiven base → (h : List Entry) → Ascends 0 (
 numbers base given h = rise base h (given_ascends base given)
 
 closes_one : (base : Summary) → IsGiven base → (b : Bool) (operator : List ℕ) (number n : ℕ) (h : List Entry) (now : ℕ)
-    → if_known b (close_of operator number (numbered number (standing base (marks base h) now))) ≡ Closed n
+    → if_known b (if_held operator number (numbered number (standing base (marks base h) now)) (λ i. option_map_or Missing (expected_step i.steps i.acts) (Closed number))) ≡ Closed n
     → Falls base (marks base h) (Closes n ∷ marks base h) 1
 closes_one base given b operator number n h now is =
     let ms = marks base h in
@@ -208,10 +208,10 @@ quiet_zero (Closed n) is = absurd (false≢true (sym is))
 quiet_zero reply is = refl
 
 close_falls : (base : Summary) → IsGiven base → (operator : List ℕ) (number : ℕ) (h : List Entry) (now : ℕ) (b : Bool) (reply : Reply) (f : Option Incident)
-    → f ≡ numbered number (standing base (marks base h) now) → reply ≡ if_known b (close_of operator number f)
+    → f ≡ numbered number (standing base (marks base h) now) → reply ≡ if_known b (if_held operator number f (λ i. option_map_or Missing (expected_step i.steps i.acts) (Closed number)))
     → Falls base (marks base h) (onto (close_marks reply) (marks base h)) (fall_of reply)
 close_falls base given operator number h now b (Closed n) f at is =
-    closes_one base given b operator number n h now (ap (λ (o : Option Incident). if_known b (close_of operator number o)) (sym at) ∙ sym is)
+    closes_one base given b operator number n h now (ap (λ (o : Option Incident). if_known b (if_held operator number o (λ i. option_map_or Missing (expected_step i.steps i.acts) (Closed number)))) (sym at) ∙ sym is)
 close_falls base given operator number h now b reply f at is = omega arith
 
 event_falls : (base : Summary) → IsGiven base → (h : List Entry) (event : Event) (at : ℕ) (reply : Reply) → is_desked event ≡ true → may_answer event reply ≡ true

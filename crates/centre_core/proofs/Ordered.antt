@@ -1,6 +1,6 @@
 -- Answers to operators.
 use Rattle.std.proofs.Common.{◌≡◌, ℕ, List, [], ◌∷◌, ◌++◌, Bool, true, false, cond, Option, Some, None, refl, sym, ap, ◌∙◌, subst}
-use Rattle.std.specs.Option.{option_map}
+use Rattle.std.specs.Option.{option_map, option_map_or}
 use Rattle.std.proofs.lemmas.Bool.{false≢true}
 use Rattle.std.specs.Prelude.{is_some, option_and_then, IfOk, Result, Ok, Err}
 use Rattle.std.specs.Result.{result_ok, result_unwrap_or}
@@ -12,7 +12,7 @@ use Rattle.arc_data.specs.declared.event.Event.{Event}
 use Rattle.arc_data.specs.declared.event.Event.TheVariants.{Act as Do, Close}
 use Rattle.arc_data.specs.declared.incident.Incident.{Incident}
 use Rattle.arc_data.specs.declared.reply.Reply.{Reply}
-use Rattle.arc_data.specs.declared.reply.Reply.TheVariants.{Recorded, Closed, Expected, NotYours}
+use Rattle.arc_data.specs.declared.reply.Reply.TheVariants.{Recorded, Closed, Expected, NotYours, Missing}
 use Rattle.arc_data.specs.declared.step.Acted.{Acted}
 use Rattle.arc_data.specs.declared.step.Step.{Step}
 use Rattle.arc_data.specs.declared.setup_fault.SetupFault.{SetupFault}
@@ -23,7 +23,7 @@ use Rattle.centre_rules.specs.Cases.{incidents}
 use Rattle.centre_rules.specs.Marks.{Mark, force, lapse}
 use Rattle.centre_rules.specs.Standing.{has_lapsed, stands_at, standing_of, standing, holder_then}
 use Rattle.centre_rules.specs.History.{acted_by}
-use Rattle.centre_rules.specs.Desks.{numbered, is_holder, holds, on_act, on_close, act_of, act_when, close_of, close_when}
+use Rattle.centre_rules.specs.Desks.{numbered, is_holder, holds, on_act, on_close, act_when, if_held}
 use Rattle.centre_rules.specs.State.{Same, State}
 use Rattle.centre_rules.specs.Answers.{answer_over, if_known, knows_operator}
 use Rattle.centre_rules.proofs.Steps.{incidents_begin}
@@ -96,7 +96,7 @@ fits_held : (b : Bool) (i : Incident) (a : Acted) (k n l : ℕ) (is : List Incid
 fits_held true i a k n l is held found r = fits_when i a (expected_step i.steps i.acts) n l is found held refl r
 fits_held false i a k n l is held found r = cc
 
-fits_found : (f : Option Incident) (a : Acted) (k n l : ℕ) (is : List Incident) → numbered k is ≡ f → act_of a k f ≡ Recorded n l → FitsAct n a is
+fits_found : (f : Option Incident) (a : Acted) (k n l : ℕ) (is : List Incident) → numbered k is ≡ f → if_held a.operator k f (λ i. act_when a i (expected_step i.steps i.acts)) ≡ Recorded n l → FitsAct n a is
 fits_found None a k n l is e r = cc
 fits_found (Some i) a k n l is e r = fits_held (holds a.operator i) i a k n l is refl (ap (λ m. numbered m is) (numbered_number k is i e) ∙ e) r
 
@@ -123,15 +123,15 @@ fits_stood l at n a is w =
 
 -- What a closing says.
 
-closed_when : (k n : ℕ) (f : Option Step) → close_when k f ≡ Closed n → k ≡ n
+closed_when : (k n : ℕ) (f : Option Step) → option_map_or Missing f (Closed k) ≡ Closed n → k ≡ n
 closed_when k n None r = cc
 closed_when k n (Some step) r = cc
 
-closed_held : (k n : ℕ) (b : Bool) (f : Option Step) → cond b (close_when k f) (NotYours k) ≡ Closed n → k ≡ n
+closed_held : (k n : ℕ) (b : Bool) (f : Option Step) → cond b (option_map_or Missing f (Closed k)) (NotYours k) ≡ Closed n → k ≡ n
 closed_held k n true f r = closed_when k n f r
 closed_held k n false f r = cc
 
-closed_found : (o : List ℕ) (f : Option Incident) (k n : ℕ) (is : List Incident) → numbered k is ≡ f → close_of o k f ≡ Closed n → is_some (find (has_number n) is) ≡ true
+closed_found : (o : List ℕ) (f : Option Incident) (k n : ℕ) (is : List Incident) → numbered k is ≡ f → if_held o k f (λ i. option_map_or Missing (expected_step i.steps i.acts) (Closed k)) ≡ Closed n → is_some (find (has_number n) is) ≡ true
 closed_found o None k n is e r = cc
 closed_found o (Some i) k n is e r = ap (λ m. is_some (find (has_number m) is)) (sym (closed_held k n (holds o i) (expected_step i.steps i.acts) r)) ∙ ap is_some e
 

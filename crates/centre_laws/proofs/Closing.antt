@@ -1,11 +1,12 @@
 -- An incident is closed only when each of its steps is met.
 use Rattle.std.proofs.Common.{◌≡◌, ℕ, List, ◌++◌, Bool, true, false, cond, refl, sym, ap, ◌∙◌, Option, Some, None, subst, inl, inr}
 use Rattle.std.specs.Prelude.{◌⊎◌}
+use Rattle.std.specs.Option.{option_map_or}
 use Rattle.std.proofs.lemmas.Bool.{false≢true}
 use Rattle.arc_data.specs.declared.event.Event.{Event}
 use Rattle.arc_data.specs.declared.event.Event.TheVariants.{Close}
 use Rattle.arc_data.specs.declared.reply.Reply.{Reply}
-use Rattle.arc_data.specs.declared.reply.Reply.TheVariants.{Closed, NotYours}
+use Rattle.arc_data.specs.declared.reply.Reply.TheVariants.{Closed, NotYours, Missing}
 use Rattle.arc_data.specs.declared.step.Acted.{Acted}
 use Rattle.arc_data.specs.declared.step.Step.{Step}
 use Rattle.alarm_rules.specs.Plans.{expected_step}
@@ -14,7 +15,7 @@ use Rattle.centre_rules.specs.Marks.{Mark, force, lapse}
 use Rattle.centre_rules.specs.Cases.{Incident, incidents}
 use Rattle.centre_rules.specs.Standing.{standing}
 use Rattle.centre_rules.specs.History.{Entry, marks}
-use Rattle.centre_rules.specs.Desks.{numbered, holds, close_when, close_of}
+use Rattle.centre_rules.specs.Desks.{numbered, holds, if_held}
 use Rattle.centre_rules.specs.Answers.{if_known, knows_operator, answer_over}
 use Rattle.centre_rules.proofs.Tables.{numbered_number}
 use Rattle.centre_rules.proofs.Stood.{stood_found}
@@ -31,15 +32,15 @@ record MayClose (n : ℕ) (is : List Incident) : Type 0 where
   found : numbered n is ≡ Some incident
   none : expected_step incident.steps incident.acts ≡ None
 
-by_done : (k n : ℕ) (f : Option Step) → closed_number (close_when k f) ≡ Some n → (k ≡ n) × (f ≡ None)
+by_done : (k n : ℕ) (f : Option Step) → closed_number (option_map_or Missing f (Closed k)) ≡ Some n → (k ≡ n) × (f ≡ None)
 by_done k n None c = (cc, refl)
 by_done k n (Some step) c = cc
 
-by_held : (b : Bool) (k n : ℕ) (i : Incident) (is : List Incident) → numbered k is ≡ Some i → closed_number (cond b (close_when k (expected_step i.steps i.acts)) (NotYours k)) ≡ Some n → MayClose n is
+by_held : (b : Bool) (k n : ℕ) (i : Incident) (is : List Incident) → numbered k is ≡ Some i → closed_number (cond b (option_map_or Missing (expected_step i.steps i.acts) (Closed k)) (NotYours k)) ≡ Some n → MayClose n is
 by_held true k n i is e c = let w = by_done k n (expected_step i.steps i.acts) c in record { incident = i; found = ap (λ m. numbered m is) (sym w.0) ∙ e; none = w.1 }
 by_held false k n i is e c = cc
 
-by_found : (o : List ℕ) (k n : ℕ) (f : Option Incident) (is : List Incident) → numbered k is ≡ f → closed_number (close_of o k f) ≡ Some n → MayClose n is
+by_found : (o : List ℕ) (k n : ℕ) (f : Option Incident) (is : List Incident) → numbered k is ≡ f → closed_number (if_held o k f (λ i. option_map_or Missing (expected_step i.steps i.acts) (Closed k))) ≡ Some n → MayClose n is
 by_found o k n None is e c = cc
 by_found o k n (Some i) is e c = by_held (holds o i) k n i is e c
 
@@ -58,7 +59,7 @@ closed_by e (Closed k) n may c = absurd (false≢true may)
 closed_by e r n may c = cc
 
 by_close : (s : Summary) (ms : List Mark) (e : Event) (at n : ℕ) → closing_number e (answer_over s ms e at) ≡ Some n → MayClose n (standing s ms at)
-by_close s ms (Close operator number code) at n c = by_found operator number n (numbered number (standing s ms at)) (standing s ms at) refl (by_known (knows_operator (force s ms) operator) (close_of operator number (numbered number (standing s ms at))) n c)
+by_close s ms (Close operator number code) at n c = by_found operator number n (numbered number (standing s ms at)) (standing s ms at) refl (by_known (knows_operator (force s ms) operator) (if_held operator number (numbered number (standing s ms at)) (λ i. option_map_or Missing (expected_step i.steps i.acts) (Closed number))) n c)
 by_close s ms e at n c = cc
 
 -- as it stands it has the steps and acts that it has

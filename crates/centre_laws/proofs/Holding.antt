@@ -2,12 +2,13 @@
 use Rattle.std.proofs.Common.{◌≡◌, ℕ, List, [], ◌∷◌, ◌++◌, map, Bool, true, false, cond, refl, sym, ap, ◌∙◌, Option, Some, None, subst, inl, inr}
 use Rattle.std.specs.Prelude.{◌||◌, ◌<◌, ◌+◌, is_some, is_none}
 use Rattle.std.specs.Str.{bytes_eq}
+use Rattle.std.specs.Option.{option_map_or}
 use Rattle.std.proofs.lemmas.Bool.{ltb-true, false≢true}
 use Rattle.std.proofs.lemmas.Slice.Eq.{bytes_eq-Decides}
 use Rattle.arc_data.specs.declared.event.Event.{Event}
 use Rattle.arc_data.specs.declared.event.Event.TheVariants.{Adopt, Start, Message as Sent, Beat, Tick, Claim, Next, Act as Do, Release, Close, Show, List as Rows}
 use Rattle.arc_data.specs.declared.reply.Reply.{Reply}
-use Rattle.arc_data.specs.declared.reply.Reply.TheVariants.{Adopted, Started, Claimed, Recorded, Released, Closed, HeldBy, Unknown}
+use Rattle.arc_data.specs.declared.reply.Reply.TheVariants.{Adopted, Started, Claimed, Recorded, Released, Closed, HeldBy, Unknown, NotOpen, BusyWith, NoneWaiting}
 use Rattle.arc_data.specs.declared.step.Acted.{Acted}
 use Rattle.centre_rules.specs.Summary.{Summary}
 use Rattle.centre_rules.specs.Marks.{Mark, Carries, Carried, Claims, lapse}
@@ -15,7 +16,7 @@ use Rattle.centre_rules.specs.Cases.{Incident, incidents, opened, Ascends}
 use Rattle.centre_rules.specs.Standing.{has_lapsed, stands_at, standing}
 use Rattle.centre_rules.specs.Carrying.{raised, sent}
 use Rattle.centre_rules.specs.History.{Entry, marks, marks_of, onto, acted_by, is_recorded, claim_marks, act_marks, release_marks, close_marks}
-use Rattle.centre_rules.specs.Desks.{numbered, held_by, is_holder, best, claim_unless, claim_from, claim_of, next_of}
+use Rattle.centre_rules.specs.Desks.{numbered, held_by, is_holder, best, claim_unless, claim_from, claimed}
 use Rattle.centre_rules.specs.Answers.{if_known, answer_over, IsLegal}
 use Rattle.centre_rules.proofs.Steps.{incidents_step}
 use Rattle.centre_rules.proofs.Stood.{standing_of, stood_found, found_stood, ascends_stood}
@@ -53,7 +54,7 @@ by_holder o is k n i None h found c =
     record { incident = i; found = ap (λ m. numbered m is) w.0 ∙ found; free = h; none = w.1 }
 by_holder o is k n i (Some x) h found c = by_same o is k n i x (bytes_eq x o) refl h found c
 
-by_found : (o : List ℕ) (is : List Incident) (k n : ℕ) (f : Option Incident) → numbered k is ≡ f → claimed_number (claim_of o is k f) ≡ Some n → MayClaim n o is
+by_found : (o : List ℕ) (is : List Incident) (k n : ℕ) (f : Option Incident) → numbered k is ≡ f → claimed_number (option_map_or (λ (i : Incident). claim_from o is i i.holder) f (NotOpen k)) ≡ Some n → MayClaim n o is
 by_found o is k n None e c = cc
 by_found o is k n (Some i) e c = by_holder o is k n i i.holder refl e c
 
@@ -61,7 +62,7 @@ free_none : (i : Incident) (h : Option (List ℕ)) → i.holder ≡ h → is_non
 free_none i None e f = e
 free_none i (Some x) e f = absurd (false≢true f)
 
-by_next : (o : List ℕ) (is : List Incident) (high n : ℕ) (mine waiting : Option Incident) → Ascends 0 is high → held_by o is ≡ mine → best is ≡ waiting → claimed_number (next_of mine waiting) ≡ Some n → MayClaim n o is
+by_next : (o : List ℕ) (is : List Incident) (high n : ℕ) (mine waiting : Option Incident) → Ascends 0 is high → held_by o is ≡ mine → best is ≡ waiting → claimed_number (option_map_or (λ (j : Incident). BusyWith j.number) mine (option_map_or claimed waiting NoneWaiting)) ≡ Some n → MayClaim n o is
 by_next o is high n (Some j) waiting a e f c = cc
 by_next o is high n None None a e f c = cc
 by_next o is high n None (Some i) a e f c =

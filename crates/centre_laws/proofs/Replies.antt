@@ -1,6 +1,7 @@
 -- Which replies an event may get.
 use Rattle.std.proofs.Common.{◌≡◌, ℕ, List, [], Bool, true, false, cond, refl, Option, Some, None}
 use Rattle.std.specs.Str.{bytes_eq}
+use Rattle.std.specs.Option.{option_map_or}
 use Rattle.arc_data.specs.Steps.{same_step}
 use Rattle.arc_data.specs.declared.event.Event.{Event}
 use Rattle.arc_data.specs.declared.event.Event.TheVariants.{Adopt, Start, Message as Sent, Beat, Tick, Claim, Next, Act as Do, Release, Close, Show, List as Rows}
@@ -14,7 +15,7 @@ use Rattle.centre_rules.specs.Marks.{Mark}
 use Rattle.centre_rules.specs.Cases.{Incident}
 use Rattle.centre_rules.specs.Standing.{standing}
 use Rattle.centre_rules.specs.History.{acted_by}
-use Rattle.centre_rules.specs.Desks.{numbered, held_by, holds, best, claim_unless, claim_from, claim_of, next_of, act_when, act_of, release_of, close_when, close_of, show_of}
+use Rattle.centre_rules.specs.Desks.{numbered, held_by, holds, best, claim_unless, claim_from, act_when, if_held, view_of, claimed}
 use Rattle.centre_rules.specs.Answers.{if_known, taken_or, repeat_of, answer_over}
 
 abbrev pub may_answer : Event → Reply → Bool
@@ -76,20 +77,20 @@ module _ (o : List ℕ) (n : ℕ) (is : List Incident) where
   from_may i None = unless_may (held_by o is) i
   from_may i (Some x) = either (Claim o n) (bytes_eq x o) (claim_unless (held_by o is) i) (HeldBy x) (unless_may (held_by o is) i) refl
 
-  claim_may : (f : Option Incident) → may_answer (Claim o n) (claim_of o is n f) ≡ true
+  claim_may : (f : Option Incident) → may_answer (Claim o n) (option_map_or (λ (i : Incident). claim_from o is i i.holder) f (NotOpen n)) ≡ true
   claim_may None = refl
   claim_may (Some i) = from_may i i.holder
 
-  next_may : (mine waiting : Option Incident) → may_answer (Next o) (next_of mine waiting) ≡ true
+  next_may : (mine waiting : Option Incident) → may_answer (Next o) (option_map_or (λ (j : Incident). BusyWith j.number) mine (option_map_or claimed waiting NoneWaiting)) ≡ true
   next_may (Some j) waiting = refl
   next_may None None = refl
   next_may None (Some i) = refl
 
-  release_may : (f : Option Incident) → may_answer (Release o n) (release_of o n f) ≡ true
+  release_may : (f : Option Incident) → may_answer (Release o n) (if_held o n f (λ i. Released n)) ≡ true
   release_may None = refl
   release_may (Some i) = either (Release o n) (holds o i) (Released n) (NotYours n) refl refl
 
-  show_may : (f : Option Incident) → may_answer (Show n) (show_of n f) ≡ true
+  show_may : (f : Option Incident) → may_answer (Show n) (option_map_or (λ i. Shown (view_of i)) f (NotOpen n)) ≡ true
   show_may None = refl
   show_may (Some i) = refl
 
@@ -98,16 +99,16 @@ module _ (e : Event) (recorded : (n k : ℕ) → may_answer e (Recorded n k) ≡
   when_may a i None = expected None
   when_may a i (Some step) = either e (same_step a.step step) _ (Expected (Some step)) (recorded _ _) (expected (Some step))
 
-  act_may : (a : Acted) (n : ℕ) (f : Option Incident) → may_answer e (act_of a n f) ≡ true
+  act_may : (a : Acted) (n : ℕ) (f : Option Incident) → may_answer e (if_held a.operator n f (λ i. act_when a i (expected_step i.steps i.acts))) ≡ true
   act_may a n None = closed n
   act_may a n (Some i) = either e (holds a.operator i) _ (NotYours n) (when_may a i (expected_step i.steps i.acts)) (yours n)
 
 module _ (e : Event) (closed : (n : ℕ) → may_answer e (Closed n) ≡ true) (missing : (s : Step) → may_answer e (Missing s) ≡ true) (none : (n : ℕ) → may_answer e (NotOpen n) ≡ true) (yours : (n : ℕ) → may_answer e (NotYours n) ≡ true) where
-  done_may : (n : ℕ) (f : Option Step) → may_answer e (close_when n f) ≡ true
+  done_may : (n : ℕ) (f : Option Step) → may_answer e (option_map_or Missing f (Closed n)) ≡ true
   done_may n None = closed n
   done_may n (Some step) = missing step
 
-  close_may : (o : List ℕ) (n : ℕ) (f : Option Incident) → may_answer e (close_of o n f) ≡ true
+  close_may : (o : List ℕ) (n : ℕ) (f : Option Incident) → may_answer e (if_held o n f (λ i. option_map_or Missing (expected_step i.steps i.acts) (Closed n))) ≡ true
   close_may o n None = none n
   close_may o n (Some i) = either e (holds o i) _ (NotYours n) (done_may n (expected_step i.steps i.acts)) (yours n)
 

@@ -1,17 +1,20 @@
 -- What tells the same goes on to tell the same.
 use Rattle.std.proofs.Common.{◌≡◌, ℕ, zero, suc, List, [], ◌∷◌, map, take, Bool, true, false, cond, refl, sym, ap, ◌∙◌, Option, Some, None}
 use Rattle.std.specs.Prelude.{not, ◌&&◌, option_and_then}
+use Rattle.std.specs.Option.{option_map_or}
 use Rattle.std.specs.Result.{result_ok}
 use Rattle.std.specs.Str.{bytes_eq}
 use Rattle.arc_data.specs.declared.event.Event.{Event}
 use Rattle.arc_data.specs.declared.event.Event.TheVariants.{Adopt, Start, Message as Sent, Beat, Tick, Claim, Next, Act as Do, Release, Close, Show, List as Rows}
 use Rattle.arc_data.specs.declared.reply.Reply.{Reply}
-use Rattle.alarm_rules.specs.Setups.{Account, setup_of}
-use Rattle.centre_rules.specs.Summary.{Summary, Past}
+use Rattle.alarm_rules.specs.Setups.{setup_of}
+use Rattle.alarm_rules.specs.Weeks.{next_close}
+use Rattle.centre_rules.specs.Limits.{late_seconds}
+use Rattle.centre_rules.specs.Summary.{Summary, Past, Opened}
 use Rattle.centre_rules.specs.Marks.{Mark, Sends, Carries, text_at, start_at, keeps_row_at, messages_at, heard_at, failed_at, opening_at, force, lapse, messages, heard, failed}
 use Rattle.centre_rules.specs.Standing.{standing, stands_at}
 use Rattle.centre_rules.specs.Tables.{opened_after, table_after}
-use Rattle.centre_rules.specs.Carrying.{is_past, is_silent, closes_late, is_late, raised}
+use Rattle.centre_rules.specs.Carrying.{is_past, is_silent, is_late, raised}
 use Rattle.centre_rules.specs.History.{marks_of, onto, acted_by}
 use Rattle.centre_rules.specs.Desks.{on_claim, on_next, on_act, on_release, on_close, on_show, on_list}
 use Rattle.centre_rules.specs.Answers.{answer_over, if_known, knows_operator}
@@ -71,17 +74,13 @@ lapse_same w = ap (option_and_then (λ setup. setup.lapse)) (force_same w)
 pub standing_same : {s t : Summary} {ms ns : List Mark} → Same s ms t ns → (at : ℕ) → standing s ms at ≡ standing t ns at
 standing_same w at = λ i. map (stands_at (lapse_same w i) at) (w.incidents i)
 
-silent_same : {s t : Summary} {ms ns : List Mark} → Same s ms t ns → (at : ℕ) (account : Account) (beat : Option ℕ)
-    → (elim beat as (λ _. Bool) [ None ↦ false | Some interval ↦ is_past (heard s ms account.number) interval at && not (failed s ms account.number) ])
-    ≡ (elim beat as (λ _. Bool) [ None ↦ false | Some interval ↦ is_past (heard t ns account.number) interval at && not (failed t ns account.number) ])
-silent_same w at account None = refl
-silent_same w at account (Some interval) = λ i. is_past (w.heard account.number i) interval at && not (w.failed account.number i)
-
 is_silent_same : {s t : Summary} {ms ns : List Mark} → Same s ms t ns → (at : ℕ) → is_silent s ms at ≡ is_silent t ns at
-is_silent_same w at = λ i account. silent_same w at account account.beat i
+is_silent_same w at = λ i account.
+    option_map_or (λ interval. is_past (w.heard account.number i) interval at && not (w.failed account.number i)) account.beat false
 
 is_late_same : {s t : Summary} {ms ns : List Mark} → Same s ms t ns → (at : ℕ) → is_late s ms at ≡ is_late t ns at
-is_late_same w at = λ i account. closes_late (w.opening account.number i) account at
+is_late_same w at = λ i account.
+    option_map_or (λ (o : Opened). not o.late && is_past (next_close account.week o.at) late_seconds at) (w.opening account.number i) false
 
 pub raised_same : {s t : Summary} {ms ns : List Mark} → Same s ms t ns → (at : ℕ) → raised s ms at ≡ raised t ns at
 raised_same w at = rw (force_same w, is_silent_same w at, is_late_same w at) refl

@@ -1,8 +1,8 @@
 -- What the centre answers to an event after a history.
 use Rattle.std.specs.Prelude.{◌≡◌, ◌≤◌, ◌+◌, ◌==◌, ◌&&◌, ℕ, List, [], ◌∷◌, Bool, true, false, take, length}
-use Rattle.std.specs.Prelude.{Option, Some, None, is_ok, nat_le}
+use Rattle.std.specs.Prelude.{Option, is_ok, nat_le}
 use Rattle.std.specs.List.{find}
-use Rattle.std.specs.Option.{option_map}
+use Rattle.std.specs.Option.{option_eq, option_map, option_map_or}
 use Rattle.std.specs.Str.{bytes_eq}
 use Rattle.arc_data.specs.WellFormed.{IsWellFormed}
 use Rattle.arc_data.specs.declared.event.Event.{Event}
@@ -26,31 +26,22 @@ use Rattle.centre_rules.specs.Desks.{on_claim, on_next, on_act, on_release, on_c
 -- before the first Adopt every account and every operator is lacking
 
 abbrev pub knows_account : Option Setup → List ℕ → Bool
-knows_account None account = false
-knows_account (Some setup) account = has_account setup account
+knows_account in_force account = option_map_or (λ setup. has_account setup account) in_force false
 
 abbrev pub knows_operator : Option Setup → List ℕ → Bool
-knows_operator None name = false
-knows_operator (Some setup) name = has_operator setup name
+knows_operator in_force name = option_map_or (λ setup. has_operator setup name) in_force false
 
 -- Repeats.
 
 abbrev pub same_token : Token → Token → Bool
 same_token SiaDcs SiaDcs = true
 same_token AdmCid AdmCid = true
-same_token SiaDcs AdmCid = false
-same_token AdmCid SiaDcs = false
-
-abbrev pub same_option : Option (List ℕ) → Option (List ℕ) → Bool
-same_option None None = true
-same_option (Some a) (Some b) = bytes_eq a b
-same_option None (Some b) = false
-same_option (Some a) None = false
+same_token one other = false
 
 -- they agree in `R` field, `L` field, sequence, token and content
 abbrev pub same_message : Message → Message → Bool
 same_message a b =
-    same_option a.receiver b.receiver && bytes_eq a.line b.line && (a.seq == b.seq) && same_token a.token b.token
+    option_eq bytes_eq a.receiver b.receiver && bytes_eq a.line b.line && (a.seq == b.seq) && same_token a.token b.token
     && bytes_eq a.content b.content
 
 -- the recorded message makes this one, at this moment, a repeat: they agree, and it is at most 300 seconds older
@@ -66,8 +57,7 @@ abbrev pub repeat_of : Summary → List Mark → Message → ℕ → Option ℕ
 repeat_of s ms m at = option_map (λ p. p.at) (find (repeats m at) (recent s ms m.account))
 
 abbrev pub taken_or : Option ℕ → Reply
-taken_or None = Taken
-taken_or (Some first) = Repeat first
+taken_or first = option_map_or Repeat first Taken
 
 -- Answers.
 

@@ -1,7 +1,8 @@
 -- The signals that an entry carries, in their order.
 use Rattle.std.specs.Prelude.{ℕ, ◌+◌, List, [], ◌∷◌, ◌++◌, ◌&&◌, Bool, true, false, not, if◌then◌else◌, map, length, codes}
-use Rattle.std.specs.Prelude.{Option, Some, None, unwrap_or, nat_lt}
+use Rattle.std.specs.Prelude.{Option, Some, unwrap_or, nat_lt}
 use Rattle.std.specs.List.{filter, flat_map}
+use Rattle.std.specs.Option.{option_map_or}
 use Rattle.arc_data.specs.declared.event.Event.{Event}
 use Rattle.arc_data.specs.declared.event.Event.TheVariants.{Message as Sent, Tick}
 use Rattle.arc_data.specs.declared.event.Message.{Message}
@@ -11,10 +12,10 @@ use Rattle.arc_data.specs.declared.signal.Kind.{Kind}
 use Rattle.arc_data.specs.declared.signal.Kind.TheVariants.{New, Opening}
 use Rattle.arc_data.specs.declared.signal.Signal.{Signal}
 use Rattle.alarm_rules.specs.Setups.{Setup, Account, account_of, steps_of}
-use Rattle.alarm_rules.specs.Weeks.{Week, in_hours, next_close}
+use Rattle.alarm_rules.specs.Weeks.{in_hours, next_close}
 use Rattle.alarm_rules.specs.Signals.{signals}
 use Rattle.centre_rules.specs.Limits.{late_seconds}
-use Rattle.centre_rules.specs.Summary.{Summary, Opened}
+use Rattle.centre_rules.specs.Summary.{Summary}
 use Rattle.centre_rules.specs.Marks.{Mark, Carried, force, heard, failed, opening}
 
 -- a signal of an account, by a line or none, and the steps of an incident that it would open
@@ -34,17 +35,13 @@ own_signal class = record { class = class; kind = New; code = codes "-" }
 
 -- before the first Adopt nothing is carried
 abbrev pub if_in_force : Option Setup → (Setup → List Carried) → List Carried
-if_in_force None under = []
-if_in_force (Some setup) under = under setup
+if_in_force setup under = option_map_or under setup []
 
 -- Messages.
 
-abbrev pub has_windows : Week → Bool
-has_windows week = nat_lt 0 (length week.windows)
-
 -- an opening outside the windows of an account that has windows, whether it is open already or not
 abbrev pub is_irregular : Option Account → Kind → ℕ → Bool
-is_irregular (Some account) Opening at = has_windows account.week && not (in_hours account.week at)
+is_irregular (Some account) Opening at = nat_lt 0 (length account.week.windows) && not (in_hours account.week at)
 is_irregular account kind at = false
 
 -- a signal that is sent, and the Irregular signal that follows it
@@ -62,25 +59,18 @@ sent s ms m via at =
 
 -- there is such a moment, and more than so many seconds have passed since
 abbrev pub is_past : Option ℕ → ℕ → ℕ → Bool
-is_past None wait at = false
-is_past (Some moment) wait at = nat_lt (moment + wait) at
+is_past moment wait at = option_map_or (λ t. nat_lt (t + wait) at) moment false
 
 -- an account that has an interval, was last heard longer ago, and is not failed
 abbrev pub is_silent : Summary → List Mark → ℕ → Account → Bool
 is_silent s ms at account =
-    elim account.beat [
-      | None ↦ false
-      | Some interval ↦ is_past (heard s ms account.number) interval at && not (failed s ms account.number)
-    ]
+    option_map_or (λ interval. is_past (heard s ms account.number) interval at && not (failed s ms account.number)) account.beat false
 
--- it is more than 900 seconds after the first closing moment behind its opening, and no LateClose was raised since
-abbrev pub closes_late : Option Opened → Account → ℕ → Bool
-closes_late None account at = false
-closes_late (Some o) account at = not o.late && is_past (next_close account.week o.at) late_seconds at
-
--- an account that is open, although it should be closed since more than 900 seconds
+-- an account that is open, although it should be closed since more than 900 seconds: they have passed since the first closing moment
+-- behind its opening, and no LateClose was raised since
 abbrev pub is_late : Summary → List Mark → ℕ → Account → Bool
-is_late s ms at account = closes_late (opening s ms account.number) account at
+is_late s ms at account =
+    option_map_or (λ o. not o.late && is_past (next_close account.week o.at) late_seconds at) (opening s ms account.number) false
 
 -- a signal of each account that passes the test, in the setup's order
 abbrev pub raised_where : (Account → Bool) → Class → ℕ → Setup → List Carried

@@ -2,6 +2,7 @@
 use Rattle.std.specs.Prelude.{ℕ, List, [], ◌∷◌, ◌++◌, ◌==◌, ◌&&◌, ◌||◌, Bool, false, if◌then◌else◌, map, take, length}
 use Rattle.std.specs.Prelude.{Option, Some, None, is_none, nat_lt}
 use Rattle.std.specs.List.{filter, find}
+use Rattle.std.specs.Option.{option_map_or}
 use Rattle.std.specs.Str.{bytes_eq}
 use Rattle.arc_data.specs.Classes.{priority_of}
 use Rattle.arc_data.specs.Steps.{same_step}
@@ -22,8 +23,7 @@ abbrev pub numbered : ℕ → List Incident → Option Incident
 numbered number is = find (has_number number) is
 
 abbrev pub is_holder : List ℕ → Option (List ℕ) → Bool
-is_holder operator None = false
-is_holder operator (Some x) = bytes_eq x operator
+is_holder operator holder = option_map_or (λ x. bytes_eq x operator) holder false
 
 -- the operator holds the incident
 abbrev pub holds : List ℕ → Incident → Bool
@@ -60,31 +60,26 @@ claimed i = Claimed i.number i.class i.account
 
 -- where the operator holds an incident already, it is busy with that one
 abbrev pub claim_unless : Option Incident → Incident → Reply
-claim_unless None i = claimed i
-claim_unless (Some j) i = BusyWith j.number
+claim_unless held i = option_map_or (λ j. BusyWith j.number) held (claimed i)
 
 abbrev pub claim_from : List ℕ → List Incident → Incident → Option (List ℕ) → Reply
 claim_from operator is i None = claim_unless (held_by operator is) i
 claim_from operator is i (Some x) = if bytes_eq x operator then claim_unless (held_by operator is) i else HeldBy x
 
 -- not open; held by another; the operator holds an incident, this one included; else it is held
-abbrev pub claim_of : List ℕ → List Incident → ℕ → Option Incident → Reply
-claim_of operator is number None = NotOpen number
-claim_of operator is number (Some i) = claim_from operator is i i.holder
-
 abbrev pub on_claim : List ℕ → ℕ → List Incident → Reply
-on_claim operator number is = claim_of operator is number (numbered number is)
+on_claim operator number is = option_map_or (λ i. claim_from operator is i i.holder) (numbered number is) (NotOpen number)
 
 -- the operator holds an incident; none waits; else the best is held
-abbrev pub next_of : Option Incident → Option Incident → Reply
-next_of (Some j) waiting = BusyWith j.number
-next_of None None = NoneWaiting
-next_of None (Some i) = claimed i
-
 abbrev pub on_next : List ℕ → List Incident → Reply
-on_next operator is = next_of (held_by operator is) (best is)
+on_next operator is = option_map_or (λ j. BusyWith j.number) (held_by operator is) (option_map_or claimed (best is) NoneWaiting)
 
--- Acts.
+-- What is asked of an incident that the operator holds.
+
+-- not open; not held by the operator; else what is answered of it
+abbrev pub if_held : List ℕ → ℕ → Option Incident → (Incident → Reply) → Reply
+if_held operator number None reply = NotOpen number
+if_held operator number (Some i) reply = if holds operator i then reply i else NotYours number
 
 -- where it is the first step that is not met, how many are not met after it
 abbrev pub act_when : Acted → Incident → Option Step → Reply
@@ -92,35 +87,18 @@ act_when acted i None = Expected None
 act_when acted i (Some step) =
     if same_step acted.step step then Recorded i.number (left i.steps (i.acts ++ acted ∷ [])) else Expected (Some step)
 
--- not open; not held by the operator; not the expected step; else it is recorded
-abbrev pub act_of : Acted → ℕ → Option Incident → Reply
-act_of acted number None = NotOpen number
-act_of acted number (Some i) = if holds acted.operator i then act_when acted i (expected_step i.steps i.acts) else NotYours number
-
+-- not the expected step; else it is recorded
 abbrev pub on_act : Acted → ℕ → List Incident → Reply
-on_act acted number is = act_of acted number (numbered number is)
+on_act acted number is = if_held acted.operator number (numbered number is) (λ i. act_when acted i (expected_step i.steps i.acts))
 
--- Ends of holds.
-
--- not open; not held by the operator; else the hold ends
-abbrev pub release_of : List ℕ → ℕ → Option Incident → Reply
-release_of operator number None = NotOpen number
-release_of operator number (Some i) = if holds operator i then Released number else NotYours number
-
+-- the hold ends
 abbrev pub on_release : List ℕ → ℕ → List Incident → Reply
-on_release operator number is = release_of operator number (numbered number is)
+on_release operator number is = if_held operator number (numbered number is) (λ i. Released number)
 
-abbrev pub close_when : ℕ → Option Step → Reply
-close_when number None = Closed number
-close_when number (Some step) = Missing step
-
--- not open; not held by the operator; a step is not met; else it is closed
-abbrev pub close_of : List ℕ → ℕ → Option Incident → Reply
-close_of operator number None = NotOpen number
-close_of operator number (Some i) = if holds operator i then close_when number (expected_step i.steps i.acts) else NotYours number
-
+-- a step is not met; else it is closed
 abbrev pub on_close : List ℕ → ℕ → List Incident → Reply
-on_close operator number is = close_of operator number (numbered number is)
+on_close operator number is =
+    if_held operator number (numbered number is) (λ i. option_map_or Missing (expected_step i.steps i.acts) (Closed number))
 
 -- What is shown.
 
@@ -138,12 +116,8 @@ view_of i = record {
   via = i.via;
 }
 
-abbrev pub show_of : ℕ → Option Incident → Reply
-show_of number None = NotOpen number
-show_of number (Some i) = Shown (view_of i)
-
 abbrev pub on_show : ℕ → List Incident → Reply
-on_show number is = show_of number (numbered number is)
+on_show number is = option_map_or (λ i. Shown (view_of i)) (numbered number is) (NotOpen number)
 
 abbrev pub inserted : Incident → List Incident → List Incident
 inserted i [] = i ∷ []

@@ -2,13 +2,11 @@
 use Rattle.std.specs.Prelude.{◌≡◌, ℕ, max, List, [], ◌∷◌, ◌++◌, Bool, true, false, if◌then◌else◌, map, nat_lt}
 use Rattle.arc_data.specs.declared.event.Event.{Event}
 use Rattle.arc_data.specs.declared.event.Event.TheVariants.{Adopt, Start, Message as Sent, Beat, Tick, Claim, Next, Act as Do}
-use Rattle.arc_data.specs.declared.event.Event.TheVariants.{Release, Close, Show, List as Rows}
+use Rattle.arc_data.specs.declared.event.Event.TheVariants.{Release, Close}
 pub use Rattle.arc_data.specs.Moments.{IsMoment}
 pub use Rattle.arc_data.specs.declared.event.Entry.{Entry}
 use Rattle.arc_data.specs.declared.reply.Reply.{Reply}
 use Rattle.arc_data.specs.declared.reply.Reply.TheVariants.{Adopted, Started, Taken, Heard, Raised, Claimed, Recorded, Released, Closed}
-use Rattle.arc_data.specs.declared.reply.Reply.TheVariants.{Repeat, Shown, Listed, NotOpen, HeldBy, BusyWith, NotYours}
-use Rattle.arc_data.specs.declared.reply.Reply.TheVariants.{Expected, Missing, NoneWaiting, Unknown}
 use Rattle.arc_data.specs.declared.step.Acted.{Acted}
 use Rattle.arc_data.specs.declared.step.Outcome.{Outcome}
 use Rattle.arc_data.specs.declared.step.Step.{Step}
@@ -21,23 +19,13 @@ abbrev pub is_recorded : Reply → Bool
 is_recorded Adopted = true
 is_recorded Started = true
 is_recorded Taken = true
-is_recorded (Repeat first) = false
 is_recorded Heard = true
 is_recorded (Raised count) = nat_lt 0 count
 is_recorded (Claimed number class account) = true
 is_recorded (Recorded number left) = true
 is_recorded (Released number) = true
 is_recorded (Closed number) = true
-is_recorded (Shown view) = false
-is_recorded (Listed listing) = false
-is_recorded (NotOpen number) = false
-is_recorded (HeldBy operator) = false
-is_recorded (BusyWith number) = false
-is_recorded (NotYours number) = false
-is_recorded (Expected step) = false
-is_recorded (Missing step) = false
-is_recorded NoneWaiting = false
-is_recorded Unknown = false
+is_recorded other = false
 
 -- the recorded entries
 abbrev pub recorded : List Entry → List Entry
@@ -91,8 +79,7 @@ marks_of s ms (Next operator) at reply = claim_marks operator at reply
 marks_of s ms (Do operator number step outcome) at reply = act_marks (acted_by operator step outcome at) reply
 marks_of s ms (Release operator number) at reply = release_marks reply
 marks_of s ms (Close operator number code) at reply = close_marks reply
-marks_of s ms (Show number) at reply = []
-marks_of s ms Rows at reply = []
+marks_of s ms other at reply = []
 
 -- each of these put upon the marks in turn
 abbrev pub onto : List Mark → List Mark → List Mark

@@ -1,5 +1,6 @@
 -- Who holds an open incident at a moment: its claimer, unless that hold has lapsed.
-use Rattle.std.specs.Prelude.{ℕ, ◌+◌, List, [], Bool, false, nat_lt, Option, Some, None, option_and_then, map, if◌then◌else◌}
+use Rattle.std.specs.Prelude.{ℕ, ◌+◌, List, [], Bool, false, nat_lt, Option, None, option_and_then, map, if◌then◌else◌}
+use Rattle.std.specs.Option.{option_map_or}
 use Rattle.centre_rules.specs.Summary.{Summary}
 use Rattle.centre_rules.specs.Marks.{Mark, lapse}
 use Rattle.centre_rules.specs.Cases.{Incident, incidents}
@@ -7,8 +8,7 @@ use Rattle.centre_rules.specs.Desks.{numbered}
 
 -- a hold that was last touched then has lapsed at the moment: it is more seconds later than those after which holds lapse
 abbrev pub has_lapsed : Option ℕ → ℕ → ℕ → Bool
-has_lapsed None touched at = false
-has_lapsed (Some seconds) touched at = nat_lt (touched + seconds) at
+has_lapsed lapse touched at = option_map_or (λ seconds. nat_lt (touched + seconds) at) lapse false
 
 -- the incident with its holder at the moment in place of its claimer
 abbrev pub stands_at : Option ℕ → ℕ → Incident → Incident

@@ -1,5 +1,5 @@
 -- What a history begins with: nothing, or what was kept of the entries before it.
-use Rattle.std.specs.Prelude.{ℕ, List, [], Bool, false, Option, Some, None}
+use Rattle.std.specs.Prelude.{ℕ, List, [], Bool, false, Option, None, unwrap_or}
 use Rattle.std.specs.List.{find}
 use Rattle.std.specs.Str.{bytes_eq}
 pub use Rattle.arc_data.specs.declared.event.Past.{Past}
@@ -31,8 +31,7 @@ nothing = record { last = 0; recorded = 0; opened = 0; start = None; text = None
 
 -- of an account without a row only the last Start is known, at which each account is heard
 abbrev pub row_or : Option AccountRow → List ℕ → Option ℕ → AccountRow
-row_or None account start = record { account = account; heard = start; failed = false; opening = None; messages = [] }
-row_or (Some row) account start = row
+row_or row account start = unwrap_or row (record { account = account; heard = start; failed = false; opening = None; messages = [] })
 
 abbrev pub row_of : Summary → List ℕ → AccountRow
 row_of s account = row_or (find (λ r. bytes_eq r.account account) s.rows) account s.start

@@ -2,6 +2,8 @@
 use Rattle.std.proofs.Common.{◌≡◌, ◌≤◌, ℕ, List, [], ◌∷◌, ◌++◌, Bool, true, false, length, Option, Some, None, refl, ap, ◌∙◌, arith, length-append}
 use Rattle.std.specs.Prelude.{map, reverse, ◌&&◌, nat_le, if◌then◌else◌}
 use Rattle.std.specs.Int.{to_be_bytes, w16, w64}
+use Rattle.std.specs.Option.{option_map_or}
+use Rattle.arc_data.specs.declared.reply.Reply.TheVariants.{NotOpen, Shown}
 use Rattle.std.proofs.lemmas.Bool.{leb-true, false≢true}
 use Rattle.std.proofs.lemmas.List.{reverse-append}
 use Rattle.arc_data.specs.Digits.{is_between, is_run, is_name}
@@ -13,7 +15,7 @@ use Rattle.arc_data.specs.declared.event.Message.{Message}
 use Rattle.arc_data.specs.declared.incident.Incident.{Incident}
 use Rattle.centre_rules.specs.Summary.{Summary}
 use Rattle.centre_rules.specs.Standing.{standing}
-use Rattle.centre_rules.specs.Desks.{show_of, numbered}
+use Rattle.centre_rules.specs.Desks.{numbered, view_of}
 use Rattle.centre_rules.specs.History.{Entry, recorded, is_recorded, marks}
 use Rattle.centre_rules.specs.Answers.{answer}
 use Rattle.disk_journal.specs.Records.{MayHave}
@@ -93,7 +95,7 @@ body_size event at is = let short : length (fields_in 2 event) ≤ 4_194_308 = f
 
 -- Questions are not recorded.
 
-shown_quiet : (number : ℕ) (i : Option Incident) → is_recorded (show_of number i) ≡ true → ⊥
+shown_quiet : (number : ℕ) (i : Option Incident) → is_recorded (option_map_or (λ x. Shown (view_of x)) i (NotOpen number)) ≡ true → ⊥
 shown_quiet number None is = false≢true is
 shown_quiet number (Some i) is = false≢true is
 

@@ -17,7 +17,7 @@ use Rattle.disk_journal.specs.declared.journal.Journal.{Journal}
 use Rattle.event_codec.specs.Spelling.{HasSpelling, spelling}
 use Rattle.centre_store.specs.Bodies.{need_of}
 use Rattle.centre_store.specs.Given.{IsGiven, StandForEither, HoldsRecorded, HasEither}
-use Rattle.centre_store.specs.Stores.{Stored, HasFailed, IsTorn, StoreStands, StandsForSome, IsStored, Takes, IsToRecord, IsDown, IsSameJournal, IsShownFull, Shows}
+use Rattle.centre_store.specs.Stores.{Stored, HasFailed, IsTorn, StoreStands, StandsForSome, IsStored, Takes, IsToRecord, IsDown, IsSameJournal, IsShownFull, Shows, ShowsAt}
 use Rattle.centre_store.specs.Writes.{HaveAll, IsFullAt, IsOverAt, IsOverThen, IsUnwritten}
 use Rattle.centre_store.proofs.Holding.{recorded_quiet, recorded_same, recorded_there, recorded_or, still_stands}
 use Rattle.centre_store.proofs.Written.{run_either, same_back}
@@ -181,58 +181,57 @@ module _ {D : Type 0} (seen : D → DiskSeen) where
   -- Why the event stopped.
 
   -- the same journal but for its room, and what the centre stands for
-  module _ (s : State) (j k : Journal D) (n : ℕ) (clock : ℕ) (event : Event) (p : Plan) (event_is : p.event ≡ event) (same : IsSameJournal j k)
-      (up : HasFailed seen (stored s j n) → ⊥) where
-    still_up : HasFailed seen (stored s k n) → ⊥
-    still_up failed = up (subst (λ (x : Journal D). HasFailed seen (stored s x n)) same failed)
+  module _ (s : State) (j k : Journal D) (n wanted : ℕ) (IsDue : Summary → List Entry → Type 0) (up : HasFailed seen (stored s j n) → ⊥)
+      (due : (b : Summary) (h : List Entry) → StandsFor b s h → IsDue b h) where
+    module _ (same : IsSameJournal j k) where
+      still_up : HasFailed seen (stored s k n) → ⊥
+      still_up failed = up (subst (λ (x : Journal D). HasFailed seen (stored s x n)) same failed)
 
-    all_before : (b : Summary) (h : List Entry) → StoreStands seen b (stored s k n) h → HaveAll seen j s b h
-    all_before b h w = record {
-      given = w.given;
-      stands = w.centre;
-      holds = recorded_same seen k j b h (same_back j k same) (held b (stored s k n) h still_up w);
-    }
+      all_before : (b : Summary) (h : List Entry) → StoreStands seen b (stored s k n) h → HaveAll seen j s b h
+      all_before b h w = record {
+        given = w.given;
+        stands = w.centre;
+        holds = recorded_same seen k j b h (same_back j k same) (held b (stored s k n) h still_up w);
+      }
 
-    pub shown_full : (used need records : ℕ) → IsFullAt seen j s (need_of p.event) used need records
-        → ((b : Summary) (h : List Entry) → StandsFor b s h → p.at ≡ moment_after b h clock)
-        → ((b : Summary) (h : List Entry) → StandsFor b s h → p.reply ≡ answer b h event p.at) → is_recorded p.reply ≡ true
-        → IsShownFull seen (stored s k n) used need records event clock
-    shown_full used need records full at reply recorded =
-        let wanted : need_of p.event ≡ need_of event = ap need_of event_is in
-        record {
-          used_is = λ b h w. full.used_is b h (all_before b h w);
-          need_is = full.need_is ∙ wanted;
-          records_is = full.records_is;
-          over = record {
-            now = subst (λ (x : Journal D). IsOverAt x (need_of event)) (sym same) (subst (IsOverAt j) wanted full.now);
-            then = subst (λ (x : Journal D). IsOverThen x used (need_of event)) (sym same) (subst (IsOverThen j used) wanted full.then);
-          };
-          up = still_up;
-          to_record = λ b h w.
-              ap (λ (m : ℕ). is_recorded (answer b h event m)) (sym (at b h w.centre)) ∙ ap is_recorded (sym (reply b h w.centre)) ∙ recorded;
-        }
+      shown_full : (used need records : ℕ) → IsFullAt seen j s wanted used need records → IsShownFull seen (stored s k n) wanted IsDue used need records
+      shown_full used need records full = record {
+        used_is = λ b h w. full.used_is b h (all_before b h w);
+        need_is = full.need_is;
+        records_is = full.records_is;
+        over = record {
+          now = subst (λ (x : Journal D). IsOverAt x wanted) (sym same) full.now;
+          then = subst (λ (x : Journal D). IsOverThen x used wanted) (sym same) full.then;
+        };
+        up = still_up;
+        to_record = λ b h w. due b h w.centre;
+      }
 
-  pub shown : (s : State) (j k : Journal D) (n clock : ℕ) (event : Event) (p : Plan) → p.event ≡ event → (HasFailed seen (stored s j n) → ⊥)
-      → ((b : Summary) (h : List Entry) → StandsFor b s h → p.at ≡ moment_after b h clock)
-      → ((b : Summary) (h : List Entry) → StandsFor b s h → p.reply ≡ answer b h event p.at) → is_recorded p.reply ≡ true
-      → (stop : Stop) → IsUnwritten seen n j k s (need_of p.event) stop → Shows seen (stored s k n) stop event clock
-  shown s j k n clock event p event_is up at reply recorded Memory is = tt
-  shown s j k n clock event p event_is up at reply recorded (Down before now) is =
-      (is.0, is.1, subst (λ (m : ℕ). Rose m now) (sym is.0) is.2)
-  shown s j k n clock event p event_is up at reply recorded (Full used need records) is =
-      shown_full s j k n clock event p event_is is.0 up used need records is.1 at reply recorded
-  shown s j k n clock event p event_is up at reply recorded (Worn count) is = absurd is
+    shown : (stop : Stop) → IsUnwritten seen n j k s wanted stop → ShowsAt seen (stored s k n) wanted IsDue stop
+    shown Memory is = tt
+    shown (Down before now) is = (is.0, is.1, subst (λ (m : ℕ). Rose m now) (sym is.0) is.2)
+    shown (Full used need records) is = shown_full is.0 used need records is.1
+    shown (Worn count) is = absurd is
 
   -- of a store whose centre stays
+  module _ (old new : Stored D) (state : new.state ≡ old.state) (at_open : new.at_open ≡ old.at_open) (up : HasFailed seen old → ⊥) where
+    pub shown_at : (wanted : ℕ) (IsDue : Summary → List Entry → Type 0) → ((b : Summary) (h : List Entry) → StandsFor b old.state h → IsDue b h)
+        → (stop : Stop) → IsUnwritten seen old.at_open old.journal new.journal old.state wanted stop → ShowsAt seen new wanted IsDue stop
+    shown_at wanted IsDue due stop is =
+        let same : stored old.state new.journal old.at_open ≡ new = λ i. record { state = sym state i; journal = new.journal; at_open = sym at_open i } in
+        subst (λ (x : Stored D). ShowsAt seen x wanted IsDue stop) same
+        (shown old.state old.journal new.journal old.at_open wanted IsDue up due stop is)
+
+  -- at an event
   pub shown_by : (old new : Stored D) (clock : ℕ) (event : Event) (p : Plan) → new.state ≡ old.state → new.at_open ≡ old.at_open → p.event ≡ event
       → (HasFailed seen old → ⊥)
       → ((b : Summary) (h : List Entry) → StandsFor b old.state h → p.at ≡ moment_after b h clock)
       → ((b : Summary) (h : List Entry) → StandsFor b old.state h → p.reply ≡ answer b h event p.at) → is_recorded p.reply ≡ true
       → (stop : Stop) → IsUnwritten seen old.at_open old.journal new.journal old.state (need_of p.event) stop → Shows seen new stop event clock
   shown_by old new clock event p state at_open event_is up at reply recorded stop is =
-      let same : stored old.state new.journal old.at_open ≡ new = λ i. record { state = sym state i; journal = new.journal; at_open = sym at_open i } in
-      subst (λ (x : Stored D). Shows seen x stop event clock) same
-      (shown old.state old.journal new.journal old.at_open clock event p event_is up at reply recorded stop is)
+      shown_at old new state at_open up (need_of event) (λ b h. IsToRecord b h event clock)
+      (λ b h w. to_record b h event clock p (at b h w) (reply b h w) recorded) stop
+      (subst (λ (e : Event). IsUnwritten seen old.at_open old.journal new.journal old.state (need_of e) stop) event_is is)
 
 -- what was not written left the journal as it was, unless the disk failed
 pub leaves_same : {D : Type 0} (seen : D → DiskSeen) (at_open need : ℕ) (old new : Journal D) (s : State) (stop : Stop)

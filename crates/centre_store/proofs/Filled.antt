@@ -42,7 +42,7 @@ none_written {D} old new bodies none same = record {
 -- the first one was, alone
 pub alone_written : {D : Type 0} (seen : D → DiskSeen) (old new : Stored D) (caller : ℕ) (b : Summary) (h : List Entry) (call : Submission)
     (calls rest : List Submission) (count : ℕ) → calls ≡ call ∷ rest → count ≡ 1 → FirstHasNoRoom seen old calls
-    → IsWrittenOn old.journal new.journal (summed_size b h) (need_of call.event) → (IsOverWith old (summed_size b h) call.event → ⊥)
+    → IsWrittenOn old.journal new.journal (summed_size b h) (need_of call.event) → (IsOverWith old (summed_size b h) (need_of call.event) → ⊥)
     → AreWritten seen old new caller b h calls count
 alone_written seen old new caller b h call calls rest count split one first written never =
     let none : HasNoRoom seen old call = subst (FirstHasNoRoom seen old) split first in
@@ -125,7 +125,7 @@ module _ {D : Type 0} (seen : D → DiskSeen) (old mid : Stored D) (same : IsSam
 
 -- it comes of the one that was submitted alone
 pub full_alone : {D : Type 0} (seen : D → DiskSeen) (s : Stored D) (call : Submission) (calls rest : List Submission) (stop : Option Stop) → calls ≡ call ∷ rest
-    → ((b : Summary) (h : List Entry) → StoreStands seen b s h → IsOverWith s (summed_size b h) call.event
+    → ((b : Summary) (h : List Entry) → StoreStands seen b s h → IsOverWith s (summed_size b h) (need_of call.event)
     → (stop ≡ Some Memory) ⊎ (stop ≡ Some (Full (summed_size b h) (need_of call.event) 0)))
     → IsFullFirst seen s calls stop
 full_alone seen s call calls rest stop split full = subst (λ (l : List Submission). IsFullFirst seen s l stop) (sym split) (λ _ _ b h w _ over. full b h w over)

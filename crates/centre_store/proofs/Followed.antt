@@ -19,12 +19,12 @@ use Rattle.disk_journal.specs.declared.fault.BodyFault.TheVariants.{DiskFault, M
 use Rattle.disk_journal.specs.Journal.{Holds}
 use Rattle.disk_journal.specs.declared.journal.Journal.{Journal}
 use Rattle.event_codec.specs.Spelling.{spelling_in, HasSpellingIn}
-use Rattle.centre_store.specs.Bodies.{bodies_in, bodies_of, body_in, need_of}
-use Rattle.centre_store.specs.Followings.{since_of, body_of_number, GoesOnWith, IsOverWithBody, IsFullOf, ShowsOfReplay}
+use Rattle.centre_store.specs.Bodies.{bodies_in, body_in, need_of}
+use Rattle.centre_store.specs.Followings.{since_of, body_of_number, GoesOnWith, HasNext, ShowsOfReplay}
 use Rattle.centre_store.specs.Given.{IsKeptAs, StandForIn, HoldsRecorded, HasRecorded}
-use Rattle.centre_store.specs.Stores.{Stored, HasFailed, IsSameJournal, StoreStands}
-use Rattle.centre_store.specs.Writes.{HaveAll, IsFullAt, IsOverAt, IsOverThen, IsUnwritten}
-use Rattle.centre_store.proofs.Entered.{stored, held, whole}
+use Rattle.centre_store.specs.Stores.{Stored, HasFailed, IsOverWith, StoreStands}
+use Rattle.centre_store.specs.Writes.{IsOverAt, IsOverThen, IsUnwritten}
+use Rattle.centre_store.proofs.Entered.{stored, shown_at, whole}
 use Rattle.centre_store.proofs.Holding.{recorded_same, recorded_there}
 use Rattle.centre_store.proofs.NextSummary.{bodies_count}
 use Rattle.centre_store.proofs.PastOnce.{same_ends}
@@ -42,12 +42,12 @@ bodies_both version k l =
 
 -- of the bodies that a journal has, those of the later entries, each is that of the number behind all that is summed up
 kept_at : (b : Summary) (h : List Entry) (first : Option (List ℕ)) (bodies : List (List ℕ)) (kept : IsKeptAs 2 b h first bodies) (i place : ℕ)
-    → place ≡ length (recorded kept.summed) + i → slice_index_or bodies i [] ≡ slice_index_or (bodies_of h) place []
+    → place ≡ length (recorded kept.summed) + i → slice_index_or bodies i [] ≡ slice_index_or (bodies_in 2 h) place []
 kept_at b h first bodies kept i place is =
-    let parts : bodies_of h ≡ bodies_in 2 kept.summed ++ bodies = ap (bodies_in 2) kept.split ∙ bodies_both 2 kept.later kept.summed
+    let parts : bodies_in 2 h ≡ bodies_in 2 kept.summed ++ bodies = ap (bodies_in 2) kept.split ∙ bodies_both 2 kept.later kept.summed
     ∙ ap (λ (l : List (List ℕ)). bodies_in 2 kept.summed ++ l) (sym kept.bodies_are) in
     let there : place ≡ length (bodies_in 2 kept.summed) + i = omega (arith, is, bodies_count 2 kept.summed) in
-    sym (ap (λ (n : ℕ). slice_index_or (bodies_of h) n []) there ∙ ap (λ (l : List (List ℕ)). slice_index_or l (length (bodies_in 2 kept.summed) + i) []) parts
+    sym (ap (λ (n : ℕ). slice_index_or (bodies_in 2 h) n []) there ∙ ap (λ (l : List (List ℕ)). slice_index_or l (length (bodies_in 2 kept.summed) + i) []) parts
     ∙ get_or-append-add (bodies_in 2 kept.summed) bodies i [])
 
 -- the one body that was put there is what comes off
@@ -144,56 +144,21 @@ need_is p body is = ap (λ (l : List ℕ). 5 + length l) (sym is)
 module _ {D : Type 0} (seen : D → DiskSeen) where
   -- it would pass a limit
   pub over_in : (old : Stored D) (s : State) (j : Journal D) (n used need : ℕ) (body : List ℕ) → stored s j n ≡ old → need ≡ 5 + length body
-      → IsOverWithBody old used body → IsOverAt j need × IsOverThen j used need
+      → IsOverWith old used (5 + length body) → IsOverAt j need × IsOverThen j used need
   over_in old s j n used need body is same over =
-      let there : IsOverWithBody (stored s j n) used body = subst (λ (x : Stored D). IsOverWithBody x used body) (sym is) over in
-      (subst (λ (m : ℕ). IsOverAt j m) (sym same) there.now, subst (λ (m : ℕ). IsOverThen j used m) (sym same) there.behind)
+      let there : IsOverWith (stored s j n) used need =
+      subst (λ (x : Stored D). IsOverWith x used need) (sym is) (subst (IsOverWith old used) (sym same) over) in
+      (there.now, there.then)
 
-  -- Why it was not written.
-  module _ (s : State) (j k : Journal D) (n : ℕ) (body : List ℕ) (p : Plan) (up : HasFailed seen (stored s j n) → ⊥)
-      (follows : (b : Summary) (h : List Entry) → StandsFor b s h → IsNext b h (entry_of 0 p)) (recorded : is_recorded p.reply ≡ true)
-      (spelled : HasSpellingIn 2 p.event p.at × (body ≡ spelling_in 2 p.event p.at)) where
-    module _ (same : IsSameJournal j k) where
-      still_up : HasFailed seen (stored s k n) → ⊥
-      still_up failed = up (subst (λ (x : Journal D). HasFailed seen (stored s x n)) same failed)
-
-      all_before : (b : Summary) (h : List Entry) → StoreStands seen b (stored s k n) h → HaveAll seen j s b h
-      all_before b h w = record {
-        given = w.given;
-        stands = w.centre;
-        holds = recorded_same seen k j b h (same_back j k same) (held seen b (stored s k n) h still_up w);
-      }
-
-      full_of : (used need records : ℕ) → IsFullAt seen j s (need_of p.event) used need records → IsFullOf seen (stored s k n) used need records body
-      full_of used need records full =
-          let wanted : need_of p.event ≡ 5 + length body = need_is p body spelled.1 in
-          record {
-            used_is = λ b h w. full.used_is b h (all_before b h w);
-            need_is = full.need_is ∙ wanted;
-            records_is = full.records_is;
-            over = record {
-              now = subst (λ (x : Journal D). IsOverAt x (5 + length body)) (sym same) (subst (IsOverAt j) wanted full.now);
-              behind = subst (λ (x : Journal D). IsOverThen x used (5 + length body)) (sym same) (subst (IsOverThen j used) wanted full.then);
-            };
-            up = still_up;
-            goes_on = λ b h w. (entry_of 0 p, goes_with b h p body (follows b h w.centre) recorded spelled);
-          }
-
-    pub shown_of : (stop : Stop) → IsUnwritten seen n j k s (need_of p.event) stop → ShowsOfReplay seen (stored s k n) body stop
-    shown_of Memory is = tt
-    shown_of (Down before now) is = (is.0, is.1, subst (λ (m : ℕ). Rose m now) (sym is.0) is.2)
-    shown_of (Full used need records) is = full_of is.0 used need records is.1
-    shown_of (Worn count) is = absurd is
-
-  -- of a store whose centre stays
+  -- why it was not written, of a store whose centre stays
   pub replay_shown : (old new : Stored D) (body : List ℕ) (p : Plan) → new.state ≡ old.state → new.at_open ≡ old.at_open → (HasFailed seen old → ⊥)
       → ((b : Summary) (h : List Entry) → StandsFor b old.state h → IsNext b h (entry_of 0 p)) → is_recorded p.reply ≡ true
       → HasSpellingIn 2 p.event p.at × (body ≡ spelling_in 2 p.event p.at)
       → (stop : Stop) → IsUnwritten seen old.at_open old.journal new.journal old.state (need_of p.event) stop → ShowsOfReplay seen new body stop
   replay_shown old new body p state at_open up follows recorded spelled stop is =
-      let same : stored old.state new.journal old.at_open ≡ new = λ i. record { state = sym state i; journal = new.journal; at_open = sym at_open i } in
-      subst (λ (x : Stored D). ShowsOfReplay seen x body stop) same
-      (shown_of old.state old.journal new.journal old.at_open body p up follows recorded spelled stop is)
+      shown_at seen old new state at_open up (5 + length body) (λ b h. HasNext b h body)
+      (λ b h w. (entry_of 0 p, goes_with b h p body (follows b h w) recorded spelled)) stop
+      (subst (λ (need : ℕ). IsUnwritten seen old.at_open old.journal new.journal old.state need stop) (need_is p body spelled.1) is)
 
 -- an entry that is recorded is one more
 pub one_recorded : (e : Entry) → is_recorded e.reply ≡ true → length (recorded (e ∷ [])) ≡ 1

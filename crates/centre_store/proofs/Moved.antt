@@ -215,8 +215,8 @@ module _ {D : Type 0} (seen : D → DiskSeen) (disk : D) (j : Journal D) (given 
 
     -- why it was not done
     pub move_refused : (new : Journal D) (fault : OpenFault) → IsUnmoved seen j new s fault → IfSome (seen disk).told (IsRefused fault)
-    move_refused new Memory is = all_told (seen disk).told (IsRefused Memory) (λ a. tt)
-    move_refused new (DiskFault was now) is = all_told (seen disk).told (IsRefused (DiskFault was now)) (λ a. tt)
+    move_refused new Memory is = all_told (seen disk).told (IsRefused Memory) (λ a. inl tt)
+    move_refused new (DiskFault was now) is = all_told (seen disk).told (IsRefused (DiskFault was now)) (λ a. inl tt)
     move_refused new (TooWide size) is =
         refused seen disk j given (TooWide size) o (record {
           version_is = one;

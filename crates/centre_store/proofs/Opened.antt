@@ -44,16 +44,8 @@ all_told None P so = tt
 all_told (Some a) P so = so a
 
 -- a refusal by the journal
-pub shown_refused : (fault : OpenFault) (areas : Areas) → IsShown fault (chosen_part areas) → IsRefused fault areas
-shown_refused (Damaged place) areas shown = inl shown
-shown_refused (DiskFault before now) areas shown = shown
-shown_refused (NotJournal byte) areas shown = shown
-shown_refused (WrongVersion found) areas shown = shown
-shown_refused (TooWide size) areas shown = absurd shown
-shown_refused Memory areas shown = shown
-
 pub all_shown : (fault : OpenFault) (told : Option Areas) → IfSome told (λ s. IsShown fault (chosen_part s)) → IfSome told (IsRefused fault)
-all_shown fault told shown = if_map (λ s. IsShown fault (chosen_part s)) (IsRefused fault) told shown (λ s is. shown_refused fault s is)
+all_shown fault told shown = if_map (λ s. IsShown fault (chosen_part s)) (IsRefused fault) told shown (λ s is. inl is)
 
 -- The bodies that were given are all of records, as many as are counted, or none: nothing stands first.
 
@@ -198,16 +190,9 @@ module _ {D : Type 0} (seen : D → DiskSeen) (disk : D) (j : Journal D) (given 
 
   -- they have no past, or what stands first is no spelling; or it is too wide
   pub refused : (fault : OpenFault) (o : IsOpen seen disk j given) → IsOfBodies fault j.version o.summary o.bodies → IfSome (seen disk).told (IsRefused fault)
-  refused (Damaged place) o bad =
-      if_map (λ (a : Areas). AreasStand a j.version o.summary o.bodies) (IsRefused (Damaged place)) (seen disk).told o.stands
+  refused fault o bad =
+      if_map (λ (a : Areas). AreasStand a j.version o.summary o.bodies) (IsRefused fault) (seen disk).told o.stands
       (λ a is. inr (j.version, o.summary, o.bodies, is, bad))
-  refused (TooWide size) o bad =
-      if_map (λ (a : Areas). AreasStand a j.version o.summary o.bodies) (IsRefused (TooWide size)) (seen disk).told o.stands
-      (λ a is. (j.version, o.summary, o.bodies, is, bad))
-  refused Memory o bad = all_told (seen disk).told (IsRefused Memory) (λ a. tt)
-  refused (DiskFault before now) o bad = absurd bad
-  refused (NotJournal byte) o bad = absurd bad
-  refused (WrongVersion found) o bad = absurd bad
 
   pub refused_some : (fault : OpenFault) (o : IsOpen seen disk j given) → IsOfBodies fault j.version o.summary o.bodies → IsOfContent fault
       → (given ≡ [] → ⊥) ⊎ (j.version ≡ 1)

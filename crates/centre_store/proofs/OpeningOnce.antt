@@ -166,7 +166,7 @@ same_bad areas version further base other bodies behind place one two bad =
 -- The causes.
 
 causes : (fault : OpenFault) (areas : Areas) → IsRefused fault areas → Causes fault areas
-causes (Damaged place) areas (inl shown) = inl shown
+causes fault areas (inl shown) = inl shown
 causes (Damaged place) areas (inr (version, first, bodies, stands, inl bad)) =
     inr (inl (record { version = version; first = first; bodies = bodies; place = place; is = refl; stands = stands; bad = bad }))
 causes (Damaged place) areas (inr (version, first, bodies, stands, inr (base, is, bad))) =
@@ -181,12 +181,12 @@ causes (Damaged place) areas (inr (version, first, bodies, stands, inr (base, is
       stands = stands;
       bad = bad;
     })))
-causes (TooWide size) areas (version, first, bodies, stands, wide) =
+causes (TooWide size) areas (inr (version, first, bodies, stands, wide)) =
     inr (inr (inr (record { version = version; first = first; bodies = bodies; size = size; is = refl; stands = stands; wide = wide })))
-causes (DiskFault before now) areas shown = inl shown
-causes (NotJournal byte) areas shown = inl shown
-causes (WrongVersion found) areas shown = inl shown
-causes Memory areas shown = inl shown
+causes (DiskFault before now) areas (inr (version, first, bodies, stands, none)) = absurd none
+causes (NotJournal byte) areas (inr (version, first, bodies, stands, none)) = absurd none
+causes (WrongVersion found) areas (inr (version, first, bodies, stands, none)) = absurd none
+causes Memory areas (inr (version, first, bodies, stands, shown)) = inl shown
 
 -- the areas stand for something, so that none of the journal's refusals is shown
 not_shown : (areas : Areas) (version : ℕ) (first : Option (List ℕ)) (bodies : List (List ℕ)) (fault : OpenFault) → IsOfContent fault

@@ -16,7 +16,7 @@ use Rattle.event_codec.specs.Spelling.{HasSpelling}
 use Rattle.centre_store.specs.Bodies.{need_of, body_in}
 use Rattle.centre_store.specs.Calls.{Submission}
 use Rattle.centre_store.specs.Given.{StandForIn, summed_size}
-use Rattle.centre_store.specs.Stores.{Stored, HasFailed, StoreStands, IsShownFull, IsToRecord, IsOverWith, IsSameJournal}
+use Rattle.centre_store.specs.Stores.{Stored, HasFailed, StoreStands, IsToRecord, IsOverWith, IsSameJournal, Shows}
 use Rattle.centre_store.specs.Writes.{IsOverAt, IsOverThen, IsWrittenOn}
 
 -- the bodies of the recorded ones of their entries, as they are written, the oldest first
@@ -48,7 +48,7 @@ ShowsOfGroup seen s Memory left = Unit {0}
 ShowsOfGroup seen s (Down at_open now) left = (at_open ≡ s.at_open) × (now ≡ (seen s.journal.disk).faults) × HasFailed seen s
 ShowsOfGroup seen s (Full used need records) left =
     (call : Submission) × (later : List Submission) × (left ≡ call ∷ later)
-    × IsShownFull seen s used need records call.event call.clock
+    × Shows seen s (Full used need records) call.event call.clock
 ShowsOfGroup seen s (Worn count) left = (count ≡ s.state.entries) × (2 ^ 48 ≤ count)
 
 -- The record of the next one, which would be recorded, has no room behind those that the journal has. It might have an entry.
@@ -99,7 +99,7 @@ abbrev pub IsFullFirst : {D : Type 0} → (D → DiskSeen) → Stored D → List
 IsFullFirst seen s [] stop = Unit {0}
 IsFullFirst seen s (call ∷ later) stop =
     (HasFailed seen s → ⊥) → s.state.entries < 2 ^ 48 → (b : Summary) (h : List Entry)
-    → StoreStands seen b s h → IsToRecord b h call.event call.clock → IsOverWith s (summed_size b h) call.event
+    → StoreStands seen b s h → IsToRecord b h call.event call.clock → IsOverWith s (summed_size b h) (need_of call.event)
     → (stop ≡ Some Memory) ⊎ (stop ≡ Some (Full (summed_size b h) (need_of call.event) 0))
 
 -- the stop is Full

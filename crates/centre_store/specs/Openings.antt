@@ -10,7 +10,6 @@ use Rattle.centre_rules.specs.History.{Entry, IsMoment, last, recorded}
 use Rattle.centre_rules.specs.State.{State}
 use Rattle.disk_journal.specs.Faults.{IsShown, IsOfContent, Counts}
 use Rattle.disk_journal.specs.OtherArea.{IsSameIn}
-use Rattle.disk_journal.specs.Records.{IsDamaged}
 use Rattle.disk_journal.specs.Standing.{chosen, chosen_part, generation_now, version_now, AreasStand}
 use Rattle.disk_journal.specs.declared.fault.OpenFault.{OpenFault}
 use Rattle.disk_journal.specs.declared.fault.OpenFault.TheVariants.{DiskFault, Damaged, TooWide, Memory}
@@ -103,18 +102,13 @@ IsOfBodies (TooWide size) version first bodies = IsTooWide version first bodies 
 IsOfBodies Memory version first bodies = Unit {0}
 IsOfBodies fault version first bodies = ⊥
 
--- of what the areas stand for
-abbrev pub IsOfAreas : OpenFault → Areas → Type 0
-IsOfAreas fault areas =
-    (version : ℕ) × (first : Option (List ℕ)) × (bodies : List (List ℕ)) × AreasStand areas version first bodies
-    × IsOfBodies fault version first bodies
-
 -- what a refusal says of the areas: that they stand for no bodies; or that what stands first is no spelling of a summary, or that the
 -- bodies behind it have no past over it; or that all this can't be written in the second version
 abbrev pub IsRefused : OpenFault → Areas → Type 0
-IsRefused (Damaged place) areas = IsDamaged (chosen_part areas) place ⊎ IsOfAreas (Damaged place) areas
-IsRefused (TooWide size) areas = IsOfAreas (TooWide size) areas
-IsRefused fault areas = IsShown fault (chosen_part areas)
+IsRefused fault areas =
+    IsShown fault (chosen_part areas)
+    ⊎ ((version : ℕ) × (first : Option (List ℕ)) × (bodies : List (List ℕ)) × AreasStand areas version first bodies
+    × IsOfBodies fault version first bodies)
 
 -- the disk after an opening, which the store has or the refusal gives back
 abbrev pub disk_of : {D : Type 0} → Result (Stored D) (OpenRefused D) → D

@@ -23,7 +23,7 @@ IsWornFirst seen s r = (HasFailed seen s → ⊥) → 2 ^ 48 ≤ s.state.entries
 abbrev pub IsFullThen : {A D : Type 0} → (D → DiskSeen) → Stored D → Event → ℕ → Result A Stop → Type 0
 IsFullThen seen s event clock r =
     (HasFailed seen s → ⊥) → s.state.entries < 2 ^ 48 → (b : Summary) (h : List Entry)
-    → StoreStands seen b s h → IsToRecord b h event clock → IsOverWith s (summed_size b h) event
+    → StoreStands seen b s h → IsToRecord b h event clock → IsOverWith s (summed_size b h) (need_of event)
     → (r ≡ Err Memory) ⊎ (r ≡ Err (Full (summed_size b h) (need_of event) 0))
 
 -- the one and then the other

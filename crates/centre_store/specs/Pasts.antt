@@ -1,5 +1,6 @@
 -- The history over a summary for which a list of bodies stands, and where a list stands for none.
 use Rattle.std.specs.Prelude.{◌≡◌, ◌≤◌, ◌+◌, ◌^◌, ℕ, List, [], ◌∷◌, ◌++◌, true, length, Option}
+use Rattle.std.specs.List.{AllByRecursion}
 use Rattle.centre_rules.specs.Summary.{Summary}
 use Rattle.centre_rules.specs.History.{Entry, is_recorded}
 use Rattle.centre_rules.specs.Answers.{IsLegal}
@@ -16,8 +17,7 @@ pub record IsKept (e : Entry) : Type 0 where
   pub spelled : HasSpelling e.event e.at
 
 abbrev pub AreKept : List Entry → Type 0
-AreKept [] = Unit {0}
-AreKept (e ∷ h) = IsKept e × AreKept h
+AreKept h = AllByRecursion IsKept h
 
 -- The bodies are those in a version of this history over a summary: a legal one, of at most 2^48 entries with those of the summary, that
 -- has no quiet one. So each body is a spelling, each reply is the answer after the entries before it, and no moment is less than the one

@@ -75,30 +75,33 @@ pub record Takes {D : Type 0} (seen : D → DiskSeen) (b : Summary) (s : Stored 
 abbrev pub IsToRecord : Summary → List Entry → Event → ℕ → Type 0
 IsToRecord b h event clock = is_recorded (answer b h event (moment_after b h clock)) ≡ true
 
--- The record of the event would pass a limit of the journal, and so it would behind a checkpoint, where so many bytes are used and there is
--- no record.
-pub record IsOverWith {D : Type 0} (s : Stored D) (used : ℕ) (event : Event) : Type 0 where
-  pub now : IsOver s.journal.used (need_of event) s.journal.records s.journal.limits.bytes s.journal.limits.records
-  pub then : IsOver used (need_of event) 0 s.journal.limits.bytes s.journal.limits.records
+-- A record of so many bytes would pass a limit of the journal, and so it would behind a checkpoint, where so many bytes are used and there
+-- is no record.
+pub record IsOverWith {D : Type 0} (s : Stored D) (used need : ℕ) : Type 0 where
+  pub now : IsOver s.journal.used need s.journal.records s.journal.limits.bytes s.journal.limits.records
+  pub then : IsOver used need 0 s.journal.limits.bytes s.journal.limits.records
 
--- The journal has no room for the record of the event, which would be recorded, not even behind a checkpoint, for which these are the
--- numbers; the disk has not failed.
+-- The journal has no room for a record of `wanted` bytes, which is due after each history, not even behind a checkpoint, for which these
+-- are the numbers; the disk has not failed.
 pub record IsShownFull {D : Type 0} (seen : D → DiskSeen)
-    (s : Stored D) (used need records : ℕ) (event : Event) (clock : ℕ) : Type 0 where
+    (s : Stored D) (wanted : ℕ) (IsDue : Summary → List Entry → Type 0) (used need records : ℕ) : Type 0 where
   pub used_is : (b : Summary) (h : List Entry) → StoreStands seen b s h → used ≡ summed_size b h
-  pub need_is : need ≡ need_of event
+  pub need_is : need ≡ wanted
   pub records_is : records ≡ 0
-  pub over : IsOverWith s used event
+  pub over : IsOverWith s used wanted
   pub up : HasFailed seen s → ⊥
-  pub to_record : (b : Summary) (h : List Entry) → StoreStands seen b s h → IsToRecord b h event clock
+  pub to_record : (b : Summary) (h : List Entry) → StoreStands seen b s h → IsDue b h
 
--- what a store shows after a stop
+-- what a store shows after it stopped at a record of `wanted` bytes
+abbrev pub ShowsAt : {D : Type 0} → (D → DiskSeen) → Stored D → ℕ → (Summary → List Entry → Type 0) → Stop → Type 0
+ShowsAt seen s wanted IsDue Memory = Unit {0}
+ShowsAt seen s wanted IsDue (Down at_open now) = (at_open ≡ s.at_open) × (now ≡ (seen s.journal.disk).faults) × Rose at_open now
+ShowsAt seen s wanted IsDue (Full used need records) = IsShownFull seen s wanted IsDue used need records
+ShowsAt seen s wanted IsDue (Worn count) = (count ≡ s.state.entries) × (2 ^ 48 ≤ count)
+
+-- at an event, whose record is due where it would be recorded
 abbrev pub Shows : {D : Type 0} → (D → DiskSeen) → Stored D → Stop → Event → ℕ → Type 0
-Shows seen s Memory event clock = Unit {0}
-Shows seen s (Down at_open now) event clock =
-    (at_open ≡ s.at_open) × (now ≡ (seen s.journal.disk).faults) × Rose at_open now
-Shows seen s (Full used need records) event clock = IsShownFull seen s used need records event clock
-Shows seen s (Worn count) event clock = (count ≡ s.state.entries) × (2 ^ 48 ≤ count)
+Shows seen s stop event clock = ShowsAt seen s (need_of event) (λ b h. IsToRecord b h event clock) stop
 
 -- what is answered, where a stop comes with something that is given back
 abbrev pub stop_of : {A B : Type 0} → Result A (Stop × B) → Result A Stop

@@ -217,7 +217,7 @@ impl<D: Disk> Store<D> {
         ensures down { IsDownWhereFailed D.seen self.new (stop_of result) }
         ensures written { OnOk result ((b : Summary) (h : List Entry) → StoreStands D.seen b self.old h
             → IsWrittenOn self.old.journal self.new.journal (summed_size b h) (need_of call.event)) }
-        ensures full { (b : Summary) (h : List Entry) → StoreStands D.seen b self.old h → IsOverWith self.old (summed_size b h) call.event
+        ensures full { (b : Summary) (h : List Entry) → StoreStands D.seen b self.old h → IsOverWith self.old (summed_size b h) (need_of call.event)
             → (stop_of result ≡ Err Stop.Memory) ⊎ (stop_of result ≡ Err (Stop.Full (summed_size b h) (need_of call.event) 0)) }
 
         ensures any_moment { (b : Summary) (h : List Entry) → StoreStands D.seen b self.old h

@@ -7,7 +7,7 @@ use Rattle.std.proofs.lemmas.Slice.Eq.{bytes_eq-Decides}
 use Rattle.arc_data.specs.Digits.{is_digit}
 use Rattle.arc_data.specs.declared.signal.Class.{Class}
 use Rattle.arc_data.specs.declared.signal.Class.TheVariants.{Unlisted}
-use Rattle.alarm_rules.specs.ContactId.{contact_id_table, contact_id_class, lists_code}
+use Rattle.alarm_rules.specs.ContactId.{contact_id_table, contact_id_class}
 
 -- each text is of decimal digits
 abbrev are_digits : List (List ℕ) → Bool
@@ -29,7 +29,7 @@ in_no_row code (text ∷ texts) letters all =
     let parts = and_parts (list_all is_digit text) (are_digits texts) all in
     rw (not_this code text (bytes_eq code text) refl parts.0 letters) (in_no_row code texts letters parts.1)
 
-found_nowhere : (code : List ℕ) (rows : List (Class × List (List ℕ))) → list_all is_digit code ≡ false → list_all (λ (row : Class × List (List ℕ)). are_digits row.1) rows ≡ true → find (lists_code code) rows ≡ None
+found_nowhere : (code : List ℕ) (rows : List (Class × List (List ℕ))) → list_all is_digit code ≡ false → list_all (λ (row : Class × List (List ℕ)). are_digits row.1) rows ≡ true → find (λ (row : Class × List (List ℕ)). list_any (bytes_eq code) row.1) rows ≡ None
 found_nowhere code [] letters all = refl
 found_nowhere code (row ∷ rows) letters all =
     let parts = and_parts (are_digits row.1) (list_all (λ (row : Class × List (List ℕ)). are_digits row.1) rows) all in

@@ -2,13 +2,14 @@
 use Rattle.std.proofs.Common.{◌≡◌, ℕ, suc, ◌-◌, List, [], ◌∷◌, ◌++◌, length, drop, Bool, true, false, cond, eqb, Option, Some, None, refl, sym, ◌∙◌, ap, subst, arith, append_assoc, length-append, take-append-drop}
 use Rattle.std.specs.Prelude.{IfSome}
 use Rattle.std.specs.List.{take_while, prefix_len, list_all}
+use Rattle.std.specs.Option.{option_map}
 use Rattle.std.proofs.lemmas.Bool.{eqb-true, ne_eqb, and_parts, and_from}
 use Rattle.std.proofs.lemmas.List.Sums.{take_while-cons}
 use Rattle.std.proofs.lemmas.List.Folds.{length-prefix_len}
 use Rattle.arc_data.specs.Digits.{is_between, is_digit, is_hex, is_run}
 use Rattle.arc_data.specs.WellFormed.{is_receiver}
 use Rattle.dc09_frame.specs.declared.header.Header.{Header}
-use Rattle.dc09_frame.specs.Headers.{◌>>=◌, is_token_byte, IsHeader, star, receiver_field, header_bytes, after_byte, run_at, star_at, receiver_found, receiver_at, header_at, IsReadFrom}
+use Rattle.dc09_frame.specs.Headers.{◌>>=◌, is_token_byte, IsHeader, star, receiver_field, header_bytes, after_byte, run_at, star_at, receiver_at, header_at, IsReadFrom}
 
 -- Steps that did not fail.
 
@@ -94,13 +95,13 @@ receiver_takes : (xs : List ℕ) (x : Option (List ℕ) × List ℕ) → receive
 receiver_takes [] x e = subst (λ (y : Option (List ℕ) × List ℕ). ([] ≡ receiver_field y.0 ++ y.1) × (is_receiver y.0 ≡ true)) (some_is (None, []) x e) (refl, refl)
 receiver_takes (r ∷ xs) x e = step (eqb r 82) refl e
   where
-    digits_take : (o : Option (List ℕ × List ℕ)) → run_at is_hex 1 6 xs ≡ o → r ≡ 82 → receiver_found o ≡ Some x → (r ∷ xs ≡ receiver_field x.0 ++ x.1) × (is_receiver x.0 ≡ true)
+    digits_take : (o : Option (List ℕ × List ℕ)) → run_at is_hex 1 6 xs ≡ o → r ≡ 82 → option_map (λ (f : List ℕ × List ℕ). (Some f.0, f.1)) o ≡ Some x → (r ∷ xs ≡ receiver_field x.0 ++ x.1) × (is_receiver x.0 ≡ true)
     digits_take None is same e = absurd cc
     digits_take (Some found) is same e =
         let t = run_takes is_hex 1 6 xs found is in
         subst (λ (y : Option (List ℕ) × List ℕ). (r ∷ xs ≡ receiver_field y.0 ++ y.1) × (is_receiver y.0 ≡ true)) (some_is (Some found.0, found.1) x e) (rw same (ap (λ (l : List ℕ). 82 ∷ l) t.0), t.1)
 
-    step : (t : Bool) → eqb r 82 ≡ t → cond t (receiver_found (run_at is_hex 1 6 xs)) (Some (None, r ∷ xs)) ≡ Some x → (r ∷ xs ≡ receiver_field x.0 ++ x.1) × (is_receiver x.0 ≡ true)
+    step : (t : Bool) → eqb r 82 ≡ t → cond t (option_map (λ (f : List ℕ × List ℕ). (Some f.0, f.1)) (run_at is_hex 1 6 xs)) (Some (None, r ∷ xs)) ≡ Some x → (r ∷ xs ≡ receiver_field x.0 ++ x.1) × (is_receiver x.0 ≡ true)
     step true is e = digits_take (run_at is_hex 1 6 xs) refl (eqb-true r 82 is) e
     step false is e = subst (λ (y : Option (List ℕ) × List ℕ). (r ∷ xs ≡ receiver_field y.0 ++ y.1) × (is_receiver y.0 ≡ true)) (some_is (None, r ∷ xs) x e) (refl, refl)
 

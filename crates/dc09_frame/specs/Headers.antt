@@ -1,7 +1,8 @@
 -- The header of a body (DC-09, the message's fields).
 use Rattle.std.specs.Prelude.{◌≡◌, ℕ, ◌-◌, ◌==◌, ◌||◌, ◌++◌, List, [], ◌∷◌, Bool, true, false, if◌then◌else◌, Option, Some, None}
-use Rattle.std.specs.Prelude.{length, drop, codes}
+use Rattle.std.specs.Prelude.{option_and_then, length, drop, codes}
 use Rattle.std.specs.List.{take_while}
+use Rattle.std.specs.Option.{option_map, option_map_or}
 use Rattle.arc_data.specs.Digits.{is_between, is_digit, is_hex, is_run}
 use Rattle.arc_data.specs.WellFormed.{is_receiver}
 use Rattle.dc09_frame.specs.declared.header.Header.{Header}
@@ -27,8 +28,7 @@ star sealed = if sealed then 42 ∷ [] else []
 
 -- the `R` field, where there is one
 abbrev pub receiver_field : Option (List ℕ) → List ℕ
-receiver_field None = []
-receiver_field (Some digits) = 82 ∷ digits
+receiver_field receiver = option_map_or (λ digits. 82 ∷ digits) receiver []
 
 -- sequence, `R` field, `L` field, `#` and account, as they came
 abbrev pub fields : Header → List ℕ
@@ -57,18 +57,14 @@ star_at [] = (false, [])
 star_at (x ∷ xs) = if x == 42 then (true, xs) else (false, x ∷ xs)
 
 -- the `R` field, where there is one
-abbrev pub receiver_found : Option (List ℕ × List ℕ) → Option (Option (List ℕ) × List ℕ)
-receiver_found None = None
-receiver_found (Some found) = Some (Some found.0, found.1)
-
 abbrev pub receiver_at : List ℕ → Option (Option (List ℕ) × List ℕ)
 receiver_at [] = Some (None, [])
-receiver_at (x ∷ xs) = if x == 82 then receiver_found (run_at is_hex 1 6 xs) else Some (None, x ∷ xs)
+receiver_at (x ∷ xs) =
+    if x == 82 then option_map (λ found. (Some found.0, found.1)) (run_at is_hex 1 6 xs) else Some (None, x ∷ xs)
 
 infixl 10 ◌>>=◌
 abbrev pub ◌>>=◌ : {A B : Type 0} → Option A → (A → Option B) → Option B
-None >>= f = None
-(Some x) >>= f = f x
+part >>= f = option_and_then f part
 
 -- the header that begins a body, and how many bytes it has
 unfoldable pub header_at : List ℕ → Option (Header × ℕ)

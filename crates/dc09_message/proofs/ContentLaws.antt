@@ -11,13 +11,14 @@ use Rattle.arc_data.specs.Digits.{capitals, is_hex}
 use Rattle.arc_data.specs.declared.event.Token.{Token}
 use Rattle.arc_data.specs.declared.event.Token.TheVariants.{SiaDcs, AdmCid}
 use Rattle.alarm_rules.specs.ContactId.{is_contact_id, contact_id_signal}
+use Rattle.alarm_rules.specs.SetupLines.{is_nil}
 use Rattle.alarm_rules.specs.SiaCodes.{sia_signals}
 use Rattle.alarm_rules.specs.Signals.{data_of, signals, has_signals}
 use Rattle.dc09_frame.specs.Headers.{◌>>=◌, after_byte, run_at}
 use Rattle.dc09_frame.specs.declared.header.Header.{Header}
 use Rattle.dc09_frame.proofs.HeaderLaws.{bind_some, some_if, some_is, after_byte_takes, run_takes, run_again}
 use Rattle.dc09_message.specs.Blocks.{is_free, are_free, blocks_bytes, Blocks, IsBlocks, is_end, blocks_at}
-use Rattle.dc09_message.specs.Contents.{is_tail, is_none, fits_tail, begins_account, after_account, after_bar, data_behind, kept, kept_if, content_of, content_in, IsAccountEcho, IsFront, IsReport, IsHeartbeat, IsContent}
+use Rattle.dc09_message.specs.Contents.{is_tail, fits_tail, begins_account, after_account, after_bar, data_behind, kept, kept_if, content_of, content_in, IsAccountEcho, IsFront, IsReport, IsHeartbeat, IsContent}
 use Rattle.dc09_message.specs.declared.kind.MessageKind.{MessageKind}
 use Rattle.dc09_message.specs.declared.kind.MessageKind.TheVariants.{Heartbeat, Report}
 use Rattle.dc09_message.proofs.BlockLaws.{blocks_take, blocks_again}
@@ -166,7 +167,7 @@ pub tail_ends : (h : Header) (tail : List ℕ) → fits_tail h tail ≡ true →
 tail_ends h [] e = refl
 tail_ends h (b ∷ rest) e = step h.sealed e
   where
-    step : (t : Bool) → cond t (is_none (b ∷ rest)) (is_tail (b ∷ rest)) ≡ true → is_end (b ∷ rest) ≡ true
+    step : (t : Bool) → cond t (is_nil (b ∷ rest)) (is_tail (b ∷ rest)) ≡ true → is_end (b ∷ rest) ≡ true
     step true e = absurd cc
     step false e = ap (λ (x : ℕ). not (x == 91)) (eqb-true b 95 (and_parts (b == 95) (length rest == 19) e).0)
 

@@ -7,6 +7,7 @@ use Rattle.std.specs.Str.{bytes_eq}
 use Rattle.arc_data.specs.Digits.{capitals, is_account, is_hex}
 use Rattle.arc_data.specs.declared.event.Token.{Token}
 use Rattle.arc_data.specs.declared.event.Token.TheVariants.{SiaDcs, AdmCid}
+use Rattle.alarm_rules.specs.SetupLines.{is_nil}
 use Rattle.alarm_rules.specs.Signals.{has_signals}
 use Rattle.dc09_frame.specs.Headers.{◌>>=◌, after_byte, run_at}
 use Rattle.dc09_frame.specs.declared.header.Header.{Header}
@@ -27,13 +28,9 @@ abbrev pub is_tail : List ℕ → Bool
 is_tail [] = true
 is_tail (b ∷ rest) = (b == 95) && (length rest == 19)
 
-abbrev pub is_none : List ℕ → Bool
-is_none [] = true
-is_none (b ∷ rest) = false
-
 -- only a plain message may have a tail: in a sealed one the stamp stands in its place
 abbrev pub fits_tail : Header → List ℕ → Bool
-fits_tail h tail = if h.sealed then is_none tail else is_tail tail
+fits_tail h tail = if h.sealed then is_nil tail else is_tail tail
 
 -- the bytes begin with `#`
 abbrev pub begins_account : List ℕ → Bool

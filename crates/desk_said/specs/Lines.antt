@@ -3,7 +3,7 @@ use Rattle.std.specs.Prelude.{ℕ, ◌+◌, ◌==◌, List, [], ◌∷◌, if◌
 use Rattle.std.specs.List.{position}
 use Rattle.std.specs.Option.{option_map, unwrap_or}
 use Rattle.std.specs.Str.{bytes_eq}
-use Rattle.alarm_rules.specs.SetupLines.{words_of, after, is_nil, provided, three}
+use Rattle.alarm_rules.specs.SetupLines.{words_of, after, is_nil, provided}
 use Rattle.alarm_rules.specs.SetupWords.{word_that, class_named}
 use Rattle.arc_data.specs.Digits.{is_name, is_account}
 use Rattle.arc_data.specs.declared.listing.Row.{Row}
@@ -80,11 +80,11 @@ abbrev pub missing_line : List (List ℕ) → Option Said
 missing_line words = after (one_word words) (λ word. option_map Missing (step_named word))
 
 abbrev pub recorded_line : List (List ℕ) → Option Said
-recorded_line words =
-    after (three words) (λ word.
-    after (number_spelled word.0) (λ number.
-    after (count_spelled word.2) (λ left.
-    provided (bytes_eq word.1 (codes "left")) (Recorded number left))))
+recorded_line (digits ∷ label ∷ count ∷ []) =
+    after (number_spelled digits) (λ number.
+    after (count_spelled count) (λ left.
+    provided (bytes_eq label (codes "left")) (Recorded number left)))
+recorded_line other = None
 
 -- `NUMBER CLASS ACCOUNT`, and the words that follow
 abbrev pub subject_of : List ℕ → List ℕ → List ℕ → Option Subject
@@ -99,9 +99,8 @@ subject_first other = None
 
 -- `claimed NUMBER CLASS ACCOUNT`
 abbrev pub claimed_line : List (List ℕ) → Option Said
-claimed_line words =
-    after (three words) (λ word.
-    option_map (λ s. Claimed s.number s.class s.account) (subject_of word.0 word.1 word.2))
+claimed_line (digits ∷ class ∷ account ∷ []) = option_map (λ s. Claimed s.number s.class s.account) (subject_of digits class account)
+claimed_line other = None
 
 -- `NUMBER CLASS ACCOUNT code CODE opened MOMENT`, and the words that follow
 abbrev pub opened_first : List (List ℕ) → Option (Opened × List (List ℕ))

@@ -9,11 +9,12 @@ ghost use Rattle.desk_said.specs.Lines.{name_last, one_word, recorded_line, welc
 ghost use Rattle.desk_said.specs.Words.{step_or_none};
 ghost use Rattle.desk_said.specs.declared.said.Said.TheVariants.{BusyWith, Closed, NotOpen, NotYours, Released};
 
-use crate::names::{count, number, step};
+use crate::names::count;
 use crate::said::Said;
 use crate::shown::subject_by;
 use alarm_rules::{Words, is_name};
 use arc_data::{Step, Txt};
+use desk_wire::{number, step};
 
 /// An answer of one word.
 pub(crate) fn alone(said: Said, words: &mut Words) -> Option<Said>

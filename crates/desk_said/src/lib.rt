@@ -10,7 +10,8 @@ mod said;
 mod shown;
 
 pub use arc_data::{Class, Row, Step, Txt, View};
-pub use names::{class, count, number, step};
+pub use desk_wire::{number, step};
+pub use names::{class, count};
 pub use reading::read;
 pub use rows::Rows;
 pub use said::Said;

@@ -7,7 +7,7 @@ ghost use Rattle.desk_said.specs.Lines.{labelled, opened_first, shown_line, sinc
 ghost use Rattle.desk_said.specs.Words.{holder_or, line_or_dash, yes_or_no};
 
 use crate::forms::{name, step_or_none};
-use crate::names::{class, count, number};
+use crate::names::{class, count};
 use crate::said::Said;
 use alarm_rules::{Words, is_account};
 use arc_data::{Class, Txt, View};

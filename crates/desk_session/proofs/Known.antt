@@ -5,17 +5,18 @@ use Rattle.arc_data.specs.declared.event.Event.{Event}
 use Rattle.arc_data.specs.declared.event.Event.TheVariants.{Next as TheNext, Claim as TheClaim, Act as TheAct, Release as TheRelease}
 use Rattle.arc_data.specs.declared.event.Event.TheVariants.{Close as TheClose, Show as TheShow, List as TheList}
 use Rattle.arc_data.specs.declared.reply.Reply.{Reply}
-use Rattle.arc_data.specs.declared.reply.Reply.TheVariants.{HeldBy, Unknown}
+use Rattle.arc_data.specs.declared.reply.Reply.TheVariants.{HeldBy, Unknown, NotOpen, BusyWith, NoneWaiting, Released, Shown, Missing, Closed}
 use Rattle.arc_data.specs.declared.step.Acted.{Acted}
 use Rattle.arc_data.specs.declared.step.Step.{Step}
 use Rattle.arc_data.specs.Steps.{same_step}
 use Rattle.std.specs.Str.{bytes_eq}
+use Rattle.std.specs.Option.{option_map_or}
 use Rattle.alarm_rules.specs.Plans.{expected_step}
 use Rattle.alarm_rules.specs.Setups.{Setup, meaning, has_operator}
 use Rattle.centre_core.specs.Halls.{HallSeen, IsKept, TookEvent}
 use Rattle.centre_rules.specs.Cases.{Incident}
 use Rattle.centre_rules.specs.Standing.{standing}
-use Rattle.centre_rules.specs.Desks.{numbered, held_by, best, holds, claim_unless, claim_from, claim_of, next_of, act_when, act_of, release_of, close_when, close_of, show_of}
+use Rattle.centre_rules.specs.Desks.{numbered, held_by, best, holds, claim_unless, claim_from, act_when, if_held, view_of, claimed}
 use Rattle.centre_rules.specs.Summary.{Summary}
 use Rattle.centre_rules.specs.Marks.{Mark, force}
 use Rattle.centre_rules.specs.History.{Entry, is_recorded, marks, marks_of, onto, acted_by}
@@ -38,11 +39,11 @@ from_told : (operator : List ℕ) (is : List Incident) (i : Incident) (holder : 
 from_told operator is i None told = unless_told (held_by operator is) i told
 from_told operator is i (Some x) told = from_step (bytes_eq x operator) (held_by operator is) i x told
 
-claim_told : (operator : List ℕ) (is : List Incident) (number : ℕ) (o : Option Incident) → claim_of operator is number o ≡ Unknown → ⊥
+claim_told : (operator : List ℕ) (is : List Incident) (number : ℕ) (o : Option Incident) → option_map_or (λ (i : Incident). claim_from operator is i i.holder) o (NotOpen number) ≡ Unknown → ⊥
 claim_told operator is number None told = cc
 claim_told operator is number (Some i) told = from_told operator is i i.holder told
 
-next_told : (held waiting : Option Incident) → next_of held waiting ≡ Unknown → ⊥
+next_told : (held waiting : Option Incident) → option_map_or (λ (j : Incident). BusyWith j.number) held (option_map_or claimed waiting NoneWaiting) ≡ Unknown → ⊥
 next_told (Some j) waiting told = cc
 next_told None None told = cc
 next_told None (Some i) told = cc
@@ -55,23 +56,23 @@ when_told : (acted : Acted) (i : Incident) (o : Option Step) → act_when acted 
 when_told acted i None told = cc
 when_told acted i (Some step) told = when_step (same_step acted.step step) _ _ (λ is. cc) (λ is. cc) told
 
-act_told : (acted : Acted) (number : ℕ) (o : Option Incident) → act_of acted number o ≡ Unknown → ⊥
+act_told : (acted : Acted) (number : ℕ) (o : Option Incident) → if_held acted.operator number o (λ i. act_when acted i (expected_step i.steps i.acts)) ≡ Unknown → ⊥
 act_told acted number None told = cc
 act_told acted number (Some i) told = when_step (holds acted.operator i) _ _ (when_told acted i (expected_step i.steps i.acts)) (λ is. cc) told
 
-release_told : (operator : List ℕ) (number : ℕ) (o : Option Incident) → release_of operator number o ≡ Unknown → ⊥
+release_told : (operator : List ℕ) (number : ℕ) (o : Option Incident) → if_held operator number o (λ i. Released number) ≡ Unknown → ⊥
 release_told operator number None told = cc
 release_told operator number (Some i) told = when_step (holds operator i) _ _ (λ is. cc) (λ is. cc) told
 
-close_step : (number : ℕ) (o : Option Step) → close_when number o ≡ Unknown → ⊥
+close_step : (number : ℕ) (o : Option Step) → option_map_or Missing o (Closed number) ≡ Unknown → ⊥
 close_step number None told = cc
 close_step number (Some step) told = cc
 
-close_told : (operator : List ℕ) (number : ℕ) (o : Option Incident) → close_of operator number o ≡ Unknown → ⊥
+close_told : (operator : List ℕ) (number : ℕ) (o : Option Incident) → if_held operator number o (λ i. option_map_or Missing (expected_step i.steps i.acts) (Closed number)) ≡ Unknown → ⊥
 close_told operator number None told = cc
 close_told operator number (Some i) told = when_step (holds operator i) _ _ (close_step number (expected_step i.steps i.acts)) (λ is. cc) told
 
-show_told : (number : ℕ) (o : Option Incident) → show_of number o ≡ Unknown → ⊥
+show_told : (number : ℕ) (o : Option Incident) → option_map_or (λ i. Shown (view_of i)) o (NotOpen number) ≡ Unknown → ⊥
 show_told number None told = cc
 show_told number (Some i) told = cc
 

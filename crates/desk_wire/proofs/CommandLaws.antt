@@ -43,7 +43,7 @@ abbrev AreRead : List (List ℕ) → Command → Type 0
 AreRead words c = IsRead (join_with_byte 32 words) c
 
 login_step : (name pin : List ℕ) (s t : Bool) (c : Command) → is_name name ≡ s → is_pin pin ≡ t
-    → after (cond s (Some name) None) (λ n. after (cond t (Some pin) None) (λ p. Some (Login n p))) ≡ Some c → AreRead (codes "login" ∷ name ∷ pin ∷ []) c
+    → after (cond s (Some name) None) (λ n. option_map (Login n) (cond t (Some pin) None)) ≡ Some c → AreRead (codes "login" ∷ name ∷ pin ∷ []) c
 login_step name pin true true c named digits is =
     let it : Login name pin ≡ c = cc in
     subst (AreRead (codes "login" ∷ name ∷ pin ∷ [])) it (record {
@@ -109,10 +109,9 @@ close_is [] c is = absurd cc
 close_is (a ∷ []) c is = absurd cc
 close_is (a ∷ b ∷ []) c is =
     let number = then_is (number_spelled a) _ c is in
-    let code = then_is (code_named b) _ c number.2 in
+    let code = mapped_is (Close number.0) (code_named b) c number.2 in
     let n = number_is a number.0 number.1 in
-    let it : Close number.0 code.0 ≡ c = (let made = code.2 in cc) in
-    subst (AreRead (codes "close" ∷ a ∷ b ∷ [])) it (record {
+    subst (AreRead (codes "close" ∷ a ∷ b ∷ [])) code.2 (record {
       spelled =
           two_spaced (codes "close") a b ∙ ap (λ l. codes "close " ++ l ++ (32 ∷ []) ++ b) n.spelled
           ∙ ap (λ l. codes "close " ++ decimal number.0 ++ (32 ∷ []) ++ l) (code_is b code.0 code.1);

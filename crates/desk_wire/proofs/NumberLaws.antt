@@ -15,7 +15,7 @@ use Rattle.arc_data.specs.declared.step.Outcome.{Outcome}
 use Rattle.arc_data.specs.declared.step.Outcome.TheVariants.{Reached, NoAnswer, Done}
 use Rattle.arc_data.specs.declared.step.Step.{Step}
 use Rattle.arc_data.specs.declared.step.Step.TheVariants.{Premises, Holder, Police, Fire, Ambulance, Guard, Note}
-use Rattle.desk_wire.specs.Names.{step_name, outcome_name, code_name, all_steps, all_outcomes, all_codes, step_named, outcome_named, code_named, number_spelled}
+use Rattle.desk_wire.specs.Names.{step_name, outcome_name, code_name, all_steps, step_named, outcome_named, code_named, number_spelled}
 use Rattle.desk_wire.specs.Laws.{IsTyped}
 
 -- Numbers.
@@ -81,11 +81,11 @@ step_is word step is = found_named step_name is_step word all_steps step refl is
 
 pub outcome_is : (word : List ℕ) (outcome : Outcome) → outcome_named word ≡ Some outcome → word ≡ outcome_name outcome
 unfolding any
-outcome_is word outcome is = (found_named outcome_name any word all_outcomes outcome refl is).0
+outcome_is word outcome is = (found_named outcome_name any word (Reached ∷ NoAnswer ∷ Done ∷ []) outcome refl is).0
 
 pub code_is : (word : List ℕ) (code : CloseCode) → code_named word ≡ Some code → word ≡ code_name code
 unfolding any
-code_is word code is = (found_named code_name any word all_codes code refl is).0
+code_is word code is = (found_named code_name any word (Real ∷ False ∷ Test ∷ []) code refl is).0
 
 -- and each is found by its name
 

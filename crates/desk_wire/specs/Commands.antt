@@ -2,7 +2,7 @@
 use Rattle.std.specs.Prelude.{ℕ, if◌then◌else◌, List, [], ◌∷◌, Option, Some, None, codes}
 use Rattle.std.specs.Option.{option_map}
 use Rattle.std.specs.Str.{bytes_eq}
-use Rattle.alarm_rules.specs.SetupLines.{words_of, after, is_nil, provided, two, three}
+use Rattle.alarm_rules.specs.SetupLines.{words_of, after, is_nil, provided}
 use Rattle.alarm_rules.specs.SetupWords.{word_that, is_pin}
 use Rattle.arc_data.specs.Digits.{is_name}
 use Rattle.arc_data.specs.Steps.{fits}
@@ -14,11 +14,8 @@ use Rattle.desk_wire.specs.declared.command.Command.TheVariants.{Login, Quit, Ne
 
 -- `login NAME PIN`
 abbrev pub login_line : List (List ℕ) → Option Command
-login_line words =
-    after (two words) (λ word.
-    after (word_that is_name word.0) (λ name.
-    after (word_that is_pin word.1) (λ pin.
-    Some (Login name pin))))
+login_line (word ∷ digits ∷ []) = after (word_that is_name word) (λ name. option_map (Login name) (word_that is_pin digits))
+login_line other = None
 
 -- `quit`, `next`, `list`
 abbrev pub alone : Command → List (List ℕ) → Option Command
@@ -31,20 +28,17 @@ one_number other = None
 
 -- `act NUMBER STEP OUTCOME`, where the outcome fits the step
 abbrev pub act_line : List (List ℕ) → Option Command
-act_line words =
-    after (three words) (λ word.
-    after (number_spelled word.0) (λ number.
-    after (step_named word.1) (λ step.
-    after (outcome_named word.2) (λ outcome.
-    provided (fits step outcome) (Act number step outcome)))))
+act_line (digits ∷ of_step ∷ of_outcome ∷ []) =
+    after (number_spelled digits) (λ number.
+    after (step_named of_step) (λ step.
+    after (outcome_named of_outcome) (λ outcome.
+    provided (fits step outcome) (Act number step outcome))))
+act_line other = None
 
 -- `close NUMBER CODE`
 abbrev pub close_line : List (List ℕ) → Option Command
-close_line words =
-    after (two words) (λ word.
-    after (number_spelled word.0) (λ number.
-    after (code_named word.1) (λ code.
-    Some (Close number code))))
+close_line (digits ∷ name ∷ []) = after (number_spelled digits) (λ number. option_map (Close number) (code_named name))
+close_line other = None
 
 abbrev pub command_of_words : List (List ℕ) → Option Command
 command_of_words [] = None

@@ -32,22 +32,16 @@ code_name Test = codes "test"
 abbrev pub all_steps : List Step
 all_steps = Premises ∷ Holder 1 ∷ Holder 2 ∷ Holder 3 ∷ Holder 4 ∷ Police ∷ Fire ∷ Ambulance ∷ Guard ∷ Note ∷ []
 
-abbrev pub all_outcomes : List Outcome
-all_outcomes = Reached ∷ NoAnswer ∷ Done ∷ []
-
-abbrev pub all_codes : List CloseCode
-all_codes = Real ∷ False ∷ Test ∷ []
-
 -- what a word names
 
 abbrev pub step_named : List ℕ → Option Step
 step_named word = find (λ step. bytes_eq word (step_name step)) all_steps
 
 abbrev pub outcome_named : List ℕ → Option Outcome
-outcome_named word = find (λ outcome. bytes_eq word (outcome_name outcome)) all_outcomes
+outcome_named word = find (λ outcome. bytes_eq word (outcome_name outcome)) (Reached ∷ NoAnswer ∷ Done ∷ [])
 
 abbrev pub code_named : List ℕ → Option CloseCode
-code_named word = find (λ code. bytes_eq word (code_name code)) all_codes
+code_named word = find (λ code. bytes_eq word (code_name code)) (Real ∷ False ∷ Test ∷ [])
 
 -- the number of an incident: decimal, without leading zeros, from 1 to the last one of 8 bytes
 abbrev pub number_spelled : List ℕ → Option ℕ

@@ -1,6 +1,7 @@
 -- The line that a desk prints for each reply of the centre.
-use Rattle.std.specs.Prelude.{ℕ, ◌++◌, List, [], ◌∷◌, Bool, if◌then◌else◌, Option, Some, None, codes, decimal}
+use Rattle.std.specs.Prelude.{ℕ, ◌++◌, List, [], ◌∷◌, Bool, if◌then◌else◌, Option, codes, decimal}
 use Rattle.std.specs.List.{flat_map}
+use Rattle.std.specs.Option.{option_map_or, unwrap_or}
 use Rattle.arc_data.specs.Classes.{name_of}
 use Rattle.arc_data.specs.declared.listing.Listing.{Listing}
 use Rattle.arc_data.specs.declared.listing.Row.{Row}
@@ -13,14 +14,8 @@ use Rattle.arc_data.specs.declared.signal.Class.{Class}
 use Rattle.arc_data.specs.declared.step.Step.{Step}
 use Rattle.desk_wire.specs.Names.{step_name}
 
--- the text, or another one where there is none
-abbrev pub text_or : List ℕ → Option (List ℕ) → List ℕ
-text_or other None = other
-text_or other (Some text) = text
-
 abbrev pub step_or_none : Option Step → List ℕ
-step_or_none None = codes "none"
-step_or_none (Some step) = step_name step
+step_or_none step = option_map_or step_name step (codes "none")
 
 abbrev pub yes_or_no : Bool → List ℕ
 yes_or_no answer = if answer then codes "yes" else codes "no"
@@ -48,7 +43,7 @@ recorded number left = ended (codes "recorded " ++ decimal number ++ codes " lef
 -- one incident of a list
 abbrev pub row_text : Row → List ℕ
 row_text r =
-    codes " " ++ decimal r.number ++ codes "/" ++ name_of r.class ++ codes "/" ++ r.account ++ codes "/" ++ text_or (codes "-") r.holder
+    codes " " ++ decimal r.number ++ codes "/" ++ name_of r.class ++ codes "/" ++ r.account ++ codes "/" ++ unwrap_or r.holder (codes "-")
 
 abbrev pub listed : Listing → List ℕ
 listed l = ended (codes "list " ++ decimal l.total ++ flat_map row_text l.rows)
@@ -62,7 +57,7 @@ opened v =
 abbrev pub since : List ℕ → View → List ℕ
 since text v =
     ended (text ++ codes " signals " ++ decimal v.signals ++ codes " restored " ++ yes_or_no v.restored
-    ++ codes " holder " ++ text_or (codes "none") v.holder ++ codes " next " ++ step_or_none v.expected
+    ++ codes " holder " ++ unwrap_or v.holder (codes "none") ++ codes " next " ++ step_or_none v.expected
     ++ codes " via " ++ line_or_dash v.via)
 
 abbrev pub shown : View → List ℕ

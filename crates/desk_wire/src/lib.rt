@@ -12,4 +12,5 @@ mod texts;
 pub use command::Command;
 pub use laws::{law_read_is_spelled, law_spelled_is_read};
 pub use line::Line;
+pub use names::{number, step};
 pub use printing::{print, print_in, print_welcome};

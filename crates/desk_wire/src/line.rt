@@ -1,8 +1,8 @@
 // A line in a fixed buffer.
-ghost use Rattle.std.specs.Prelude.{◌≡◌, ◌+◌, ◌≤◌, [], ◌++◌, length, decimal};
+ghost use Rattle.std.specs.Prelude.{◌≡◌, ◌+◌, ◌≤◌, [], ◌++◌, length, decimal, unwrap_or};
 ghost use Rattle.arc_data.specs.Classes.{name_of};
 ghost use Rattle.desk_wire.specs.Names.{step_name};
-ghost use Rattle.desk_wire.specs.Replies.{step_or_none, text_or};
+ghost use Rattle.desk_wire.specs.Replies.{step_or_none};
 
 use arc_data::{Class, Step, Txt};
 use itoa::Buffer;
@@ -84,7 +84,7 @@ impl Line {
     pub(crate) fn put_text_or(&mut self, text: &Option<Txt>, other: &[u8])
         requires other { length other.now ≤ 32 }
         requires room { length self.old + 32 ≤ 2048 }
-        ensures text { self.new ≡ self.old ++ text_or other.now text.now }
+        ensures text { self.new ≡ self.old ++ unwrap_or text.now other.now }
         ensures size { length self.new ≤ length self.old + 32 }
     {
         match text {

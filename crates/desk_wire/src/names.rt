@@ -50,16 +50,16 @@ pub(crate) fn pin(word: &[u8]) -> Option<Txt>
     if is_pin(word) { Txt::of(word) } else { None }
 }
 
-/// The number of an incident, from 1 on.
-pub(crate) fn number(word: &[u8]) -> Option<u64>
+/// The number of an incident, in decimal, from 1 on. None where the word is no such number.
+pub fn number(word: &[u8]) -> Option<u64>
     ensures { result ≡ number_spelled word.now }
 {
     let number = dec(word)?;
     if number == 0 { None } else { Some(number) }
 }
 
-/// The step of this name.
-pub(crate) fn step(word: &[u8]) -> Option<Step>
+/// The step of this name. None where no step has it.
+pub fn step(word: &[u8]) -> Option<Step>
     ensures { result ≡ step_named word.now }
 {
     among(word, &STEPS)

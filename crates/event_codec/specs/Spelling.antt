@@ -1,7 +1,8 @@
 -- The one spelling of each event that is kept, at a moment, in each of two versions: in the second a message tells by which line it came.
 use Rattle.std.specs.Prelude.{◌≡◌, ◌⊎◌, ◌==◌, if◌then◌else◌}
-use Rattle.std.specs.Prelude.{ℕ, ◌+◌, List, [], ◌∷◌, ◌++◌, length, codes, Option, Some, None}
+use Rattle.std.specs.Prelude.{ℕ, ◌+◌, List, [], ◌∷◌, ◌++◌, length, codes, Option}
 use Rattle.std.specs.Int.{w16, w32, w64, to_be_bytes}
+use Rattle.std.specs.Option.{option_map_or}
 use Rattle.arc_data.specs.Moments.{IsMoment}
 use Rattle.arc_data.specs.WellFormed.{IsWellFormed}
 use Rattle.arc_data.specs.declared.event.Event.{Event}
@@ -27,8 +28,7 @@ short_text text = length text ∷ text
 
 -- the `R` digits; no digits stand for no `R` field
 abbrev pub receiver_text : Option (List ℕ) → List ℕ
-receiver_text None = 0 ∷ []
-receiver_text (Some digits) = short_text digits
+receiver_text digits = option_map_or short_text digits (0 ∷ [])
 
 abbrev pub token_byte : Token → ℕ
 token_byte SiaDcs = 1
@@ -83,23 +83,19 @@ tag (Next operator) = 7
 tag (Act operator number step outcome) = 8
 tag (Release operator number) = 9
 tag (Close operator number code) = 10
-tag (Show number) = 0
-tag Rows = 0
+tag other = 0
 
 -- what stands behind the moment
 abbrev pub fields_in : ℕ → Event → List ℕ
 fields_in version (Adopt text) = to_be_bytes w32 (length text) ++ text
-fields_in version Start = []
 fields_in version (Sent message via) = message_fields message ++ via_text version via
 fields_in version (Beat account) = short_text account
-fields_in version Tick = []
 fields_in version (Claim operator number) = order_fields operator number
 fields_in version (Next operator) = short_text operator
 fields_in version (Act operator number step outcome) = order_fields operator number ++ step_byte step ∷ outcome_byte outcome ∷ []
 fields_in version (Release operator number) = order_fields operator number
 fields_in version (Close operator number code) = order_fields operator number ++ code_byte code ∷ []
-fields_in version (Show number) = []
-fields_in version Rows = []
+fields_in version other = []
 
 -- a tag, the moment in eight bytes, and the fields; all numbers have their highest byte first
 abbrev pub spelling_in : ℕ → Event → ℕ → List ℕ

@@ -8,6 +8,7 @@ use Rattle.arc_data.specs.declared.incident.Incident.{Incident}
 use Rattle.arc_data.specs.declared.signal.Class.{Class}
 use Rattle.arc_data.specs.declared.step.Acted.{Acted}
 use Rattle.arc_data.specs.declared.step.Step.{Step}
+use Rattle.incidents.specs.declared.slots.Former.{Former}
 use Rattle.incidents.specs.Index.{IndexValue, number_in}
 
 -- how many incidents were opened, those that are open, and for how many there is memory, the open ones included
@@ -41,6 +42,10 @@ pub record IsKept (opened : ℕ) (incidents : List Incident) (room memory : ℕ)
   pub indexed : IsIndexed index incidents room
 
 -- What calls do.
+
+-- its class, and whether somebody held it
+abbrev pub former_of : Incident → Former
+former_of i = record { class = i.class; is_held = is_some i.holder }
 
 -- the incident of a number changed, and no other one
 abbrev pub at_number : ℕ → (Incident → Incident) → List Incident → List Incident

@@ -6,5 +6,5 @@ mod slots;
 mod table;
 
 pub use arc_data::{Acted, Acts, Class, Incident, Memory, Outcome, Step, StepList, Txt};
-pub use slots::Slot;
+pub use slots::{Former, Slot};
 pub use table::Table;

@@ -6,10 +6,10 @@ ghost use Rattle.std.specs.List.{find, position};
 ghost use Rattle.std.specs.List.Sorted.{IsPartitionedBy};
 ghost use Rattle.std.specs.Option.{option_map};
 ghost use Rattle.arc_data.specs.Incidents.{has_number, Each};
-ghost use Rattle.incidents.specs.Tables.{at_number, without, attached, restored, held, acted};
+ghost use Rattle.incidents.specs.Tables.{at_number, without, attached, restored, held, acted, former_of};
 ghost use Rattle.incidents.specs.Slots.{IsCut, Rise, is_below, has_open, standing, open_of, thinned, released};
 
-use arc_data::{Acted, Incident, Memory, Outcome, Step, Txt};
+use arc_data::{Acted, Class, Incident, Memory, Outcome, Step, Txt};
 use std::alloc::Global;
 use std::marker::Model;
 
@@ -37,6 +37,25 @@ impl Slot {
         ensures { result ≡ has_open number self.now }
     {
         self.is_open && self.incident.number == number
+    }
+}
+
+/// What an incident was before a change: its class, and whether it had a holder.
+#[derive(Clone, Copy)]
+pub struct Former {
+    pub class: Class,
+    pub is_held: bool,
+}
+
+impl Former {
+    /// What an incident is before a change.
+    pub(crate) fn of(i: &Incident) -> Former
+        ensures { result ≡ former_of i.now }
+    {
+        Former {
+            class: i.class,
+            is_held: i.holder.is_some(),
+        }
     }
 }
 
@@ -167,15 +186,21 @@ impl Slots {
         }
     }
 
-    /// Gives an open incident a holder at a moment, or takes it from its holder.
-    pub fn hold(&mut self, number: u64, holder: Option<Txt>, at: u64)
-        ensures { self.new ≡ record self.old { incidents = at_number number (held holder at) self.old.incidents } }
+    /// Gives an open incident a holder at a moment, or takes it from its holder. The answer is what it was before.
+    pub fn hold(&mut self, number: u64, holder: Option<Txt>, at: u64) -> Option<Former>
+        ensures held { self.new ≡ record self.old { incidents = at_number number (held holder at) self.old.incidents } }
+        ensures former { result ≡ option_map former_of (find (has_number number) self.old.incidents) }
     {
         let touched = touched(&holder, at);
-        if let Some(place) = place_of(&self.slots, number) {
-            let item = &mut self.slots[place].incident;
-            item.holder = holder;
-            item.touched = touched;
+        match place_of(&self.slots, number) {
+            Some(place) => {
+                let item = &mut self.slots[place].incident;
+                let former = Former::of(item);
+                item.holder = holder;
+                item.touched = touched;
+                Some(former)
+            }
+            None => None,
         }
     }
 

@@ -4,10 +4,10 @@ ghost use Rattle.std.specs.List.{find};
 ghost use Rattle.std.specs.Option.{option_map};
 ghost use Rattle.arc_data.specs.Incidents.{has_number, is_of, Ascends, Each};
 ghost use Rattle.incidents.specs.Slots.{open_of};
-ghost use Rattle.incidents.specs.Tables.{IsSingle, at_number, without, attached, restored, held, acted, raised, number_of};
+ghost use Rattle.incidents.specs.Tables.{IsSingle, at_number, without, attached, restored, held, acted, raised, number_of, former_of};
 
 use crate::index::Index;
-use crate::slots::{Slot, Slots};
+use crate::slots::{Former, Slot, Slots};
 use arc_data::{Acts, Class, Incident, Memory, Outcome, Step, StepList, Txt};
 use std::alloc::Global;
 use std::marker::Model;
@@ -182,29 +182,36 @@ impl Table {
     /// changes; likewise in the next three calls.
     pub fn attach(&mut self, number: u64)
         requires { IfSome (find (has_number number) self.old.incidents) (λ i. i.signals < 2 ^ 62) }
-        ensures { self.new ≡ record self.old { incidents = at_number number attached self.old.incidents } }
+        ensures ascends { Ascends 0 self.old.incidents self.old.opened }
+        ensures single { IsSingle self.old.incidents }
+        ensures attached { self.new ≡ record self.old { incidents = at_number number attached self.old.incidents } }
     {
         self.slots.attach(number);
     }
 
     /// Marks an open incident restored.
     pub fn mark_restored(&mut self, number: u64)
-        ensures { self.new ≡ record self.old { incidents = at_number number restored self.old.incidents } }
+        ensures ascends { Ascends 0 self.old.incidents self.old.opened }
+        ensures single { IsSingle self.old.incidents }
+        ensures restored { self.new ≡ record self.old { incidents = at_number number restored self.old.incidents } }
     {
         self.slots.mark_restored(number);
     }
 
-    /// Gives an open incident a holder at a moment, or takes it from its holder.
-    pub fn hold(&mut self, number: u64, holder: Option<Txt>, at: u64)
-        ensures { self.new ≡ record self.old { incidents = at_number number (held holder at) self.old.incidents } }
+    /// Gives an open incident a holder at a moment, or takes it from its holder. The answer is what it was before.
+    pub fn hold(&mut self, number: u64, holder: Option<Txt>, at: u64) -> Option<Former>
+        ensures held { self.new ≡ record self.old { incidents = at_number number (held holder at) self.old.incidents } }
+        ensures former { result ≡ option_map former_of (find (has_number number) self.old.incidents) }
+        ensures ascends { Ascends 0 self.old.incidents self.old.opened }
     {
-        self.slots.hold(number, holder, at);
+        self.slots.hold(number, holder, at)
     }
 
     /// Records a step of an open incident. It has room for 10 of them.
     pub fn act(&mut self, number: u64, step: Step, outcome: Outcome, at: u64, operator: Txt)
         requires { IfSome (find (has_number number) self.old.incidents) (λ i. length i.acts < 10) }
-        ensures { self.new ≡ record self.old { incidents = at_number number (acted (record { step = step; outcome = outcome; at = at; operator = operator })) self.old.incidents } }
+        ensures ascends { Ascends 0 self.old.incidents self.old.opened }
+        ensures acted { self.new ≡ record self.old { incidents = at_number number (acted (record { step = step; outcome = outcome; at = at; operator = operator })) self.old.incidents } }
     {
         self.slots.act(number, step, outcome, at, operator);
     }
@@ -216,16 +223,20 @@ impl Table {
         self.slots.release_all();
     }
 
-    /// Takes an open incident out of the table, and the memory of its place with it.
-    pub fn remove(&mut self, number: u64)
+    /// Takes an open incident out of the table, and the memory of its place with it. The answer is what it was.
+    pub fn remove(&mut self, number: u64) -> Former
         requires { IsSome (find (has_number number) self.old.incidents) }
-        ensures { self.new ≡ record self.old { incidents = without number self.old.incidents; room = self.old.room - 1 } }
+        ensures former { Some result ≡ option_map former_of (find (has_number number) self.old.incidents) }
+        ensures ascends { Ascends 0 self.old.incidents self.old.opened }
+        ensures removed { self.new ≡ record self.old { incidents = without number self.old.incidents; room = self.old.room - 1 } }
     {
         let Some(incident) = self.slots.get(number) else {
             unreachable!()
         };
+        let former = Former::of(incident);
         self.index.remove(&incident.account, incident.class);
         self.slots.remove(number);
         self.room -= 1;
+        former
     }
 }

@@ -1,9 +1,9 @@
 -- No two accounts of a setup have the same number.
-use Rattle.std.proofs.Common.{◌≡◌, ℕ, List, [], ◌∷◌, ◌++◌, Bool, true, false, Option, None, Some, Result, Err, map, length, nat_lt}
+use Rattle.std.proofs.Common.{◌≡◌, ℕ, List, [], ◌∷◌, ◌++◌, Bool, true, false, Option, None, Some, Result, Ok, Err, map, length, nat_lt}
 use Rattle.std.proofs.Common.{inl, inr, refl, sym, ap, ◌∙◌, append_assoc, append-nil}
 use Rattle.std.specs.Prelude.{if◌then◌else◌, IsOk}
 use Rattle.std.specs.List.{find, list_any, IsDistinct}
-use Rattle.std.specs.Option.{option_map, option_or}
+use Rattle.std.specs.Option.{option_map, option_map_or, option_or}
 use Rattle.std.specs.Result.{result_unwrap_or}
 use Rattle.std.specs.Str.{bytes_eq}
 use Rattle.std.proofs.lemmas.Bool.{cases_Bool, cond-true, cond-false}
@@ -14,7 +14,7 @@ use Rattle.arc_data.specs.declared.setup_fault.SetupFault.{SetupFault}
 use Rattle.arc_data.specs.declared.setup_fault.SetupFault.TheVariants.{TooLarge}
 use Rattle.alarm_rules.specs.SetupLines.{AccountLine, Nothing, OfAccount, OfHours, OfKeyholder, OfPlan, OfOperator, OfLapse}
 use Rattle.alarm_rules.specs.Setups.{Account, Setup, Line, said_lines, account_part, accounts_in, account_declared, account_with, things}
-use Rattle.alarm_rules.specs.Setups.{fault_at, first_fault, setup_of, setup_of_lines, meaning, bad_zone, two_same, too_many, unless}
+use Rattle.alarm_rules.specs.Setups.{fault_at, first_fault, setup_of, setup_of_lines, meaning, bad_zone, two_same, too_many}
 use Rattle.accounts.proofs.LimitLemmas.{or-none}
 use Rattle.accounts.proofs.StandLemmas.{map-map, told-more}
 
@@ -88,7 +88,7 @@ distinct-lines lines none =
 
 -- the setup of a text by whether it is too large and by the fault of its lines
 distinct-result : (lines : List Line) (large : Bool) (fault : Option SetupFault) → first_fault [] lines ≡ fault
-    → (let result : Result Setup SetupFault = if large then Err TooLarge else unless fault (setup_of_lines lines) in
+    → (let result : Result Setup SetupFault = if large then Err TooLarge else option_map_or Err fault (Ok (setup_of_lines lines)) in
     IsOk result → IsDistinct bytes_eq (map (λ (a : Account). a.number) (result_unwrap_or result (record { accounts = []; plans = []; operators = []; lapse = None })).accounts))
 distinct-result lines true fault is ok = cc
 distinct-result lines false None is ok = distinct-lines lines is

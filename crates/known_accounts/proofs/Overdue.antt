@@ -2,12 +2,12 @@
 use Rattle.std.proofs.Common.{◌≡◌, ◌<◌, ◌+◌, ◌^◌, ◌∙◌, ℕ, List, [], Bool, true, false, cond, Option, Some, None, refl, ap, map, arith, slice_get}
 use Rattle.std.specs.Prelude.{◌&&◌, not, nat_lt}
 use Rattle.std.specs.List.{filter}
-use Rattle.std.specs.Option.{option_map}
+use Rattle.std.specs.Option.{option_map, option_map_or}
 use Rattle.std.proofs.lemmas.Bool.Decides.{nat_tests}
 use Rattle.alarm_rules.specs.Setups.{Account}
 use Rattle.alarm_rules.specs.Weeks.{next_close}
 use Rattle.known_accounts.specs.Rows.{RowsValue, row_in}
-use Rattle.centre_rules.specs.Carrying.{is_silent, is_late, closes_late, is_past as past_by}
+use Rattle.centre_rules.specs.Carrying.{is_silent, is_late, is_past as past_by}
 use Rattle.centre_rules.specs.Summary.{Opened, AccountRow}
 use Rattle.supervision.specs.Deadlines.{is_past, due_at}
 use Rattle.known_accounts.specs.Supervised.{later, silence_of, silence_after, lateness_of, lateness_after, accounts_in, rows_sum, ArePlacesOf}
@@ -33,10 +33,7 @@ module _ (at : ℕ) (m : at < 2 ^ 64) where
   silent_if false (Some moment) interval = capped moment interval at m ∙ and_true (nat_lt (moment + interval) at)
 
   silent_when : (row : AccountRow) (beat : Option ℕ)
-      → is_past at (silence_after row beat) ≡ elim beat [
-        | None ↦ false
-        | Some interval ↦ past_by row.heard interval at && not row.failed
-      ]
+      → is_past at (silence_after row beat) ≡ option_map_or (λ interval. past_by row.heard interval at && not row.failed) beat false
   silent_when row None = refl
   silent_when row (Some interval) = silent_if row.failed row.heard interval
 
@@ -49,7 +46,8 @@ module _ (at : ℕ) (m : at < 2 ^ 64) where
   close_if false None = refl
   close_if false (Some moment) = capped moment 900 at m
 
-  late_when : (opening : Option Opened) (a : Account) → is_past at (lateness_after opening a.week) ≡ closes_late opening a at
+  late_when : (opening : Option Opened) (a : Account)
+      → is_past at (lateness_after opening a.week) ≡ option_map_or (λ (o : Opened). not o.late && past_by (next_close a.week o.at) 900 at) opening false
   late_when None a = refl
   late_when (Some o) a = close_if o.late (next_close a.week o.at)
 

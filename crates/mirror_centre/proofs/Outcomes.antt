@@ -113,12 +113,12 @@ module _ {D : Type 0} (seen : D → DiskSeen) (b : Summary) (h : List Entry) (ol
 
   turned : (a : Answer) (history : List Entry) → IsAnswer message a → IsTaken b h a history → StoreStands seen b new history → TakesTurn seen b h new (length message) p r
   turned a history is taken stands = record {
-    turn = record { asked = have b h; answer = a };
+    turn = record { number = have b h; answer = message };
     history = history;
-    is = record { asked_is = refl; fits = is.fits; taken = taken };
+    is = record { asked_is = refl; said = a; is = is; taken = taken };
     stands = stands;
-    size_is = ap (λ (l : List ℕ). length l) is.text;
-    left = sym asked.left ∙ read.left ∙ ap (λ (l : List ℕ). prepend_known l r.left) is.text;
+    size_is = refl;
+    left = sym asked.left ∙ read.left;
     output = wrote_on (have b h) p q r asked only;
     goes = goes_on (have b h) p q r asked only later;
   }

@@ -17,10 +17,10 @@ use Rattle.centre_store.specs.Stores.{Stored}
 use Rattle.event_codec.proofs.Readers.{wide32, wide64}
 use Rattle.session_rules.proofs.Ports.{ports_more, ports_none, rose_since}
 use Rattle.session_rules.specs.Inputs.{input_limit}
-use Rattle.mirror_centre.specs.Feeds.{Wrote}
+use Rattle.mirror_centre.specs.Feeds.{Wrote, answers_text, asks_text}
 use Rattle.mirror_centre.specs.Feeding.{GoesOn}
 use Rattle.mirror_centre.specs.Following.{IsUnread, MayHave, ReadsAnswer, ReadsMore, ReadsNone, SoFar, TakesNone, TakesTurn, end_by}
-use Rattle.mirror_centre.specs.Follows.{BeginsNone, EndsAsking, HasFollowed, IsAnswerFront, IsCounted, IsUntaken, TurnsStrange, answers_text, asks_text, have, size_by}
+use Rattle.mirror_centre.specs.Follows.{BeginsNone, EndsAsking, HasFollowed, IsAnswerFront, IsCounted, IsUntaken, TurnsStrange, have, size_by}
 use Rattle.mirror_centre.specs.Intakes.{AreBytes, ReadsShort}
 use Rattle.mirror_centre.specs.Messages.{Answer, Record, End, Summed, IsAnswer, answer_text, ask_text}
 use Rattle.mirror_centre.specs.declared.follow_end.FollowEnd.{FollowEnd}
@@ -383,10 +383,10 @@ module _ {D : Type 0} (seen : D → DiskSeen) where
   so_more b h mid s count bytes size p q r so t = record {
     turns = t.turn ∷ so.turns;
     count_is = omega (arith, so.count_is);
-    bytes_are = omega (arith, length-append (answers_text so.turns) (answer_text t.turn.answer), so.bytes_are, t.size_is);
-    left = so.left ∙ ap (prepend_known (answers_text so.turns)) t.left ∙ known_taken r.left (answers_text so.turns) (answer_text t.turn.answer);
+    bytes_are = omega (arith, length-append (answers_text so.turns) t.turn.answer, so.bytes_are, t.size_is);
+    left = so.left ∙ ap (prepend_known (answers_text so.turns)) t.left ∙ known_taken r.left (answers_text so.turns) t.turn.answer;
     each = (mid, so.each, t.is);
-    output = t.output ∙ ap (λ (w : Option (List ℕ)). append_known w (ask_text t.turn.asked)) so.output ∙ known_both p.written (asks_text so.turns) (ask_text t.turn.asked);
+    output = t.output ∙ ap (λ (w : Option (List ℕ)). append_known w (ask_text t.turn.number)) so.output ∙ known_both p.written (asks_text so.turns) (ask_text t.turn.number);
     goes = goes_then p q r so.goes t.goes;
   }
 

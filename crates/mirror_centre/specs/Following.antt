@@ -9,12 +9,11 @@ use Rattle.centre_rules.specs.History.{Entry}
 use Rattle.centre_rules.specs.Summary.{Summary}
 use Rattle.centre_store.specs.Stores.{Stored, StoreStands}
 use Rattle.session_rules.specs.Inputs.{input_limit}
-use Rattle.mirror_centre.specs.Feeds.{Wrote}
+use Rattle.mirror_centre.specs.Feeds.{Asked, Wrote, answers_text, asks_text}
 use Rattle.mirror_centre.specs.Feeding.{GoesOn}
-use Rattle.mirror_centre.specs.Follows.{AreTurns, EndsAsking, IsAnswerFront, IsCounted, IsTurn, IsUntaken, Turn, TurnsStrange}
-use Rattle.mirror_centre.specs.Follows.{answers_text, asks_text, have}
+use Rattle.mirror_centre.specs.Follows.{AreTurns, EndsAsking, IsAnswerFront, IsCounted, IsTurn, IsUntaken, TurnsStrange, have}
 use Rattle.mirror_centre.specs.Intakes.{AreBytes}
-use Rattle.mirror_centre.specs.Messages.{Answer, IsAnswer, answer_text, ask_text}
+use Rattle.mirror_centre.specs.Messages.{Answer, IsAnswer, ask_text}
 use Rattle.mirror_centre.specs.declared.follow_end.FollowEnd.{FollowEnd}
 use Rattle.mirror_centre.specs.declared.follow_end.FollowEnd.TheVariants.{Done, Behind, Strange, ReadFault, Spent, Stopped}
 use Rattle.mirror_centre.specs.declared.intake.Short.{Short}
@@ -27,7 +26,7 @@ use Rattle.arc_io.specs.Told.{IsReadOut}
 
 -- So many turns were made since the port told p, over answers of so many bytes, to this history.
 pub record SoFar (b : Summary) (h h' : List Entry) (count bytes : ℕ) (p p' : PortSeen) : Type 0 where
-  pub turns : List Turn
+  pub turns : List Asked
   pub count_is : length turns ≡ count
   pub bytes_are : length (answers_text turns) ≡ bytes
   pub left : p.left ≡ prepend_known (answers_text turns) p'.left
@@ -38,13 +37,13 @@ pub record SoFar (b : Summary) (h h' : List Entry) (count bytes : ℕ) (p p' : P
 -- one turn more, over an answer of so many bytes, to the history for which the store stands then
 pub record TakesTurn {D : Type 0} (seen : D → DiskSeen) (b : Summary) (h : List Entry) (s : Stored D) (size : ℕ) (p p' : PortSeen)
     : Type 0 where
-  pub turn : Turn
+  pub turn : Asked
   pub history : List Entry
   pub is : IsTurn b h turn history
   pub stands : StoreStands seen b s history
-  pub size_is : size ≡ length (answer_text turn.answer)
-  pub left : p.left ≡ prepend_known (answer_text turn.answer) p'.left
-  pub output : Wrote p p' (ask_text turn.asked)
+  pub size_is : size ≡ length turn.answer
+  pub left : p.left ≡ prepend_known turn.answer p'.left
+  pub output : Wrote p p' (ask_text turn.number)
   pub goes : GoesOn p p'
 
 -- no turn more, behind so many over answers of so many bytes

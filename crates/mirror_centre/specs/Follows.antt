@@ -13,7 +13,7 @@ use Rattle.centre_rules.specs.Sums.{summary_of}
 use Rattle.centre_store.specs.Followings.{GoesOnWith, EndsWith}
 use Rattle.session_rules.specs.Inputs.{input_limit}
 use Rattle.session_rules.specs.Reading.{OnlyReadsAndWrites}
-use Rattle.mirror_centre.specs.Feeds.{Wrote}
+use Rattle.mirror_centre.specs.Feeds.{Asked, Wrote, answers_text, asks_text}
 use Rattle.mirror_centre.specs.Messages.{Answer, Record, End, Summed, answer_text, ask_text, Fits, IsAnswer}
 use Rattle.mirror_centre.specs.Takings.{passed_by}
 use Rattle.mirror_centre.specs.declared.follow_end.FollowEnd.{FollowEnd}
@@ -24,21 +24,6 @@ use Rattle.mirror_centre.specs.declared.mirror.Took.TheVariants.{Old}
 abbrev pub have : Summary → List Entry → ℕ
 have b h = (summary_of b h).recorded
 
--- an ask, of a mirror that had so many recorded entries, and its answer
-pub record Turn : Type 0 where
-  pub asked : ℕ
-  pub answer : Answer
-
--- the bytes of the asks of turns, of which the newest stands first
-abbrev pub asks_text : List Turn → List ℕ
-asks_text [] = []
-asks_text (t ∷ earlier) = asks_text earlier ++ ask_text t.asked
-
--- and of their answers
-abbrev pub answers_text : List Turn → List ℕ
-answers_text [] = []
-answers_text (t ∷ earlier) = answers_text earlier ++ answer_text t.answer
-
 -- The answer is the record of the next entry, whose body goes on from the history, and the entry was recorded; or it is an old one, and
 -- nothing was.
 abbrev pub IsTaken : Summary → List Entry → Answer → List Entry → Type 0
@@ -46,14 +31,15 @@ IsTaken b h answer h' =
     ((body : List ℕ) × (e : Entry) × (answer ≡ Record (have b h + 1) body) × GoesOnWith b h body e × (h' ≡ e ∷ h))
     ⊎ ((passed_by (have b h) answer ≡ Some Old) × (h' ≡ h))
 
--- a turn from one history to another
-pub record IsTurn (b : Summary) (h : List Entry) (t : Turn) (h' : List Entry) : Type 0 where
-  pub asked_is : t.asked ≡ have b h
-  pub fits : Fits t.answer
-  pub taken : IsTaken b h t.answer h'
+-- a turn from one history to another: a mirror that had so many recorded entries asked, and was answered
+pub record IsTurn (b : Summary) (h : List Entry) (t : Asked) (h' : List Entry) : Type 0 where
+  pub asked_is : t.number ≡ have b h
+  pub said : Answer
+  pub is : IsAnswer t.answer said
+  pub taken : IsTaken b h said h'
 
--- turns, one behind another
-abbrev pub AreTurns : Summary → List Entry → List Turn → List Entry → Type 0
+-- turns, one behind another, of which the newest stands first
+abbrev pub AreTurns : Summary → List Entry → List Asked → List Entry → Type 0
 AreTurns b h [] h' = h' ≡ h
 AreTurns b h (t ∷ earlier) h' = (mid : List Entry) × AreTurns b h earlier mid × IsTurn b mid t h'
 
@@ -121,7 +107,7 @@ EndsAsking end before have p p' = Wrote p p' (before ++ ask_text have)
 -- order the reads and writes came shows at a write fault alone: there no byte behind the answers was read. All but what is about reading
 -- and writing stayed.
 pub record HasFollowed (shows : List ℕ → Stop → Type 0) (end : FollowEnd) (b : Summary) (h h' : List Entry) (p p' : PortSeen) : Type 0 where
-  pub turns : List Turn
+  pub turns : List Asked
   pub rest : List ℕ
   pub left : p.left ≡ prepend_known (answers_text turns ++ rest) p'.left
   pub most : length (answers_text turns) + length rest ≤ input_limit

@@ -7,6 +7,7 @@ pub mod QueueEdits
 pub mod QueuedMarks
 pub mod First
 pub mod Numbers
+pub mod Formers
 pub mod Holders
 pub mod HeldMarks
 pub mod FindHeld

@@ -1,11 +1,14 @@
 -- The queue of the open incidents without a claimer, next to the list of those with one.
-use Rattle.std.specs.Prelude.{◌≤◌, ℕ, List, map, length, min}
-use Rattle.std.specs.List.{filter}
+use Rattle.std.specs.Prelude.{◌≡◌, ◌≤◌, ℕ, List, Option, map, length, min}
+use Rattle.std.specs.List.{filter, find}
 use Rattle.std.specs.List.Sorted.{IsPermutation}
+use Rattle.std.specs.Option.{option_map}
 use Rattle.arc_data.specs.Classes.{priority_of}
+use Rattle.arc_data.specs.Incidents.{has_number, Ascends}
 use Rattle.arc_data.specs.declared.incident.Incident.{Incident}
 use Rattle.centre_rules.specs.Desks.{is_free}
-use Rattle.incidents.specs.Tables.{TableValue}
+use Rattle.incidents.specs.declared.slots.Former.{Former}
+use Rattle.incidents.specs.Tables.{TableValue, former_of}
 use Rattle.operator_queue.specs.Pairs.{PairsValue}
 use Rattle.open_incidents.specs.Holding.{HeldValue, IsHeldOf}
 
@@ -30,3 +33,9 @@ pub record IsParted (is : List Incident) (queue : PairsValue) (held : HeldValue)
 -- what contracts see of a table with both: the table, and room where all three have it
 abbrev pub with_queue : TableValue → PairsValue → HeldValue → TableValue
 with_queue t queue held = record t { room = min (min t.room queue.room) held.room }
+
+-- the incidents stand in order of number, and that of this number, where there is one, was so
+pub record WasIn (is : List Incident) (number : ℕ) (former : Option Former) : Type 0 where
+  pub opened : ℕ
+  pub ascends : Ascends 0 is opened
+  pub found : former ≡ option_map former_of (find (has_number number) is)

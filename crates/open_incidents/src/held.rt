@@ -3,14 +3,16 @@
 ghost use Rattle.std.specs.Prelude.{◌≡◌, ◌≤◌, ◌<◌, ◌+◌, ℕ, List, [], Some, nat_lt, length, OnOk};
 ghost use Rattle.std.specs.List.{position, position_or_len};
 ghost use Rattle.std.specs.Option.{option_map};
+ghost use Rattle.arc_data.specs.declared.incident.Incident.{Incident as AnIncident};
 ghost use Rattle.centre_rules.specs.Desks.{held_by};
 ghost use Rattle.centre_rules.specs.Standing.{stands_at, standing_of};
 ghost use Rattle.incidents.specs.Tables.{at_number, held};
-ghost use Rattle.open_incidents.specs.Holding.{held_numbers, with_number, without_number};
+ghost use Rattle.open_incidents.specs.Holding.{held_numbers, with_number, without_number, IsHeldOf};
+ghost use Rattle.open_incidents.specs.Waiting.{WasIn};
 
 use crate::standing::holds;
 use arc_data::{Incident, Memory, Txt};
-use incidents::Table;
+use incidents::{Former, Table};
 use std::alloc::Global;
 use std::marker::Model;
 
@@ -103,16 +105,15 @@ fn first_above(numbers: &[u64], number: u64) -> Option<usize>
     numbers.iter().position(|other| number < *other)
 }
 
-/// Puts the number of an open incident in, if it has no claimer yet.
-pub(crate) fn hold(numbers: &mut Held, table: &Table, number: u64)
-    requires same { numbers.old.numbers ≡ held_numbers table.now.incidents }
-    requires memory { length table.now.incidents ≤ numbers.old.room }
-    ensures numbers { (by : List ℕ) (at : ℕ) → numbers.new.numbers ≡ held_numbers (at_number number (held (Some by) at) table.now.incidents) }
+/// Puts the number of an incident in, if it had no claimer yet.
+pub(crate) fn hold(numbers: &mut Held, former: Option<Former>, number: u64)
+    requires { (is : List AnIncident) × WasIn is number former × IsHeldOf is numbers.old }
+    ensures numbers { (is : List AnIncident) → WasIn is number former → numbers.old.numbers ≡ held_numbers is
+        → (by : List ℕ) (at : ℕ) → numbers.new.numbers ≡ held_numbers (at_number number (held (Some by) at) is) }
     ensures room { numbers.new.room ≡ numbers.old.room }
 {
-    let _slots = table.slots();
-    if let Some(i) = table.get(number) {
-        if i.holder.is_none() {
+    if let Some(i) = former {
+        if !i.is_held {
             numbers.insert(number);
         }
     }

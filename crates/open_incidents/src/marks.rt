@@ -1,13 +1,14 @@
 // What each mark does to the table. None of these calls takes memory.
-ghost use Rattle.std.specs.Prelude.{◌≡◌, ◌<◌, ◌^◌, ◌+◌, ℕ, List, length, IsSome};
+ghost use Rattle.std.specs.Prelude.{◌≡◌, ◌<◌, ◌^◌, ◌+◌, ℕ, List, Some, length, IsSome};
 ghost use Rattle.std.specs.List.{find};
 ghost use Rattle.arc_data.specs.Incidents.{has_number};
 ghost use Rattle.centre_rules.specs.Marks.{Adopts, Starts, Carries, Claims, Acts, Releases, Closes};
 ghost use Rattle.centre_rules.specs.History.{acted_by};
 ghost use Rattle.open_incidents.specs.Marked.{marked_table, HasFew, IsFew, HaveActRoom, FitsAct};
+ghost use Rattle.open_incidents.specs.Waiting.{WasIn};
 
 use arc_data::{Carried, Kind, Outcome, Step, Txt};
-use incidents::Table;
+use incidents::{Former, Table};
 
 /// A setup comes into force, or a run starts: nobody holds an incident any more.
 pub fn release_all(table: &mut Table)
@@ -19,22 +20,24 @@ pub fn release_all(table: &mut Table)
     table.release_all();
 }
 
-/// An operator claims an incident.
-pub fn claim(table: &mut Table, operator: Txt, number: u64, at: u64)
+/// An operator claims an incident. The answer is what it was before.
+pub fn claim(table: &mut Table, operator: Txt, number: u64, at: u64) -> Option<Former>
     ensures marked { table.new ≡ marked_table (Claims operator number at) table.old }
+    ensures was { WasIn table.old.incidents number result }
     ensures few { (n : ℕ) → IsFew n table.old.opened table.old.incidents → IsFew n table.new.opened table.new.incidents }
     ensures room { HaveActRoom table.old.incidents → HaveActRoom table.new.incidents }
 {
-    table.hold(number, Some(operator), at);
+    table.hold(number, Some(operator), at)
 }
 
-/// An operator gives an incident back.
-pub fn release(table: &mut Table, number: u64)
+/// An operator gives an incident back. The answer is what it was before.
+pub fn release(table: &mut Table, number: u64) -> Option<Former>
     ensures marked { table.new ≡ marked_table (Releases number) table.old }
+    ensures was { WasIn table.old.incidents number result }
     ensures few { (n : ℕ) → IsFew n table.old.opened table.old.incidents → IsFew n table.new.opened table.new.incidents }
     ensures room { HaveActRoom table.old.incidents → HaveActRoom table.new.incidents }
 {
-    table.hold(number, None, 0);
+    table.hold(number, None, 0)
 }
 
 /// An operator records a step of an incident that he claimed.
@@ -45,19 +48,19 @@ pub fn act(table: &mut Table, number: u64, step: Step, outcome: Outcome, at: u64
     ensures few { (n : ℕ) → IsFew n table.old.opened table.old.incidents → IsFew n table.new.opened table.new.incidents }
     ensures room { HaveActRoom table.new.incidents }
 {
-    let _slots = table.slots();
     table.act(number, step, outcome, at, operator);
 }
 
-/// An operator closes an open incident.
-pub fn close(table: &mut Table, number: u64)
+/// An operator closes an open incident. The answer is what it was.
+pub fn close(table: &mut Table, number: u64) -> Former
     requires { IsSome (find (has_number number) table.old.incidents) }
     ensures opened { table.new.opened ≡ (marked_table (Closes number) table.old).opened }
     ensures incidents { table.new.incidents ≡ (marked_table (Closes number) table.old).incidents }
+    ensures was { WasIn table.old.incidents number (Some result) }
     ensures few { (n : ℕ) → IsFew n table.old.opened table.old.incidents → IsFew n table.new.opened table.new.incidents }
     ensures room { HaveActRoom table.old.incidents → HaveActRoom table.new.incidents }
 {
-    table.remove(number);
+    table.remove(number)
 }
 
 /// An account has a signal. A New or Again one is attached to the open incident of the account and class, or else opens one,
@@ -70,7 +73,6 @@ pub fn carry(table: &mut Table, x: &Carried)
     ensures few { (n : ℕ) → IsFew n table.old.opened table.old.incidents → IsFew (n + 1) table.new.opened table.new.incidents }
     ensures room { HaveActRoom table.old.incidents → HaveActRoom table.new.incidents }
 {
-    let _slots = table.slots();
     let _count = x.steps.count();
     match x.signal.kind {
         Kind::New | Kind::Again => match table.find(&x.account, x.signal.class) {

@@ -149,9 +149,9 @@ impl QueuedTable {
         ensures few { (n : ℕ) → IsFew n self.old.opened self.old.incidents → IsFew n self.new.opened self.new.incidents }
         ensures room { HaveActRoom self.old.incidents → HaveActRoom self.new.incidents }
     {
-        take_out(&mut self.queue, &self.table, number);
-        hold(&mut self.held, &self.table, number);
-        marks::claim(&mut self.table, operator, number, at);
+        let former = marks::claim(&mut self.table, operator, number, at);
+        take_out(&mut self.queue, former, number);
+        hold(&mut self.held, former, number);
     }
 
     /// An operator gives an incident back, which waits again.
@@ -160,9 +160,9 @@ impl QueuedTable {
         ensures few { (n : ℕ) → IsFew n self.old.opened self.old.incidents → IsFew n self.new.opened self.new.incidents }
         ensures room { HaveActRoom self.old.incidents → HaveActRoom self.new.incidents }
     {
-        put_back(&mut self.queue, &self.table, number);
+        let former = marks::release(&mut self.table, number);
+        put_back(&mut self.queue, former, number);
         self.held.remove(number);
-        marks::release(&mut self.table, number);
     }
 
     /// An operator records a step of an incident that he claimed. Who is a claimer stays.
@@ -184,9 +184,9 @@ impl QueuedTable {
         ensures few { (n : ℕ) → IsFew n self.old.opened self.old.incidents → IsFew n self.new.opened self.new.incidents }
         ensures room { HaveActRoom self.old.incidents → HaveActRoom self.new.incidents }
     {
-        take_out(&mut self.queue, &self.table, number);
+        let former = marks::close(&mut self.table, number);
+        take_out(&mut self.queue, Some(former), number);
         self.held.remove(number);
-        marks::close(&mut self.table, number);
     }
 
     /// An account has a signal. An incident that it opens waits.

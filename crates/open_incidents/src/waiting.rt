@@ -1,12 +1,13 @@
 // Which incidents of a table wait in its queue: those without a claimer.
-ghost use Rattle.std.specs.Prelude.{◌≡◌, ◌≤◌, None, length, map};
+ghost use Rattle.std.specs.Prelude.{◌≡◌, ◌≤◌, List, None, length, map};
 ghost use Rattle.std.specs.List.Sorted.{IsPermutation};
+ghost use Rattle.arc_data.specs.declared.incident.Incident.{Incident};
 ghost use Rattle.incidents.specs.Slots.{open_of};
 ghost use Rattle.incidents.specs.Tables.{at_number, held, without};
-ghost use Rattle.open_incidents.specs.Waiting.{pair_of, waiting};
+ghost use Rattle.open_incidents.specs.Waiting.{pair_of, waiting, IsQueueOf, WasIn};
 
 use crate::uncounted::{insert, remove};
-use incidents::{Slot, Table};
+use incidents::{Former, Slot};
 use operator_queue::Queue;
 
 /// Puts those of the open incidents that have a claimer into the queue of those without one.
@@ -25,31 +26,30 @@ pub(crate) fn put_held(queue: &mut Queue, slots: &[Slot])
     }
 }
 
-/// Puts the open incident of a number into the queue, if it has a claimer.
-pub(crate) fn put_back(queue: &mut Queue, table: &Table, number: u64)
-    requires same { IsPermutation (waiting table.now.incidents) queue.old.pairs }
-    requires memory { length table.now.incidents ≤ queue.old.room }
-    ensures pairs { IsPermutation (waiting (at_number number (held None 0) table.now.incidents)) queue.new.pairs }
+/// Puts the incident of a number into the queue, if it had a claimer.
+pub(crate) fn put_back(queue: &mut Queue, former: Option<Former>, number: u64)
+    requires { (is : List Incident) × WasIn is number former × IsQueueOf is queue.old }
+    ensures pairs { (is : List Incident) → WasIn is number former → IsPermutation (waiting is) queue.old.pairs
+        → IsPermutation (waiting (at_number number (held None 0) is)) queue.new.pairs }
     ensures room { queue.new.room ≡ queue.old.room }
 {
-    let _slots = table.slots();
-    if let Some(i) = table.get(number) {
-        if i.holder.is_some() {
-            insert(queue, i.class.priority(), i.number);
+    if let Some(i) = former {
+        if i.is_held {
+            insert(queue, i.class.priority(), number);
         }
     }
 }
 
-/// Takes the open incident of a number out of the queue, if it has no claimer.
-pub(crate) fn take_out(queue: &mut Queue, table: &Table, number: u64)
-    requires { IsPermutation (waiting table.now.incidents) queue.old.pairs }
-    ensures pairs { IsPermutation (waiting (without number table.now.incidents)) queue.new.pairs }
+/// Takes the incident of a number out of the queue, if it had no claimer.
+pub(crate) fn take_out(queue: &mut Queue, former: Option<Former>, number: u64)
+    requires { (is : List Incident) × WasIn is number former × IsPermutation (waiting is) queue.old.pairs }
+    ensures pairs { (is : List Incident) → WasIn is number former → IsPermutation (waiting is) queue.old.pairs
+        → IsPermutation (waiting (without number is)) queue.new.pairs }
     ensures room { queue.new.room ≡ queue.old.room }
 {
-    let _slots = table.slots();
-    if let Some(i) = table.get(number) {
-        if i.holder.is_none() {
-            remove(queue, i.class.priority(), i.number);
+    if let Some(i) = former {
+        if !i.is_held {
+            remove(queue, i.class.priority(), number);
         }
     }
 }

@@ -2,11 +2,12 @@
 use Rattle.std.proofs.Common.{◌≡◌, ◌-◌, ◌+◌, ℕ, suc, zero, List, [], ◌∷◌, ◌++◌, length, take, drop, map, Bool, true, false, ◌&&◌, ◌||◌, cond, Some, None, refl, sym, ap, ◌∙◌}
 use Rattle.std.specs.Prelude.{◌==◌, reverse, nat_le}
 use Rattle.std.specs.List.{find, list_any}
+use Rattle.std.specs.Option.{option_eq}
 use Rattle.std.specs.Str.{bytes_eq}
 use Rattle.std.proofs.lemmas.List.{reverse-append, length-reverse, length-map, take-map}
 use Rattle.arc_data.specs.declared.event.Message.{Message}
 use Rattle.arc_data.specs.declared.event.Past.{Past}
-use Rattle.centre_rules.specs.Answers.{repeats, same_option, same_token}
+use Rattle.centre_rules.specs.Answers.{repeats, same_token}
 use Rattle.repeat_window.proofs.Newest.{kept}
 
 -- a list that begins another does so where both are cut
@@ -47,7 +48,7 @@ third true true c d e f is = rw is refl
 
 other : (m : Message) (at : ℕ) (p : Past) → (p.message.seq == m.seq) ≡ false → repeats m at p ≡ false
 other m at p is =
-    third (same_option p.message.receiver m.receiver) (bytes_eq p.message.line m.line) (p.message.seq == m.seq)
+    third (option_eq bytes_eq p.message.receiver m.receiver) (bytes_eq p.message.line m.line) (p.message.seq == m.seq)
     (same_token p.message.token m.token) (bytes_eq p.message.content m.content) (nat_le at (p.at + 300)) is
 
 neither : (a b : Bool) → (a || b) ≡ false → (a ≡ false) × (b ≡ false)

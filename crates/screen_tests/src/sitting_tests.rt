@@ -3,6 +3,30 @@ use desk_screen::{Command, Order, Poll, Reaction, Screen};
 use screen_page::order_line;
 use std::process::Abort;
 
+// What the desk shows of the incident that ann holds, by what comes next, and its list then.
+const NOTE: &str =
+    "incident 1 burglary 1234 code 131 opened 1000000000 signals 1 restored no holder ann next note via tcp";
+
+const POLICE: &str =
+    "incident 1 burglary 1234 code 131 opened 1000000000 signals 1 restored no holder ann next police via tcp";
+
+const PREMISES: &str =
+    "incident 1 burglary 1234 code 131 opened 1000000000 signals 1 restored no holder ann next premises via tcp";
+
+const HOLDER1: &str =
+    "incident 1 burglary 1234 code 131 opened 1000000000 signals 1 restored no holder ann next holder1 via tcp";
+
+const HOLDER2: &str =
+    "incident 1 burglary 1234 code 131 opened 1000000000 signals 1 restored no holder ann next holder2 via tcp";
+
+const HOLDER3: &str =
+    "incident 1 burglary 1234 code 131 opened 1000000000 signals 1 restored no holder ann next holder3 via tcp";
+
+const NONE: &str =
+    "incident 1 burglary 1234 code 131 opened 1000000000 signals 1 restored no holder ann next none via tcp";
+
+const MINE: &str = "list 1 1/burglary/1234/ann";
+
 fn name_of(command: &Command) -> &'static str {
     match command {
         Command::Login { .. } => "login",
@@ -31,9 +55,22 @@ fn key(rt: &impl Abort, screen: &mut Screen, byte: u8, wanted: &str) {
     assert!(rt; sent(&reaction) == wanted, "key {byte}");
 }
 
+// Keys at which nothing goes out.
+fn typed(rt: &impl Abort, screen: &mut Screen, bytes: &[u8]) {
+    for byte in bytes {
+        key(rt, screen, *byte, "-");
+    }
+}
+
 fn answer(rt: &impl Abort, screen: &mut Screen, line: &str, wanted: &str) {
     let reaction = screen.answer(line.as_bytes());
     assert!(rt; sent(&reaction) == wanted, "{line}");
+}
+
+// This line leads to a look at the list, which shows ann's incident.
+fn looks(rt: &impl Abort, screen: &mut Screen, line: &str) {
+    answer(rt, screen, line, "(list)");
+    answer(rt, screen, MINE, "-");
 }
 
 // An answer behind which this very line goes out.
@@ -59,10 +96,7 @@ fn second(rt: &impl Abort, screen: &mut Screen, wanted: &str) {
 fn at_work(rt: &impl Abort) -> Screen {
     let mut screen = Screen::new();
     let _ = screen.made();
-    for byte in b"ann\r123".iter() {
-        key(rt, &mut screen, *byte, "-");
-    }
-    key(rt, &mut screen, b'4', "-");
+    typed(rt, &mut screen, b"ann\r1234");
     key(rt, &mut screen, b'\r', "login");
     answer(rt, &mut screen, "ok ann", "(list)");
     answer(rt, &mut screen, "list 0", "-");
@@ -76,87 +110,37 @@ fn an_incident_from_its_ring_to_its_closing(rt: HostRuntime) {
     rings(&rt, &mut screen, "list 1 1/burglary/1234/-", true);
     key(&rt, &mut screen, b'n', "next");
     answer(&rt, &mut screen, "claimed 1 burglary 1234", "(show)");
-    answer(
-        &rt,
-        &mut screen,
-        "incident 1 burglary 1234 code 131 opened 1000000000 signals 1 restored no holder ann next premises via tcp",
-        "(list)",
-    );
-    answer(&rt, &mut screen, "list 1 1/burglary/1234/ann", "-");
+    looks(&rt, &mut screen, PREMISES);
     key(&rt, &mut screen, b'd', "-");
     key(&rt, &mut screen, b'a', "act");
     key(&rt, &mut screen, b'a', "-");
     answer(&rt, &mut screen, "recorded 1 left 3", "(show)");
-    answer(
-        &rt,
-        &mut screen,
-        "incident 1 burglary 1234 code 131 opened 1000000000 signals 1 restored no holder ann next holder1 via tcp",
-        "(list)",
-    );
+    answer(&rt, &mut screen, HOLDER1, "(list)");
     // the list is on the way: the act waits for its answer
     key(&rt, &mut screen, b'r', "-");
-    answer(&rt, &mut screen, "list 1 1/burglary/1234/ann", "act");
+    answer(&rt, &mut screen, MINE, "act");
     answer(&rt, &mut screen, "recorded 1 left 1", "(show)");
-    answer(
-        &rt,
-        &mut screen,
-        "incident 1 burglary 1234 code 131 opened 1000000000 signals 1 restored no holder ann next police via tcp",
-        "(list)",
-    );
-    answer(&rt, &mut screen, "list 1 1/burglary/1234/ann", "-");
+    looks(&rt, &mut screen, POLICE);
     key(&rt, &mut screen, b'd', "act");
     answer(&rt, &mut screen, "recorded 1 left 0", "(show)");
-    answer(
-        &rt,
-        &mut screen,
-        "incident 1 burglary 1234 code 131 opened 1000000000 signals 1 restored no holder ann next none via tcp",
-        "(list)",
-    );
-    answer(&rt, &mut screen, "list 1 1/burglary/1234/ann", "-");
+    looks(&rt, &mut screen, NONE);
     key(&rt, &mut screen, b'y', "-");
     key(&rt, &mut screen, b'R', "-");
     key(&rt, &mut screen, b'n', "next");
     answer(&rt, &mut screen, "busy with 1", "(show)");
-    answer(
-        &rt,
-        &mut screen,
-        "incident 1 burglary 1234 code 131 opened 1000000000 signals 1 restored no holder ann next none via tcp",
-        "(list)",
-    );
-    answer(&rt, &mut screen, "list 1 1/burglary/1234/ann", "-");
+    looks(&rt, &mut screen, NONE);
     key(&rt, &mut screen, b'R', "-");
     key(&rt, &mut screen, b'y', "close");
     answer(&rt, &mut screen, "closed 1", "(list)");
     answer(&rt, &mut screen, "list 0", "-");
 }
 
-const NOTE: &str =
-    "incident 1 burglary 1234 code 131 opened 1000000000 signals 1 restored no holder ann next note via tcp";
-
-const POLICE: &str =
-    "incident 1 burglary 1234 code 131 opened 1000000000 signals 1 restored no holder ann next police via tcp";
-
-const PREMISES: &str =
-    "incident 1 burglary 1234 code 131 opened 1000000000 signals 1 restored no holder ann next premises via tcp";
-
-const HOLDER1: &str =
-    "incident 1 burglary 1234 code 131 opened 1000000000 signals 1 restored no holder ann next holder1 via tcp";
-
-const HOLDER2: &str =
-    "incident 1 burglary 1234 code 131 opened 1000000000 signals 1 restored no holder ann next holder2 via tcp";
-
-const HOLDER3: &str =
-    "incident 1 burglary 1234 code 131 opened 1000000000 signals 1 restored no holder ann next holder3 via tcp";
-
-const MINE: &str = "list 1 1/burglary/1234/ann";
-
 // A screen at which ann holds incident 1, and this line of the desk has shown it.
 fn holding(rt: &impl Abort, shown: &str) -> Screen {
     let mut screen = at_work(rt);
     key(rt, &mut screen, b'n', "next");
     answer(rt, &mut screen, "claimed 1 burglary 1234", "(show)");
-    answer(rt, &mut screen, shown, "(list)");
-    answer(rt, &mut screen, MINE, "-");
+    looks(rt, &mut screen, shown);
     screen
 }
 
@@ -170,8 +154,7 @@ fn one_key_records_each_task_up_to_a_call(rt: HostRuntime) {
     second(&rt, &mut screen, "-");
     leads_to(&rt, &mut screen, POLICE, "act 1 police done");
     answer(&rt, &mut screen, "recorded 1 left 3", "(show)");
-    answer(&rt, &mut screen, PREMISES, "(list)");
-    answer(&rt, &mut screen, MINE, "-");
+    looks(&rt, &mut screen, PREMISES);
     // it has ended, also where the desk shows a task again
     second(&rt, &mut screen, "(list)");
     answer(&rt, &mut screen, POLICE, "-");
@@ -201,8 +184,7 @@ fn one_key_records_the_calls_of_keyholders(rt: HostRuntime) {
 fn ends(rt: &impl Abort, line: &str) {
     let mut screen = holding(rt, NOTE);
     key(rt, &mut screen, b'D', "act");
-    answer(rt, &mut screen, line, "(list)");
-    answer(rt, &mut screen, MINE, "-");
+    looks(rt, &mut screen, line);
     second(rt, &mut screen, "(list)");
     answer(rt, &mut screen, POLICE, "-");
 }
@@ -220,8 +202,7 @@ fn a_key_ends_a_series(rt: HostRuntime) {
     key(&rt, &mut screen, b'D', "act");
     key(&rt, &mut screen, b'D', "-");
     answer(&rt, &mut screen, "recorded 1 left 4", "(show)");
-    answer(&rt, &mut screen, POLICE, "(list)");
-    answer(&rt, &mut screen, MINE, "-");
+    looks(&rt, &mut screen, POLICE);
     key(&rt, &mut screen, b'D', "act");
     answer(&rt, &mut screen, "recorded 1 left 3", "(show)");
     key(&rt, &mut screen, b'x', "-");
@@ -234,13 +215,10 @@ fn a_lost_connection_ends_a_series(rt: HostRuntime) {
     key(&rt, &mut screen, b'D', "act");
     assert!(rt; sent(&screen.lost()) == "-", "lost");
     assert!(rt; sent(&screen.made()) == "-", "made");
-    for byte in b"ann\r1234".iter() {
-        key(&rt, &mut screen, *byte, "-");
-    }
+    typed(&rt, &mut screen, b"ann\r1234");
     key(&rt, &mut screen, b'\r', "login");
     answer(&rt, &mut screen, "ok ann", "(show)");
-    answer(&rt, &mut screen, POLICE, "(list)");
-    answer(&rt, &mut screen, MINE, "-");
+    looks(&rt, &mut screen, POLICE);
 }
 
 #[test]
@@ -260,15 +238,11 @@ fn a_lost_connection(rt: HostRuntime) {
 fn nothing_but_a_key_ends_the_typing_of_a_pin(rt: HostRuntime) {
     let mut screen = Screen::new();
     let _ = screen.made();
-    for byte in b"ann\r98".iter() {
-        key(&rt, &mut screen, *byte, "-");
-    }
+    typed(&rt, &mut screen, b"ann\r98");
     let _ = screen.lost();
     let _ = screen.made();
     // the rest of it is no PIN, and no name
-    for byte in b"76\r1234".iter() {
-        key(&rt, &mut screen, *byte, "-");
-    }
+    typed(&rt, &mut screen, b"76\r1234");
     key(&rt, &mut screen, b'\r', "login");
 }
 

@@ -55,7 +55,25 @@ fn feeds(
     drop(port);
 }
 
-// How the following of an input ends, from nothing on; how many entries are recorded then, and what is written.
+// How the following of an input ends, from nothing on, and what is written. The store then.
+fn followed(
+    rt: &impl Abort,
+    alloc: Global,
+    input: &[u8],
+    failing: (&[u64], &[u64]),
+    want: (FollowEnd, &[u8]),
+) -> Store<MemDisk> {
+    let port = failing_port(alloc, input, failing.0, failing.1);
+    let mut port = port.expect(rt, "memory");
+    let mut mirror = Mirror::new(empty(rt, alloc));
+    let end = follow(alloc, &mut mirror, &mut port);
+    same(rt, end, want.0, "how the input ended");
+    same(rt, port.sink.bytes(), want.1, "what was written");
+    drop(port);
+    mirror.close()
+}
+
+// The same, and how many entries are recorded then.
 fn follows(
     rt: &impl Abort,
     alloc: Global,
@@ -63,16 +81,10 @@ fn follows(
     failing: (&[u64], &[u64]),
     want: (FollowEnd, u64, &[u8]),
 ) {
-    let port = failing_port(alloc, input, failing.0, failing.1);
-    let mut port = port.expect(rt, "memory");
-    let mut mirror = Mirror::new(empty(rt, alloc));
-    let end = follow(alloc, &mut mirror, &mut port);
-    let store = mirror.close();
-    let recorded = store.centre().recorded();
-    same(rt, (end, recorded), (want.0, want.1), "how the input ended");
-    same(rt, port.sink.bytes(), want.2, "what was written");
+    let (end, recorded, written) = want;
+    let store = followed(rt, alloc, input, failing, (end, written));
+    same(rt, store.centre().recorded(), recorded, "recorded");
     drop(store);
-    drop(port);
 }
 
 #[test]
@@ -88,17 +100,11 @@ fn a_second_centre_has_all_records_of_the_first(rt: HostRuntime) {
         (FeedEnd::Done, ANSWERS),
     );
     let first = store.close();
-    let port = failing_port(alloc, ANSWERS, &[], &[]);
-    let mut port = port.expect(&rt, "memory");
-    let mut mirror = Mirror::new(empty(&rt, alloc));
-    let end = follow(alloc, &mut mirror, &mut port);
-    same(&rt, end, FollowEnd::Done, "the end");
-    same(&rt, port.sink.bytes(), ASKS, "the asks");
-    let second = mirror.close().close();
+    let want = (FollowEnd::Done, ASKS);
+    let second = followed(&rt, alloc, ANSWERS, (&[], &[]), want).close();
     same(&rt, second.bytes(Area::A), first.bytes(Area::A), "the area");
     drop(second);
     drop(first);
-    drop(port);
 }
 
 #[test]

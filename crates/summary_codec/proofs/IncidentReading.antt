@@ -21,7 +21,7 @@ use Rattle.event_codec.proofs.Fields.{step, last}
 use Rattle.event_codec.proofs.Codes.{step_of-byte, step_byte-of}
 use Rattle.event_codec.proofs.Parts.{an_outcome}
 use Rattle.summary_rules.specs.Conditions.{name_of_one, HasNameOfOne}
-use Rattle.summary_rules.specs.Fields.{IsLongNumber, IsShortText, IsLineText, IsHolding, IsActed, IsIncident}
+use Rattle.summary_rules.specs.Fields.{IsLongNumber, IsTextUpTo, IsHolding, IsActed, IsIncident}
 use Rattle.summary_rules.specs.Spelling.{long_number, class_byte, holder_text, act_text, incident_text}
 use Rattle.summary_codec.specs.Reading.{class_of, text_up_to, code_text_at, line_text_at, is_empty, is_holder_name, holding_of, holding_at, acted_of, acted_at, incident_of_parts, incident_at, made_at}
 use Rattle.summary_codec.proofs.Combining.{Spelled, paired, made, chosen, some, some_is, a_long_number, a_few, a_coded, a_truth}
@@ -73,14 +73,9 @@ a_class = a_coded class_of class_byte Urgent class_there class_back
 
 -- Codes and lines.
 
--- a text of bytes, at most so many
-record IsUpTo (most : ℕ) (text : List ℕ) : Type 0 where
-  size : length text ≤ most
-  bytes : AreBytes text
-
-a_text_up_to : (most : ℕ) → IsReader (text_up_to most) (Spelled (IsUpTo most) short_text)
+a_text_up_to : (most : ℕ) → IsReader (text_up_to most) (Spelled (IsTextUpTo most) short_text)
 unfolding text_up_to
-a_text_up_to most = reworded (Spelled (IsUpTo most) short_text)
+a_text_up_to most = reworded (Spelled (IsTextUpTo most) short_text)
     (seq a_byte (λ n. either (leb n most) (piece_at n) (λ bytes. None) (IsFullPiece n) Nothing (a_full_piece n) nothing))
     (λ x bytes h. there h.first (leb h.first most) refl x bytes h.front h.back h.joined h.is_first h.is_second)
     (λ x bytes h. record {
@@ -98,33 +93,33 @@ a_text_up_to most = reworded (Spelled (IsUpTo most) short_text)
     each_byte (x ∷ xs) h (suc i) = each_byte xs h.1 i
 
     there : (n : ℕ) (b : Bool) → leb n most ≡ b → (x bytes front back : List ℕ) → bytes ≡ front ++ back → front ≡ n ∷ []
-        → Either b (IsFullPiece n) Nothing x back → Spelled (IsUpTo most) short_text x bytes
+        → Either b (IsFullPiece n) Nothing x back → Spelled (IsTextUpTo most) short_text x bytes
     there n true le x bytes front back j is h =
         let small : n ≤ most = leb-true _ _ le in
         record { ok = record { size = omega (arith, h.long, small); bytes = are_bytes x h.bytes }; is = step j (is ∙ ap (λ (k : ℕ). k ∷ []) (sym h.long)) h.is }
     there n false le x bytes front back j is h = absurd h
 
-a_code_text : IsReader code_text_at (Spelled IsShortText short_text)
-a_code_text = reworded (Spelled IsShortText short_text) (a_text_up_to 32)
+a_code_text : IsReader code_text_at (Spelled (IsTextUpTo 32) short_text)
+a_code_text = reworded (Spelled (IsTextUpTo 32) short_text) (a_text_up_to 32)
     (λ x bytes h. record { ok = record { size = h.ok.size; bytes = h.ok.bytes }; is = h.is })
     (λ x bytes h. record { ok = record { size = h.ok.size; bytes = h.ok.bytes }; is = h.is })
 
 -- the line of an incident of this code
 record IsLineOf (version : ℕ) (code via : List ℕ) : Type 0 where
-  text : IsLineText via
+  text : IsTextUpTo 16 via
   name : version ≡ 1 → via ≡ name_of_one code
 
-name_short : (code : List ℕ) → IsLineText (name_of_one code)
+name_short : (code : List ℕ) → IsTextUpTo 16 (name_of_one code)
 name_short code = by (bytes_eq code (codes "-"))
   where
-    by : (b : Bool) → IsLineText (if b then [] else via_of_one)
+    by : (b : Bool) → IsTextUpTo 16 (if b then [] else via_of_one)
     by true = record { size = omega arith; bytes = tt }
     by false = record { size = omega arith; bytes = (omega arith, (omega arith, tt)) }
 
 a_line : (version : ℕ) (code : List ℕ) → IsReader (line_text_at version code) (Spelled (IsLineOf version code) (via_text version))
 unfolding line_text_at
 a_line version code = reworded (Spelled (IsLineOf version code) (via_text version))
-    (either (eqb version 1) (λ bytes. Some (name_of_one code, bytes)) (text_up_to 16) (Gives (Some (name_of_one code))) (Spelled (IsUpTo 16) short_text)
+    (either (eqb version 1) (λ bytes. Some (name_of_one code, bytes)) (text_up_to 16) (Gives (Some (name_of_one code))) (Spelled (IsTextUpTo 16) short_text)
     (giving (Some (name_of_one code))) (a_text_up_to 16))
     (λ via text h. there via text (eqb version 1) refl h)
     (λ via text h. back via text (eqb version 1) refl h)
@@ -132,18 +127,18 @@ a_line version code = reworded (Spelled (IsLineOf version code) (via_text versio
     text_by : (via : List ℕ) (test : Bool) → eqb version 1 ≡ test → via_text version via ≡ (if test then [] else short_text via)
     text_by via test e = ap (λ (b : Bool). if b then [] else short_text via) e
 
-    there : (via text : List ℕ) (test : Bool) → eqb version 1 ≡ test → Either test (Gives (Some (name_of_one code))) (Spelled (IsUpTo 16) short_text) via text
+    there : (via text : List ℕ) (test : Bool) → eqb version 1 ≡ test → Either test (Gives (Some (name_of_one code))) (Spelled (IsTextUpTo 16) short_text) via text
         → Spelled (IsLineOf version code) (via_text version) via text
     there via text true same h =
         let one : name_of_one code ≡ via = some_is (name_of_one code) via h.is in
-        record { ok = record { text = subst IsLineText one (name_short code); name = λ e. sym one }; is = h.none ∙ sym (text_by via true same) }
+        record { ok = record { text = subst (IsTextUpTo 16) one (name_short code); name = λ e. sym one }; is = h.none ∙ sym (text_by via true same) }
     there via text false differs h = record {
       ok = record { text = record { size = h.ok.size; bytes = h.ok.bytes }; name = λ e. absurd (false≢true (sym differs ∙ ap (λ (k : ℕ). eqb k 1) e)) };
       is = h.is ∙ sym (text_by via false differs);
     }
 
     back : (via text : List ℕ) (test : Bool) → eqb version 1 ≡ test → Spelled (IsLineOf version code) (via_text version) via text
-        → Either test (Gives (Some (name_of_one code))) (Spelled (IsUpTo 16) short_text) via text
+        → Either test (Gives (Some (name_of_one code))) (Spelled (IsTextUpTo 16) short_text) via text
     back via text true same h = record { is = ap some (sym (h.ok.name (eqb-true version 1 same))); none = h.is ∙ text_by via true same }
     back via text false differs h = record { ok = record { size = h.ok.text.size; bytes = h.ok.text.bytes }; is = h.is ∙ text_by via false differs }
 

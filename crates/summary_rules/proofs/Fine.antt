@@ -4,13 +4,14 @@ use Rattle.std.specs.Prelude.{◌&&◌, IsOk, is_ok, unwrap_or, option_and_then}
 use Rattle.std.specs.Result.{result_ok}
 use Rattle.std.specs.List.{filter, flat_map}
 use Rattle.std.specs.Str.{bytes_eq}
+use Rattle.std.specs.Option.{option_map_or}
 use Rattle.std.proofs.lemmas.Bool.{false≢true}
 use Rattle.arc_data.specs.WellFormed.{IsWellFormed, IsMessage, IsSent, IsText}
 use Rattle.arc_data.specs.declared.event.Event.{Event}
 use Rattle.arc_data.specs.declared.event.Event.TheVariants.{Adopt, Start, Message as Sent, Beat, Tick, Claim, Next, Act as Do, Release, Close, Show, List as Rows}
 use Rattle.arc_data.specs.declared.event.Message.{Message}
 use Rattle.arc_data.specs.declared.reply.Reply.{Reply}
-use Rattle.arc_data.specs.declared.reply.Reply.TheVariants.{Adopted, Claimed, Recorded, Released, Closed, HeldBy, Expected, NotYours}
+use Rattle.arc_data.specs.declared.reply.Reply.TheVariants.{Adopted, Claimed, Recorded, Released, Closed, HeldBy, Expected, NotYours, NotOpen, BusyWith, NoneWaiting}
 use Rattle.arc_data.specs.declared.signal.Class.{Class}
 use Rattle.arc_data.specs.declared.signal.Class.TheVariants.{CommFail, Irregular, LateClose}
 use Rattle.arc_data.specs.declared.signal.Signal.{Signal}
@@ -27,11 +28,11 @@ use Rattle.centre_rules.specs.Marks.{Mark, Adopts, Starts, Sends, Hears, Carries
 use Rattle.centre_rules.specs.Cases.{Incident}
 use Rattle.centre_rules.specs.Standing.{standing}
 use Rattle.centre_rules.specs.Carrying.{carried, carried_sent, own_signal, if_in_force, is_irregular, sent, raised, raised_where, is_silent, is_late}
-use Rattle.centre_rules.specs.Desks.{numbered, held_by, best, claim_unless, claim_from, claim_of, on_claim, next_of, on_next, holds, act_when, act_of, on_act}
+use Rattle.centre_rules.specs.Desks.{numbered, held_by, best, claim_unless, claim_from, on_claim, on_next, holds, act_when, on_act, if_held, claimed}
 use Rattle.centre_rules.specs.History.{is_recorded, claim_marks, act_marks, release_marks, close_marks, marks_of, acted_by}
 use Rattle.centre_rules.specs.Answers.{if_known, knows_account, knows_operator, taken_or, repeat_of, answer_over}
 use Rattle.summary_rules.specs.Lists.{Every}
-use Rattle.summary_rules.specs.Fields.{Given, IsAccount, IsShortText, IsLineText}
+use Rattle.summary_rules.specs.Fields.{Given, IsAccount, IsTextUpTo}
 use Rattle.summary_rules.proofs.Everies.{every_append, every_map, every_filter}
 use Rattle.summary_rules.proofs.SetupMeaning.{IsGoodAccount, IsGoodSetup, setup_good}
 use Rattle.summary_rules.proofs.PlanSteps.{AreGoodSteps, steps_good}
@@ -58,8 +59,8 @@ pub record IsHeardAt (at : ℕ) (account : List ℕ) (moment : ℕ) : Type 0 whe
 pub record IsCarriedAt (at : ℕ) (x : Carried) : Type 0 where
   pub moment_is : x.at ≡ at
   pub account_ok : IsAccount x.account
-  pub code : IsShortText x.signal.code
-  pub via : IsLineText x.via
+  pub code : IsTextUpTo 32 x.signal.code
+  pub via : IsTextUpTo 16 x.via
   pub good_steps : AreGoodSteps x.steps
 
 -- a claim at this moment, of an operator that holds none of these as they stand
@@ -117,17 +118,17 @@ under_any : (at : ℕ) (o : Option Setup) (f : Setup → List Carried) → Given
 under_any at None f w g = tt
 under_any at (Some setup) f w g = g setup w
 
-carried_good : (setup : Setup) (account : List ℕ) (at : ℕ) (by_tick : Bool) (via : List ℕ) (x : Signal) → IsGoodSetup setup → IsAccount account → IsLineText via
-    → IsShortText x.code → IsCarriedAt at (carried setup account at by_tick via x)
+carried_good : (setup : Setup) (account : List ℕ) (at : ℕ) (by_tick : Bool) (via : List ℕ) (x : Signal) → IsGoodSetup setup → IsAccount account → IsTextUpTo 16 via
+    → IsTextUpTo 32 x.code → IsCarriedAt at (carried setup account at by_tick via x)
 carried_good setup account at by_tick via x w ok line code =
     record { moment_is = refl; account_ok = ok; code = code; via = line; good_steps = steps_good setup account x.class at w }
 
 -- the code of a signal that no panel sent
-dash : (class : Class) → IsShortText (own_signal class).code
+dash : (class : Class) → IsTextUpTo 32 (own_signal class).code
 dash class = record { size = omega arith; bytes = (omega arith, tt) }
 
 -- no line
-no_line : IsLineText []
+no_line : IsTextUpTo 16 []
 no_line = record { size = omega arith; bytes = tt }
 
 irregular_at : (at : ℕ) (b : Bool) (x y : Carried) → IsCarriedAt at x → IsCarriedAt at y → Every (IsCarriedAt at) (x ∷ cond b (y ∷ []) [])
@@ -142,7 +143,7 @@ sent_at : (s : Summary) (ms : List Mark) (m : Message) (via : List ℕ) (at : �
 sent_at s ms m via at formed =
     let ok = formed.message.account in
     under_any at (force s ms) (λ setup. flat_map (carried_sent setup m.account via at) (unwrap_or (signals m.token m.content) [])) (force_good (text s ms))
-    (λ setup w. every_flat_of (λ (x : Signal). IsShortText x.code) (IsCarriedAt at) (carried_sent setup m.account via at)
+    (λ setup w. every_flat_of (λ (x : Signal). IsTextUpTo 32 x.code) (IsCarriedAt at) (carried_sent setup m.account via at)
     (λ x code. irregular_at at (is_irregular (account_of setup m.account) x.kind at) (carried setup m.account at false via x) (carried setup m.account at false [] (own_signal Irregular))
     (carried_good setup m.account at false via x w ok (line_short via formed.line_name) code) (carried_good setup m.account at false [] (own_signal Irregular) w ok no_line (dash Irregular)))
     (unwrap_or (signals m.token m.content) []) (codes_of m.token m.content formed.message.bytes))
@@ -193,12 +194,12 @@ by_holder : (operator : List ℕ) (is : List Incident) (i : Incident) (h : Optio
 by_holder operator is i None c = by_mine (held_by operator is) i c
 by_holder operator is i (Some x) c = by_same operator x is i (bytes_eq x operator) c
 
-by_found : (operator : List ℕ) (is : List Incident) (number : ℕ) (found : Option Incident) → claims (claim_of operator is number found) ≡ true → held_by operator is ≡ None
+by_found : (operator : List ℕ) (is : List Incident) (number : ℕ) (found : Option Incident) → claims (option_map_or (λ (i : Incident). claim_from operator is i i.holder) found (NotOpen number)) ≡ true → held_by operator is ≡ None
 unfolding claims
 by_found operator is number None c = absurd (false≢true c)
 by_found operator is number (Some i) c = by_holder operator is i i.holder c
 
-by_next : (mine waiting : Option Incident) → claims (next_of mine waiting) ≡ true → mine ≡ None
+by_next : (mine waiting : Option Incident) → claims (option_map_or (λ (j : Incident). BusyWith j.number) mine (option_map_or claimed waiting NoneWaiting)) ≡ true → mine ≡ None
 unfolding claims
 by_next None waiting c = refl
 by_next (Some j) waiting c = absurd (false≢true c)
@@ -252,7 +253,7 @@ act_held at number n acted is i true good moment found held c = act_expected at 
 act_held at number n acted is i false good moment found held c = absurd (cc)
 
 act_found : (at number n : ℕ) (acted : Acted) (is : List Incident) (f : Option Incident) → IsGoodAct acted → acted.at ≡ at → numbered number is ≡ f
-    → acts_on (act_of acted number f) ≡ Some n → IsActedAt at n acted is
+    → acts_on (if_held acted.operator number f (λ i. act_when acted i (expected_step i.steps i.acts))) ≡ Some n → IsActedAt at n acted is
 unfolding acts_on
 act_found at number n acted is None good moment found c = absurd (cc)
 act_found at number n acted is (Some i) good moment found c = act_held at number n acted is i (holds acted.operator i) good moment found refl c

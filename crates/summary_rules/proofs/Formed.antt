@@ -20,7 +20,7 @@ use Rattle.centre_rules.specs.Answers.{IsLegal}
 use Rattle.centre_rules.specs.Sums.{names}
 use Rattle.centre_rules.proofs.Steps.{incidents_begin, incidents_step}
 use Rattle.summary_rules.specs.Lists.{Every}
-use Rattle.summary_rules.specs.Fields.{Given, IsAccount, IsShortText, IsLineText, IsPastOf, IsRow, IsHolding, IsActed, IsIncident, HasFields}
+use Rattle.summary_rules.specs.Fields.{Given, IsAccount, IsTextUpTo, IsPastOf, IsRow, IsHolding, IsActed, IsIncident, HasFields}
 use Rattle.summary_rules.specs.Conditions.{AreSteps}
 use Rattle.summary_rules.proofs.Everies.{every_weaker, every_map}
 use Rattle.summary_rules.proofs.Ascending.{every_named}
@@ -41,8 +41,8 @@ IsNamed holder = Given (λ operator. is_name operator ≡ true) holder
 pub record IsPlain (i : Incident) : Type 0 where
   pub account : IsAccount i.account
   pub class : 0 < priority_of i.class
-  pub code : IsShortText i.code
-  pub via : IsLineText i.via
+  pub code : IsTextUpTo 32 i.code
+  pub via : IsTextUpTo 16 i.via
   pub holder : IsNamed i.holder
   pub steps : Every IsStep i.steps
   pub apart : AreSteps i.steps

@@ -2,7 +2,7 @@
 use Rattle.std.proofs.Common.{◌≡◌, ◌≤◌, ◌<◌, ℕ, zero, suc, ◌+◌, List, [], ◌∷◌, ◌++◌, map, length, Bool, true, false, cond, leb, eqb, nat_eq, Option, Some, None, refl, sym, ap, ◌∙◌, arith, subst}
 use Rattle.std.specs.Prelude.{◌&&◌, ◌||◌, not, unwrap_or}
 use Rattle.std.specs.List.{filter, find, flat_map, range_with_len}
-use Rattle.std.specs.Option.{option_map, option_or}
+use Rattle.std.specs.Option.{option_map, option_map_or, option_or}
 use Rattle.std.proofs.lemmas.Bool.{false≢true, eqb-true, eq-eqb, le-leb, leb-true}
 use Rattle.arc_data.specs.Digits.{is_between}
 use Rattle.arc_data.specs.Steps.{is_step, same_step, step_place}
@@ -279,7 +279,7 @@ pub steps_good : (setup : Setup) (number : List ℕ) (class : Class) (moment : �
 steps_good setup number class moment w = by (account_of setup number) (found_account (has_number number) setup.accounts w.accounts)
   where
     by : (o : Option Account) → Given IsGoodAccount o
-        → AreGoodSteps (elim o [ None ↦ [] | Some account ↦ steps_in (in_hours account.week moment) account.holders (plan_of setup number class) ])
+        → AreGoodSteps (option_map_or (λ account. steps_in (in_hours account.week moment) account.holders (plan_of setup number class)) o [])
     by None v = record { each = tt; apart = tt }
     by (Some account) v = record {
       each = plan_are (in_hours account.week moment) account.holders (plan_of setup number class) v.holders;

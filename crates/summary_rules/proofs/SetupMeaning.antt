@@ -1,10 +1,10 @@
 -- What the meaning of each setup text has: accounts in capitals, at most 2,000 of them and four keyholders of each, and plans in which
 -- no word stands twice.
 use Rattle.std.proofs.Common.{◌≡◌, ◌≤◌, ℕ, ◌+◌, List, [], ◌∷◌, map, length, Bool, true, false, cond, Option, Some, None, refl, ap, ◌∙◌, arith}
-use Rattle.std.specs.Prelude.{◌&&◌, if◌then◌else◌, option_and_then, not, nat_lt, codes, Err}
+use Rattle.std.specs.Prelude.{◌&&◌, if◌then◌else◌, option_and_then, not, nat_lt, codes, Ok, Err}
 use Rattle.std.specs.Char.{to_ascii_uppercase}
 use Rattle.std.specs.List.{enumerate_from, list_all, cons_option}
-use Rattle.std.specs.Option.{option_map}
+use Rattle.std.specs.Option.{option_map, option_map_or}
 use Rattle.std.specs.Result.{result_ok}
 use Rattle.std.specs.Str.{bytes_eq}
 use Rattle.std.specs.Str.Lines.{lines}
@@ -19,8 +19,8 @@ use Rattle.arc_data.specs.declared.signal.Class.{Class}
 use Rattle.zone_rules.specs.Zones.{Zone}
 use Rattle.alarm_rules.specs.SetupLines.{Said, Nothing, OfAccount, OfHours, OfKeyholder, OfPlan, OfOperator, OfLapse, AccountLine, PlanLine}
 use Rattle.alarm_rules.specs.SetupLines.{after, optional, provided, is_nil, none_twice, plan_words, each_read, target_named, zone_named, account_line, hours_line, keyholder_line, plan_line, operator_line, lapse_line, declared, words_of, is_skipped, says}
-use Rattle.alarm_rules.specs.SetupWords.{key_spelled, seconds_spelled, class_named, planned_named}
-use Rattle.alarm_rules.specs.Setups.{Setup, Account, Line, setup_of, setup_of_lines, said_lines, first_fault, unless, told, told_at, account_part, plan_part, account_with, accounts_in, plans_in, things}
+use Rattle.alarm_rules.specs.SetupWords.{key_spelled, number_between, class_named, planned_named}
+use Rattle.alarm_rules.specs.Setups.{Setup, Account, Line, setup_of, setup_of_lines, said_lines, first_fault, told, account_part, plan_part, account_with, accounts_in, plans_in, things}
 use Rattle.accounts.specs.Standing.{entry_in}
 use Rattle.accounts.proofs.LimitLemmas.{few-accounts, few-holders}
 use Rattle.summary_rules.specs.Lists.{Every}
@@ -94,17 +94,17 @@ by_beat account key None ok = tt
 by_beat account key (Some beat) ok = by_zone account key beat.0 (zone_named beat.1) ok
 
 by_key : (account : List ℕ) (o : Option (Option (List ℕ) × List (List ℕ))) → IsAccount account
-    → Given IsGoodNumber (after o (λ key. after (optional (codes "beat") seconds_spelled key.1) (λ beat. after (zone_named beat.1) (λ zone.
+    → Given IsGoodNumber (after o (λ key. after (optional (codes "beat") (number_between 1 1_000_000) key.1) (λ beat. after (zone_named beat.1) (λ zone.
     provided (is_nil zone.1) (record { number = account; key = key.0; beat = beat.0; zone = zone.0 })))))
 by_key account None ok = tt
-by_key account (Some key) ok = by_beat account key.0 (optional (codes "beat") seconds_spelled key.1) ok
+by_key account (Some key) ok = by_beat account key.0 (optional (codes "beat") (number_between 1 1_000_000) key.1) ok
 
 account_good : (words : List (List ℕ)) → Given IsGoodNumber (account_line words)
 account_good [] = tt
 account_good (number ∷ words) = by (is_account number) refl
   where
     by : (b : Bool) → is_account number ≡ b → Given IsGoodNumber (after (option_map capitals (if b then Some number else None)) (λ account.
-        after (optional (codes "key") key_spelled words) (λ key. after (optional (codes "beat") seconds_spelled key.1) (λ beat.
+        after (optional (codes "key") key_spelled words) (λ key. after (optional (codes "beat") (number_between 1 1_000_000) key.1) (λ beat.
         after (zone_named beat.1) (λ zone.
         provided (is_nil zone.1) (record { number = account; key = key.0; beat = beat.0; zone = zone.0 }))))))
     by true e = by_key (capitals number) (optional (codes "key") key_spelled words) (capital_account number e)
@@ -175,7 +175,7 @@ told_good : {A : Type 0} (part : Said → Option A) (P : A → Type 0) → ((sai
     → (ls : List Line) → Every IsGoodLine ls → Every (λ t. P t.1) (told part ls)
 told_good part P g [] w = tt
 told_good {A = A} part P g (l ∷ ls) w =
-    every_cons (λ (t : ℕ × A). P t.1) (told_at part l) (told part ls)
+    every_cons (λ (t : ℕ × A). P t.1) (option_map (λ thing. (l.0, thing)) (option_and_then part l.1)) (told part ls)
     (given_map P (λ (t : ℕ × A). P t.1) (λ thing. (l.0, thing)) (λ x v. v) (option_and_then part l.1) (part_good part P g l.1 w.0))
     (told_good part P g ls w.1)
 
@@ -215,7 +215,7 @@ unfolding setup_of
 setup_good text = by (nat_lt 4194304 (length text)) (first_fault [] (said_lines text)) refl
   where
     by : (b : Bool) (f : Option SetupFault) → first_fault [] (said_lines text) ≡ f
-        → Given IsGoodSetup (result_ok (if b then Err TooLarge else unless f (setup_of_lines (said_lines text))))
+        → Given IsGoodSetup (result_ok (if b then Err TooLarge else option_map_or Err f (Ok (setup_of_lines (said_lines text)))))
     by true f e = tt
     by false None e = lines_setup (said_lines text) (lines_good 1 (lines text)) e
     by false (Some fault) e = tt

@@ -14,10 +14,10 @@ use Rattle.alarm_rules.specs.ContactId.{is_contact_id, signal_of_code, contact_i
 use Rattle.alarm_rules.specs.SiaCodes.{Item, Modifier, Event, item_bytes, event_of, item_at, after_slash, item_before, items_from, items_below, items_of, sia_items, after_letter, is_upper, is_lower, is_modifier_byte, signal_of_item, in_number, sia_signals}
 use Rattle.alarm_rules.specs.Signals.{signals, data_of}
 use Rattle.summary_rules.specs.Lists.{Every}
-use Rattle.summary_rules.specs.Fields.{Given, IsShortText}
+use Rattle.summary_rules.specs.Fields.{Given, IsTextUpTo}
 
 abbrev HasCode : Signal → Type 0
-HasCode x = IsShortText x.code
+HasCode x = IsTextUpTo 32 x.code
 
 -- Parts of bytes are bytes.
 
@@ -36,7 +36,7 @@ bytes_before test xs w = bytes_take (position_or_len test xs) xs w
 
 -- Contact ID.
 
-three : (xs : List ℕ) → AreBytes xs → IsShortText (slice_range xs 1 4)
+three : (xs : List ℕ) → AreBytes xs → IsTextUpTo 32 (slice_range xs 1 4)
 three xs w = record { size = omega (arith, length-take 3 (drop 1 xs)); bytes = bytes_take 3 (drop 1 xs) (bytes_drop 1 xs w) }
 
 contact_codes : (text : List ℕ) → AreBytes text → Given HasCode (contact_id_signal text)
@@ -55,7 +55,7 @@ one_code (Some x) w = (w, tt)
 
 IsGoodItem : Item → Type 0
 IsGoodItem (Modifier letters run) = Unit {0}
-IsGoodItem (Event code address text) = IsShortText code
+IsGoodItem (Event code address text) = IsTextUpTo 32 code
 
 upper_byte : (b : ℕ) → is_upper b ≡ true → b < 256
 upper_byte b h = grind (arith, nat_tests)
@@ -141,5 +141,5 @@ unwrapped : (o : Option (List Signal)) → Given (Every HasCode) o → Every Has
 unwrapped None w = tt
 unwrapped (Some xs) w = w
 
-pub codes_of : (token : Token) (content : List ℕ) → AreBytes content → Every (λ (x : Signal). IsShortText x.code) (unwrap_or (signals token content) [])
+pub codes_of : (token : Token) (content : List ℕ) → AreBytes content → Every (λ (x : Signal). IsTextUpTo 32 x.code) (unwrap_or (signals token content) [])
 codes_of token content w = unwrapped (signals token content) (content_codes token content w)

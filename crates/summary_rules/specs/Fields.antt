@@ -19,14 +19,9 @@ abbrev pub Given : {A : Type 0} → (A → Type 0) → Option A → Type 0
 Given P None = Unit {0}
 Given P (Some x) = P x
 
--- a text of a field of its own
-pub record IsShortText (text : List ℕ) : Type 0 where
-  pub size : length text ≤ 32
-  pub bytes : AreBytes text
-
--- the name of a line, or none
-pub record IsLineText (text : List ℕ) : Type 0 where
-  pub size : length text ≤ 16
+-- a text of at most so many bytes: a field of its own has 32, and the name of a line, or none, 16
+pub record IsTextUpTo (most : ℕ) (text : List ℕ) : Type 0 where
+  pub size : length text ≤ most
   pub bytes : AreBytes text
 
 abbrev pub IsAccount : List ℕ → Type 0
@@ -63,8 +58,8 @@ pub record IsIncident (i : Incident) : Type 0 where
   pub number : IsLongNumber i.number
   pub account : IsAccount i.account
   pub class : 0 < priority_of i.class
-  pub code : IsShortText i.code
-  pub via : IsLineText i.via
+  pub code : IsTextUpTo 32 i.code
+  pub via : IsTextUpTo 16 i.via
   pub at : IsLongNumber i.at
   pub signals : IsLongNumber i.signals
   pub holder : IsHolding i.holder i.touched

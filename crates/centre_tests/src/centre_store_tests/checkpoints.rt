@@ -4,7 +4,7 @@
 ghost use Rattle.std.specs.Prelude.{◌<◌, ◌^◌};
 
 use super::told::{alarm, left_of, play, play_parts, submitted};
-use super::{AREA, FRESH};
+use super::{AREA, FRESH, new_store};
 use crate::centre_core_tests::decoding::bytes_of;
 use crate::centre_core_tests::summaries::{ONE_BYTES, joined};
 use crate::same::same;
@@ -14,7 +14,7 @@ use centre_store::Store;
 use disk_journal::{Limits, SHIPPED};
 use std::alloc::Global;
 use std::process::Abort;
-use test_fixtures::stores::{opened, recorded};
+use test_fixtures::stores::recorded;
 
 // How many bytes and records a journal has room for, what a store over a new disk is told and answers, what it leaves, and how many calls
 // its disk had: six open it, four write a record, and ten put a summary into the other area, or eleven where the gate there is open.
@@ -168,8 +168,7 @@ fn a_full_journal_is_summed_up_in_the_other_area(rt: HostRuntime) {
         records: 3,
         ..SHIPPED
     };
-    let disk = MemDisk::new(alloc, Vec::new(alloc));
-    let mut store = opened(alloc, disk, limits).expect(&rt, "opened");
+    let mut store = new_store(&rt, alloc, limits);
     let copy = sum_up(&rt, alloc, &mut store);
     compare_copy(&rt, &copy);
     drop(copy);

@@ -1,9 +1,9 @@
 // What a second store asks for and takes in: the bodies of recorded events by their numbers, and events of such bodies. A record is named by
 // a letter, as where areas are opened.
 
-use super::checkpoints::play_within;
-use super::failing_disk;
+use super::checkpoints::{limits_of, play_within};
 use super::stops::{both_of, disk_of};
+use super::submitting::compare_fault;
 use super::told::play_parts;
 use crate::same::same;
 use arc_data::Blob;
@@ -12,7 +12,7 @@ use centre_store::{Found, Store};
 use disk_journal::SHIPPED;
 use std::alloc::Global;
 use std::process::Abort;
-use test_fixtures::stores::{opened, recorded};
+use test_fixtures::stores::opened;
 
 // How many bytes and records a journal has room for, and what a store over a new disk is told and answers. Full has the numbers that it has
 // where the same events are submitted.
@@ -58,18 +58,8 @@ const FAULTS: &str = "\
 #[test]
 fn a_fault_is_told_until_it_is_opened_again(rt: HostRuntime) {
     for row in FAULTS.lines() {
-        compare_fault(&rt, rt.alloc(), row);
+        compare_fault(&rt, rt.alloc(), limits_of(&rt, "999 9"), row);
     }
-}
-
-fn compare_fault(rt: &impl Abort, alloc: Global, row: &str) {
-    let (call, rest) = row.split_once('|').expect(rt, "a row");
-    let (parts, left) = rest.split_once('|').expect(rt, "a row");
-    let call = call.parse().expect(rt, "a call");
-    let left = left.parse().expect(rt, "a count");
-    let disk = failing_disk(rt, alloc, call);
-    let disk = play_within(rt, alloc, disk, "999 9", parts);
-    same(rt, recorded(alloc, disk), Some(left), row);
 }
 
 // What a store is told at first, and then, when another one has a copy of its areas.

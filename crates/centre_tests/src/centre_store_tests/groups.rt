@@ -3,11 +3,12 @@ ghost use Rattle.arc_data.specs.WellFormed.{IsWellFormed};
 ghost use Rattle.centre_core.specs.Runs.{IsSubmitted};
 
 use super::checkpoints::limits_of;
-use super::failing_disk;
+use super::submitting::compare_stops;
 use super::told::{alarm, has_begun, named, play, play_parts, word_of};
+use super::{failing_disk, new_store};
 use crate::same::{holds, same};
 use arc_data::Event;
-use arc_io::{Area, Fill, MemDisk};
+use arc_io::{Area, MemDisk};
 use centre_store::{Batch, Dones, Store};
 use disk_journal::SHIPPED;
 use std::alloc::Global;
@@ -42,8 +43,7 @@ fn compare_row(rt: &impl Abort, alloc: Global, row: &str) {
     let (limits, rest) = row.split_once('|').expect(rt, "a row");
     let (events, rest) = rest.split_once('|').expect(rt, "a row");
     let (answers, left) = rest.split_once('|').expect(rt, "a row");
-    let disk = MemDisk::new(alloc, Vec::new(alloc));
-    let mut store = opened(alloc, disk, limits_of(rt, limits)).expect(rt, "opened");
+    let mut store = new_store(rt, alloc, limits_of(rt, limits));
     play_parts(rt, alloc, &mut store, "begin=begun");
     let count = play_batch(rt, alloc, &mut store, events, answers);
     let disk = store.close();
@@ -122,6 +122,7 @@ fn letters_of(rt: &impl Abort, alloc: Global, done: &Dones) -> String {
 // What ten messages of a batch are answered.
 const TEN: &str = "1 2 3 4 5 6 7 8 9 10";
 
+// What a stop leaves: ten entries more where the first gate of the ten is 01, which the third of their calls writes and the fourth syncs.
 #[test]
 fn a_stop_leaves_all_of_ten_or_none(rt: HostRuntime) {
     let alloc = rt.alloc();
@@ -129,7 +130,7 @@ fn a_stop_leaves_all_of_ten_or_none(rt: HostRuntime) {
     let disk = disk_of_ten(&rt, alloc, disk, "tttttttttt");
     // Two writes and two syncs, behind the fourteen calls of the opening and of `begin`.
     same(&rt, disk.calls(), 18, "calls");
-    compare_calls(&rt, alloc, &disk);
+    compare_stops(&rt, alloc, &disk, 15..19, 10);
     drop(disk);
 }
 
@@ -160,31 +161,6 @@ fn compare_areas(rt: &impl Abort, one: &MemDisk, other: &MemDisk) {
     same(rt, one.bytes(Area::B), other.bytes(Area::B), "area B");
 }
 
-fn compare_calls(rt: &impl Abort, alloc: Global, disk: &MemDisk) {
-    for call in 15..19u64 {
-        compare_stops(rt, alloc, disk, call);
-    }
-}
-
-// Stops within this call, of each kind.
-fn compare_stops(rt: &impl Abort, alloc: Global, disk: &MemDisk, call: u64) {
-    compare_stop(rt, alloc, disk, call, Fill::Old);
-    compare_stop(rt, alloc, disk, call, Fill::New);
-    compare_stop(rt, alloc, disk, call, Fill::Torn(1));
-    compare_stop(rt, alloc, disk, call, Fill::Torn(0xff));
-}
-
-// How many entries are recorded in what a stop within the call leaves: ten more where the first gate of the ten is 01, which the third of
-// their calls writes and the fourth syncs.
-fn compare_stop(rt: &impl Abort, alloc: Global, disk: &MemDisk, call: u64, fill: Fill) {
-    assert!(rt; call > 0 && call <= disk.calls());
-    let left = disk.stopped(alloc, call, fill).expect(rt, "memory");
-    let found = recorded(alloc, left);
-    let is_open = call >= 17 && matches!(fill, Fill::New | Fill::Torn(1));
-    let want = if is_open { 12 } else { 2 };
-    same(rt, (call, fill, found), (call, fill, Some(want)), "a stop");
-}
-
 // The call that fails when ten are written together, and how many entries are recorded where the disk is opened again. None is answered,
 // and those are off the batch. Where the last sync fails, the gate is written already.
 const FAULTS: &str = "\
@@ -212,8 +188,7 @@ fn compare_fault(rt: &impl Abort, alloc: Global, row: &str) {
 #[test]
 fn a_batch_takes_sixty_four(rt: HostRuntime) {
     let alloc = rt.alloc();
-    let disk = MemDisk::new(alloc, Vec::new(alloc));
-    let mut store = opened(alloc, disk, SHIPPED).expect(&rt, "opened");
+    let mut store = new_store(&rt, alloc, SHIPPED);
     play_parts(&rt, alloc, &mut store, "begin=begun");
     let mut batch = batch_of_most(&rt, alloc);
     let told = grouped(&rt, alloc, &mut store, &mut batch);

@@ -3,11 +3,11 @@
 
 use super::FRESH;
 use super::schedules::report_of;
-use super::stops::copied;
+use super::stops::{FILLS, copied};
 use super::summed::area_in_words;
 use super::told::left_of;
 use crate::same::same;
-use arc_io::{Area, Fill, MemDisk};
+use arc_io::{Area, MemDisk};
 use centre_store::Store;
 use disk_journal::{Limits, OpenFault, SHIPPED};
 use std::alloc::Global;
@@ -113,14 +113,7 @@ fn compare_kept(rt: &impl Abort, row: &str, areas: &Areas, disk: &MemDisk) {
 }
 
 fn compare_stops(rt: &impl Abort, alloc: Global, want: (&str, &str), disk: &MemDisk, call: u64) {
-    for fill in [
-        Fill::Old,
-        Fill::New,
-        Fill::Torn(0),
-        Fill::Torn(1),
-        Fill::Torn(0x0b),
-        Fill::Torn(0xff),
-    ] {
+    for fill in FILLS {
         assert!(rt; call > 0 && call <= disk.calls());
         let left = disk.stopped(alloc, call, fill).expect(rt, "memory");
         let (row, told) = want;

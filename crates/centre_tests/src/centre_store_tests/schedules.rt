@@ -2,6 +2,7 @@
 // centre in memory that is told the same; and so is what a crash leaves, of the events that it leaves.
 ghost use Rattle.std.specs.Prelude.{◌<◌, ◌^◌};
 
+use super::new_store;
 use super::stops::{Both, both_of, disk_of};
 use super::told::{has_begun, left_of, summary_of};
 use crate::centre_core_tests::words::{event_of, setup_of, submitted_of};
@@ -199,8 +200,7 @@ fn compare_schedules(rt: &impl Abort, alloc: Global, room: (u32, u64)) {
 }
 
 fn compare_schedule(rt: &impl Abort, alloc: Global, schedule: &str, room: (u32, u64)) {
-    let disk = MemDisk::new(alloc, Vec::new(alloc));
-    let mut store = opened(alloc, disk, limits_of(room)).expect(rt, "opened");
+    let mut store = new_store(rt, alloc, limits_of(room));
     let mut ideal = Centre::empty(alloc);
     for step in schedule.split(';') {
         ideal = compare_step(rt, alloc, &mut store, ideal, step);

@@ -13,6 +13,16 @@ use std::process::Abort;
 use test_fixtures::moments::BEGIN;
 use test_fixtures::stores::opened;
 
+/// What a stop may leave of a byte that was not synced: the old one, the new one, or another one.
+pub(super) const FILLS: [Fill; 6] = [
+    Fill::Old,
+    Fill::New,
+    Fill::Torn(0),
+    Fill::Torn(1),
+    Fill::Torn(0x0b),
+    Fill::Torn(0xff),
+];
+
 /// The bytes of both areas.
 #[derive(Drop)]
 pub(super) struct Both {
@@ -263,14 +273,7 @@ fn compare_fills(
     call: (u64, u64),
     row: &str,
 ) {
-    for rest in [
-        Fill::Old,
-        Fill::New,
-        Fill::Torn(0),
-        Fill::Torn(1),
-        Fill::Torn(0x0b),
-        Fill::Torn(0xff),
-    ] {
+    for rest in FILLS {
         compare_stop(rt, alloc, case, disk, (call, Fill::Old, rest), row);
         compare_stop(rt, alloc, case, disk, (call, Fill::New, rest), row);
         compare_stop(rt, alloc, case, disk, (call, Fill::Torn(1), rest), row);

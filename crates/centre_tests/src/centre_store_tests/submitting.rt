@@ -1,15 +1,17 @@
 // Beginning and submitting: the bytes of the journal, its limits, further runs, stops and faults.
+ghost use Rattle.std.specs.Prelude.{◌<◌, ◌^◌};
 
 use super::told::{numbered, play, play_parts, submitted};
-use super::{AREA, failing_disk};
+use super::{AREA, failing_disk, new_store};
 use crate::same::same;
 use arc_data::Token;
 use arc_io::{Area, Fill, MemDisk};
 use centre_store::Store;
 use disk_journal::{Limits, SHIPPED};
 use std::alloc::Global;
+use std::ops::Range;
 use std::process::Abort;
-use test_fixtures::stores::{opened, recorded};
+use test_fixtures::stores::recorded;
 
 // A journal of three records answers what is quiet, and makes no checkpoint for it.
 const THREE: &str = "begin=begun;1=7 taken;list=7 listed;1=7 repeat;since=0;recorded=3";
@@ -39,8 +41,7 @@ fn has_room_for_bytes_behind_a_summary(rt: HostRuntime) {
         bytes: 1_048_576,
         ..SHIPPED
     };
-    let disk = MemDisk::new(alloc, Vec::new(alloc));
-    let mut store = opened(alloc, disk, limits).expect(&rt, "opened");
+    let mut store = new_store(&rt, alloc, limits);
     fill(&rt, alloc, &mut store);
     drop(store);
 }
@@ -63,8 +64,7 @@ fn is_full_of_the_bytes_of_a_summary(rt: HostRuntime) {
         bytes: 132_693,
         ..SHIPPED
     };
-    let disk = MemDisk::new(alloc, Vec::new(alloc));
-    let mut store = opened(alloc, disk, limits).expect(&rt, "opened");
+    let mut store = new_store(&rt, alloc, limits);
     fill_summary(&rt, alloc, &mut store);
     drop(store);
 }
@@ -93,47 +93,57 @@ fn compare_filled(
     same(rt, (seq, told.as_str()), (seq, want), "filled");
 }
 
-// How many of the three records a stop within this call leaves. Six calls open a new area, and four write each record; the third and
-// fourth of these leave the new one where its gate is 01.
-fn left_by(call: u64, fill: Fill) -> u64 {
-    let Some(after_opening) = call.checked_sub(7) else {
-        return 0;
-    };
-    let is_open = matches!(fill, Fill::New | Fill::Torn(1));
-    after_opening / 4 + u64::from(after_opening % 4 >= 2 && is_open)
-}
-
 #[test]
 fn a_stop_leaves_a_record_or_none(rt: HostRuntime) {
     let alloc = rt.alloc();
     let disk = MemDisk::new(alloc, Vec::new(alloc));
     let disk = play(&rt, alloc, disk, SHIPPED, "begin=begun;1=7 taken");
     same(&rt, disk.calls(), 18, "calls");
-    compare_calls(&rt, alloc, &disk);
+    compare_stops(&rt, alloc, &disk, 1..19, 1);
     drop(disk);
 }
 
-fn compare_calls(rt: &impl Abort, alloc: Global, disk: &MemDisk) {
-    for call in 1..19u64 {
-        compare_stops(rt, alloc, disk, call);
+/// What stops within these calls leave, of each kind. So many records are written together.
+pub(super) fn compare_stops(
+    rt: &impl Abort,
+    alloc: Global,
+    disk: &MemDisk,
+    calls: Range<u64>,
+    together: u64,
+) {
+    for call in calls {
+        compare_fills(rt, alloc, disk, call, together);
     }
 }
 
-// Stops within this call, of each kind.
-fn compare_stops(rt: &impl Abort, alloc: Global, disk: &MemDisk, call: u64) {
-    compare_stop(rt, alloc, disk, call, Fill::Old);
-    compare_stop(rt, alloc, disk, call, Fill::New);
-    compare_stop(rt, alloc, disk, call, Fill::Torn(1));
-    compare_stop(rt, alloc, disk, call, Fill::Torn(0xff));
+fn compare_fills(rt: &impl Abort, alloc: Global, disk: &MemDisk, call: u64, together: u64) {
+    for fill in [Fill::Old, Fill::New, Fill::Torn(1), Fill::Torn(0xff)] {
+        compare_stop(rt, alloc, disk, (call, fill), together);
+    }
 }
 
 // How many entries are recorded in what a stop within the call leaves.
-fn compare_stop(rt: &impl Abort, alloc: Global, disk: &MemDisk, call: u64, fill: Fill) {
+fn compare_stop(rt: &impl Abort, alloc: Global, disk: &MemDisk, stop: (u64, Fill), together: u64) {
+    let (call, fill) = stop;
     assert!(rt; call > 0 && call <= disk.calls());
     let left = disk.stopped(alloc, call, fill).expect(rt, "memory");
     let found = recorded(alloc, left);
-    let want = Some(left_by(call, fill));
+    let want = Some(left_by(call, fill, together));
     same(rt, (call, fill, found), (call, fill, want), "a stop");
+}
+
+// How many records a stop within this call leaves. Six calls open a new area, and four write each record, or several together; the third
+// and fourth of these leave the new ones where their gate is 01.
+fn left_by(call: u64, fill: Fill, together: u64) -> u64 {
+    let Some(after_opening) = call.checked_sub(7) else {
+        return 0;
+    };
+    let before = after_opening / 4;
+    if after_opening % 4 >= 2 && matches!(fill, Fill::New | Fill::Torn(1)) {
+        before.saturating_add(together)
+    } else {
+        before
+    }
 }
 
 // The call that fails, what is told then and ever after, and how many records are found when the disk is opened again. Where the last sync
@@ -156,15 +166,19 @@ const FAULTS: &str = "\
 #[test]
 fn a_fault_of_the_disk_is_told_until_it_is_opened_again(rt: HostRuntime) {
     for row in FAULTS.lines() {
-        compare_fault(&rt, rt.alloc(), row);
+        compare_fault(&rt, rt.alloc(), SHIPPED, row);
     }
 }
 
-fn compare_fault(rt: &impl Abort, alloc: Global, row: &str) {
+/// The call that fails, what is told to a store with these limits then and ever after, and how many records are found when the disk is
+/// opened again.
+pub(super) fn compare_fault(rt: &impl Abort, alloc: Global, limits: Limits, row: &str)
+    requires { limits.bytes < 2 ^ 32 }
+{
     let (call, rest) = row.split_once('|').expect(rt, "a row");
     let (parts, left) = rest.split_once('|').expect(rt, "a row");
     let call = call.parse().expect(rt, "a call");
     let left = left.parse().expect(rt, "a count");
-    let disk = play(rt, alloc, failing_disk(rt, alloc, call), SHIPPED, parts);
+    let disk = play(rt, alloc, failing_disk(rt, alloc, call), limits, parts);
     same(rt, recorded(alloc, disk), Some(left), row);
 }

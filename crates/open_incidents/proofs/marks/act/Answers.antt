@@ -15,7 +15,7 @@ pub returns-clause-marked : goal.returns-clause-marked
 returns-clause-marked c =
     let t = c.args.table.now in
     let a = acted_by c.args.operator c.args.step c.args.outcome c.args.at in
-    c.act.ensures ∙ ap (λ (is : List Incident). record t { incidents = is }) (acts_map c.args.number a t.incidents t.opened c.slots-slots.ensures.ascends (fits_held c.args.number a t.incidents c.requires.fits))
+    c.act.ensures.acted ∙ ap (λ (is : List Incident). record t { incidents = is }) (acts_map c.args.number a t.incidents t.opened c.act.ensures.ascends (fits_held c.args.number a t.incidents c.requires.fits))
 
 pub returns-clause-few : goal.returns-clause-few
 returns-clause-few c n w =
@@ -26,4 +26,4 @@ pub returns-clause-room : goal.returns-clause-room
 returns-clause-room c =
     let t = c.args.table.now in
     let a = acted_by c.args.operator c.args.step c.args.outcome c.args.at in
-    rw (returns-clause-marked c) (room_acts c.args.number a t.incidents t.opened c.slots-slots.ensures.ascends c.requires.fits c.requires.room)
+    rw (returns-clause-marked c) (room_acts c.args.number a t.incidents t.opened c.act.ensures.ascends c.requires.fits c.requires.room)

@@ -9,8 +9,8 @@ attach-requires c = few_at c.in-Some.number c.args.table.now.incidents c.require
 
 pub returns-in-Some-clause-marked : goal.returns-in-Some-clause-marked
 returns-in-Some-clause-marked c =
-    c.attach.ensures
-    ∙ attach_carries c.args.x.now c.args.table.now c.in-Some.number c.slots-slots.ensures.ascends c.slots-slots.ensures.single c.in-New.is (sym c.find.ensures ∙ c.in-Some.is)
+    c.attach.ensures.attached
+    ∙ attach_carries c.args.x.now c.args.table.now c.in-Some.number c.attach.ensures.ascends c.attach.ensures.single c.in-New.is (sym c.find.ensures ∙ c.in-Some.is)
 
 pub returns-in-Some-clause-few : goal.returns-in-Some-clause-few
 returns-in-Some-clause-few c = few_after c.args.x.now c.args.table.now c.attach.new.self (returns-in-Some-clause-marked c)
@@ -40,8 +40,8 @@ returns-else-priority-gt0-clause-few c = few_after c.args.x.now c.args.table.now
 
 pub returns-in-Some-find-clause-marked : goal.returns-in-Some-find-clause-marked
 returns-in-Some-find-clause-marked c =
-    c.mark_restored.ensures
-    ∙ restore_carries c.args.x.now c.args.table.now c.in-Some-find.number c.slots-slots.ensures.ascends c.slots-slots.ensures.single c.in-Restore.is (sym c.find-in-Restore.ensures ∙ c.in-Some-find.is)
+    c.mark_restored.ensures.restored
+    ∙ restore_carries c.args.x.now c.args.table.now c.in-Some-find.number c.mark_restored.ensures.ascends c.mark_restored.ensures.single c.in-Restore.is (sym c.find-in-Restore.ensures ∙ c.in-Some-find.is)
 
 pub returns-in-Some-find-clause-few : goal.returns-in-Some-find-clause-few
 returns-in-Some-find-clause-few c = few_after c.args.x.now c.args.table.now c.mark_restored.new.self (returns-in-Some-find-clause-marked c)

@@ -10,10 +10,13 @@ use Rattle.open_incidents.proofs.marks.claim.Goals as goal
 pub returns-clause-marked : goal.returns-clause-marked
 returns-clause-marked c =
     let t = c.args.table.now in
-    c.hold.ensures ∙ ap (λ (is : List Incident). record t { incidents = is }) (claims_map c.args.operator c.args.number c.args.at t.incidents)
+    c.hold.ensures.held ∙ ap (λ (is : List Incident). record t { incidents = is }) (claims_map c.args.operator c.args.number c.args.at t.incidents)
 
 pub returns-clause-few : goal.returns-clause-few
 returns-clause-few c n w = rw (returns-clause-marked c) (few_same (Claims c.args.operator c.args.number c.args.at) n c.args.table.now.opened c.args.table.now.incidents (λ i. refl) w)
 
 pub returns-clause-room : goal.returns-clause-room
 returns-clause-room c r = rw (returns-clause-marked c) (room_same (Claims c.args.operator c.args.number c.args.at) c.args.table.now.incidents (λ i. refl) r)
+
+pub returns-clause-was : goal.returns-clause-was
+returns-clause-was c = record { opened = c.args.table.now.opened; ascends = c.hold.ensures.ascends; found = c.hold.ensures.former }

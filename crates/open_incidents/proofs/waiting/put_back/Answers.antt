@@ -1,39 +1,37 @@
--- The incident of the number is held or waits; or there is none.
-use Rattle.std.proofs.Common.{◌≡◌, ◌<◌, ◌∷◌, length, true, false, sym, ap, ◌∙◌, subst, arith}
+-- The incident of the number was held or waited; or there is none.
+use Rattle.std.proofs.Common.{◌<◌, ◌∷◌, ℕ, length, sym, subst, arith}
 use Rattle.std.specs.List.Sorted.{IsPermutation}
-use Rattle.std.specs.Option.{option_map}
-use Rattle.centre_rules.specs.Desks.{is_free}
-use Rattle.open_incidents.proofs.Parts.{free_by, held_by}
+use Rattle.open_incidents.proofs.Formers.{one, none, free_so, held_so, pair_so}
 use Rattle.open_incidents.proofs.QueueEdits.{room_held, back_held, back_free, back_none}
 use Rattle.open_incidents.proofs.waiting.put_back.Goals as goal
 
 pub insert-requires : goal.insert-requires
 insert-requires c =
-    let t = c.args.table.now in
-    let found = sym c.get.ensures ∙ ap (option_map (λ i. i.now)) c.in-Some.is in
-    let held : is_free c.in-Some.i.now ≡ false = held_by c.in-Some.i.now.holder c.if-is_some.ensures in
-    let few : length c.args.queue.now.pairs < length t.incidents =
-    room_held c.args.number t.incidents t.opened c.in-Some.i.now c.slots-slots.ensures.ascends found c.args.queue.now.pairs c.requires.same held in
-    omega (arith, few, c.requires.memory)
+    let is = c.requires.0 in
+    let w = c.requires.1.0 in
+    let n = c.args.number in
+    let i = c.in-Some.i in
+    let o = one is n c.args.former i w c.in-Some.is in
+    let few : length c.args.queue.now.pairs < length is =
+    room_held n is w.opened o.incident w.ascends o.found c.args.queue.now.pairs c.requires.1.1.same (held_so is n i o c.if-is_held.true) in
+    omega (arith, few, c.requires.1.1.memory)
 
-pub returns-then-is_some-clause-pairs : goal.returns-then-is_some-clause-pairs
-returns-then-is_some-clause-pairs c =
-    let t = c.args.table.now in
-    let found = sym c.get.ensures ∙ ap (option_map (λ i. i.now)) c.in-Some.is in
-    let held : is_free c.in-Some.i.now ≡ false = held_by c.in-Some.i.now.holder c.if-is_some.ensures in
-    back_held c.args.number t.incidents t.opened c.in-Some.i.now c.slots-slots.ensures.ascends found c.args.queue.now.pairs c.requires.same
-    c.insert.new.queue.pairs held
-    (subst (λ p. IsPermutation ((p, c.in-Some.i.now.number) ∷ c.args.queue.now.pairs) c.insert.new.queue.pairs) c.priority.ensures
-    c.insert.ensures.pairs)
+pub returns-then-is_held-clause-pairs : goal.returns-then-is_held-clause-pairs
+returns-then-is_held-clause-pairs c is w same =
+    let n = c.args.number in
+    let i = c.in-Some.i in
+    let o = one is n c.args.former i w c.in-Some.is in
+    back_held n is w.opened o.incident w.ascends o.found c.args.queue.now.pairs same c.insert.new.queue.pairs (held_so is n i o c.if-is_held.true)
+    (subst (λ (p : ℕ × ℕ). IsPermutation (p ∷ c.args.queue.now.pairs) c.insert.new.queue.pairs)
+    (pair_so is n i c.priority.result o c.priority.ensures) c.insert.ensures.pairs)
 
-pub returns-else-is_some-clause-pairs : goal.returns-else-is_some-clause-pairs
-returns-else-is_some-clause-pairs c =
-    let t = c.args.table.now in
-    let found = sym c.get.ensures ∙ ap (option_map (λ i. i.now)) c.in-Some.is in
-    let free : is_free c.in-Some.i.now ≡ true = free_by c.in-Some.i.now.holder c.if-is_some.ensures in
-    back_free c.args.number t.incidents t.opened c.in-Some.i.now c.slots-slots.ensures.ascends found c.args.queue.now.pairs c.requires.same free
+pub returns-else-is_held-clause-pairs : goal.returns-else-is_held-clause-pairs
+returns-else-is_held-clause-pairs c is w same =
+    let n = c.args.number in
+    let i = c.in-Some.i in
+    let o = one is n c.args.former i w c.in-Some.is in
+    back_free n is w.opened o.incident w.ascends o.found c.args.queue.now.pairs same (free_so is n i o c.if-is_held.false)
 
 pub returns-in_default-clause-pairs : goal.returns-in_default-clause-pairs
-returns-in_default-clause-pairs c =
-    back_none c.args.number c.args.table.now.incidents c.args.queue.now.pairs (sym c.get.ensures ∙ ap (option_map (λ i. i.now)) c.in_default.is)
-    c.requires.same
+returns-in_default-clause-pairs c is w same =
+    back_none c.args.number is c.args.queue.now.pairs (none is c.args.number c.args.former w c.in_default.is) same

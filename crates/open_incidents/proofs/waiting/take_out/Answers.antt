@@ -1,39 +1,37 @@
--- The incident of the number waits or is held; or there is none.
-use Rattle.std.proofs.Common.{◌≡◌, ◌∷◌, true, false, sym, ap, ◌∙◌, subst}
+-- The incident of the number waited or was held; or there is none.
+use Rattle.std.proofs.Common.{◌∷◌, ℕ, sym, subst}
 use Rattle.std.specs.List.{Contains}
 use Rattle.std.specs.List.Sorted.{IsPermutation}
-use Rattle.std.specs.Option.{option_map}
-use Rattle.centre_rules.specs.Desks.{is_free}
-use Rattle.open_incidents.proofs.Parts.{free_by, held_by}
+use Rattle.open_incidents.proofs.Formers.{one, none, free_so, held_so, pair_so}
 use Rattle.open_incidents.proofs.QueueEdits.{in_queue, out_free, out_held, out_none}
 use Rattle.open_incidents.proofs.waiting.take_out.Goals as goal
 
 pub remove-requires : goal.remove-requires
 remove-requires c =
-    let t = c.args.table.now in
-    let found = sym c.get.ensures ∙ ap (option_map (λ i. i.now)) c.in-Some.is in
-    let free : is_free c.in-Some.i.now ≡ true = free_by c.in-Some.i.now.holder (sym c.if-is_none.ensures) in
-    subst (λ p. Contains c.args.queue.now.pairs (p, c.in-Some.i.now.number)) (sym c.priority.ensures)
-    (in_queue c.args.number t.incidents t.opened c.in-Some.i.now c.slots-slots.ensures.ascends found c.args.queue.now.pairs c.requires free)
+    let is = c.requires.0 in
+    let w = c.requires.1.0 in
+    let n = c.args.number in
+    let i = c.in-Some.i in
+    let o = one is n c.args.former i w c.in-Some.is in
+    subst (λ (p : ℕ × ℕ). Contains c.args.queue.now.pairs p) (sym (pair_so is n i c.priority.result o c.priority.ensures))
+    (in_queue n is w.opened o.incident w.ascends o.found c.args.queue.now.pairs c.requires.1.1 (free_so is n i o c.if-is_held.false))
 
-pub returns-then-is_none-clause-pairs : goal.returns-then-is_none-clause-pairs
-returns-then-is_none-clause-pairs c =
-    let t = c.args.table.now in
-    let found = sym c.get.ensures ∙ ap (option_map (λ i. i.now)) c.in-Some.is in
-    let free : is_free c.in-Some.i.now ≡ true = free_by c.in-Some.i.now.holder (sym c.if-is_none.ensures) in
-    out_free c.args.number t.incidents t.opened c.in-Some.i.now c.slots-slots.ensures.ascends found c.args.queue.now.pairs c.requires
-    c.remove.new.queue.pairs free
-    (subst (λ p. IsPermutation ((p, c.in-Some.i.now.number) ∷ c.remove.new.queue.pairs) c.args.queue.now.pairs) c.priority.ensures
-    c.remove.ensures.pairs)
+pub returns-then-is_held-clause-pairs : goal.returns-then-is_held-clause-pairs
+returns-then-is_held-clause-pairs c is w same =
+    let n = c.args.number in
+    let i = c.in-Some.i in
+    let o = one is n c.args.former i w c.in-Some.is in
+    out_free n is w.opened o.incident w.ascends o.found c.args.queue.now.pairs same c.remove.new.queue.pairs (free_so is n i o c.if-is_held.false)
+    (subst (λ (p : ℕ × ℕ). IsPermutation (p ∷ c.remove.new.queue.pairs) c.args.queue.now.pairs)
+    (pair_so is n i c.priority.result o c.priority.ensures) c.remove.ensures.pairs)
 
-pub returns-else-is_none-clause-pairs : goal.returns-else-is_none-clause-pairs
-returns-else-is_none-clause-pairs c =
-    let t = c.args.table.now in
-    let found = sym c.get.ensures ∙ ap (option_map (λ i. i.now)) c.in-Some.is in
-    let held : is_free c.in-Some.i.now ≡ false = held_by c.in-Some.i.now.holder (sym c.if-is_none.ensures) in
-    out_held c.args.number t.incidents t.opened c.in-Some.i.now c.slots-slots.ensures.ascends found c.args.queue.now.pairs c.requires held
+pub returns-else-is_held-clause-pairs : goal.returns-else-is_held-clause-pairs
+returns-else-is_held-clause-pairs c is w same =
+    let n = c.args.number in
+    let i = c.in-Some.i in
+    let o = one is n c.args.former i w c.in-Some.is in
+    out_held n is w.opened o.incident w.ascends o.found c.args.queue.now.pairs same (held_so is n i o c.if-is_held.true)
 
 pub returns-in_default-clause-pairs : goal.returns-in_default-clause-pairs
-returns-in_default-clause-pairs c =
-    out_none c.args.number c.args.table.now.incidents c.args.queue.now.pairs (sym c.get.ensures ∙ ap (option_map (λ i. i.now)) c.in_default.is)
-    c.requires
+returns-in_default-clause-pairs c is w same =
+    out_none c.args.number is c.args.queue.now.pairs (none is c.args.number c.args.former w c.in_default.is) same

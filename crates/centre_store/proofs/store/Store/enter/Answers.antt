@@ -165,18 +165,18 @@ pub returns-clause-full : goal.returns-clause-full
 returns-clause-full g c up few b h w to over =
     let m = between g.D.Disk.seen b c.args.self.now c.self.inside.centre c.prepare.new.self c.self.inside.journal c.self.inside.at_open h c.self.view_is
     (c.in-Ok.ensures.stays b h) w in
-    let there : IsOverWith (stored c.self.inside.centre c.self.inside.journal c.self.inside.at_open) (summed_size b h) c.in-Ok.ready.event =
-    subst (λ (e : Event). IsOverWith {D = g.row.D.Denot} (stored c.self.inside.centre c.self.inside.journal c.self.inside.at_open) (summed_size b h) e) (sym c.in-Ok.ensures.event)
-    (subst (λ (x : Stored g.row.D.Denot). IsOverWith x (summed_size b h) c.args.event) (sym c.self.view_is) over) in
+    let there : IsOverWith (stored c.self.inside.centre c.self.inside.journal c.self.inside.at_open) (summed_size b h) (need_of c.in-Ok.ready.event) =
+    subst (λ (e : Event). IsOverWith {D = g.row.D.Denot} (stored c.self.inside.centre c.self.inside.journal c.self.inside.at_open) (summed_size b h) (need_of e)) (sym c.in-Ok.ensures.event)
+    (subst (λ (x : Stored g.row.D.Denot). IsOverWith x (summed_size b h) (need_of c.args.event)) (sym c.self.view_is) over) in
     absurd (never_stopped c.commit.result _ c.in_ok-done.was (c.commit.ensures.full b h m there.now there.then))
 
 pub returns-in_err-done-clause-full : goal.returns-in_err-done-clause-full
 returns-in_err-done-clause-full g c up few b h w to over =
     let m = between g.D.Disk.seen b c.args.self.now c.self.inside.centre c.prepare.new.self c.self.inside.journal c.self.inside.at_open h c.self.view_is
     (c.in-Ok.ensures.stays b h) w in
-    let there : IsOverWith (stored c.self.inside.centre c.self.inside.journal c.self.inside.at_open) (summed_size b h) c.in-Ok.ready.event =
-    subst (λ (e : Event). IsOverWith {D = g.row.D.Denot} (stored c.self.inside.centre c.self.inside.journal c.self.inside.at_open) (summed_size b h) e) (sym c.in-Ok.ensures.event)
-    (subst (λ (x : Stored g.row.D.Denot). IsOverWith x (summed_size b h) c.args.event) (sym c.self.view_is) over) in
+    let there : IsOverWith (stored c.self.inside.centre c.self.inside.journal c.self.inside.at_open) (summed_size b h) (need_of c.in-Ok.ready.event) =
+    subst (λ (e : Event). IsOverWith {D = g.row.D.Denot} (stored c.self.inside.centre c.self.inside.journal c.self.inside.at_open) (summed_size b h) (need_of e)) (sym c.in-Ok.ensures.event)
+    (subst (λ (x : Stored g.row.D.Denot). IsOverWith x (summed_size b h) (need_of c.args.event)) (sym c.self.view_is) over) in
     let made : (c.commit.result ≡ Err Memory) ⊎ (c.commit.result ≡ Err (Full (summed_size b h) (need_of c.args.event) 0)) =
     subst (λ (e : Event). (c.commit.result ≡ Err Memory) ⊎ (c.commit.result ≡ Err (Full (summed_size b h) (need_of e) 0))) c.in-Ok.ensures.event
     (c.commit.ensures.full b h m there.now there.then) in

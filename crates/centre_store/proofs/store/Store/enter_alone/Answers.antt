@@ -56,17 +56,17 @@ returns-in-Ok-commit_or_return-clause-written g c b h w =
 pub returns-in-Ok-commit_or_return-clause-full : goal.returns-in-Ok-commit_or_return-clause-full
 returns-in-Ok-commit_or_return-clause-full g c b h w over =
     let m = between g.D.Disk.seen b c.args.self.now c.self.inside.centre c.prepare.new.self c.self.inside.journal c.self.inside.at_open h c.self.view_is (c.in-Ok.ensures.stays b h) w in
-    let there : IsOverWith (stored c.self.inside.centre c.self.inside.journal c.self.inside.at_open) (summed_size b h) c.in-Ok.ready.event =
-    subst (λ (e : Event). IsOverWith {D = g.row.D.Denot} (stored c.self.inside.centre c.self.inside.journal c.self.inside.at_open) (summed_size b h) e) (sym c.in-Ok.ensures.event)
-    (subst (λ (x : Stored g.row.D.Denot). IsOverWith x (summed_size b h) c.args.call.event) (sym c.self.view_is) over) in
+    let there : IsOverWith (stored c.self.inside.centre c.self.inside.journal c.self.inside.at_open) (summed_size b h) (need_of c.in-Ok.ready.event) =
+    subst (λ (e : Event). IsOverWith {D = g.row.D.Denot} (stored c.self.inside.centre c.self.inside.journal c.self.inside.at_open) (summed_size b h) (need_of e)) (sym c.in-Ok.ensures.event)
+    (subst (λ (x : Stored g.row.D.Denot). IsOverWith x (summed_size b h) (need_of c.args.call.event)) (sym c.self.view_is) over) in
     absurd (never_stopped (Ok c.in-Ok-commit_or_return.done) c.in-Ok-commit_or_return.done refl (c.in-Ok-commit_or_return.ensures.full b h m there.now there.then))
 
 pub returns-in-Err-commit_or_return-clause-full : goal.returns-in-Err-commit_or_return-clause-full
 returns-in-Err-commit_or_return-clause-full g c b h w over =
     let m = between g.D.Disk.seen b c.args.self.now c.self.inside.centre c.prepare.new.self c.self.inside.journal c.self.inside.at_open h c.self.view_is (c.in-Ok.ensures.stays b h) w in
-    let there : IsOverWith (stored c.self.inside.centre c.self.inside.journal c.self.inside.at_open) (summed_size b h) c.in-Ok.ready.event =
-    subst (λ (e : Event). IsOverWith {D = g.row.D.Denot} (stored c.self.inside.centre c.self.inside.journal c.self.inside.at_open) (summed_size b h) e) (sym c.in-Ok.ensures.event)
-    (subst (λ (x : Stored g.row.D.Denot). IsOverWith x (summed_size b h) c.args.call.event) (sym c.self.view_is) over) in
+    let there : IsOverWith (stored c.self.inside.centre c.self.inside.journal c.self.inside.at_open) (summed_size b h) (need_of c.in-Ok.ready.event) =
+    subst (λ (e : Event). IsOverWith {D = g.row.D.Denot} (stored c.self.inside.centre c.self.inside.journal c.self.inside.at_open) (summed_size b h) (need_of e)) (sym c.in-Ok.ensures.event)
+    (subst (λ (x : Stored g.row.D.Denot). IsOverWith x (summed_size b h) (need_of c.args.call.event)) (sym c.self.view_is) over) in
     subst (λ (e : Event). Stops (Err c.in-Err-commit_or_return.stop) Memory (Full (summed_size b h) (need_of e) 0))
     c.in-Ok.ensures.event (c.in-Err-commit_or_return.ensures.full b h m there.now there.then)
 

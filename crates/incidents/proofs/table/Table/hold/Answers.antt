@@ -6,4 +6,4 @@ use Rattle.incidents.proofs.table.Table.hold.Goals as goal
 
 pub invariant_of-self : goal.invariant_of-self
 invariant_of-self c =
-    rw c.hold.ensures (changed_kept c.args.number c.self.inside.opened c.self.inside.room _ _ (held c.args.holder c.args.at) c.self.inside.slots.incidents c.self.invariant (λ i. record { number = refl; account = refl; class = refl }))
+    rw c.hold.ensures.held (changed_kept c.args.number c.self.inside.opened c.self.inside.room _ _ (held c.args.holder c.args.at) c.self.inside.slots.incidents c.self.invariant (λ i. record { number = refl; account = refl; class = refl }))

@@ -6,13 +6,19 @@ use Rattle.open_incidents.proofs.HeldMarks.{held_claimed}
 use Rattle.open_incidents.proofs.QueuedMarks.{claimed, long_same, few_seen}
 use Rattle.open_incidents.proofs.queued_table.QueuedTable.claim.Goals as goal
 
+pub take_out-requires : goal.take_out-requires
+take_out-requires c = (c.self.inside.table.incidents, (c.claim.ensures.was, c.self.invariant.queue_of.same))
+
+pub hold-requires : goal.hold-requires
+hold-requires c = (c.self.inside.table.incidents, (c.claim.ensures.was, c.self.invariant.held_of))
+
 pub invariant_of-self : goal.invariant_of-self
 invariant_of-self c =
     let old = c.self.inside.table.incidents in
     let is = ap (λ (y : TableValue). y.incidents) c.claim.ensures.marked in
     record {
       queue_of = record {
-        same = claimed c.args.operator c.args.number c.args.at old c.claim.new.table.incidents c.take_out.new.queue.pairs is c.take_out.ensures.pairs;
+        same = claimed c.args.operator c.args.number c.args.at old c.claim.new.table.incidents c.take_out.new.queue.pairs is (c.take_out.ensures.pairs old c.claim.ensures.was c.self.invariant.queue_of.same);
         memory = omega (
           arith,
           long_same (Claims c.args.operator c.args.number c.args.at) old c.claim.new.table.incidents is,
@@ -22,7 +28,7 @@ invariant_of-self c =
       };
       held_of = record {
         numbers = held_claimed c.args.operator c.args.number c.args.at old c.claim.new.table.incidents c.hold.new.numbers.numbers is
-            (c.hold.ensures.numbers c.args.operator c.args.at);
+            (c.hold.ensures.numbers old c.claim.ensures.was c.self.invariant.held_of.numbers c.args.operator c.args.at);
         memory = omega (
           arith,
           long_same (Claims c.args.operator c.args.number c.args.at) old c.claim.new.table.incidents is,

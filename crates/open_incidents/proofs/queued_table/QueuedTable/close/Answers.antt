@@ -4,13 +4,16 @@ use Rattle.open_incidents.proofs.HeldMarks.{held_closed}
 use Rattle.open_incidents.proofs.QueuedMarks.{closed, long_closed, few_seen}
 use Rattle.open_incidents.proofs.queued_table.QueuedTable.close.Goals as goal
 
+pub take_out-requires : goal.take_out-requires
+take_out-requires c = (c.self.inside.table.incidents, (c.close.ensures.was, c.self.invariant.queue_of.same))
+
 pub invariant_of-self : goal.invariant_of-self
 invariant_of-self c =
     let old = c.self.inside.table in
     record {
       queue_of = record {
         same = closed c.args.number old.opened old.incidents c.close.new.table.incidents c.take_out.new.queue.pairs c.close.ensures.incidents
-            c.take_out.ensures.pairs;
+            (c.take_out.ensures.pairs old.incidents c.close.ensures.was c.self.invariant.queue_of.same);
         memory = omega (
           arith,
           long_closed c.args.number old.opened old.incidents c.close.new.table.incidents c.close.ensures.incidents,

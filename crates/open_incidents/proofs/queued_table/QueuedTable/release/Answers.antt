@@ -6,13 +6,16 @@ use Rattle.open_incidents.proofs.HeldMarks.{held_released}
 use Rattle.open_incidents.proofs.QueuedMarks.{released, long_same, few_seen}
 use Rattle.open_incidents.proofs.queued_table.QueuedTable.release.Goals as goal
 
+pub put_back-requires : goal.put_back-requires
+put_back-requires c = (c.self.inside.table.incidents, (c.release.ensures.was, c.self.invariant.queue_of))
+
 pub invariant_of-self : goal.invariant_of-self
 invariant_of-self c =
     let old = c.self.inside.table.incidents in
     let is = ap (λ (y : TableValue). y.incidents) c.release.ensures.marked in
     record {
       queue_of = record {
-        same = released c.args.number old c.release.new.table.incidents c.put_back.new.queue.pairs is c.put_back.ensures.pairs;
+        same = released c.args.number old c.release.new.table.incidents c.put_back.new.queue.pairs is (c.put_back.ensures.pairs old c.release.ensures.was c.self.invariant.queue_of.same);
         memory = omega (
           arith,
           long_same (Releases c.args.number) old c.release.new.table.incidents is,
