@@ -4,6 +4,7 @@ use Rattle.std.specs.Prelude.{if◌then◌else◌, option_and_then, IfSome}
 use Rattle.std.specs.List.{find, position}
 use Rattle.std.specs.Option.{option_copied, option_map, option_map_or, option_or, unwrap_or}
 use Rattle.std.specs.Result.{result_unwrap_or}
+use Rattle.std.specs.Str.{bytes_eq}
 use Rattle.std.proofs.lemmas.Bool.{le-ltb, lt-ltb}
 use Rattle.std.proofs.lemmas.List.{length-map}
 use Rattle.std.proofs.lemmas.Option.{slice_get-map}

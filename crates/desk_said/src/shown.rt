@@ -11,6 +11,7 @@ use crate::names::{class, count};
 use crate::said::Said;
 use alarm_rules::{Words, is_account};
 use arc_data::{Class, Txt, View};
+use desk_wire::number;
 
 /// Which incident an answer is about.
 #[derive(Clone, Copy)]
