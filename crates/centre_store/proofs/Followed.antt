@@ -24,7 +24,7 @@ use Rattle.centre_store.specs.Followings.{since_of, body_of_number, GoesOnWith, 
 use Rattle.centre_store.specs.Given.{IsKeptAs, StandForIn, HoldsRecorded, HasRecorded}
 use Rattle.centre_store.specs.Stores.{Stored, HasFailed, IsOverWith, StoreStands}
 use Rattle.centre_store.specs.Writes.{IsOverAt, IsOverThen, IsUnwritten}
-use Rattle.centre_store.proofs.Entered.{stored, shown_at, whole}
+use Rattle.centre_store.proofs.Entered.{stored, held, shown_at, whole}
 use Rattle.centre_store.proofs.Holding.{recorded_same, recorded_there}
 use Rattle.centre_store.proofs.NextSummary.{bodies_count}
 use Rattle.centre_store.proofs.PastOnce.{same_ends}
