@@ -8,7 +8,7 @@ use Rattle.line_gate.specs.Views.{nobody, learned, taking, shown, withdrawn}
 use Rattle.line_gate.specs.Rule.{Core, Fits, IsWhole, Keeps}
 use Rattle.line_gate.proofs.Histories.{extends_self, longer_of, longer_within}
 use Rattle.line_gate.proofs.Places.{each_join, other_at}
-use Rattle.line_gate.proofs.Splits.{moved, one_book, spent_fits}
+use Rattle.line_gate.proofs.Splits.{moved, one_book, core_naming, book_naming, spent_fits}
 
 longer_whole : (c : Core) (a b : List Entry) → (longer a b ≡ a) ⊎ (longer a b ≡ b) → IsWhole c a → IsWhole c b → IsWhole c (longer a b)
 longer_whole c a b either x y = ⊎_elim (λ (e : longer a b ≡ a). subst (IsWhole c) (sym e) x) (λ (e : longer a b ≡ b). subst (IsWhole c) (sym e) y) either
@@ -24,15 +24,14 @@ learns id v other w is_pass free s h at apart there =
       known = h.known;
       free = h.free;
       each = each_join (Fits c) (Fits c) s.views id other (learned v w) nobody apart h.each (λ j u _ _ t. t) (record {
-        seen = longer_within v.seen w.seen c.log f.seen g.seen;
-        had = f.seen;
-        got = g.seen;
-        seen_whole = longer_whole c v.seen w.seen (longer_of v.seen w.seen c.log f.seen g.seen).either f.seen_whole g.seen_whole;
-        got_whole = g.seen_whole;
-        told = let t = f.told in let r = g.told in omega arith;
-        got_told = f.got_told;
-        count = let t = f.count in let r = g.count in omega arith;
-        got_count = f.got_count;
+        now = (
+          longer_within v.seen w.seen c.log f.now.0 g.now.0,
+          longer_whole c v.seen w.seen (longer_of v.seen w.seen c.log f.now.0 g.now.0).either f.now.1 g.now.1,
+          let t = f.now.2 in let r = g.now.2 in omega arith,
+          let t = f.now.3 in let r = g.now.3 in omega arith,
+        );
+        shown = (g.now.0, g.now.1, f.shown.2, f.shown.3);
+        had = f.now.0;
         number = λ n e. let i = f.number n e in record { below = let t = i.below in omega arith; owner = i.owner; made = i.made };
         book = λ is. absurd (false≢true (sym is_pass ∙ is));
         names = λ is some_named. absurd (some_named free);
@@ -46,7 +45,7 @@ takes id v other w is_pass free is_note names same s h at apart there =
     let f = h.each id v at in
     let g = h.each other w (other_at s.views id other (taking v w) w apart there) in
     let namer = g.names is_note names in
-    let d : Core = record { log = c.log; known = c.known; next = c.next; told = c.told; count = c.count; keeper = c.keeper; namer = id; owner = c.owner } in
+    let d = core_naming c c.next id in
     let others : (j : ℕ) (u : View) → j ≢ id → j ≢ other → Fits c j u → Fits d j u = λ j u _ not_other t. moved c d j u (extends_self c.log) (omega arith) (omega arith) (λ h _ t. t)
     (λ n _ i. record { below = i.below; owner = i.owner; made = i.made })
     (λ is i. record { keeper = i.keeper; seen = i.seen; named = i.named; told = i.told; count = i.count })
@@ -57,15 +56,9 @@ takes id v other w is_pass free is_note names same s h at apart there =
       known = h.known;
       free = h.free;
       each = each_join (Fits c) (Fits d) s.views id other (taking v w) nobody apart h.each others (record {
-        seen = f.seen;
+        now = f.now;
+        shown = f.shown;
         had = f.had;
-        got = f.got;
-        seen_whole = f.seen_whole;
-        got_whole = f.got_whole;
-        told = f.told;
-        got_told = f.got_told;
-        count = f.count;
-        got_count = f.got_count;
         number = λ n e. let i = f.number n e in record { below = i.below; owner = i.owner; made = i.made };
         book = λ is. absurd (false≢true (sym is_pass ∙ is));
         names = λ is some_named. record { namer = refl; named = namer.named; seen = same ∙ namer.seen; all = namer.all };
@@ -84,15 +77,9 @@ shows id v other w is_book s h at apart there =
       known = h.known;
       free = h.free;
       each = each_join (Fits c) (Fits c) s.views id other (shown v w) nobody apart h.each (λ j u _ _ t. t) (record {
-        seen = f.seen;
+        now = f.now;
+        shown = g.now;
         had = f.had;
-        got = g.seen;
-        seen_whole = f.seen_whole;
-        got_whole = g.seen_whole;
-        told = f.told;
-        got_told = g.told;
-        count = f.count;
-        got_count = g.count;
         number = λ n e. let i = f.number n e in record { below = i.below; owner = i.owner; made = i.made };
         book = λ is. record { keeper = b.keeper; seen = b.seen; named = b.named; told = b.told; count = b.count };
         names = λ is _. absurd (true≢false (sym is_book ∙ is));
@@ -107,7 +94,7 @@ withdraws id v other w is_book is_note names s h at apart there =
     let b = f.book is_book in
     let g = h.each other w (other_at s.views id other (withdrawn v w) w apart there) in
     let namer = g.names is_note names in
-    let d : Core = record { log = c.log; known = c.known; next = []; told = c.told; count = c.count; keeper = c.keeper; namer = c.namer; owner = c.owner } in
+    let d = core_naming c [] c.namer in
     let others : (j : ℕ) (u : View) → j ≢ id → j ≢ other → Fits c j u → Fits d j u = λ j u not_id not_other t. moved c d j u (extends_self c.log) (omega arith) (omega arith) (λ h _ k. k)
     (λ n _ i. record { below = i.below; owner = i.owner; made = i.made })
     (λ is i. one_book c id j v u b i not_id)
@@ -117,18 +104,5 @@ withdraws id v other w is_book is_note names s h at apart there =
       words = h.words;
       known = inl namer.all;
       free = h.free;
-      each = each_join (Fits c) (Fits d) s.views id other (withdrawn v w) nobody apart h.each others (record {
-        seen = f.seen;
-        had = f.had;
-        got = f.got;
-        seen_whole = f.seen_whole;
-        got_whole = f.got_whole;
-        told = f.told;
-        got_told = f.got_told;
-        count = f.count;
-        got_count = f.got_count;
-        number = λ n e. let i = f.number n e in record { below = i.below; owner = i.owner; made = i.made };
-        book = λ is. record { keeper = b.keeper; seen = b.seen; named = refl; told = b.told; count = b.count };
-        names = λ is _. absurd (true≢false (sym is_book ∙ is));
-      }) (spent_fits d other);
+      each = each_join (Fits c) (Fits d) s.views id other (withdrawn v w) nobody apart h.each others (book_naming c id v [] c.namer is_book f) (spent_fits d other);
     }
