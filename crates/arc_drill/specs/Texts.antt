@@ -14,10 +14,6 @@ four_digits n = digit (n / 1000) ∷ digit (n / 100) ∷ digit (n / 10) ∷ digi
 abbrev pub account_of : ℕ → List ℕ
 account_of i = decimal (1000 + i % 10)
 
--- each account counts its messages from 0001 to 9999, and then from 0001 again
-abbrev pub sequence_of : ℕ → ℕ
-sequence_of i = (i - 1) / 10 % 9999 + 1
-
 -- a burglary, a fire, and the burglary's end, in turn
 abbrev pub data_of : ℕ → List ℕ
 data_of i =
@@ -28,19 +24,16 @@ data_of i =
 abbrev pub clock_line : ℕ → List ℕ
 clock_line moment = codes "T " ++ decimal moment ++ codes "\n"
 
--- the message of number i, on line 1
+-- the message of number i, on line 1: each account counts its messages from 0001 to 9999, and then from 0001 again
 abbrev pub message_line : ℕ → List ℕ
 message_line i =
-    codes "M 1 \"ADM-CID\"" ++ four_digits (sequence_of i) ++ codes "L0#" ++ account_of i
+    codes "M 1 \"ADM-CID\"" ++ four_digits ((i - 1) / 10 % 9999 + 1) ++ codes "L0#" ++ account_of i
     ++ codes "[#" ++ account_of i ++ codes "|" ++ data_of i ++ codes "]\n"
 
 -- each message has a second of its own, and each seventh is sent once more
 abbrev pub message_lines : ℕ → List ℕ
 message_lines i =
     clock_line (1_000_000_000 + i) ++ message_line i ++ (if nat_eq (i % 7) 0 then message_line i else [])
-
-abbrev pub login_line : List ℕ
-login_line = codes "D 1 login drill 1234\n"
 
 -- the incident of number k is claimed, gets a note, and is closed
 abbrev pub closing_lines : ℕ → List ℕ
@@ -49,15 +42,13 @@ closing_lines k =
 
 -- the operator logs in and closes the twenty incidents
 abbrev pub desk_lines : List ℕ
-desk_lines = login_line ++ flat_map closing_lines (range_with_len 1 20)
+desk_lines = codes "D 1 login drill 1234\n" ++ flat_map closing_lines (range_with_len 1 20)
 
 -- The script: the clock is set, the messages 1 to n come, and then the operator's commands.
 abbrev pub drill_text : ℕ → List ℕ
 drill_text n = clock_line 1_000_000_000 ++ flat_map message_lines (range_with_len 1 n) ++ desk_lines
 
-abbrev pub account_line : ℕ → List ℕ
-account_line account = codes "account " ++ decimal account ++ codes "\n"
-
 -- The setup: the ten accounts and the operator.
 abbrev pub drill_setup : List ℕ
-drill_setup = flat_map account_line (range_with_len 1000 10) ++ codes "operator drill 1234\n"
+drill_setup =
+    flat_map (λ account. codes "account " ++ decimal account ++ codes "\n") (range_with_len 1000 10) ++ codes "operator drill 1234\n"

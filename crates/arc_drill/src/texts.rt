@@ -1,6 +1,6 @@
 // The lines of a drill's script, part by part.
-ghost use Rattle.std.specs.Prelude.{◌≡◌, ◌+◌, ◌≤◌, ◌++◌, length};
-ghost use Rattle.arc_drill.specs.Texts.{digit, four_digits, data_of, account_of, clock_line, message_line, message_lines, login_line, closing_lines};
+ghost use Rattle.std.specs.Prelude.{◌≡◌, ◌+◌, ◌≤◌, ◌++◌, codes, length};
+ghost use Rattle.arc_drill.specs.Texts.{digit, four_digits, data_of, account_of, clock_line, message_line, message_lines, closing_lines};
 
 use crate::lines::Lines;
 
@@ -85,7 +85,7 @@ fn data(i: u32) -> &'static [u8]
 
 // Puts the line that logs the operator in, in place of other lines.
 pub(crate) fn put_login(lines: &mut Lines)
-    ensures { lines.new ≡ login_line }
+    ensures { lines.new ≡ codes "D 1 login drill 1234\n" }
 {
     lines.clear();
     lines.put(b"D 1 login drill 1234\n");
