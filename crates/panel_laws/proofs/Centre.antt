@@ -7,8 +7,8 @@ use Rattle.arc_data.specs.declared.event.Event.{Event}
 use Rattle.arc_data.specs.declared.event.Event.TheVariants.{Message as Sends}
 use Rattle.alarm_rules.specs.Setups.{meaning, has_account}
 use Rattle.centre_rules.specs.History.{Entry}
-use Rattle.centre_laws.specs.Schedules.{Step, Deliver, Other, Lose, Crash, Schedule, Item, entries, sent_item, item_of, message_entry, start_entry, next, oldest, ideal_after, IsKept, is_other}
-use Rattle.centre_laws.specs.Spacing.{message_in, IsSpaced}
+use Rattle.centre_laws.specs.Schedules.{Step, Deliver, Other, Lose, Crash, Schedule, Item, entries, sent_item, item_of, message_entry, start_entry, next, oldest, ideal_after, Each, IsKept, IsStep, is_other}
+use Rattle.centre_laws.specs.Spacing.{message_in, IsSpaced, IsSpacedStep}
 use Rattle.centre_laws.proofs.Lists.{all_drop}
 use Rattle.centre_laws.proofs.Shape.{delivered_has, added_has}
 use Rattle.panel_rules.specs.declared.Report.{Report}
@@ -18,7 +18,7 @@ use Rattle.panel_laws.specs.Worlds.{Copy, IsAmong, Deliver as Delivers, message_
 use Rattle.panel_laws.proofs.Sent.{Sent, all_among}
 use Rattle.panel_laws.proofs.Flown.{IsSent, IsAcked, sent_later, event_counted, first_below}
 use Rattle.panel_laws.proofs.Items.{Another, Its, IsItem, AreItems, IsAbove, AreFalling, items_later, items_acknowledged, falling_acknowledged, falling_dropped, moment_is}
-use Rattle.panel_laws.proofs.Spaced.{IsArrival, spaced, above_all}
+use Rattle.panel_laws.proofs.Spaced.{IsArrival, IsOfSent, spaced, above_all}
 use Rattle.panel_laws.proofs.Holds.{acked_more, IsFrame, IsReply, Holds, stood, signals_of, good_of, replies_later}
 
 -- another event is no message
@@ -128,27 +128,33 @@ module _ (x : Schedule) (s : Setting) (ms : List Mark) (now : ℕ) (fs rs : List
       subst (λ (e : ℕ). Delivered via c.at b e c.report) (sym f.copy.event)
       (subst (λ (r : Report). Delivered via c.at b y.event r) (sym f.copy.report) own)
 
+  -- a step that delivers nothing leaves what was sent, and the frames and replies that are under way
+  stays : (t : Step) → IsOfSent s h.xs t → AreItems s h.xs clock (ideal_after x (t ∷ ts)) → AreFalling (ideal_after x (t ∷ ts))
+      → Each (IsStep x) (t ∷ ts) → Each (IsSpacedStep x) (t ∷ ts) → Holds x s ms clock fs rs (t ∷ ts)
+  stays t of_sent items falls steps apart = record {
+    xs = h.xs;
+    sent = sent_later ms now clock h.xs le h.sent;
+    frames = h.frames;
+    replies = replies_later h.xs t ts rs h.replies;
+    acked = λ n acked. acked_more n t ts (h.acked n acked);
+    good = h.good;
+    deliveries = (of_sent, h.deliveries);
+    items = items;
+    falls = falls;
+    steps = steps;
+    spaced = apart;
+  }
+
   -- Another event comes.
 
   pub other : (e : Event) (b : Bool) → is_other e ≡ true → Holds x s ms clock fs rs (Other e clock b ∷ ts)
   other e b is =
       let w = ideal_after x ts in
-      let t = Other e clock b in
       let new = next (entries w) e clock in
-      record {
-        xs = h.xs;
-        sent = sent_later ms now clock h.xs le h.sent;
-        frames = h.frames;
-        replies = replies_later h.xs t ts rs h.replies;
-        acked = λ n acked. acked_more n t ts (h.acked n acked);
-        good = h.good;
-        deliveries = (tt, h.deliveries);
-        items = added_has (AreItems s h.xs clock) new b w passed (λ _.
-            (record { upto = omega (arith, moment_is s h.xs now clock w le h.items); of = Another refl (not_message e is) }, passed));
-        falls = added_has AreFalling new b w h.falls (λ _. (all_below new b w, h.falls));
-        steps = (is, h.steps);
-        spaced = (tt, h.spaced);
-      }
+      let items = added_has (AreItems s h.xs clock) new b w passed (λ _.
+      (record { upto = omega (arith, moment_is s h.xs now clock w le h.items); of = Another refl (not_message e is) }, passed)) in
+      let falls = added_has AreFalling new b w h.falls (λ _. (all_below new b w, h.falls)) in
+      stays (Other e clock b) tt items falls (is, h.steps) (tt, h.spaced)
 
   -- The centre crashes.
 
@@ -157,38 +163,12 @@ module _ (x : Schedule) (s : Setting) (ms : List Mark) (now : ℕ) (fs rs : List
       let w = ideal_after x ts in
       let d = length w - kept in
       let left = oldest kept w in
-      let t = Crash kept clock in
       let before = all_drop (IsItem s h.xs now) d w h.items in
-      record {
-        xs = h.xs;
-        sent = sent_later ms now clock h.xs le h.sent;
-        frames = h.frames;
-        replies = replies_later h.xs t ts rs h.replies;
-        acked = λ n acked. acked_more n t ts (h.acked n acked);
-        good = h.good;
-        deliveries = (tt, h.deliveries);
-        items = (
-          record { upto = omega (arith, moment_is s h.xs now clock left le before); of = Another refl refl },
-          all_drop (IsItem s h.xs clock) d w passed,
-        );
-        falls = (all_below (start_entry left clock) false left, falling_dropped d w h.falls);
-        steps = (is, h.steps);
-        spaced = (tt, h.spaced);
-      }
+      let start : IsItem s h.xs clock (item_of false (start_entry left clock)) = record { upto = omega (arith, moment_is s h.xs now clock left le before); of = Another refl refl } in
+      stays (Crash kept clock) tt (start, all_drop (IsItem s h.xs clock) d w passed)
+      (all_below (start_entry left clock) false left, falling_dropped d w h.falls) (is, h.steps) (tt, h.spaced)
 
 -- A frame or a reply is lost.
 pub lose : (x : Schedule) (s : Setting) (ms : List Mark) (now : ℕ) (fs rs : List Copy) (ts : List Step) → Holds x s ms now fs rs ts
     → Holds x s ms now fs rs (Lose ∷ ts)
-lose x s ms now fs rs ts h = record {
-  xs = h.xs;
-  sent = h.sent;
-  frames = h.frames;
-  replies = replies_later h.xs Lose ts rs h.replies;
-  acked = λ n acked. acked_more n Lose ts (h.acked n acked);
-  good = h.good;
-  deliveries = (tt, h.deliveries);
-  items = h.items;
-  falls = h.falls;
-  steps = (tt, h.steps);
-  spaced = (tt, h.spaced);
-}
+lose x s ms now fs rs ts h = stays x s ms now fs rs ts h now (omega arith) Lose tt h.items h.falls (tt, h.steps) (tt, h.spaced)
