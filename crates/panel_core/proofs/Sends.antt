@@ -23,43 +23,38 @@ pub record IsSent (s : Setting) (ms : List Mark) (now : ℕ) (p : PanelValue) (s
   pub nothing : copies ≡ false → body_of_event s ms sent ≡ None
 
 module _ (s : Setting) (ms : List Mark) (now : ℕ) (p : PanelValue) (k : Keeps s (Steps now None ∷ ms) p) where
-  sent_again : (f : Flight) → p.flight ≡ Some f → Flies s (Steps now None ∷ ms) p.sent f → (b : Bool) → repeats now f ≡ b → IsSent s ms now p (cond b (Some p.sent) None) b (record p { flight = Some (cond b (record f { last = now }) f) })
-  sent_again f flying is true may =
-      let kept = sends_again s ms p now k f is in
-      let flies = body_flies s (Steps now (Some p.sent) ∷ ms) (record p { flight = Some (record f { last = now }) }) (record f { last = now }) k.account_is k.line_is kept.last_is in
-      record {
-        kept = kept;
-        told = refl;
-        body = λ _. flies;
-        some = λ _. ap is_some flies;
-        nothing = λ no. absurd cc;
-      }
-  sent_again f flying is false may = record {
-    kept = subst (λ o. Keeps s (Steps now None ∷ ms) (record p { flight = o })) flying k;
+  sends_copy : (n : ℕ) (after : PanelValue) (body : List ℕ) → Keeps s (Steps now (Some n) ∷ ms) after → body_of_event s ms (Some n) ≡ Some body
+      → body_in_flight after after.flight ≡ Some body → IsSent s ms now p (Some n) true after
+  sends_copy n after body kept of_event flies = record {
+    kept = kept;
+    told = refl;
+    body = λ _. of_event ∙ sym flies;
+    some = λ _. ap is_some of_event;
+    nothing = λ no. absurd cc;
+  }
+
+  sends_nothing : (after : PanelValue) → Keeps s (Steps now None ∷ ms) after → IsSent s ms now p None false after
+  sends_nothing after kept = record {
+    kept = kept;
     told = refl;
     body = λ no. absurd cc;
     some = λ no. absurd cc;
     nothing = λ _. refl;
   }
 
+  sent_again : (f : Flight) → p.flight ≡ Some f → Flies s (Steps now None ∷ ms) p.sent f → (b : Bool) → repeats now f ≡ b → IsSent s ms now p (cond b (Some p.sent) None) b (record p { flight = Some (cond b (record f { last = now }) f) })
+  sent_again f flying is true may =
+      let kept = sends_again s ms p now k f is in
+      let flies = body_flies s (Steps now (Some p.sent) ∷ ms) (record p { flight = Some (record f { last = now }) }) (record f { last = now }) k.account_is k.line_is kept.last_is in
+      sends_copy p.sent _ _ kept flies refl
+  sent_again f flying is false may = sends_nothing _ (subst (λ o. Keeps s (Steps now None ∷ ms) (record p { flight = o })) flying k)
+
   sent_next : (report : Report) (rest : List Report) → p.waiting ≡ report ∷ rest → (1 ≤ p.sent → HasEnded p.sent (Steps now None ∷ ms)) → p.stepped ≡ now → (b : Bool) → IsSent s ms now p (cond b (Some (p.sent + 1)) None) b (cond b (begin_next now p report rest) p)
   sent_next report rest waits over stepped true =
       let kept = sends_next s ms p now k report rest waits over stepped in
       let flies = body_flies s (Steps now (Some (p.sent + 1)) ∷ ms) (begin_next now p report rest) (record { report = report; number = p.next; first = now; last = now }) k.account_is k.line_is kept.last_is in
-      record {
-        kept = kept;
-        told = refl;
-        body = λ _. flies;
-        some = λ _. ap is_some flies;
-        nothing = λ no. absurd cc;
-      }
-  sent_next report rest waits over stepped false = record {
-    kept = k;
-    told = refl;
-    body = λ no. absurd cc;
-    some = λ no. absurd cc;
-    nothing = λ _. refl;
-  }
+      sends_copy (p.sent + 1) _ _ kept flies refl
+  sent_next report rest waits over stepped false = sends_nothing p k
 
   -- a further copy may go out as the message in flight says
   repeats_is : (f : Flight) → Flies s (Steps now None ∷ ms) p.sent f → may_repeat (Steps now None ∷ ms) now p.sent ≡ repeats now f
@@ -78,13 +73,7 @@ module _ (s : Setting) (ms : List Mark) (now : ℕ) (p : PanelValue) (k : Keeps 
       let none = flight_none s (Steps now None ∷ ms) p k is in
       let oldest = oldest_none s (Steps now None ∷ ms) p k (ap length waits) in
       let sent : sends ms now ≡ None = ap (sends_by (Steps now None ∷ ms) now) none ∙ rw oldest refl in
-      rw sent (record {
-        kept = rw (sym waits, sym flying) k;
-        told = refl;
-        body = λ no. absurd cc;
-        some = λ no. absurd cc;
-        nothing = λ _. refl;
-      })
+      rw sent (sends_nothing _ (rw (sym waits, sym flying) k))
   by_flight None flying is stepped (report ∷ rest) waits =
       let none = flight_none s (Steps now None ∷ ms) p k is in
       let oldest = oldest_some s (Steps now None ∷ ms) p k (rw waits (omega arith)) in
