@@ -123,15 +123,12 @@ abbrev pub marks_heard : Heard → List Mark
 marks_heard (Acked n) = Acks n ∷ []
 marks_heard Other = []
 
-abbrev pub marks_at : Setting → List Mark → Happening → List Mark
-marks_at s ms (Queue token content) = marks_queued token content (queued ms token content)
-marks_at s ms (Step now) = Steps now (sends ms now) ∷ []
-marks_at s ms (Hear body) = marks_heard (heard s ms body)
-
 -- the marks of a panel to which all this happened, the newest first
 abbrev pub marks : Setting → List Happening → List Mark
 marks s [] = []
-marks s (x ∷ h) = marks_at s (marks s h) x ++ marks s h
+marks s (Queue token content ∷ h) = let ms = marks s h in marks_queued token content (queued ms token content) ++ ms
+marks s (Step now ∷ h) = let ms = marks s h in Steps now (sends ms now) ∷ ms
+marks s (Hear body ∷ h) = let ms = marks s h in marks_heard (heard s ms body) ++ ms
 
 -- the body that is sent of an event, where there is one
 abbrev pub body_of_event : Setting → List Mark → Option ℕ → Option (List ℕ)
