@@ -14,7 +14,7 @@ use Rattle.panel_rules.specs.Panels.{Setting}
 use Rattle.session_rules.specs.Inputs.{input_limit}
 use Rattle.session_rules.proofs.Ports.{of_reads, of_writes, ports_more, ports_none, rose_since}
 use Rattle.session_rules.specs.Reading.{IsNotAhead, OnlyReadsAndWrites, lines_read}
-use Rattle.arc_panel.specs.Ends.{EndsAs, HasPlayed, Played}
+use Rattle.arc_panel.specs.Ends.{EndsAs, HasPlayed, Played, StopsAt}
 use Rattle.arc_panel.specs.Texts.{text_of}
 use Rattle.arc_panel.specs.Playing.{Finishes, Halts, HaltsAt, HaltsIn, SoFar, WholeOf}
 use Rattle.arc_panel.specs.declared.play.PanelEnd.{PanelEnd}
@@ -77,6 +77,10 @@ whole_played s p q all whole = record { front = all; behind = []; history = whol
 abbrev front_played : (s : Setting) (p q : PortSeen) (before all : List (List ℕ)) (end : PanelEnd) → HaltsIn s p before all end q → Played all
 front_played s p q before all end h = record { front = h.played; behind = h.line ∷ h.more; history = h.halts.history; split = h.all_are; said = h.halts.says_all }
 
+abbrev stops_at : (s : Setting) (p q : PortSeen) (read : List ℕ) (before all : List (List ℕ)) (end : PanelEnd) (h : HaltsIn s p before all end q) → IsNotAhead ended_lines read h.played
+    → StopsAt read all (front_played s p q before all end h)
+stops_at s p q read before all end h near = record { line = h.line; more = h.more; next = refl; ahead = near }
+
 halted_ends : (s : Setting) (p q : PortSeen) (read : List ℕ) (before all : List (List ℕ)) (end : PanelEnd) (h : HaltsIn s p before all end q) → IsNotAhead ended_lines read h.played
     → HaltsAt s p h.played h.line h.halts.history end q → EndsAs s read all (front_played s p q before all end h) end p q
 halted_ends s p q read before all Done h near is = absurd is
@@ -84,24 +88,13 @@ halted_ends s p q read before all ReadFault h near is = absurd is
 halted_ends s p q read before all Spent h near is = absurd is
 halted_ends s p q read before all WriteFault h near is = (
   is.1.2.0,
-  record { line = h.line; more = h.more; next = refl; ahead = near; happens = is.1.0; says = is.1.1; output = is.1.2.2 },
+  record { at = stops_at s p q read before all WriteFault h near; happens = is.1.0; says = is.1.1; output = is.1.2.2 },
   is.0,
   is.1.2.1,
 )
-halted_ends s p q read before all (BadLine number) h near is = record {
-  line = h.line;
-  more = h.more;
-  next = refl;
-  numbered = is.0;
-  ahead = near;
-  wrong = is.1;
-  output = is.2;
-}
+halted_ends s p q read before all (BadLine number) h near is = record { at = stops_at s p q read before all (BadLine number) h near; numbered = is.0; wrong = is.1; output = is.2 }
 halted_ends s p q read before all Memory h near is = record {
-  line = h.line;
-  more = h.more;
-  next = refl;
-  ahead = near;
+  at = stops_at s p q read before all Memory h near;
   happens = is.0.0;
   says = is.0.1;
   output = is.1 ∙ ap (append_known p.written) (sym (append-nil (text_of s h.halts.history)));

@@ -30,27 +30,27 @@ pub record IsWhole (s : Setting) (lines : List (List ℕ)) (played : Played line
   pub none_behind : played.behind ≡ []
   pub output : p'.written ≡ append_known p.written (text_of s played.history)
 
--- the next line, of this number from 1 on, says nothing here; the output is that of the lines before it
-pub record IsBad (s : Setting) (read : List ℕ) (lines : List (List ℕ)) (played : Played lines) (number : ℕ) (p p' : PortSeen) : Type 0 where
+-- the next line is not played
+pub record StopsAt (read : List ℕ) (lines : List (List ℕ)) (played : Played lines) : Type 0 where
   pub line : List ℕ
   pub more : List (List ℕ)
   pub next : played.behind ≡ line ∷ more
-  pub numbered : number ≡ length played.front + 1
   -- all lines were played but those that end in the last bytes read
   pub ahead : IsNotAhead ended_lines read played.front
-  pub wrong : (x : Happening) → IsPlayable played.history line x → ⊥
+
+-- it has this number, from 1 on, and says nothing here; the output is that of the lines before it
+pub record IsBad (s : Setting) (read : List ℕ) (lines : List (List ℕ)) (played : Played lines) (number : ℕ) (p p' : PortSeen) : Type 0 where
+  pub at : StopsAt read lines played
+  pub numbered : number ≡ length played.front + 1
+  pub wrong : (x : Happening) → IsPlayable played.history at.line x → ⊥
   pub output : p'.written ≡ append_known p.written (text_of s played.history)
 
--- the next line says something, of whose output so many bytes were written behind that of the lines before it
+-- it says something, of whose output so many bytes were written behind that of the lines before it
 pub record IsCutOff (s : Setting) (read : List ℕ) (lines : List (List ℕ)) (played : Played lines) (count : ℕ) (p p' : PortSeen)
     : Type 0 where
-  pub line : List ℕ
-  pub more : List (List ℕ)
-  pub next : played.behind ≡ line ∷ more
-  -- all lines were played but those that end in the last bytes read
-  pub ahead : IsNotAhead ended_lines read played.front
+  pub at : StopsAt read lines played
   pub happens : Happening
-  pub says : IsPlayable played.history line happens
+  pub says : IsPlayable played.history at.line happens
   pub output : p'.written ≡ append_known p.written (text_of s played.history ++ take count (line_of s played.history happens))
 
 -- What an end says of what was played, of the bytes that were read: where a write failed, the output of the next line lacks a byte at
