@@ -27,7 +27,7 @@ pub use desk_wire::Command;
 pub use keyboard::Keyboard;
 pub use order::{Order, Poll};
 pub use own::{Due, Own};
-pub use plain::Plain;
+pub use plain::{Plain, front_of, plain_byte};
 pub use queue::{Queue, Waiting};
 pub use reaction::Reaction;
 pub use screen::Screen;

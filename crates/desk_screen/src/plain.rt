@@ -1,6 +1,6 @@
 // Text that may be shown.
-ghost use Rattle.std.specs.Prelude.{◌≡◌, ◌<◌, ◌≤◌, ◌++◌, ◌∷◌, [], length, take};
-ghost use Rattle.desk_screen.specs.Plain.{plain, plain_byte};
+ghost use Rattle.std.specs.Prelude.{◌≡◌, ◌<◌, ◌≤◌, ◌++◌, ◌∷◌, [], true, length, take};
+ghost use Rattle.desk_screen.specs.Plain.{is_plain, plain, plain_byte};
 
 use std::marker::Model;
 
@@ -21,9 +21,10 @@ impl Model for Plain {
     ghost invariant = { λ p. p.len ≤ 160 };
 }
 
-// A byte as it is shown.
-fn plain_byte(byte: u8) -> u8
-    ensures { result ≡ plain_byte byte }
+/// A byte as it is shown.
+pub fn plain_byte(byte: u8) -> u8
+    ensures shown { result ≡ plain_byte byte }
+    ensures plain { is_plain result ≡ true }
 {
     if (32..=126).contains(&byte) {
         byte
@@ -32,8 +33,8 @@ fn plain_byte(byte: u8) -> u8
     }
 }
 
-// At most so many bytes of a text.
-fn front_of(text: &[u8], most: usize) -> &[u8]
+/// At most so many bytes of a text.
+pub fn front_of(text: &[u8], most: usize) -> &[u8]
     ensures front { result.now ≡ take most text.now }
     ensures short { length result.now ≤ most }
 {

@@ -1,10 +1,11 @@
 // The text of a row.
-ghost use Rattle.std.specs.Prelude.{◌≡◌, ◌<◌, ◌≤◌, ◌++◌, ◌∷◌, [], true, length, take, decimal};
-ghost use Rattle.desk_screen.specs.Plain.{is_plain, plain_byte};
+ghost use Rattle.std.specs.Prelude.{◌≡◌, ◌<◌, ◌≤◌, ◌++◌, ◌∷◌, [], true, length, decimal};
+ghost use Rattle.desk_screen.specs.Plain.{is_plain};
 ghost use Rattle.screen_page.specs.Texts.{age, are_plain, with_column, with_text};
 
 use crate::line::Line;
 use crate::tone::Tone;
+use desk_screen::{front_of, plain_byte};
 use itoa::Buffer;
 use std::marker::Model;
 
@@ -24,18 +25,6 @@ impl Model for Strip {
     ghost view = { λ s. take s.len s.bytes };
 
     ghost invariant = { λ s. (s.len ≤ 160) × (are_plain (take s.len s.bytes) ≡ true) };
-}
-
-// A byte as it is shown.
-fn plain_byte(byte: u8) -> u8
-    ensures shown { result ≡ plain_byte byte }
-    ensures plain { is_plain result ≡ true }
-{
-    if (32..=126).contains(&byte) {
-        byte
-    } else {
-        b'?'
-    }
 }
 
 impl Strip {
@@ -134,15 +123,3 @@ fn age(seconds: u64) -> Line
 }
 
 const SPACES: [u8; 160] = [b' '; 160];
-
-// At most so many bytes of a text.
-fn front_of(text: &[u8], most: usize) -> &[u8]
-    ensures front { result.now ≡ take most text.now }
-    ensures short { length result.now ≤ most }
-{
-    if text.len() > most {
-        &text[..most]
-    } else {
-        text
-    }
-}
