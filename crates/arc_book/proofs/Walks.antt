@@ -24,7 +24,7 @@ pub record Walks (version : ℕ) (o : Options) (all : Option (List ℕ)) (gate a
   pub stands : StandsFor told.base centre told.past
   pub text : IsWrittenBut k0.written k.written page (area_book o told)
 
-module _ (version : ℕ) (o : Options) (all : Option (List ℕ)) (gate at : ℕ) (rest : Option (List ℕ)) (s s' k0 k : PortSeen) (centre : State) (page : List ℕ)
+module _ {version : ℕ} {o : Options} {all : Option (List ℕ)} {gate at : ℕ} {rest : Option (List ℕ)} {s s' k0 k : PortSeen} {centre : State} {page : List ℕ}
     (w : Walks version o all gate at rest k0 k centre page) (later : k0.write_faults ≤ k.write_faults) (reads : OnlyReads s s') (writes : OnlyWrites k0 k) where
   ends : (status : Status) → IfSome all (IsEnd status w.told) → HasText status k0.written k.written page (area_book o w.told) → HasCauses status s s' k0 k
       → IsCompiled o status all s s' k0 k page
@@ -68,14 +68,14 @@ module _ (version : ℕ) (o : Options) (all : Option (List ℕ)) (gate at : ℕ)
   bad_walk Spent body gate' at' rest' r bad scanned rose = ends Spent (both_far all w.told (begins_at all w.told gate at rest w.read) scanned) w.text tt
 
 -- a body more was told
-module _ (version : ℕ) (o : Options) (all : Option (List ℕ)) (gate at gate' at' : ℕ) (rest rest' : Option (List ℕ)) (k0 k k' : PortSeen) (centre centre' : State) (page page' : List ℕ) (body : List ℕ)
+module _ {version : ℕ} {o : Options} {all : Option (List ℕ)} {gate at gate' at' : ℕ} {rest rest' : Option (List ℕ)} {k0 k : PortSeen} {centre centre' : State} {page page' : List ℕ} {body : List ℕ}
     (w : Walks version o all gate at rest k0 k centre page) (r : IsReadTo version all (bodies_told w.told ++ body ∷ []) gate' at' rest') (t : IsTakenUp o w.told body centre' page page') where
   read_next : IsReadTo version all (bodies_told t.next) gate' at' rest'
   read_next = subst (λ (l : List (List ℕ)). IsReadTo version all l gate' at' rest') (sym t.is) r
 
   -- and its line is on the page, or written
-  pub more_walk : (page'' : List ℕ) → IsTurned k.written k'.written page' page'' → Walks version o all gate' at' rest' k0 k' centre' page''
-  more_walk page'' turned = record {
+  pub more_walk : {k' : PortSeen} (page'' : List ℕ) → IsTurned k.written k'.written page' page'' → Walks version o all gate' at' rest' k0 k' centre' page''
+  more_walk {k'} page'' turned = record {
     told = t.next;
     read = read_next;
     stands = t.stands;
@@ -85,9 +85,9 @@ module _ (version : ℕ) (o : Options) (all : Option (List ℕ)) (gate at gate' 
   }
 
   -- or could not be written whole
-  pub write_walk : {s s' : PortSeen} (page'' : List ℕ) → IsFrontWritten k.written k'.written page' → OnlyReads s s' → OnlyWrites k0 k' → k0.write_faults ≤ k'.write_faults → Rose k0.write_faults k'.write_faults
+  pub write_walk : {k' s s' : PortSeen} (page'' : List ℕ) → IsFrontWritten k.written k'.written page' → OnlyReads s s' → OnlyWrites k0 k' → k0.write_faults ≤ k'.write_faults → Rose k0.write_faults k'.write_faults
       → IsCompiled o WriteFault all s s' k0 k' page''
-  write_walk page'' front reads writes later rose = record {
+  write_walk {k'} page'' front reads writes later rose = record {
     version = version;
     told = t.next;
     ended = begins_at all t.next gate' at' rest' read_next;
