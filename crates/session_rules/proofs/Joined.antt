@@ -72,26 +72,32 @@ module _ {T : Type 0} (kind : Kind T) where
     unanswered = law.behind next.behind next.unanswered;
   }
 
-  -- the same session, and then a read of its port
-  unfoldable pub session_read : {rules : Rules T} {end : Ending} {b : Summary} {xs ys : List (List ℕ)} {h : List Entry} {hall hall' : HallSeen} {p q r : PortSeen}
-      → ys ≡ xs → OnlyReads q r → IsSession kind rules end b xs h (changed hall hall' p q) → IsSession kind rules end b ys h (changed hall hall' p r)
-  session_read {rules} {end} {b} {xs} {ys} {h} {hall} {hall'} {p} {q} {r} same only s = record {
+  -- The same turns: other pieces of which they leave others, under other rules, and at another port.
+  abbrev pub session_as : {own rules : Rules T} {end : Ending} {b : Summary} {xs ys : List (List ℕ)} {h : List Entry} {hall hall' : HallSeen} {p p' q q' : PortSeen}
+      → (s : IsSession kind own end b xs h (changed hall hall' p p')) (left : List (List ℕ)) → ys ≡ pieces_of kind s.turns ++ left → rules.are_turns h s.history s.turns → Adds q q' s.added
+      → IsEnd kind rules end s.history s.turns s.behind s.added left → rules.may_be_behind s.behind → IsSession kind rules end b ys h (changed hall hall' q q')
+  session_as {own} {rules} {end} {b} {xs} {ys} {h} {hall} {hall'} {p} {p'} {q} {q'} s left taken each adds ended unanswered = record {
     turns = s.turns;
     behind = s.behind;
     history = s.history;
     added = s.added;
-    left = s.left;
-    taken = same ∙ s.taken;
-    each = s.each;
+    left = left;
+    taken = taken;
+    each = each;
     holds = s.holds;
     legal = s.legal;
     own = s.own;
     disk = s.disk;
     up = s.up;
-    adds = adds_read s.adds only;
-    ended = s.ended;
-    unanswered = s.unanswered;
+    adds = adds;
+    ended = ended;
+    unanswered = unanswered;
   }
+
+  -- the same session, and then a read of its port
+  unfoldable pub session_read : {rules : Rules T} {end : Ending} {b : Summary} {xs ys : List (List ℕ)} {h : List Entry} {hall hall' : HallSeen} {p q r : PortSeen}
+      → ys ≡ xs → OnlyReads q r → IsSession kind rules end b xs h (changed hall hall' p q) → IsSession kind rules end b ys h (changed hall hall' p r)
+  session_read {rules} {end} {b} {xs} {ys} {h} {hall} {hall'} {p} {q} {r} same only s = session_as s s.left (same ∙ s.taken) s.each (adds_read s.adds only) s.ended s.unanswered
 
   pub ends_wider : (rules : Rules T) (end : Ending) (x : List Entry) (turns behind : List T) (a : Added) (rest more : List (List ℕ)) → IsEarly end → IsEnd kind rules end x turns behind a rest → IsEnd kind rules end x turns behind a (rest ++ more)
   ends_wider rules answered x turns behind a rest more early e = absurd early
@@ -110,20 +116,6 @@ module _ {T : Type 0} (kind : Kind T) where
   -- A session that ended early, over more pieces: it left them too.
   unfoldable pub session_wider : {rules : Rules T} {end : Ending} {b : Summary} {xs : List (List ℕ)} {h : List Entry} {hall hall' : HallSeen} {p p' : PortSeen} (more : List (List ℕ))
       → IsEarly end → IsSession kind rules end b xs h (changed hall hall' p p') → IsSession kind rules end b (xs ++ more) h (changed hall hall' p p')
-  session_wider {rules} {end} {b} {xs} {h} {hall} {hall'} {p} {p'} more early s = record {
-    turns = s.turns;
-    behind = s.behind;
-    history = s.history;
-    added = s.added;
-    left = s.left ++ more;
-    taken = ap (λ (l : List (List ℕ)). l ++ more) s.taken ∙ append_assoc (pieces_of kind s.turns) s.left more;
-    each = s.each;
-    holds = s.holds;
-    legal = s.legal;
-    own = s.own;
-    disk = s.disk;
-    up = s.up;
-    adds = s.adds;
-    ended = ends_wider rules end s.history s.turns s.behind s.added s.left more early s.ended;
-    unanswered = s.unanswered;
-  }
+  session_wider {rules} {end} {b} {xs} {h} {hall} {hall'} {p} {p'} more early s =
+      session_as s (s.left ++ more) (ap (λ (l : List (List ℕ)). l ++ more) s.taken ∙ append_assoc (pieces_of kind s.turns) s.left more) s.each s.adds
+      (ends_wider rules end s.history s.turns s.behind s.added s.left more early s.ended) s.unanswered
