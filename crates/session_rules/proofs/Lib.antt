@@ -4,3 +4,4 @@ pub mod Made
 pub mod Joined
 pub mod Ahead
 pub mod Ports
+pub mod Inputs
