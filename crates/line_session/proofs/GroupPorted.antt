@@ -1,6 +1,5 @@
 -- Line sessions over a port whose frames are taken together, read piece by piece.
-use Rattle.std.proofs.Common.{◌≡◌, ◌≤◌, ◌++◌, ℕ, List, [], length, false, Ok, Err, refl, inr, arith}
-use Rattle.std.specs.Io.KnownBytes.{prepend_known}
+use Rattle.std.proofs.Common.{◌≤◌, ◌++◌, ℕ, List, [], length, Ok, Err, refl, inr, arith}
 use Rattle.arc_io.specs.Seen.{PortSeen}
 use Rattle.arc_io.specs.Told.{OnlyReads}
 use Rattle.alarm_rules.specs.Setups.{meaning}
@@ -13,7 +12,6 @@ use Rattle.session_rules.proofs.Ahead.{all_complete, completes}
 use Rattle.session_rules.proofs.Joined.{session_read, session_then, all_pieces}
 use Rattle.session_rules.specs.Turns.{entries_of}
 use Rattle.line_session.specs.Groups.{group_rules, ServesGroupBytes, ServesGroup}
-use Rattle.line_session.specs.Lines.{LineValue, TookStream}
 use Rattle.line_session.specs.Sessions.{ending_of}
 use Rattle.line_session.specs.Turns.{line_turns}
 use Rattle.line_session.specs.declared.line_end.LineEnd.{LineEnd}
@@ -21,16 +19,6 @@ use Rattle.line_session.specs.declared.line_end.LineEnd.TheVariants.{InputEnded,
 use Rattle.line_session.proofs.Completed.{acknowledged}
 use Rattle.line_session.proofs.Grouped.{IsGroup, group_follows, group_of_answered, reads_none}
 use Rattle.line_session.proofs.Ported.{IsAtRest}
-
--- this stream was read and served on a line of this name
-pub record GroupSoFar (name : List ℕ) (state : LineValue) (hall hall' : HallSeen) (p p' : PortSeen) : Type 0 where
-  pub stream : List ℕ
-  pub took : TookStream name stream state
-  pub taken : p.left ≡ prepend_known stream p'.left
-  pub not_ended : p'.ended ≡ false
-  pub reads : p.read_faults ≤ p'.read_faults
-  pub writes : p.write_faults ≤ p'.write_faults
-  pub session : (b : Summary) (h : List Entry) → hall.stands b h → IsGroup name answered b (bodies stream) h (changed hall hall' p p')
 
 module _ (name : List ℕ) (b : Summary) (h : List Entry) where
   answered_group : (end : LineEnd) (read : List ℕ) {hall hall' : HallSeen} {p p' : PortSeen} → IsAtRest end → IsGroup name answered b (bodies read) h (changed hall hall' p p') → Goes h (λ w. ServesGroup name end read b w (changed hall hall' p p'))

@@ -18,7 +18,7 @@ use Rattle.centre_rules.specs.Summary.{Summary}
 use Rattle.centre_rules.specs.History.{Entry, marks}
 use Rattle.session_rules.specs.Turns.{entries_of}
 use Rattle.session_rules.specs.Sessions.{Change, changed, Ending, answered, cut_off, stopped, IsEnd, IsSession, IsUnstopped}
-use Rattle.session_rules.proofs.Joined.{Follows, IsEarly, session_then, session_wider}
+use Rattle.session_rules.proofs.Joined.{Follows, IsEarly, session_as, session_then, session_wider}
 use Rattle.line_session.specs.Dues.{bodies_in}
 use Rattle.line_session.specs.Groups.{group_rules, ReadsClock, IsGroupLine, readings_at}
 use Rattle.line_session.specs.Sessions.{IsLine, line_rules}
@@ -63,23 +63,7 @@ line_few behind none = let long = ap (λ (l : List Turn). length (entries_of lin
 -- a session of a line whose frames are answered one after another
 pub group_of_line : (name : List ℕ) {end : Ending} {b : Summary} {bodies : List (List ℕ)} {h : List Entry} {hall hall' : HallSeen} {p p' : PortSeen} → IsLine name end b bodies h (changed hall hall' p p')
     → IsGroup name end b bodies h (changed hall hall' p p')
-group_of_line name {end} {b} {bodies} {h} {hall} {hall'} {p} {p'} s = record {
-  turns = s.turns;
-  behind = s.behind;
-  history = s.history;
-  added = s.added;
-  left = s.left;
-  taken = s.taken;
-  each = s.each;
-  holds = s.holds;
-  legal = s.legal;
-  own = s.own;
-  disk = s.disk;
-  up = s.up;
-  adds = s.adds;
-  ended = by end s.ended;
-  unanswered = line_few s.behind s.unanswered;
-} where
+group_of_line name {end} {b} {bodies} {h} {hall} {hall'} {p} {p'} s = session_as line_turns s s.left s.taken s.each s.adds (by end s.ended) (line_few s.behind s.unanswered) where
   by : (e : Ending) → IsEnd line_turns (line_rules name b hall hall') e s.history s.turns s.behind s.added s.left → IsEnd line_turns (group_rules name b hall hall') e s.history s.turns s.behind s.added s.left
   by answered e = e
   by cut_off e = e
@@ -93,23 +77,7 @@ added_none {p} {q} {r} {a} first none =
 -- the same session, where nothing was added to its port
 unfoldable pub group_still : (name : List ℕ) {end : Ending} {b : Summary} {bodies : List (List ℕ)} {h : List Entry} {hall hall' : HallSeen} {p q r : PortSeen} → ReadsClock [] q r
     → IsGroup name end b bodies h (changed hall hall' p q) → IsGroup name end b bodies h (changed hall hall' p r)
-group_still name {end} {b} {bodies} {h} {hall} {hall'} {p} {q} {r} none s = record {
-  turns = s.turns;
-  behind = s.behind;
-  history = s.history;
-  added = s.added;
-  left = s.left;
-  taken = s.taken;
-  each = s.each;
-  holds = s.holds;
-  legal = s.legal;
-  own = s.own;
-  disk = s.disk;
-  up = s.up;
-  adds = added_none s.adds none;
-  ended = s.ended;
-  unanswered = s.unanswered;
-}
+group_still name {end} {b} {bodies} {h} {hall} {hall'} {p} {q} {r} none s = session_as line_turns s s.left s.taken s.each (added_none s.adds none) s.ended s.unanswered
 
 -- the same pieces
 pub group_same : (name : List ℕ) {end : Ending} {b : Summary} {xs ys : List (List ℕ)} {h : List Entry} {c : Change} → ys ≡ xs → IsGroup name end b xs h c → IsGroup name end b ys h c

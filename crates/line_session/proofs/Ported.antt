@@ -1,22 +1,25 @@
 -- Line sessions over a port, read piece by piece.
-use Rattle.std.proofs.Common.{◌≡◌, ◌<◌, ◌≤◌, ◌↔◌, ◌-◌, ◌++◌, ℕ, List, length, Bool, true, false, Option, Ok, Err, refl, ◌∙◌, ap, length-append, arith}
+use Rattle.std.proofs.Common.{◌≡◌, ◌≢◌, ◌<◌, ◌≤◌, ◌↔◌, ◌-◌, ◌++◌, ℕ, List, length, take, Bool, true, false, Result, Ok, Err, refl, sym, ◌∙◌, ap, length-append, arith}
 use Rattle.std.specs.Io.KnownBytes.{prepend_known}
-use Rattle.std.proofs.lemmas.List.{take_all}
 use Rattle.alarm_rules.specs.Setups.{meaning}
 use Rattle.arc_io.specs.Causes.{Rose}
 use Rattle.arc_io.specs.Seen.{PortSeen}
-use Rattle.arc_io.specs.Told.{OnlyReads}
-use Rattle.arc_io.proofs.KnownMore.{known_taken}
+use Rattle.arc_io.specs.Added.{Answers}
+use Rattle.arc_io.specs.Told.{OnlyReads, Reads}
+use Rattle.arc_io.proofs.KnownMore.{prepend_none}
 use Rattle.centre_core.specs.Halls.{HallSeen, IsKept}
 use Rattle.centre_rules.specs.Summary.{Summary}
 use Rattle.centre_rules.specs.History.{Entry}
 use Rattle.dc09_frame.specs.Frames.{bodies}
 use Rattle.session_rules.specs.Sessions.{answered, changed, Goes}
 use Rattle.session_rules.proofs.Ahead.{all_complete, completes}
+use Rattle.session_rules.proofs.Inputs.{ReadSoFar, read_on, write_rose}
 use Rattle.session_rules.proofs.Joined.{session_read, session_then, all_pieces}
-use Rattle.session_rules.specs.Inputs.{in_limit, input_limit}
+use Rattle.session_rules.proofs.Ports.{rose_since}
+pub use Rattle.session_rules.proofs.Inputs.{all_in_limit}
+use Rattle.session_rules.specs.Inputs.{input_limit}
 use Rattle.session_rules.specs.Turns.{entries_of}
-use Rattle.line_session.specs.Lines.{ServesBytes, ServesLine, IsTaken, HasEnded, LineValue}
+use Rattle.line_session.specs.Lines.{ServesBytes, ServesLine, IsTaken, HasEnded, LineValue, ReadsLine}
 use Rattle.line_session.specs.Sessions.{IsLine, ending_of, line_rules}
 use Rattle.line_session.specs.Turns.{line_turns}
 use Rattle.line_session.specs.declared.line_end.LineEnd.{LineEnd}
@@ -77,21 +80,9 @@ module _ (name : List ℕ) (b : Summary) (h : List Entry) where
           },
         )
 
--- a piece that the limit leaves room for is taken whole
-pub all_in_limit : (stream piece : List ℕ) → length piece ≤ input_limit - length stream → in_limit stream piece ≡ piece
-all_in_limit stream piece fits = take_all (input_limit - length stream) piece fits
-
 -- no read has met the input's end, and that is not the cause
 pub not_out : (ended : Bool) (end : LineEnd) → ended ≡ false → (end ≡ InputEnded → ⊥) → (ended ≡ true) ↔ (end ≡ InputEnded)
 not_out ended end more other = (λ out. absurd (cc), λ is. absurd (other is))
-
--- two bytes that were read, one behind the other
-pub read_more : (known mid left : Option (List ℕ)) (xs ys : List ℕ) → known ≡ prepend_known xs mid → mid ≡ prepend_known ys left → known ≡ prepend_known (xs ++ ys) left
-read_more known mid left xs ys first next = first ∙ ap (prepend_known xs) next ∙ known_taken left xs ys
-
--- a count that rose from a later value on
-pub rose_earlier : (first before now : ℕ) → first ≤ before → Rose before now → Rose first now
-rose_earlier first before now le rose = omega (arith, le, rose)
 
 -- why a session ended within its last piece
 pub ended_by : (name : List ℕ) (end : LineEnd) (stream piece : List ℕ) (s : LineValue) (p p' : PortSeen) → IsTaken name (Err end) stream piece s → length stream < input_limit → length piece ≤ input_limit - length stream
@@ -109,3 +100,35 @@ taken_not_out name ReadFault stream piece s taken is = taken
 taken_not_out name WriteFault stream piece s taken is = cc
 taken_not_out name Spent stream piece s taken is = cc
 taken_not_out name (Stopped stop) stream piece s taken is = cc
+
+-- What a session read that a failed read ended.
+pub reads_failed : {stream buffer : List ℕ} {p q r : PortSeen} {E : Type 0} {e : E} → ReadSoFar stream p q → Reads q r (Err e) buffer → length stream < input_limit → ReadsLine ReadFault stream p r
+reads_failed {stream} {buffer} {p} {q} {r} input told short = record {
+  taken = input.taken ∙ ap (prepend_known stream) (sym told.bytes);
+  out = not_out r.ended ReadFault (told.end ∙ input.not_ended) (λ is. cc);
+  cause = (rose_since _ _ _ input.reads told.cause.failed, short);
+}
+
+-- What a session read that the input's end ended.
+pub reads_out : {stream buffer : List ℕ} {count : ℕ} {p q r : PortSeen} {E : Type 0} → ReadSoFar stream p q → Reads {E = E} q r (Ok count) buffer → count ≡ 0 → 0 < length buffer → length stream < input_limit
+    → ReadsLine InputEnded stream p r
+reads_out {stream} {buffer} {count} {p} {q} {r} input told none room short =
+    let nothing = ap (λ n. prepend_known (take n buffer) r.left) none in
+    record {
+      taken = input.taken ∙ ap (prepend_known stream) (told.bytes.0 ∙ nothing ∙ sym (prepend_none r.left));
+      out = (λ out. refl, λ is. told.end.0 none room);
+      cause = (told.bytes.1 none room, short);
+    }
+
+-- What a session read that ended within its last piece.
+pub reads_last : (name : List ℕ) {stream buffer : List ℕ} {count : ℕ} {end : LineEnd} (s : LineValue) {p q q' r : PortSeen} {E : Type 0} → ReadSoFar stream p q → Reads {E = E} q q' (Ok count) buffer → count ≢ 0
+    → Answers (◌≡◌ {A = Result (Unit {0}) LineEnd} (Err end) (Err WriteFault)) q' r → IsTaken name (Err end) (stream) (take count buffer) s → length stream < input_limit
+    → length (take count buffer) ≤ input_limit - length stream → ReadsLine end (stream ++ take count buffer) p r
+reads_last name {stream} {buffer} {count} {end} s {p} {q} {q'} {r} input told some port taken short fits =
+    let piece : List ℕ = take count buffer in
+    let read = read_on input told port some in
+    record {
+      taken = read.taken;
+      out = not_out r.ended end read.not_ended (taken_not_out name end stream piece s taken);
+      cause = ended_by name end stream piece s p r taken short fits (λ is. write_rose input told port (ap Err is));
+    }
