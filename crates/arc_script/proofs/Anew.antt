@@ -33,7 +33,7 @@ use Rattle.arc_script.specs.Pages.{counted_line}
 use Rattle.arc_script.specs.Playing.{AgainStops, IsNewDesk}
 use Rattle.centre_store.specs.StoreHalls.{is_told}
 use Rattle.arc_script.specs.Standing.{LeavesOn}
-use Rattle.arc_script.specs.Steps.{Place, Step}
+use Rattle.arc_script.specs.Steps.{Place, ReopenedBy, Step}
 use Rattle.arc_script.specs.Tallies.{count_of, is_closed, is_repeat}
 use Rattle.arc_script.specs.declared.script.Script.{Script}
 use Rattle.arc_script.specs.declared.script_end.Tally.{Tally}
@@ -180,6 +180,18 @@ module _ {D : Type 0} (seen : D → DiskSeen) (script script' : Script) (s mid s
         closed = grows_none (count_of is_closed adds.entries) script.tally.closed adds.closed;
       })
 
+  reopened : {IsBegun : Summary → List ℕ → ℕ → List Entry → List Entry → Type 0} (number : ℕ) (text : List ℕ) (x : List Entry) (adds : Adds from.kept x)
+      → IsBegun from.anew place.setup moment from.kept x
+      → ReopenedBy (Tells (seen b.disk)) place IsBegun h x (step_of number adds.entries text)
+  reopened number text x adds came = record {
+    kept = from.kept;
+    keeps = from.keeps;
+    clock = moment;
+    set = set;
+    until = came;
+    by = record { added = adds.is; base = refl; sent = refl };
+  }
+
   carried : (number : ℕ) (p p' : PortSeen) → IsMoment moment
       → StoreStands seen from.anew s' (begun_after from.anew from.kept place.setup moment)
       → LeavesOn seen from.anew mid s' from.kept (begun_after from.anew from.kept place.setup moment)
@@ -195,16 +207,7 @@ module _ {D : Type 0} (seen : D → DiskSeen) (script script' : Script) (s mid s
         history = x;
         number_is = refl;
         asked_is = refl;
-        is = record {
-          kept = from.kept;
-          keeps = from.keeps;
-          clock = moment;
-          set = set;
-          is = refl;
-          added = adds.is;
-          sent = refl;
-          text = refl;
-        };
+        is = record { whole = reopened number said x adds refl; text = refl };
         text = put ∙ ap (λ (n : ℕ). append_known p.written (counted_line n)) count_is;
         counts = counts number x said adds;
         between = record {
@@ -241,14 +244,7 @@ module _ {D : Type 0} (seen : D → DiskSeen) (script script' : Script) (s mid s
         partial = step_of 0 adds.entries [];
         history = x;
         clock = moment;
-        came = inl (record {
-          kept = from.kept;
-          keeps = from.keeps;
-          clock = moment;
-          set = set;
-          until = at.came;
-          by = record { added = adds.is; base = refl; sent = refl };
-        });
+        came = inl (reopened 0 [] x adds at.came);
         set = set;
         cause = at.cause;
         stands = at.stands;

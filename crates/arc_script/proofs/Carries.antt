@@ -23,13 +23,12 @@ use Rattle.script_lines.specs.Lines.{Asked, Feed, Message, numbered, spelling}
 use Rattle.session_rules.specs.Inputs.{input_limit}
 use Rattle.session_rules.specs.Turns.{entries_of}
 use Rattle.arc_script.specs.Carrying.{Carried, CountsStep, GrowsBy, Halted, HaveTakenWith, IsNext}
-use Rattle.arc_script.specs.Causes.{HasShown, IsOfFrame}
-use Rattle.arc_script.specs.Ends.{FedUntil}
+use Rattle.arc_script.specs.Causes.{HasShown, IsOfFrame, IsSentFor}
 use Rattle.arc_script.specs.Fed.{clock_of, line_fed}
 use Rattle.arc_script.specs.Feeding.{CountsFed, FeedStops, HasFed, TookAt}
 use Rattle.arc_script.specs.Names.{line_name}
 use Rattle.arc_script.specs.Pages.{head_of, replied}
-use Rattle.arc_script.specs.Steps.{Place, placed, listed, replies_of, Feeds, FeedsLine, Step}
+use Rattle.arc_script.specs.Steps.{Place, placed, listed, replies_of, FeedsUntil, Feeds, FeedsLine, Step}
 use Rattle.arc_script.specs.Tallies.{count_of, is_closed, is_repeat}
 use Rattle.arc_script.specs.declared.script_end.Tally.{Tally}
 use Rattle.arc_script.proofs.Answered.{are_replies, turns_lined}
@@ -72,7 +71,7 @@ feeds_of : (place : Place) (number letter line : ℕ) (asked : Asked) (bytes : L
     → Feeds place letter line bytes h x (step_of place.base number asked letter line (length turns) turns)
 unfolding step_of
 feeds_of place number letter line asked bytes h x turns fed =
-    record { turns = turns; fed = fed; entries = refl; base = refl; sent = refl; text = refl }
+    record { fed = record { turns = turns; fed = fed; entries = refl; base = refl; sent = refl }; text = refl }
 
 pub carried : {D : Type 0} (seen : D → DiskSeen) (s s' : Stored D) (base : Summary) (setup : List ℕ)
     (moment number letter line : ℕ) (asked : Asked) (before : List Asked) (bytes : List ℕ) (h : List Entry) (t t' : Tally) (p p' : PortSeen)
@@ -107,7 +106,7 @@ abbrev CameSoFar : {D : Type 0} → Summary → (D → DiskSeen) → Stored D �
     → Stop → List Entry → Step → Type 0
 CameSoFar base seen s' setup moment letter line before bytes h stop x s =
     (waiting : List (List ℕ)) × HasShown seen base s' x stop moment (IsOfFrame setup moment line waiting)
-    × (FedUntil stop (placed base setup before) line bytes waiting h x s
+    × (FeedsUntil (placed base setup before) line bytes waiting (IsSentFor stop) h x s
     ⊎ ((stop ≡ Memory) × Feeds (placed base setup before) letter line bytes h x s))
 
 -- all was fed, and memory was wanted for the output

@@ -1,5 +1,5 @@
 -- One line that was carried out or stopped over a store, as a step of its script.
-use Rattle.std.proofs.Common.{◌≡◌, ◌≤◌, ◌+◌, ◌∷◌, ◌⊎◌, ℕ, List, Option, Some, IfSome, inl, inr, length, sym, subst, ◌∙◌}
+use Rattle.std.proofs.Common.{◌≡◌, ◌≤◌, ◌+◌, ◌∷◌, ◌⊎◌, ℕ, List, Option, Some, IfSome, inl, inr, length, sym, ap, subst, ◌∙◌}
 use Rattle.alarm_rules.specs.Setups.{meaning}
 use Rattle.arc_io.specs.Disks.{DiskSeen}
 use Rattle.arc_io.specs.Seen.{PortSeen}
@@ -30,6 +30,18 @@ pub record Stays {D : Type 0} (seen : D → DiskSeen) (script script' : Script) 
   pub at_open : s'.at_open ≡ s.at_open
   pub journal : s'.journal.limits ≡ s.journal.limits
 
+-- by what a function that carries out a line leaves of the script, which is all that a line of its kind doesn't change
+pub stays_as : {D : Type 0} {seen : D → DiskSeen} {script script' : Script} {s s' : Stored D} (left : Script) → script' ≡ left
+    → left.setup ≡ script.setup → left.limits ≡ script.limits → is_told (seen s'.journal.disk).told ≡ is_told (seen s.journal.disk).told
+    → s'.at_open ≡ s.at_open → s'.journal.limits ≡ s.journal.limits → Stays seen script script' s s'
+stays_as left rest setup limits tells at_open journal = record {
+  setup = ap (λ (k : Script). k.setup) rest ∙ setup;
+  limits = ap (λ (k : Script). k.limits) rest ∙ limits;
+  tells = tells;
+  at_open = at_open;
+  journal = journal;
+}
+
 clock_behind : (clock : Option ℕ) (before : List Asked) (asked : Asked) (moment : ℕ) → IsMoment moment → moment_at (clock_of before) asked ≡ Some moment
     → clock ≡ Some moment → IsClock clock (asked ∷ before)
 clock_behind clock before asked moment fits set is =
@@ -48,10 +60,10 @@ IsOverStore asked = Unit {0}
 
 step_over : (Told : Type 0) (place : Place) (h x : List Entry) (s : Step) (asked : Asked) → IsOverStore asked → IsStepOf Told place h x s asked
     → s.base ≡ place.base
-step_over Told place h x s (Time moment) over is = is.base
-step_over Told place h x s (Feed line digits) over is = is.base
-step_over Told place h x s (Message line body) over is = is.base
-step_over Told place h x s (Command desk text) over is = is.base
+step_over Told place h x s (Time moment) over is = is.by.base
+step_over Told place h x s (Feed line digits) over is = is.fed.base
+step_over Told place h x s (Message line body) over is = is.fed.base
+step_over Told place h x s (Command desk text) over is = is.by.base
 step_over Told place h x s Reopen over is = absurd over
 
 came_over : (stop : Stop) (Told : Type 0) (place : Place) (waiting : List (List ℕ)) (h x : List Entry) (s : Step) (asked : Asked) → IsOverStore asked

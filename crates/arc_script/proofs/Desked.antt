@@ -28,11 +28,10 @@ use Rattle.script_lines.specs.Lines.{Asked, Command, spelling}
 use Rattle.session_rules.specs.Inputs.{input_limit}
 use Rattle.arc_script.specs.Carrying.{Carried, CountsStep, GrowsBy, Halted, HasRead, IsNext}
 use Rattle.arc_script.specs.Causes.{HasShown, IsOfCommand}
-use Rattle.arc_script.specs.Ends.{AddedBy}
 use Rattle.arc_script.specs.Fed.{clock_of, desk_read}
 use Rattle.arc_script.specs.Pages.{head_of}
 use Rattle.arc_script.specs.Standing.{IsReadable, LeavesOn}
-use Rattle.arc_script.specs.Steps.{placed, Commands, Step}
+use Rattle.arc_script.specs.Steps.{placed, AddedBy, Commands, Step}
 use Rattle.arc_script.specs.Tallies.{count_of, is_closed, is_repeat, told}
 use Rattle.arc_script.specs.declared.script_end.Tally.{Tally}
 use Rattle.arc_script.proofs.Closing.{counted_turn, IsCounted}
@@ -101,9 +100,7 @@ commands_of base setup clock number desk before text lines h x turn set same w =
       legal = here.legal;
       reading = here.reading;
       entries = refl;
-      added = here.added;
-      base = refl;
-      sent = refl;
+      by = record { added = here.added; base = refl; sent = refl };
       text = refl;
     }
 

@@ -15,7 +15,7 @@ use Rattle.script_lines.specs.Lines.{Asked, Time, Feed, Message, Command, Reopen
 use Rattle.arc_script.specs.Begun.{Begun}
 use Rattle.arc_script.specs.Between.{CountsSteps, IsClock, SoFar}
 use Rattle.arc_script.specs.Carrying.{CountsMore}
-use Rattle.arc_script.specs.Ends.{Played, IsLeft}
+use Rattle.arc_script.specs.Ends.{Played, LeavesUpTo}
 use Rattle.arc_script.specs.Fed.{clock_of}
 use Rattle.arc_script.specs.Halting.{Halts, Whole, closing}
 use Rattle.arc_script.specs.Playing.{moment_at}
@@ -104,12 +104,12 @@ module _ {D : Type 0} (seen : D → DiskSeen) (b : Begun D) (lines : List (List 
   area : HasRecorded (seen disk) (base_after b.base so.steps) so.history
   area = recorded_in seen (base_after b.base so.steps) s so.history disk so.held disk_is
 
-  left : IsLeft seen b so.steps so.history disk tally
-  left = record {
-    counts = tally_is b.base s b.past so.history so.steps script.tally tally script.opened_before so.opened_before so.counts so.between.store.stands.centre
-        tally_as;
-    any_moment = left_there seen b (base_after b.base so.steps) so.history s so.between.store disk disk_is;
-  }
+  counts : IsTally b.base b.past so.steps so.history tally
+  counts = tally_is b.base s b.past so.history so.steps script.tally tally script.opened_before so.opened_before so.counts so.between.store.stands.centre
+      tally_as
+
+  any_moment : LeavesUpTo seen b disk (base_after b.base so.steps) so.history
+  any_moment = left_there seen b (base_after b.base so.steps) so.history s so.between.store disk disk_is
 
   -- all of them were carried out
   pub whole : Whole seen b lines p disk tally
@@ -123,7 +123,10 @@ module _ {D : Type 0} (seen : D → DiskSeen) (b : Begun D) (lines : List (List 
       of = so.of;
       are = so.are;
     };
-    whole = record { none_behind = refl; output = so.written; area = area; left = left };
+    whole = record {
+      none_behind = refl;
+      left = record { output = so.written; area = area; counts = counts; any_moment = any_moment };
+    };
   }
 
   -- what stands behind a line
@@ -159,9 +162,7 @@ module _ {D : Type 0} (seen : D → DiskSeen) (b : Begun D) (lines : List (List 
       wrong = λ asked playable.
           let set = moment_of script.clock (asked_after [] so.steps) asked so.between.clock playable.follows in
           none asked set.0 playable.short playable.asks set.1;
-      output = so.written;
-      area = area;
-      left = left;
+      left = record { output = so.written; area = area; counts = counts; any_moment = any_moment };
     };
     more = [];
     front = sym (append-nil (counted lines));

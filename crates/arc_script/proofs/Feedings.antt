@@ -4,6 +4,7 @@ use Rattle.std.specs.Prelude.{IsOk}
 use Rattle.std.specs.Io.KnownBytes.{append_known}
 use Rattle.std.proofs.lemmas.Bool.{false≢true}
 use Rattle.alarm_rules.specs.Setups.{meaning}
+use Rattle.arc_data.specs.Digits.{bytes_spelled}
 use Rattle.arc_data.specs.Moments.{IsMoment}
 use Rattle.arc_io.specs.Disks.{DiskSeen}
 use Rattle.arc_io.specs.Memory.{sink_bytes}
@@ -13,21 +14,21 @@ use Rattle.centre_core.specs.declared.hall.Stop.TheVariants.{Memory}
 use Rattle.centre_rules.specs.History.{Entry}
 use Rattle.centre_rules.specs.Summary.{Summary}
 use Rattle.centre_store.specs.Stores.{HasFailed, Stored, StoreStands}
+use Rattle.dc09_frame.specs.Frames.{IsBody, frame_of}
 use Rattle.desk_session.specs.Desks as Desk
 use Rattle.line_session.specs.Lines as Line
-use Rattle.script_lines.specs.Lines.{Asked}
+use Rattle.script_lines.specs.Lines.{Asked, Feed, Message}
 use Rattle.session_rules.specs.Inputs.{input_limit}
 use Rattle.arc_script.specs.Carrying.{Carried, Halted, HaveTakenWith, IsNext}
-use Rattle.arc_script.specs.Causes.{HasShown, IsOfFrame}
-use Rattle.arc_script.specs.Ends.{FedUntil}
+use Rattle.arc_script.specs.Causes.{HasShown, IsOfFrame, IsSentFor}
 use Rattle.arc_script.specs.Fed.{clock_of, line_fed}
 use Rattle.arc_script.specs.Feeding.{FeedStops, HasFed, TookAt}
 use Rattle.arc_script.specs.Pages.{head_of, replied}
 use Rattle.arc_script.specs.Standing.{IsReadable}
-use Rattle.arc_script.specs.Steps.{placed, Feeds}
+use Rattle.arc_script.specs.Steps.{placed, FeedsUntil, Feeds}
 use Rattle.arc_script.specs.declared.page.Page.{Page}
 use Rattle.arc_script.specs.declared.script_end.Tally.{Tally}
-use Rattle.arc_script.proofs.Carries.{carried, finished, halted_at, took_before}
+use Rattle.arc_script.proofs.Carries.{carried, feed_short, finished, halted_at, message_short, took_before}
 
 -- what is known of a line that is next and feeds these bytes
 pub record IsFeed (setup : List ℕ) (moment line : ℕ) (asked : Asked) (bytes : List ℕ) (lines : List Line.LineValue) (desks : List Desk.DeskValue)
@@ -37,6 +38,24 @@ pub record IsFeed (setup : List ℕ) (moment line : ℕ) (asked : Asked) (bytes 
   pub set : (before : List Asked) (count : ℕ) → IsNext (meaning setup) moment count before asked lines desks → clock_of before ≡ Some moment
   pub short : (before : List Asked) (count : ℕ) → IsNext (meaning setup) moment count before asked lines desks
       → length (line_fed line before ++ bytes) < input_limit
+
+pub feed_is : (setup : List ℕ) (moment line : ℕ) (digits : List ℕ) (lines : List Line.LineValue) (desks : List Desk.DeskValue) → IsMoment moment
+    → 1 ≤ line → IsFeed setup moment line (Feed line digits) (bytes_spelled digits) lines desks
+feed_is setup moment line digits lines desks at low = record {
+  at = at;
+  low = low;
+  set = λ before count next. next.set;
+  short = λ before count next. feed_short (meaning setup) moment count line before digits lines desks next;
+}
+
+pub message_is : (setup : List ℕ) (moment line : ℕ) (body : List ℕ) (lines : List Line.LineValue) (desks : List Desk.DeskValue) → IsMoment moment
+    → 1 ≤ line → IsBody body → IsFeed setup moment line (Message line body) (frame_of body) lines desks
+message_is setup moment line body lines desks at low fits = record {
+  at = at;
+  low = low;
+  set = λ before count next. next.set;
+  short = λ before count next. message_short (meaning setup) moment count line before body lines desks fits next;
+}
 
 pub fed_ok : {D : Type 0} (seen : D → DiskSeen) (s s' : Stored D) (setup : List ℕ)
     (moment letter line : ℕ) (asked : Asked) (given bytes : List ℕ) (lines : List Line.LineValue) (desks : List Desk.DeskValue) (t t' : Tally)
@@ -84,7 +103,7 @@ pub fed_stops : {D : Type 0} (seen : D → DiskSeen) (s s' : Stored D) (setup : 
     → IfErr r (λ stop. (base : Summary) (before : List Asked) (count : ℕ) (h : List Entry) → IsNext (meaning setup) moment count before asked lines desks
     → StoreStands seen base s h → IsReadable base h → (HasFailed seen s → ⊥)
     → Halted seen base s h (λ x k. (waiting : List (List ℕ)) × HasShown seen base s' x stop moment (IsOfFrame setup moment line waiting)
-    × (FedUntil stop (placed base setup before) line bytes waiting h x k
+    × (FeedsUntil (placed base setup before) line bytes waiting (IsSentFor stop) h x k
     ⊎ ((stop ≡ Memory) × Feeds (placed base setup before) letter line bytes h x k))) t t' s')
 fed_stops seen s s' setup moment letter line asked given bytes lines desks t t' (Ok done) frames same is stops fed stopped = tt
 fed_stops seen s s' setup moment letter line asked given bytes lines desks t t' (Err stop) (Ok page) same is stops fed stopped =

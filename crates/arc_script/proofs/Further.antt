@@ -60,8 +60,7 @@ module _ {D : Type 0} (seen : D → DiskSeen) (b : Begun D) (lines : List (List 
   stopped more stop script' s' disk tally at kept disk_is tally_as = record {
     played = before_line more;
     ends = record {
-      number = number;
-      line = line;
+      line = (number, line);
       more = behind more;
       asked = asked;
       waiting = at.waiting;
@@ -96,17 +95,16 @@ module _ {D : Type 0} (seen : D → DiskSeen) (b : Begun D) (lines : List (List 
   shut more fault disk tally is at tally_as = record {
     played = before_line more;
     ends = record {
-      number = number;
-      line = line;
+      line = (number, line);
       more = behind more;
       next = refl;
       asks = subst (λ (a : Asked). IsPlayable (asked_after [] so.steps) line a) is asks;
       closed = at.closed;
       later = at.later;
-      area = at.area;
       unopened = at.unopened;
-      output = so.written;
       left = record {
+        output = so.written;
+        area = at.area;
         counts = tally_is b.base s b.past so.history so.steps script.tally tally script.opened_before so.opened_before so.counts
             so.between.store.stands.centre tally_as;
         any_moment = at.left;
@@ -194,11 +192,11 @@ module _ {D : Type 0} (seen : D → DiskSeen) (b : Begun D) (lines : List (List 
           count = n;
           split = refl;
           short = subst (λ (l : List ℕ). n < length l) (text_is text is) short;
-          output = put ∙ ap (λ k. append_known k (take n text)) so.written
-              ∙ ap (λ l. append_known (append_known b.port.written (output_of so.steps)) (take n l)) (text_is text is)
-              ∙ known_both b.port.written (output_of so.steps) (take n out.step.text);
-          area = recorded_in seen (base_after b.base steps) s' out.history disk held disk_is;
           left = record {
+            output = put ∙ ap (λ k. append_known k (take n text)) so.written
+                ∙ ap (λ l. append_known (append_known b.port.written (output_of so.steps)) (take n l)) (text_is text is)
+                ∙ known_both b.port.written (output_of so.steps) (take n out.step.text);
+            area = recorded_in seen (base_after b.base steps) s' out.history disk held disk_is;
             counts = tally_is b.base s' b.past out.history steps script'.tally tally script'.opened_before (kept ∙ so.opened_before)
                 (counts_last so.steps out.step script.tally script'.tally so.counts out.counts) stands.centre tally_as;
             any_moment = subst (λ (base : Summary). LeavesUpTo seen b disk base out.history) (sym (base_last b.base so.steps out.step))

@@ -17,11 +17,11 @@ use Rattle.arc_script.specs.Begun.{Begun}
 use Rattle.arc_script.specs.Between.{Between, CarriedOut, Carries, IsReady, ShutAt, Shuts, StoppedAt, Stops}
 use Rattle.arc_script.specs.Carrying.{Carried, Halted, HaveTakenWith, IsNext}
 use Rattle.arc_script.specs.Causes.{HasShown, IsOfCommand, Submits}
-use Rattle.arc_script.specs.Ends.{Tells, AddedBy, CameTo}
+use Rattle.arc_script.specs.Ends.{Tells, CameTo}
 use Rattle.arc_script.specs.Fed.{clock_of}
 use Rattle.arc_script.specs.Playing.{TickStops, Ticked, moment_at}
 use Rattle.arc_script.specs.Standing.{IsReadable, LeavesOn}
-use Rattle.arc_script.specs.Steps.{Place, placed, Step, Commands, IsStepOf, before_tick, ticked_after}
+use Rattle.arc_script.specs.Steps.{Place, placed, Step, AddedBy, Commands, IsStepOf, before_tick, ticked_after}
 use Rattle.arc_script.specs.declared.script.Script.{Script}
 use Rattle.arc_script.specs.declared.script_end.Tally.{Tally}
 use Rattle.arc_script.proofs.Carry.{IsOverStore, Stays, carried_out, stopped_at}
@@ -82,7 +82,7 @@ CameSoFar base seen Told setup moment before asked h s' stop x st =
     × (CameTo stop Told (placed base setup before) waiting h x st asked ⊎ ((stop ≡ Memory) × IsStepOf Told (placed base setup before) h x st asked))
 
 module _ {D : Type 0} (seen : D → DiskSeen) (script script' : Script) (s s' : Stored D) (a : Asked) (moment : ℕ) (stays : Stays seen script script' s s')
-    (fits : IsMoment moment) (over : IsOverStore a) (own : moment_at script.clock a ≡ script.clock) where
+    (fits : IsMoment moment) (over : IsOverStore a) (own : moment_at script.clock a ≡ script.clock) (wanted : Asked) (is : wanted ≡ a) where
   next_with : (b : Begun D) (place : Place) (count : ℕ) (h : List Entry) → Between seen b place count h script s
       → IsNext (meaning place.setup) moment count place.asked a script.lines.items script.desks.items
       → IsNext (meaning script.setup) moment count place.asked a script.lines.items script.desks.items
@@ -96,7 +96,7 @@ module _ {D : Type 0} (seen : D → DiskSeen) (script script' : Script) (s s' : 
       let set : script.clock ≡ Some moment = sym own ∙ ap (λ (c : Option ℕ). moment_at c a) between.clock.is ∙ next.set in
       subst (λ (c : Option ℕ). IfSome c (λ last. HasFailed seen s → ⊥)) set between.up
 
-  pub line_carries : (p p' : PortSeen) (r : Result (Unit {0}) Stop) → script'.clock ≡ Some moment
+  pub line_carries : (p p' : PortSeen) (r : Result (Unit {0}) Stop) → script'.clock ≡ script.clock → moment_at script.clock wanted ≡ Some moment
       → ((Told : Type 0) → OnOk r ((base : Summary) (before : List Asked) (count number : ℕ) (h : List Entry)
       → IsNext (meaning script.setup) moment count before a script.lines.items script.desks.items
       → StoreStands seen base s h → IsReadable base h → (HasFailed seen s → ⊥)
@@ -104,30 +104,31 @@ module _ {D : Type 0} (seen : D → DiskSeen) (script script' : Script) (s s' : 
       → OnOk r ((before : List Asked) (count : ℕ) → IsNext (meaning script.setup) moment count before a script.lines.items script.desks.items
       → HaveTakenWith (meaning script.setup) count before a script'.lines.items script'.desks.items)
       → s'.state.sum.text ≡ Some script.setup
-      → OnOk r (Carries seen moment a script script' s s' p p')
-  line_carries p p' (Ok done) clock fed took text = λ b place count number h between next holds.
+      → OnOk r (Carries seen moment wanted script script' s s' p p')
+  line_carries p p' (Ok done) same at fed took text = subst (λ (k : Asked). Carries seen moment k script script' s s' p p') (sym is) (λ b place count number h between next holds.
+      let clock = same ∙ sym own ∙ ap (moment_at script.clock) (sym is) ∙ at in
       let n = next_with b place count h between next in
       let out = subst (λ (l : List ℕ). Carried seen place.base s h (λ x st. IsStepOf (Tells (seen b.disk)) (placed place.base l place.asked) h x st a) number a
       script.tally script'.tally p p' s') between.setup (fed (Tells (seen b.disk)) place.base place.asked count number h n between.store.stands between.store.readable (up_here b place count h between next)) in
       let taken = subst (λ (l : List ℕ). HaveTakenWith (meaning l) count place.asked a script'.lines.items script'.desks.items) between.setup
       (took place.asked count n) in
       carried_out seen b place count h a moment script script' s s' between stays fits next.set over number p p' out taken clock
-      (text ∙ ap Some between.setup)
-  line_carries p p' (Err stop) clock fed took text = tt
+      (text ∙ ap Some between.setup))
+  line_carries p p' (Err stop) same at fed took text = tt
 
   pub line_stops : (r : Result (Unit {0}) Stop)
       → ((Told : Type 0) → IfErr r (λ stop. (base : Summary) (before : List Asked) (count : ℕ) (h : List Entry)
       → IsNext (meaning script.setup) moment count before a script.lines.items script.desks.items
       → StoreStands seen base s h → IsReadable base h → (HasFailed seen s → ⊥)
       → Halted seen base s h (λ x st. CameSoFar base seen Told script.setup moment before a h s' stop x st) script.tally script'.tally s'))
-      → IfErr r (λ stop. Stops seen moment a script script' s s' stop)
+      → IfErr r (λ stop. Stops seen moment wanted script script' s s' stop)
   line_stops (Ok done) stops = tt
-  line_stops (Err stop) stops = λ b place count h between next holds.
+  line_stops (Err stop) stops = subst (λ (k : Asked). Stops seen moment k script script' s s' stop) (sym is) (λ b place count h between next holds.
       let Told = Tells (seen b.disk) in
       let n = next_with b place count h between next in
       let out = subst (λ (l : List ℕ). Halted seen place.base s h (λ x st. CameSoFar place.base seen Told l moment place.asked a h s' stop x st)
       script.tally script'.tally s') between.setup (stops Told place.base place.asked count h n between.store.stands between.store.readable (up_here b place count h between next)) in
-      stopped_at seen b place count h a moment script script' s s' between stays fits next.set over stop out
+      stopped_at seen b place count h a moment script script' s s' between stays fits next.set over stop out)
 
 -- a command that was stopped added nothing
 pub command_came : {D : Type 0} (seen : D → DiskSeen) (Told : Type 0) (base : Summary) (setup : List ℕ) (moment : ℕ) (before : List Asked) (desk : ℕ) (text : List ℕ)

@@ -102,7 +102,7 @@ module _ {D : Type 0} (seen : D → DiskSeen) (b : Begun D) (place : Place) (cou
         history = ticked_after (clock_of place.asked) place.base place.setup moment h;
         number_is = refl;
         asked_is = refl;
-        is = record { is = refl; added = adds.is; base = refl; sent = refl; text = refl };
+        is = record { is = refl; by = record { added = adds.is; base = refl; sent = refl }; text = refl };
         stands = t.stands;
         readable = readable_tick (clock_of place.asked) place.base place.setup moment h fits t.stands.centre.legal between.store.readable;
         left = subst (λ (x : List Entry). LeavesOn seen place.base s s' h x) behind_is left;
@@ -152,5 +152,5 @@ module _ {D : Type 0} (seen : D → DiskSeen) (b : Begun D) (place : Place) (cou
         | inr whole ↦
             let adds = subst (Adds h) (sym whole.1) (adds_tick (clock_of place.asked) place.base place.setup moment h) in
             stop_with stop stays stops.history stops.cause stops.left stops.stands adds
-            (inr (whole.0, inr (record { is = whole.1; added = adds.is; base = refl; sent = refl; text = refl })))
+            (inr (whole.0, inr (record { is = whole.1; by = record { added = adds.is; base = refl; sent = refl }; text = refl })))
       ]

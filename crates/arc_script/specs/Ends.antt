@@ -30,7 +30,7 @@ use Rattle.session_rules.specs.Turns.{entries_of}
 use Rattle.arc_script.specs.Begun.{Begun}
 use Rattle.arc_script.specs.Causes.{HasShown, OrBegun, Submits, IsSentFor}
 use Rattle.arc_script.specs.Fed.{clock_of}
-use Rattle.arc_script.specs.Steps.{Place, placed, Step, Keeps, FeedsLine, IsStepOf, AreSteps}
+use Rattle.arc_script.specs.Steps.{Place, placed, Step, AddedBy, FeedsUntil, ReopenedBy, IsStepOf, AreSteps}
 use Rattle.arc_script.specs.Steps.{asked_after, base_after, place_after, output_of}
 use Rattle.arc_script.specs.Tallies.{IsTally, no_tally}
 use Rattle.arc_script.specs.Texts.{AreOf, IsPlayable, counted}
@@ -73,19 +73,20 @@ abbrev pub LeavesUpTo : {D : Type 0} → (D → DiskSeen) → Begun D → D → 
 LeavesUpTo seen b disk' base x =
     Tells (seen b.disk) → LeavesFrom (seen b.opened).moment b.past (seen b.disk).faults (seen disk') base x
 
--- the tally of these steps, up to a history, and what a crash leaves of it
-pub record IsLeft {D : Type 0} (seen : D → DiskSeen) (b : Begun D) (steps : List Step) (x : List Entry) (disk' : D) (tally : Tally)
-    : Type 0 where
-  pub counts : IsTally b.base b.past steps x tally
-  pub any_moment : LeavesUpTo seen b disk' (base_after b.base steps) x
+-- What is left of what was played: this text is the output, and the closed disk's area stands for the history's recorded entries; the tally
+-- of the steps, and what a crash leaves.
+pub record IsLeft {D : Type 0} {lines : List (ℕ × List ℕ)} (seen : D → DiskSeen) (b : Begun D) (played : Played seen b lines)
+    (text : List ℕ) (closed : D) (p' : PortSeen) (disk' : D) (tally : Tally) : Type 0 where
+  pub output : p'.written ≡ append_known b.port.written text
+  pub area : HasRecorded (seen closed) (base_after b.base played.steps) played.history
+  pub counts : IsTally b.base b.past played.steps played.history tally
+  pub any_moment : LeavesUpTo seen b disk' (base_after b.base played.steps) played.history
 
--- all lines have their steps, the output is theirs, and the area stands for the history's recorded entries
+-- all lines have their steps, and the output is theirs
 pub record IsWhole {D : Type 0} {lines : List (ℕ × List ℕ)} (seen : D → DiskSeen) (b : Begun D) (played : Played seen b lines)
     (p' : PortSeen) (disk' : D) (tally : Tally) : Type 0 where
   pub none_behind : played.behind ≡ []
-  pub output : p'.written ≡ append_known b.port.written (output_of played.steps)
-  pub area : HasRecorded (seen disk') (base_after b.base played.steps) played.history
-  pub left : IsLeft seen b played.steps played.history disk' tally
+  pub left : IsLeft seen b played (output_of played.steps) disk' p' disk' tally
 
 -- the next line, of this number, asks for nothing; the output is that of the lines before it
 pub record IsBad {D : Type 0} {lines : List (ℕ × List ℕ)} (seen : D → DiskSeen) (b : Begun D) (played : Played seen b lines)
@@ -94,9 +95,7 @@ pub record IsBad {D : Type 0} {lines : List (ℕ × List ℕ)} (seen : D → Dis
   pub more : List (ℕ × List ℕ)
   pub next : played.behind ≡ (number, line) ∷ more
   pub wrong : (asked : Asked) → IsPlayable (asked_after [] played.steps) line asked → ⊥
-  pub output : p'.written ≡ append_known b.port.written (output_of played.steps)
-  pub area : HasRecorded (seen disk') (base_after b.base played.steps) played.history
-  pub left : IsLeft seen b played.steps played.history disk' tally
+  pub left : IsLeft seen b played (output_of played.steps) disk' p' disk' tally
 
 -- the output of the last step was cut short: it lacks a byte at least. All that the step recorded stands.
 pub record IsCutOff {D : Type 0} {lines : List (ℕ × List ℕ)} (seen : D → DiskSeen) (b : Begun D) (played : Played seen b lines)
@@ -106,25 +105,7 @@ pub record IsCutOff {D : Type 0} {lines : List (ℕ × List ℕ)} (seen : D → 
   pub count : ℕ
   pub split : played.steps ≡ front ++ last ∷ []
   pub short : count < length last.text
-  pub output : p'.written ≡ append_known b.port.written (output_of front ++ take count last.text)
-  pub area : HasRecorded (seen disk') (base_after b.base played.steps) played.history
-  pub left : IsLeft seen b played.steps played.history disk' tally
-
--- How far a line came that was stopped: the history that it left, from h on. A `T` may have begun the run, or adopted its setup, before; so
--- may an `X`, but over what the journal keeps, for it has closed the store, and it has begun the run only where memory was wanted; of a
--- line those frames have their turns that came before the one that was stopped. That one is the first that waits.
-pub record FedUntil (stop : Stop) (place : Place) (line : ℕ) (bytes : List ℕ) (waiting : List (List ℕ)) (h x : List Entry) (s : Step)
-    : Type 0 where
-  pub turns : List Turn
-  pub fed : FeedsLine place line bytes h x turns waiting
-  pub entries : s.entries ≡ entries_of line_turns turns
-  pub base : s.base ≡ place.base
-  pub sent : IsSentFor stop (length turns) s.sent
-
-pub record AddedBy (over : Summary) (h x : List Entry) (s : Step) : Type 0 where
-  pub added : x ≡ reverse s.entries ++ h
-  pub base : s.base ≡ over
-  pub sent : s.sent ≡ 0
+  pub left : IsLeft seen b played (output_of front ++ take count last.text) disk' p' disk' tally
 
 -- how far the beginning of a run came, which may have adopted its setup, or ended; none begins where a clock was set before
 abbrev pub BegunUntil : Option ℕ → Summary → List ℕ → ℕ → List Entry → List Entry → Type 0
@@ -136,21 +117,16 @@ abbrev pub BegunAgain : Stop → Summary → List ℕ → ℕ → List Entry →
 BegunAgain stop base setup moment h x =
     (x ≡ h) ⊎ (x ≡ adopted_after base h setup moment) ⊎ ((stop ≡ Memory) × (x ≡ begun_after base h setup moment))
 
-pub record ReopenedUntil (stop : Stop) (Told : Type 0) (place : Place) (h x : List Entry) (s : Step) : Type 0 where
-  pub kept : List Entry
-  pub keeps : Keeps Told place.base s.base h kept
-  pub clock : ℕ
-  pub set : clock_of place.asked ≡ Some clock
-  pub until : BegunAgain stop s.base place.setup clock kept x
-  pub by : AddedBy s.base kept x s
-
+-- How far a line came that was stopped: the history that it left, from h on. A `T` may have begun the run, or adopted its setup, before; so
+-- may an `X`, but over what the journal keeps, for it has closed the store, and it has begun the run only where memory was wanted; of a
+-- line those frames have their turns that came before the one that was stopped. That one is the first that waits.
 abbrev pub CameTo : Stop → Type 0 → Place → List (List ℕ) → List Entry → List Entry → Step → Asked → Type 0
 CameTo stop Told place waiting h x s (Time moment) =
     BegunUntil (clock_of place.asked) place.base place.setup moment h x × AddedBy place.base h x s
-CameTo stop Told place waiting h x s (Feed line digits) = FedUntil stop place line (bytes_spelled digits) waiting h x s
-CameTo stop Told place waiting h x s (Message line body) = FedUntil stop place line (frame_of body) waiting h x s
+CameTo stop Told place waiting h x s (Feed line digits) = FeedsUntil place line (bytes_spelled digits) waiting (IsSentFor stop) h x s
+CameTo stop Told place waiting h x s (Message line body) = FeedsUntil place line (frame_of body) waiting (IsSentFor stop) h x s
 CameTo stop Told place waiting h x s (Command desk text) = (x ≡ h) × AddedBy place.base h x s
-CameTo stop Told place waiting h x s Reopen = ReopenedUntil stop Told place h x s
+CameTo stop Told place waiting h x s Reopen = ReopenedBy Told place (BegunAgain stop) h x s
 
 -- How far it came that was stopped for this. Where memory was wanted it may have done nothing yet, as an `X` that has not closed the store,
 -- or all but its output.
@@ -165,8 +141,7 @@ CameFor stop Told place waiting h x s asked =
 -- which event met the fault.
 pub record IsHalted {D : Type 0} {lines : List (ℕ × List ℕ)} (seen : D → DiskSeen) (b : Begun D) (played : Played seen b lines)
     (stop : Stop) (p' : PortSeen) (disk' : D) (tally : Tally) : Type 0 where
-  pub number : ℕ
-  pub line : List ℕ
+  pub line : ℕ × List ℕ
   pub more : List (ℕ × List ℕ)
   pub asked : Asked
   pub waiting : List (List ℕ)
@@ -174,8 +149,8 @@ pub record IsHalted {D : Type 0} {lines : List (ℕ × List ℕ)} (seen : D → 
   pub history : List Entry
   pub clock : ℕ
   pub last : Stored D
-  pub next : played.behind ≡ (number, line) ∷ more
-  pub asks : IsPlayable (asked_after [] played.steps) line asked
+  pub next : played.behind ≡ line ∷ more
+  pub asks : IsPlayable (asked_after [] played.steps) line.1 asked
   pub came : CameFor stop (Tells (seen b.disk)) (place_after (placed b.base b.setup []) played.steps) waiting played.history history
       partial asked
   pub set : clock_of (asked ∷ asked_after [] played.steps) ≡ Some clock
@@ -191,31 +166,25 @@ pub record IsHalted {D : Type 0} {lines : List (ℕ × List ℕ)} (seen : D → 
       (Submits last.state.sum.text b.setup (asked_after [] played.steps) clock waiting asked) last.state.sum.text partial.base b.setup clock
       history
 
--- Memory was wanted before the script was read: nothing was done.
-pub record IsUnread {D : Type 0} (seen : D → DiskSeen) (b : Begun D) (p' : PortSeen) (disk' : D) (tally : Tally) : Type 0 where
-  pub untouched : p' ≡ b.port
-  pub area : HasRecorded (seen disk') b.base b.past
-  pub left : IsLeft seen b [] b.past disk' tally
+-- Memory was wanted before the script was read: nothing was done, just as where no line is to be played.
+abbrev pub IsUnread : {D : Type 0} → (D → DiskSeen) → Begun D → PortSeen → D → Tally → Type 0
+IsUnread seen b p' disk' tally = (p' ≡ b.port) × ((played : Played seen b []) × IsWhole seen b played p' disk' tally)
 
 -- The next line, an `X`, could not open the journal again.
 pub record IsShut {D : Type 0} {lines : List (ℕ × List ℕ)} (seen : D → DiskSeen) (b : Begun D) (played : Played seen b lines)
     (fault : OpenFault) (p' : PortSeen) (disk' : D) (tally : Tally) : Type 0 where
-  pub number : ℕ
-  pub line : List ℕ
+  pub line : ℕ × List ℕ
   pub more : List (ℕ × List ℕ)
-  pub next : played.behind ≡ (number, line) ∷ more
-  pub asks : IsPlayable (asked_after [] played.steps) line Reopen
+  pub next : played.behind ≡ line ∷ more
+  pub asks : IsPlayable (asked_after [] played.steps) line.1 Reopen
   pub closed : D
   pub later : (seen b.disk).faults ≤ (seen closed).faults
-  pub area : HasRecorded (seen closed) (base_after b.base played.steps) played.history
   pub unopened : IsUnopened fault (seen closed) (seen disk')
-  pub output : p'.written ≡ append_known b.port.written (output_of played.steps)
-  pub left : IsLeft seen b played.steps played.history disk' tally
+  pub left : IsLeft seen b played (output_of played.steps) closed p' disk' tally
 
 -- What a script's end says of what was played, of the bytes that were read.
 abbrev pub EndsAs : {D : Type 0} {lines : List (ℕ × List ℕ)} (seen : D → DiskSeen) (b : Begun D) → List ℕ → Played seen b lines
-    → ScriptEnd → PortSeen
-    → D → Tally → Type 0
+    → ScriptEnd → PortSeen → D → Tally → Type 0
 EndsAs seen b read played Done p' disk' tally = IsReadOut p' × (length read < input_limit) × IsWhole seen b played p' disk' tally
 EndsAs seen b read played ReadFault p' disk' tally =
     Rose b.port.read_faults p'.read_faults × (length read < input_limit) × IsWhole seen b played p' disk' tally

@@ -55,11 +55,15 @@ abbrev pub ticked_after : Option ℕ → Summary → List ℕ → ℕ → List E
 ticked_after clock base setup moment h =
     entry_after base (before_tick clock base setup moment h) Tick moment ∷ before_tick clock base setup moment h
 
+-- The step's entries lead from the history h to x, over this summary, and no frame was fed.
+pub record AddedBy (over : Summary) (h x : List Entry) (s : Step) : Type 0 where
+  pub added : x ≡ reverse s.entries ++ h
+  pub base : s.base ≡ over
+  pub sent : s.sent ≡ 0
+
 pub record Ticks (place : Place) (moment : ℕ) (h x : List Entry) (s : Step) : Type 0 where
   pub is : x ≡ ticked_after (clock_of place.asked) place.base place.setup moment h
-  pub added : x ≡ reverse s.entries ++ h
-  pub base : s.base ≡ place.base
-  pub sent : s.sent ≡ 0
+  pub by : AddedBy place.base h x s
   pub text : s.text ≡ codes "T "
       ++ line_of (entry_after place.base (before_tick (clock_of place.asked) place.base place.setup moment h) Tick moment).reply
 
@@ -90,14 +94,20 @@ abbrev pub listed : List (List ℕ) → List ℕ
 listed [] = codes " -"
 listed (reply ∷ replies) = flat_map (λ r. 32 ∷ bare r) (reply ∷ replies)
 
--- `L` and `M`, with this letter: bytes are fed to a line, and its replies are the output.
-pub record Feeds (place : Place) (letter line : ℕ) (bytes : List ℕ) (h x : List Entry) (s : Step) : Type 0 where
+-- The step feeds bytes to a line: those frames have their turns that come before these, which wait, and by how many have theirs so many
+-- were fed.
+pub record FeedsUntil (place : Place) (line : ℕ) (bytes : List ℕ) (waiting : List (List ℕ)) (IsSent : ℕ → ℕ → Type 0) (h x : List Entry)
+    (s : Step) : Type 0 where
   pub turns : List Turn
-  pub fed : FeedsLine place line bytes h x turns []
+  pub fed : FeedsLine place line bytes h x turns waiting
   pub entries : s.entries ≡ entries_of line_turns turns
   pub base : s.base ≡ place.base
-  pub sent : s.sent ≡ length turns
-  pub text : s.text ≡ head_of letter line ++ listed (replies_of turns) ++ 10 ∷ []
+  pub sent : IsSent (length turns) s.sent
+
+-- `L` and `M`, with this letter: bytes are fed to a line, each of whose frames has its turn, and its replies are the output.
+pub record Feeds (place : Place) (letter line : ℕ) (bytes : List ℕ) (h x : List Entry) (s : Step) : Type 0 where
+  pub fed : FeedsUntil place line bytes [] (λ count sent. sent ≡ count) h x s
+  pub text : s.text ≡ head_of letter line ++ listed (replies_of fed.turns) ++ 10 ∷ []
 
 -- `D`: a desk reads the text as one line, all of it, for the operator who logged in last since the desk was made anew, and its
 -- answer is the output.
@@ -110,9 +120,7 @@ pub record Commands (place : Place) (desk : ℕ) (given : List ℕ) (h x : List 
   pub legal : IsLegal place.base x
   pub reading : IfSome turn.reading (λ r. r ≡ clock)
   pub entries : s.entries ≡ option_to_list turn.entry
-  pub added : x ≡ reverse s.entries ++ h
-  pub base : s.base ≡ place.base
-  pub sent : s.sent ≡ 0
+  pub by : AddedBy place.base h x s
   pub text : s.text ≡ head_of 68 desk ++ 32 ∷ turn.reply
 
 -- `X`: the journal is closed and opened again, and gives a summary, and recorded entries over it. From these a run begins, with the same
@@ -125,14 +133,18 @@ pub record Keeps (Told : Type 0) (base base' : Summary) (h kept : List Entry) : 
   pub past : IsPast version base' (bodies_in version kept) kept
   pub same : Told → (base' ≡ base) × (kept ≡ recorded h)
 
-pub record Reopens (Told : Type 0) (place : Place) (h x : List Entry) (s : Step) : Type 0 where
+-- the step begins anew over what the journal keeps: it came so far, by the summary, the setup's text, the moment and what is kept
+pub record ReopenedBy (Told : Type 0) (place : Place) (IsBegun : Summary → List ℕ → ℕ → List Entry → List Entry → Type 0)
+    (h x : List Entry) (s : Step) : Type 0 where
   pub kept : List Entry
   pub keeps : Keeps Told place.base s.base h kept
   pub clock : ℕ
   pub set : clock_of place.asked ≡ Some clock
-  pub is : x ≡ begun_after s.base kept place.setup clock
-  pub added : x ≡ reverse s.entries ++ kept
-  pub sent : s.sent ≡ 0
+  pub until : IsBegun s.base place.setup clock kept x
+  pub by : AddedBy s.base kept x s
+
+pub record Reopens (Told : Type 0) (place : Place) (h x : List Entry) (s : Step) : Type 0 where
+  pub whole : ReopenedBy Told place (λ base setup clock kept y. y ≡ begun_after base kept setup clock) h x s
   pub text : s.text ≡ codes "X recorded " ++ decimal (s.base.recorded + length (recorded x)) ++ 10 ∷ []
 
 -- the step of a line that stands there and asks for this, from the history h on, to x

@@ -9,12 +9,11 @@ ghost use Rattle.centre_store.specs.Stores.{HasFailed, StoreStands};
 ghost use Rattle.script_lines.specs.Lines.{Asked, IsNumber, Command};
 ghost use Rattle.arc_script.specs.Carrying.{IsNext, HaveTakenWith, Carried, Halted};
 ghost use Rattle.arc_script.specs.Causes.{HasShown, IsOfCommand, stop_in};
-ghost use Rattle.arc_script.specs.Ends.{AddedBy};
 ghost use Rattle.arc_script.specs.PageWords.{page_seen};
 ghost use Rattle.arc_script.specs.Pages.{head_of, blank};
 ghost use Rattle.centre_store.specs.StoreHalls.{is_told};
 ghost use Rattle.arc_script.specs.Standing.{IsReadable};
-ghost use Rattle.arc_script.specs.Steps.{placed, Commands};
+ghost use Rattle.arc_script.specs.Steps.{placed, AddedBy, Commands};
 
 use crate::page::Page;
 use crate::replies::{put_head, said};

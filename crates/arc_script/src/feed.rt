@@ -12,15 +12,14 @@ ghost use Rattle.dc09_frame.specs.Frames.{IsBody, frame_of};
 ghost use Rattle.script_lines.specs.Lines.{Asked, AreDigits, IsNumber, Feed, Message};
 ghost use Rattle.session_rules.specs.Inputs.{input_limit};
 ghost use Rattle.arc_script.specs.Carrying.{IsNext, HaveTakenWith, Carried, Halted};
-ghost use Rattle.arc_script.specs.Causes.{HasShown, IsOfFrame};
-ghost use Rattle.arc_script.specs.Ends.{FedUntil};
+ghost use Rattle.arc_script.specs.Causes.{HasShown, IsOfFrame, IsSentFor};
 ghost use Rattle.arc_script.specs.Fed.{clock_of, line_fed};
 ghost use Rattle.arc_script.specs.Feeding.{TookAt, HasFed, FeedStops, stop_in};
 ghost use Rattle.arc_script.specs.PageWords.{page_seen};
 ghost use Rattle.arc_script.specs.Pages.{head_of, replied};
 ghost use Rattle.centre_store.specs.StoreHalls.{is_told};
 ghost use Rattle.arc_script.specs.Standing.{IsReadable};
-ghost use Rattle.arc_script.specs.Steps.{placed, Feeds};
+ghost use Rattle.arc_script.specs.Steps.{placed, FeedsUntil, Feeds};
 
 use crate::page::Page;
 use crate::replies::{put_replies, said};
@@ -61,7 +60,7 @@ pub(crate) fn feed<D: Disk>(
         → StoreStands D.seen base store.old h → IsReadable base h → (HasFailed D.seen store.old → ⊥)
         → Halted D.seen base store.old h (λ x s. (waiting : List (List ℕ))
         × HasShown D.seen base store.new x stop moment (IsOfFrame script.old.setup moment line waiting)
-        × (FedUntil stop (placed base script.old.setup before) line (bytes_spelled digits.now) waiting h x s
+        × (FeedsUntil (placed base script.old.setup before) line (bytes_spelled digits.now) waiting (IsSentFor stop) h x s
         ⊎ ((stop ≡ Stop.Memory) × Feeds (placed base script.old.setup before) 76 line (bytes_spelled digits.now) h x s)))
         script.old.tally script.new.tally store.new) }
     ensures set { store.new.state.sum.text ≡ Some script.old.setup }
@@ -108,7 +107,7 @@ pub(crate) fn message<D: Disk>(
         → StoreStands D.seen base store.old h → IsReadable base h → (HasFailed D.seen store.old → ⊥)
         → Halted D.seen base store.old h (λ x s. (waiting : List (List ℕ))
         × HasShown D.seen base store.new x stop moment (IsOfFrame script.old.setup moment line waiting)
-        × (FedUntil stop (placed base script.old.setup before) line (frame_of body.now) waiting h x s
+        × (FeedsUntil (placed base script.old.setup before) line (frame_of body.now) waiting (IsSentFor stop) h x s
         ⊎ ((stop ≡ Stop.Memory) × Feeds (placed base script.old.setup before) 77 line (frame_of body.now) h x s)))
         script.old.tally script.new.tally store.new) }
     ensures set { store.new.state.sum.text ≡ Some script.old.setup }

@@ -44,13 +44,14 @@ told_step place h x s (Feed line digits) known step = step
 told_step place h x s (Message line body) known step = step
 told_step place h x s (Command desk text) known step = step
 told_step place h x s Reopen known step = record {
-  kept = step.kept;
-  keeps = told_keeps known step.keeps;
-  clock = step.clock;
-  set = step.set;
-  is = step.is;
-  added = step.added;
-  sent = step.sent;
+  whole = record {
+    kept = step.whole.kept;
+    keeps = told_keeps known step.whole.keeps;
+    clock = step.whole.clock;
+    set = step.whole.set;
+    until = step.whole.until;
+    by = step.whole.by;
+  };
   text = step.text;
 }
 

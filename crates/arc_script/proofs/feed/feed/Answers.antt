@@ -6,8 +6,8 @@ use Rattle.script_lines.specs.Lines.{Asked, Feed}
 use Rattle.arc_script.specs.Carrying.{HaveTakenWith, IsNext}
 use Rattle.arc_script.specs.PageWords.{page_seen}
 use Rattle.arc_script.specs.declared.script.Script.{Script}
-use Rattle.arc_script.proofs.Carries.{feed_short, feed_taken}
-use Rattle.arc_script.proofs.Feedings.{fed_ok, fed_stops, took_ok}
+use Rattle.arc_script.proofs.Carries.{feed_taken}
+use Rattle.arc_script.proofs.Feedings.{fed_ok, fed_stops, feed_is, took_ok}
 use Rattle.arc_script.proofs.feed.feed.Goals as goal
 
 pub returns-clause-fed : goal.returns-clause-fed
@@ -18,13 +18,8 @@ returns-clause-fed g c =
     fed_ok g.D.Disk.seen c.args.store.now c.fed-frames.new.store script.setup c.args.moment 76 line (Feed line digits)
     c.spelled-bytes.result.now (bytes_spelled digits) script.lines.items script.desks.items script.tally c.fed-frames.new.script.tally
     (page_seen c.args.page.now) (page_seen c.put_fed.new.page) c.put_fed.result c.fed-frames.result c.spelled-bytes.ensures
-    (record {
-      at = c.requires.clock;
-      low = c.requires.line.low;
-      set = λ before count next. next.set;
-      short = λ before count next.
-          feed_short (meaning script.setup) c.args.moment count line before digits script.lines.items script.desks.items next;
-    }) c.put_fed.ensures.fed c.put_fed.ensures.put c.fed-frames.ensures.fed
+    (feed_is script.setup c.args.moment line digits script.lines.items script.desks.items c.requires.clock c.requires.line.low)
+    c.put_fed.ensures.fed c.put_fed.ensures.put c.fed-frames.ensures.fed
 
 pub returns-clause-took : goal.returns-clause-took
 returns-clause-took g c =
@@ -37,13 +32,8 @@ returns-clause-took g c =
     (sym (ap (λ (s : Script). s.desks.items) c.fed-frames.ensures.rest))
     (took_ok script.setup c.args.moment line (Feed line digits) c.spelled-bytes.result.now (bytes_spelled digits) script.lines.items c.fed-frames.new.script.lines.items
     script.desks.items c.put_fed.result c.fed-frames.result c.spelled-bytes.ensures
-    (record {
-      at = c.requires.clock;
-      low = c.requires.line.low;
-      set = λ before count next. next.set;
-      short = λ before count next.
-          feed_short (meaning script.setup) c.args.moment count line before digits script.lines.items script.desks.items next;
-    }) c.put_fed.ensures.fed c.fed-frames.ensures.took
+    (feed_is script.setup c.args.moment line digits script.lines.items script.desks.items c.requires.clock c.requires.line.low)
+    c.put_fed.ensures.fed c.fed-frames.ensures.took
     (λ before count next took. feed_taken (meaning script.setup) c.args.moment count line before digits script.lines.items c.fed-frames.new.script.lines.items
     script.desks.items c.requires.line.low next took c.fed-frames.ensures.others))
 
@@ -55,10 +45,5 @@ returns-clause-stop g c =
     fed_stops g.D.Disk.seen c.args.store.now c.fed-frames.new.store script.setup c.args.moment 76 line (Feed line digits)
     c.spelled-bytes.result.now (bytes_spelled digits) script.lines.items script.desks.items script.tally c.fed-frames.new.script.tally c.put_fed.result c.fed-frames.result
     c.spelled-bytes.ensures
-    (record {
-      at = c.requires.clock;
-      low = c.requires.line.low;
-      set = λ before count next. next.set;
-      short = λ before count next.
-          feed_short (meaning script.setup) c.args.moment count line before digits script.lines.items script.desks.items next;
-    }) c.put_fed.ensures.stop c.fed-frames.ensures.fed c.fed-frames.ensures.stop
+    (feed_is script.setup c.args.moment line digits script.lines.items script.desks.items c.requires.clock c.requires.line.low)
+    c.put_fed.ensures.stop c.fed-frames.ensures.fed c.fed-frames.ensures.stop

@@ -10,8 +10,8 @@ use Rattle.arc_script.specs.Carrying.{HaveTakenWith, IsNext}
 use Rattle.arc_script.specs.Names.{line_name}
 use Rattle.arc_script.specs.PageWords.{page_seen}
 use Rattle.arc_script.specs.declared.script.Script.{Script}
-use Rattle.arc_script.proofs.Carries.{message_short, message_taken, set_other, set_there}
-use Rattle.arc_script.proofs.Feedings.{fed_ok, fed_stops}
+use Rattle.arc_script.proofs.Carries.{message_taken, set_other, set_there}
+use Rattle.arc_script.proofs.Feedings.{fed_ok, fed_stops, message_is}
 use Rattle.arc_script.proofs.Kept.{lines_kept}
 use Rattle.arc_script.proofs.feed.message.Goals as goal
 
@@ -40,13 +40,8 @@ returns-clause-fed g c =
     fed_ok g.D.Disk.seen c.args.store.now c.fed-frames.new.store script.setup c.args.moment 77 line (Message line body)
     c.bytes.result.now (frame_of body) script.lines.items script.desks.items script.tally c.fed-frames.new.script.tally
     (page_seen c.args.page.now) (page_seen c.put_fed.new.page) c.put_fed.result c.fed-frames.result (c.bytes.ensures.value ∙ c.write_frame.ensures)
-    (record {
-      at = c.requires.clock;
-      low = c.requires.line.low;
-      set = λ before count next. next.set;
-      short = λ before count next.
-          message_short (meaning script.setup) c.args.moment count line before body script.lines.items script.desks.items c.requires.body next;
-    }) c.put_fed.ensures.fed c.put_fed.ensures.put c.fed-frames.ensures.fed
+    (message_is script.setup c.args.moment line body script.lines.items script.desks.items c.requires.clock c.requires.line.low c.requires.body)
+    c.put_fed.ensures.fed c.put_fed.ensures.put c.fed-frames.ensures.fed
 
 pub returns-clause-took : goal.returns-clause-took
 returns-clause-took g c =
@@ -68,13 +63,8 @@ returns-clause-stop g c =
     fed_stops g.D.Disk.seen c.args.store.now c.fed-frames.new.store script.setup c.args.moment 77 line (Message line body)
     c.bytes.result.now (frame_of body) script.lines.items script.desks.items script.tally c.fed-frames.new.script.tally c.put_fed.result
     c.fed-frames.result (c.bytes.ensures.value ∙ c.write_frame.ensures)
-    (record {
-      at = c.requires.clock;
-      low = c.requires.line.low;
-      set = λ before count next. next.set;
-      short = λ before count next.
-          message_short (meaning script.setup) c.args.moment count line before body script.lines.items script.desks.items c.requires.body next;
-    }) c.put_fed.ensures.stop c.fed-frames.ensures.fed c.fed-frames.ensures.stop
+    (message_is script.setup c.args.moment line body script.lines.items script.desks.items c.requires.clock c.requires.line.low c.requires.body)
+    c.put_fed.ensures.stop c.fed-frames.ensures.fed c.fed-frames.ensures.stop
 
 pub returns-clause-rest : goal.returns-clause-rest
 returns-clause-rest g c =
