@@ -31,15 +31,17 @@ pub unread : {D : Type 0} (seen : D → DiskSeen) (b : Begun D) (s : Stored D) (
 unread seen b s p disk tally store held same is tally_as =
     let none : 0 ≡ s.state.sum.opened - s.state.sum.opened = omega arith in (
       same,
-      record { front = []; behind = []; steps = []; history = b.past; split = refl; of = tt; are = refl },
-      record {
-        none_behind = refl;
-        left = record {
-          output = ap (λ (q : PortSeen). q.written) same ∙ sym (known_none b.port.written);
-          area = recorded_in seen b.base s b.past disk held is;
-          counts = tally_is b.base s b.past b.past [] (untouched s.state.sum 0) tally s.state.sum.opened store.stands.centre.same.opened
-              (record { sent = refl; repeats = refl; closed = refl }) store.stands.centre (tally_as ∙ ap (untouched s.state.sum) none);
-          any_moment = left_there seen b b.base b.past s store disk is;
-        };
-      },
+      (
+        record { front = []; behind = []; steps = []; history = b.past; split = refl; of = tt; are = refl },
+        record {
+          none_behind = refl;
+          left = record {
+            output = ap (λ (q : PortSeen). q.written) same ∙ sym (known_none b.port.written);
+            area = recorded_in seen b.base s b.past disk held is;
+            counts = tally_is b.base s b.past b.past [] (untouched s.state.sum 0) tally s.state.sum.opened store.stands.centre.same.opened
+                (record { sent = refl; repeats = refl; closed = refl }) store.stands.centre (tally_as ∙ ap (untouched s.state.sum) none);
+            any_moment = left_there seen b b.base b.past s store disk is;
+          };
+        },
+      ),
     )

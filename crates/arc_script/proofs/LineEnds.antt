@@ -1,18 +1,19 @@
 -- A line of a script that was carried out and written, or that ended its script.
 use Rattle.std.proofs.Common.{◌≡◌, ◌≤◌, ◌+◌, ◌++◌, ◌∷◌, ℕ, List, [], false, Option, Some, None, Result, Ok, Err, length, refl, sym, ap, subst, ◌∙◌, arith}
+use Rattle.std.specs.Prelude.{IfSome}
 use Rattle.alarm_rules.specs.Setups.{meaning}
 use Rattle.arc_io.specs.Disks.{DiskSeen}
 use Rattle.arc_io.specs.Seen.{PortSeen}
 use Rattle.arc_io.specs.Told.{Puts}
 use Rattle.centre_core.specs.declared.hall.Stop.{Stop}
 use Rattle.centre_core.specs.declared.hall.Stop.TheVariants.{Memory}
-use Rattle.centre_store.specs.Stores.{Stored}
+use Rattle.centre_store.specs.Stores.{Stored, HasFailed}
 use Rattle.disk_journal.specs.declared.fault.OpenFault.{OpenFault}
 use Rattle.script_lines.specs.Lines.{Asked, Reopen, Asks, spelling}
 use Rattle.session_rules.specs.Inputs.{input_limit}
 use Rattle.arc_script.specs.Begun.{Begun}
-use Rattle.arc_script.specs.Between.{CarriedOut, Carries, MayComeNext, Shuts, SoFar, Stops, size_of}
-use Rattle.arc_script.specs.Carrying.{IsNext}
+use Rattle.arc_script.specs.Between.{CarriedOut, Carries, CountsSteps, IsClock, MayComeNext, Shuts, SoFar, Stops, size_of}
+use Rattle.arc_script.specs.Carrying.{HaveTaken, IsNext}
 use Rattle.arc_script.specs.Fed.{clock_of}
 use Rattle.arc_script.specs.Halting.{Halts, closing}
 use Rattle.arc_script.specs.Leaving.{IsClosed}
@@ -95,6 +96,44 @@ module _ {D : Type 0} (seen : D → DiskSeen) (script : Script) (s : Stored D) (
         cut_off seen b lines script s p so typed a (asks_played typed a asks) (playable_here b lines typed asks so) script' s' q q' none
         (out_here b lines typed asks may so) kept more p' text wrote.taken.0 disk tally page wrote.taken.1 wrote.taken.2 wrote.cause.failed
         closed.disk_is closed.tally_is
+
+-- all of a script but the number of its last line
+pub record IsAlike (script script' : Script) : Type 0 where
+  pub setup : script'.setup ≡ script.setup
+  pub limits : script'.limits ≡ script.limits
+  pub lines : script'.lines ≡ script.lines
+  pub desks : script'.desks ≡ script.desks
+  pub clock : script'.clock ≡ script.clock
+  pub opened_before : script'.opened_before ≡ script.opened_before
+  pub tally : script'.tally ≡ script.tally
+
+-- that number is of no matter for what was done
+pub renumbered : {D : Type 0} (seen : D → DiskSeen) (b : Begun D) (lines : List (List ℕ)) (script script' : Script) (s : Stored D) (p : PortSeen)
+    → IsAlike script script' → SoFar seen b lines script s p → SoFar seen b lines script' s p
+renumbered seen b lines script script' s p same so =
+    let between = so.between in
+    let asked = asked_after [] so.steps in
+    record {
+      steps = so.steps;
+      history = so.history;
+      of = so.of;
+      are = so.are;
+      between = record {
+        setup = same.setup ∙ between.setup;
+        limits = same.limits ∙ between.limits;
+        clock = subst (λ (c : Option ℕ). IsClock c asked) (sym same.clock) between.clock;
+        set = subst (λ (c : Option ℕ). IfSome c (λ last. s.state.sum.text ≡ Some b.setup)) (sym same.clock) between.set;
+        taken = subst (λ l. HaveTaken (meaning b.setup) (size_of lines) asked l.items script'.desks.items) (sym same.lines)
+            (subst (λ d. HaveTaken (meaning b.setup) (size_of lines) asked script.lines.items d.items) (sym same.desks) between.taken);
+        store = between.store;
+        up = subst (λ (c : Option ℕ). IfSome c (λ last. HasFailed seen s → ⊥)) (sym same.clock) between.up;
+      };
+      held = so.held;
+      counts = subst (λ (t : Tally). CountsSteps so.steps t) (sym same.tally) so.counts;
+      opened_before = same.opened_before ∙ so.opened_before;
+      written = so.written;
+      writes = so.writes;
+    }
 
 -- a line that asks for nothing
 pub bad_halts : {D : Type 0} (seen : D → DiskSeen) (b : Begun D) (lines more : List (List ℕ)) (typed : List ℕ) (script : Script) (number : ℕ)

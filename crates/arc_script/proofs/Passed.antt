@@ -1,7 +1,7 @@
 -- A line of a script that is skipped.
 use Rattle.std.proofs.Common.{◌≡◌, ◌≤◌, ◌+◌, ◌++◌, ◌∷◌, ℕ, List, [], Option, Some, None, IfSome, true, sym, subst, arith}
 use Rattle.std.specs.Prelude.{slice_get}
-use Rattle.alarm_rules.specs.Setups.{Setup, meaning}
+use Rattle.alarm_rules.specs.Setups.{Setup}
 use Rattle.arc_io.specs.Disks.{DiskSeen}
 use Rattle.arc_io.specs.Seen.{PortSeen}
 use Rattle.centre_store.specs.Stores.{Stored}
@@ -13,7 +13,7 @@ use Rattle.arc_script.specs.Between.{SoFar, size_of}
 use Rattle.arc_script.specs.Carrying.{HasRead, HaveTaken}
 use Rattle.arc_script.specs.Fed.{desk_read}
 use Rattle.arc_script.specs.Steps.{asked_after}
-use Rattle.arc_script.specs.Texts.{AreOf, counted, is_passed}
+use Rattle.arc_script.specs.Texts.{AreOf, is_passed}
 use Rattle.arc_script.specs.declared.script.Script.{Script}
 use Rattle.arc_script.proofs.Counted.{counted_passed}
 use Rattle.arc_script.proofs.Sizes.{size_last}
@@ -33,24 +33,23 @@ taken_more setup count more before lines desks grows taken = record {
       (taken.read i);
 }
 
--- What was done stands behind these lines too where they have the same steps, whatever the number of the last one.
-so_behind : {D : Type 0} (seen : D → DiskSeen) (b : Begun D) (lines more : List (List ℕ)) (script : Script) (number : ℕ) (s : Stored D)
-    (p : PortSeen) (so : SoFar seen b lines script s p) → AreOf [] (counted more) so.steps
-    → HaveTaken (meaning b.setup) (size_of more) (asked_after [] so.steps) script.lines.items script.desks.items
-    → SoFar seen b more (record script { number = number }) s p
-so_behind seen b lines more script number s p so of taken =
+pub skipped : {D : Type 0} (seen : D → DiskSeen) (b : Begun D) (lines : List (List ℕ)) (line : List ℕ) (script : Script) (number : ℕ) (s : Stored D)
+    (p : PortSeen) → is_passed line ≡ true → SoFar seen b lines script s p → SoFar seen b (lines ++ line ∷ []) (record script { number = number }) s p
+skipped seen b lines line script number s p passed so =
     let between = so.between in
+    let size = size_last lines line in
     record {
       steps = so.steps;
       history = so.history;
-      of = of;
+      of = subst (λ (l : List (ℕ × List ℕ)). AreOf [] l so.steps) (sym (counted_passed lines line passed)) so.of;
       are = so.are;
       between = record {
         setup = between.setup;
         limits = between.limits;
         clock = between.clock;
         set = between.set;
-        taken = taken;
+        taken = taken_more _ (size_of lines) (size_of (lines ++ line ∷ [])) (asked_after [] so.steps) script.lines.items script.desks.items
+            (omega (arith, size)) between.taken;
         store = between.store;
         up = between.up;
       };
@@ -60,16 +59,3 @@ so_behind seen b lines more script number s p so of taken =
       written = so.written;
       writes = so.writes;
     }
-
-pub renumbered : {D : Type 0} (seen : D → DiskSeen) (b : Begun D) (lines : List (List ℕ)) (script : Script) (number : ℕ) (s : Stored D)
-    (p : PortSeen) → SoFar seen b lines script s p → SoFar seen b lines (record script { number = number }) s p
-renumbered seen b lines script number s p so = so_behind seen b lines lines script number s p so so.of so.between.taken
-
-pub skipped : {D : Type 0} (seen : D → DiskSeen) (b : Begun D) (lines : List (List ℕ)) (line : List ℕ) (script : Script) (number : ℕ) (s : Stored D)
-    (p : PortSeen) → is_passed line ≡ true → SoFar seen b lines script s p → SoFar seen b (lines ++ line ∷ []) (record script { number = number }) s p
-skipped seen b lines line script number s p passed so =
-    let size = size_last lines line in
-    so_behind seen b lines (lines ++ line ∷ []) script number s p so
-    (subst (λ (l : List (ℕ × List ℕ)). AreOf [] l so.steps) (sym (counted_passed lines line passed)) so.of)
-    (taken_more (meaning b.setup) (size_of lines) (size_of (lines ++ line ∷ [])) (asked_after [] so.steps) script.lines.items script.desks.items
-    (omega (arith, size)) so.between.taken)

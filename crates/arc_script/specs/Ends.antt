@@ -1,5 +1,5 @@
 -- How a script ended, and what it did.
-use Rattle.std.specs.Prelude.{◌≡◌, ◌<◌, ◌≤◌, ◌⊎◌, ◌++◌, ℕ, List, [], ◌∷◌, true, Option, Some, None, IfSome, take, length, reverse}
+use Rattle.std.specs.Prelude.{◌≡◌, ◌<◌, ◌≤◌, ◌⊎◌, ◌++◌, ℕ, List, [], ◌∷◌, true, Option, Some, None, IfSome, take, length}
 use Rattle.std.specs.Io.KnownBytes.{prepend_known, append_known, IsAtEnd}
 use Rattle.arc_data.specs.Digits.{bytes_spelled}
 use Rattle.arc_io.specs.Areas.{Areas}
@@ -22,11 +22,9 @@ use Rattle.dc09_frame.specs.Frames.{frame_of}
 use Rattle.disk_journal.specs.Faults.{IsOfContent, HasCounts}
 use Rattle.disk_journal.specs.declared.fault.OpenFault.{OpenFault}
 use Rattle.disk_journal.specs.declared.journal.Limits.{Limits}
-use Rattle.line_session.specs.Turns.{Turn, line_turns}
 use Rattle.script_lines.specs.Lines.{Asked, Time, Feed, Message, Command, Reopen}
 use Rattle.session_rules.specs.Inputs.{input_limit}
 use Rattle.session_rules.specs.Reading.{IsNotAhead, OnlyReadsAndWrites, lines_read}
-use Rattle.session_rules.specs.Turns.{entries_of}
 use Rattle.arc_script.specs.Begun.{Begun}
 use Rattle.arc_script.specs.Causes.{HasShown, OrBegun, Submits, IsSentFor}
 use Rattle.arc_script.specs.Fed.{clock_of}
