@@ -2,7 +2,6 @@ use Rattle.std.proofs.Common.{◌≡◌, ◌+◌, ◌∷◌, ◌++◌, [], ℕ, 
 use Rattle.arc_doors.specs.Mails.{TakesMail}
 use Rattle.arc_io.specs.Seen.{PortSeen}
 use Rattle.session_rules.proofs.Keeping.{kept_more, kept_self}
-use Rattle.line_session.proofs.Ported.{rose_earlier}
 use Rattle.udp_line.specs.Datagrams.{EndsDatagram}
 use Rattle.udp_line.specs.declared.mail_end.MailEnd.{MailEnd}
 use Rattle.udp_line.proofs.Mailed.{last_ended, serves_none, serves_on, serves_last, takes_none, takes_more}
@@ -64,7 +63,7 @@ returns-in-Err-answer_datagram-clause-mail g c =
         taken = takes_more old.done.given bytes p.datagrams q.datagrams r.datagrams old.done.taken
             (subst (λ (o : Option (List (List ℕ))). TakesMail (bytes ∷ []) q.datagrams o) (sym (ap (λ (x : PortSeen). x.datagrams) only.rest)) told.mail);
         cause = last_ended end c.args.count (length given) p r c.in-Err-answer_datagram.ensures.ends (omega (arith, count, c.datagrams-test.true))
-            (λ is. rose_earlier p.write_faults (g.M.Ends.seen c.receive.new.self).write_faults r.write_faults (omega (arith, old.done.writes, from)) (c.in-Err-answer_datagram.ensures.rose (ap Err is)));
+            (λ is. let rose = c.in-Err-answer_datagram.ensures.rose (ap Err is) in omega (arith, old.done.writes, from, rose));
       },
       λ b h s.
           let first = old.done.session b h s in
