@@ -372,16 +372,16 @@ all_may : {D : Type 0} {seen : D → DiskSeen}
     → (Rose entry (seen disk').faults → ⊥) → AllMay came
 all_may {D} {seen} t crew around around' came last entry disk' s low handed up =
     let end = (seen disk').faults in
-    let tolds : All (λ (p : PassSeen). p.told ≤ end) (ended_in s.all.ran.lines ++ (ended_in s.all.ran.desks ++ s.all.ran.ticker.ended ∷ [])) =
-    subst (λ (disk : D). All (λ (p : PassSeen). p.told ≤ (seen disk).faults) (ended_in s.all.ran.lines ++ (ended_in s.all.ran.desks ++ s.all.ran.ticker.ended ∷ []))) (sym handed) s.all_told in
+    let tolds : All (λ (p : PassSeen). p.told ≤ end) (ended_in s.all.ran.lines ++ (ended_in s.all.ran.desks ++ s.all.ran.ended ∷ [])) =
+    subst (λ (disk : D). All (λ (p : PassSeen). p.told ≤ (seen disk).faults) (ended_in s.all.ran.lines ++ (ended_in s.all.ran.desks ++ s.all.ran.ended ∷ []))) (sym handed) s.all_told in
     let IsTold : PassSeen → Type 0 = λ p. p.told ≤ end in
-    let behind = right IsTold (ended_in s.all.ran.lines) (ended_in s.all.ran.desks ++ s.all.ran.ticker.ended ∷ []) tolds in
-    let of_ticker = All-head IsTold s.all.ran.ticker.ended [] (right IsTold (ended_in s.all.ran.desks) (s.all.ran.ticker.ended ∷ []) behind) in record {
+    let behind = right IsTold (ended_in s.all.ran.lines) (ended_in s.all.ran.desks ++ s.all.ran.ended ∷ []) tolds in
+    let of_ticker = All-head IsTold s.all.ran.ended [] (right IsTold (ended_in s.all.ran.desks) (s.all.ran.ended ∷ []) behind) in record {
       lines = side_may t entry end low up Lines crew.lines crew.sessions s.all.ran.lines around.lines around'.lines came.lines s.all.lines
-          (left IsTold (ended_in s.all.ran.lines) (ended_in s.all.ran.desks ++ s.all.ran.ticker.ended ∷ []) tolds);
+          (left IsTold (ended_in s.all.ran.lines) (ended_in s.all.ran.desks ++ s.all.ran.ended ∷ []) tolds);
       desks = side_may t entry end low up Desks crew.desks crew.sessions s.all.ran.desks around.desks around'.desks came.desks s.all.desks
-          (left IsTold (ended_in s.all.ran.desks) (s.all.ran.ticker.ended ∷ []) behind);
-      ticker = ticker_may t entry end low up came.ticked.stop s.all.ran.ticker.ended around'.pulse came.ticked.refused s.all.ticker.works.ticks of_ticker s.all.ticker.works.ended;
+          (left IsTold (ended_in s.all.ran.desks) (s.all.ran.ended ∷ []) behind);
+      ticker = ticker_may t entry end low up came.ticked.stop s.all.ran.ended around'.pulse came.ticked.refused s.all.ticks.ticks of_ticker s.all.ticks.ended;
     }
 
 -- at a gate without groups or with them

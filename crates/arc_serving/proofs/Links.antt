@@ -42,6 +42,11 @@ pub turn_more : {P S : Type 0} (done : P → P → S → Type 0) (p m q : P) (ss
 turn_more {P} done p m q [] s w one = (q, subst (λ (k : P). done k q s) w one, refl)
 turn_more done p m q (x ∷ ss) s w one = (w.0, w.1, turn_more done w.0 m q ss s w.2 one)
 
+-- what each step leaves so is so at the end
+pub kept_in_turn : {P S : Type 0} (done : P → P → S → Type 0) (IsSo : P → Type 0) (p q : P) (ss : List S) → IsSo p → ((m n : P) (s : S) → done m n s → IsSo n) → InTurn done p q ss → IsSo q
+kept_in_turn done IsSo p q [] so each w = subst IsSo (sym w) so
+kept_in_turn done IsSo p q (s ∷ ss) so each w = kept_in_turn done IsSo w.0 q ss (each p w.0 s w.1) each w.2
+
 -- the pass keeps its number, and no count of it falls
 pub no_count_falls : (side : Side) (t : Terms) (p q : PassSeen) (ss : List Served) → InTurn (IsServed side t) p q ss → (q.number ≡ p.number) × (p.count ≤ q.count) × (p.told ≤ q.told)
 no_count_falls side t p q [] w = subst (λ (k : PassSeen). (k.number ≡ p.number) × (p.count ≤ k.count) × (p.told ≤ k.told)) (sym w) (refl, omega arith, omega arith)

@@ -95,10 +95,11 @@ ran_before t crew first given last ticker low one two high lines desks before le
     let l = side_ran Lines t crew.sessions last lines w.lines' seated_lines.ready w.lines_done w.lines_over.taken in
     let d = side_ran Desks t crew.sessions last desks w.desks' seated_desks.ready w.desks_done w.desks_over.taken in record {
       all = record {
-        ran = record { lines = l.ran; desks = d.ran; ticker = record { began = ticker; ended = w.ticker' } };
+        ran = record { lines = l.ran; desks = d.ran; began = ticker; ended = w.ticker' };
         lines = side_served Lines t crew.lines crew.sessions last lines w.lines' before.lines left.lines after.lines came.lines seated_lines.parts line_count w.lines_over w.lines_came l;
         desks = side_served Desks t crew.desks crew.sessions last desks w.desks' before.desks left.desks after.desks came.desks seated_desks.parts desk_count w.desks_over w.desks_came d;
-        ticker = record { fresh = fresh; pass = w.is_pass; works = subst (λ (m : Option Moments). WorksTicks t ticker w.ticker' m after.pulse came.ticked) pulse w.ticks };
+        fresh = fresh;
+        ticks = subst (λ (m : Option Moments). WorksTicks t ticker w.ticker' m after.pulse came.ticked) pulse w.ticks;
         numbers = numbers_from low one two high lines desks ticker w.ticker' l.ran d.ran seated_lines.rising seated_desks.rising le lt l.numbers d.numbers
             (ticks_later t ticker w.ticker' w.ticks.ticks w.ticks.each).number;
         setup = setup_from t first pass none;

@@ -49,7 +49,7 @@ one_more side t sessions last old new olds news ready done taken more =
       came = ap (λ (o : Option Worked). option_to_list o ++ worked_in news) d.worked_is ∙ ap (λ (l : List Worked). d.worked ∷ l) more.came;
       numbers = ap (λ (o : Option PassSeen). map (λ (x : PassSeen). x.number) (option_to_list o ++ passes_in olds)) ready.1 ∙ ap (λ (l : List ℕ). p.number ∷ l) more.numbers
           ∙ ap (λ (n : ℕ). n ∷ map (λ (x : PassSeen). x.number) (ended_in more.ran)) (sym (no_count_falls side t p d.pass d.works.served d.works.each).0);
-      each = All-cons (λ (x : WorkerRan). IsWorkerRan side t sessions x) w more.ran (record { fresh = ready.2; pass = d.is_pass; works = d.works }) more.each;
+      each = All-cons (λ (x : WorkerRan). IsWorkerRan side t sessions x) w more.ran (record { fresh = ready.2; works = d.works }) more.each;
       taken = All-cons (λ (x : PassSeen). HasTaken last x) d.pass (ended_in more.ran) (taken_from last new.pass d.pass d.pass_is taken) more.taken;
     }
 

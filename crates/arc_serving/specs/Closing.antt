@@ -4,7 +4,7 @@ use Rattle.std.specs.List.{AllZip}
 use Rattle.arc_doors.specs.Doors.{DoorSeen}
 use Rattle.arc_serving.specs.declared.side.Side.TheVariants.{Lines, Desks}
 use Rattle.arc_serving.specs.Ticks.{WorksTicks}
-use Rattle.line_gate.specs.Passes.{PassSeen, IsPass, IsLater}
+use Rattle.line_gate.specs.Passes.{PassSeen, IsLater}
 use Rattle.line_gate.specs.Terms.{Terms}
 use Rattle.arc_serving.specs.Jobs.{JobSeen, IsJobDone, HasTaken, AreUnseated, worked_in}
 use Rattle.arc_serving.specs.Seen.{StationSeen, CameSeen}
@@ -24,7 +24,6 @@ pub record ServesSeated (t : Terms) (sessions : ℕ) (first last : PassSeen) (li
   pub ticker' : PassSeen
   pub lines_done : AllZip (IsJobDone Lines t sessions) lines lines'
   pub desks_done : AllZip (IsJobDone Desks t sessions) desks desks'
-  pub is_pass : IsPass t ticker'
   pub ticks : WorksTicks t ticker ticker' left.pulse after.pulse came.ticked
   pub later : IsLater first last
   pub taken : HasTaken last ticker'

@@ -6,7 +6,7 @@ use Rattle.arc_serving.specs.declared.side.Side.{Side}
 use Rattle.arc_serving.specs.Works.{Works}
 use Rattle.arc_serving.specs.declared.working.Worked.{Worked}
 use Rattle.line_gate.specs.Entries.{Extends}
-use Rattle.line_gate.specs.Passes.{PassSeen, IsPass}
+use Rattle.line_gate.specs.Passes.{PassSeen}
 use Rattle.line_gate.specs.Terms.{Terms}
 use Rattle.arc_serving.specs.Ran.{IsFresh}
 
@@ -62,7 +62,6 @@ pub record WorksJob (side : Side) (t : Terms) (sessions : ℕ) (p : PassSeen) (o
   pub worked : Worked
   pub pass_is : new.pass ≡ Some pass
   pub worked_is : new.worked ≡ Some worked
-  pub is_pass : IsPass t pass
   pub works : Works side t p pass old.door new.door sessions worked
 
 -- a job that has a pass was done, and one that has none is as it was

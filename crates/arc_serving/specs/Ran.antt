@@ -1,11 +1,8 @@
--- The workers and the ticker that ran at a gate.
-use Rattle.std.specs.Prelude.{◌≡◌, ℕ, List, [], ◌++◌, Option, All, map, length}
+-- The workers that ran at a gate.
+use Rattle.std.specs.Prelude.{◌≡◌, ℕ, List, [], ◌++◌, All, map, length}
 use Rattle.arc_doors.specs.Doors.{DoorSeen}
-use Rattle.arc_doors.specs.Pulses.{Moments}
 use Rattle.arc_serving.specs.declared.side.Side.{Side}
-use Rattle.arc_serving.specs.Ticks.{WorksTicks}
 use Rattle.arc_serving.specs.Works.{Works}
-use Rattle.arc_serving.specs.declared.ticking.Ticked.{Ticked}
 use Rattle.arc_serving.specs.declared.working.Worked.{Worked}
 use Rattle.line_gate.specs.Passes.{PassSeen, IsPass}
 use Rattle.line_gate.specs.Terms.{Terms}
@@ -23,21 +20,11 @@ pub record WorkerRan : Type 0 where
   pub door' : DoorSeen
   pub worked : Worked
 
--- all that is said of it: its pass was fresh, and it did what a worker of this side does
+-- All that is said of it: its pass was fresh, and it did what a worker of this side does. That it ended as a pass follows: each link served
+-- leaves one.
 pub record IsWorkerRan (side : Side) (t : Terms) (sessions : ℕ) (w : WorkerRan) : Type 0 where
   pub fresh : IsFresh t w.began
-  pub pass : IsPass t w.ended
   pub works : Works side t w.began w.ended w.door w.door' sessions w.worked
-
--- the ticker that ran: its pass as it began and as it ended
-pub record TickerRan : Type 0 where
-  pub began : PassSeen
-  pub ended : PassSeen
-
-pub record IsTickerRan (t : Terms) (w : TickerRan) (pulse pulse' : Option Moments) (ticked : Ticked) : Type 0 where
-  pub fresh : IsFresh t w.began
-  pub pass : IsPass t w.ended
-  pub works : WorksTicks t w.began w.ended pulse pulse' ticked
 
 -- All that is said of the workers of one side: its first doors had a worker each, in order, and the others are as they were. What came of
 -- the workers stands in the order of their doors.

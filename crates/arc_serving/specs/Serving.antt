@@ -16,19 +16,21 @@ use Rattle.line_gate.specs.Terms.{Terms, IsPastBase}
 use Rattle.line_gate.specs.declared.closed.GroupClosed.{GroupClosed}
 use Rattle.line_gate.specs.declared.closed.GroupClosed.TheVariants.{Whole, Broken}
 use Rattle.arc_serving.specs.Jobs.{HasTaken}
-use Rattle.arc_serving.specs.Ran.{WorkerRan, TickerRan, IsTickerRan, IsSideServed}
+use Rattle.arc_serving.specs.Ran.{IsFresh, WorkerRan, IsSideServed}
 use Rattle.arc_serving.specs.Seen.{StationSeen, CameSeen}
+use Rattle.arc_serving.specs.Ticks.{WorksTicks}
 use Rattle.arc_serving.specs.declared.station.Crew.{Crew}
 
--- all that ran: the workers of either side, in the order of their doors, and the ticker
+-- all that ran: the workers of either side, in the order of their doors, and of the ticker its pass as it began and as it ended
 pub record Ran : Type 0 where
   pub lines : List WorkerRan
   pub desks : List WorkerRan
-  pub ticker : TickerRan
+  pub began : PassSeen
+  pub ended : PassSeen
 
 -- their passes as they ended
 abbrev pub all_ended : Ran → List PassSeen
-all_ended r = map (λ w. w.ended) r.lines ++ (map (λ w. w.ended) r.desks ++ r.ticker.ended ∷ [])
+all_ended r = map (λ w. w.ended) r.lines ++ (map (λ w. w.ended) r.desks ++ r.ended ∷ [])
 
 -- the store stands for a history that begins with this one, past which stand entries of events that callers submit alone
 pub record GoesOnFrom {D : Type 0} (seen : D → DiskSeen) (b : Summary) (base : List Entry) (s : Stored D) : Type 0 where
@@ -49,7 +51,8 @@ pub record RanAll (t : Terms) (crew : Crew) (before after : StationSeen) (came :
   pub ran : Ran
   pub lines : IsSideServed Lines t crew.lines crew.sessions ran.lines before.lines after.lines came.lines
   pub desks : IsSideServed Desks t crew.desks crew.sessions ran.desks before.desks after.desks came.desks
-  pub ticker : IsTickerRan t ran.ticker before.pulse after.pulse came.ticked
+  pub fresh : IsFresh t ran.began
+  pub ticks : WorksTicks t ran.began ran.ended before.pulse after.pulse came.ticked
   pub numbers : IsStrictlyIncreasing (map (λ p. p.number) (all_ended ran))
   pub setup : (b : Summary) (base : List Entry) → t.stood b base → force b (marks b base) ≡ Some (meaning t.text)
 

@@ -14,7 +14,6 @@ returns-clause-served g c =
       ticker' = ran.result.1.0.pass;
       lines_done = ran.ensures.lines;
       desks_done = ran.ensures.desks;
-      is_pass = ran.ensures.pass;
       ticks = ran.ensures.ticks;
       later = later_further c.args.first.now ticker.new.pass over.new.first ticker.ensures.later unseats.later;
       taken = taken_later ticker.new.pass over.new.first ran.result.1.0.pass unseats.later (record { since = ticker.ensures.since; told = ticker.ensures.told });
