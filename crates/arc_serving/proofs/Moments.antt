@@ -2,7 +2,6 @@
 use Rattle.std.proofs.Common.{◌≡◌, ◌+◌, ◌-◌, ◌^◌, ℕ, List, [], ◌∷◌, ◌++◌, Option, Some, None, refl, sym, ap, ◌∙◌, subst, arith, append_assoc, append-nil}
 use Rattle.std.proofs.lemmas.List.{map-append, reverse-append}
 use Rattle.std.proofs.lemmas.List.Sums.{sum_by-append}
-use Rattle.std.proofs.lemmas.Grind.{flat_map-append}
 use Rattle.std.specs.Option.{option_to_list}
 use Rattle.std.specs.Prelude.{◌≢◌, min, cond, is_none, count_by, flat_map, map, reverse}
 use Rattle.arc_doors.specs.Pulses.{Moments, HasNoMoment, TakesMoment}
@@ -26,7 +25,6 @@ ticks_in ticks = flat_map (λ s. option_to_list s.entry) ticks
 pub record HasTickedSo (t : Terms) (p q : PassSeen) (pulse pulse' : Option Moments) (ticks : List Ticking) : Type 0 where
   pub each : InTurn (IsTicked t) p q ticks
   pub moments : Moves (MovesMoments ticks) pulse pulse'
-  pub made : q.made ≡ reverse (ticks_in ticks) ++ p.made
   pub pass : IsPass t q
 
 -- and each that has no entry was refused memory
@@ -41,7 +39,7 @@ no_moments (Some old) = record { left = refl; given = sym (append-nil old.given)
 
 -- before the first moment
 pub no_ticks : (t : Terms) (p : PassSeen) (pulse : Option Moments) → IsPass t p → TickedSoFar t p p pulse pulse 0
-no_ticks t p pulse pass = record { ticks = []; so = record { each = refl; moments = no_moments pulse; made = refl; pass = pass }; refused_is = refl }
+no_ticks t p pulse pass = record { ticks = []; so = record { each = refl; moments = no_moments pulse; pass = pass }; refused_is = refl }
 
 -- what the pass has seen after Ticks begins with what it had seen
 pub ticks_later : (t : Terms) (p q : PassSeen) (ss : List Ticking) → InTurn (IsTicked t) p q ss → IsLater p q
@@ -61,12 +59,13 @@ made_once : (t : Terms) (p q : PassSeen) (moment : ℕ) (o : Option Entry) → M
 made_once t p q moment (Some e) w = w.0.made
 made_once t p q moment None w = w
 
-made_more : (t : Terms) (p m q : PassSeen) (ss : List Ticking) (s : Ticking) → m.made ≡ reverse (ticks_in ss) ++ p.made → IsTicked t m q s → q.made ≡ reverse (ticks_in (ss ++ s ∷ [])) ++ p.made
-made_more t p m q ss s w one =
-    let more = option_to_list s.entry in
-    let all : ticks_in (ss ++ s ∷ []) ≡ ticks_in ss ++ more = flat_map-append (λ (x : Ticking). option_to_list x.entry) ss (s ∷ []) ∙ ap (λ (l : List Entry). ticks_in ss ++ l) (append-nil more) in
-    made_once t m q s.moment s.entry one.makes ∙ ap (λ (l : List Entry). reverse more ++ l) w ∙ sym (append_assoc (reverse more) (reverse (ticks_in ss)) p.made)
-    ∙ ap (λ (l : List Entry). l ++ p.made) (sym (ap reverse all ∙ reverse-append (ticks_in ss) more))
+-- the pass made the entries of its Ticks
+pub ticks_made : (t : Terms) (p q : PassSeen) (ss : List Ticking) → InTurn (IsTicked t) p q ss → q.made ≡ reverse (ticks_in ss) ++ p.made
+ticks_made t p q [] w = ap (λ (k : PassSeen). k.made) w
+ticks_made t p q (s ∷ ss) w =
+    let one = option_to_list s.entry in
+    ticks_made t w.0 q ss w.2 ∙ ap (λ (l : List Entry). reverse (ticks_in ss) ++ l) (made_once t p w.0 s.moment s.entry w.1.makes)
+    ∙ sym (append_assoc (reverse (ticks_in ss)) (reverse one) p.made) ∙ ap (λ (l : List Entry). l ++ p.made) (sym (reverse-append one (ticks_in ss)))
 
 -- one more Tick
 so_more : (t : Terms) (p m q : PassSeen) (pulse first last : Option Moments) (ss : List Ticking) (s : Ticking) → HasTickedSo t p m pulse first ss → TakesMoment s.moment first last → IsTicked t m q s
@@ -74,7 +73,6 @@ so_more : (t : Terms) (p m q : PassSeen) (pulse first last : Option Moments) (ss
 so_more t p m q pulse first last ss s w takes one = record {
   each = turn_more (IsTicked t) p m q ss s w.each one;
   moments = moments_more ss s pulse first last w.moments takes;
-  made = made_more t p m q ss s w.made one;
   pass = one.pass;
 }
 
@@ -110,7 +108,6 @@ tick_stopped t p m q pulse first last refused moment stop other w takes one =
       ticks = w.ticks ++ s ∷ [];
       each = so.each;
       moments = so.moments;
-      made = so.made;
       ended = record { front = w.ticks; last = s; parts = refl; none = refl; other = other; shown = one.1; missed = w.refused_is };
     }
 
@@ -120,6 +117,5 @@ pulse_ended t p q pulse first last refused w same none = record {
   ticks = w.ticks;
   each = w.so.each;
   moments = subst (Moves (MovesMoments w.ticks) pulse) (sym same) w.so.moments;
-  made = w.so.made;
   ended = (subst HasNoMoment (sym same) none, w.refused_is);
 }

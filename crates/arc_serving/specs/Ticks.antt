@@ -1,7 +1,6 @@
 -- What a ticker did with the moments of its pulse, and what its pass made of them.
 use Rattle.std.specs.Prelude.{◌≡◌, ◌≢◌, ◌-◌, ◌^◌, ◌++◌, ℕ, min, List, [], ◌∷◌}
-use Rattle.std.specs.Prelude.{Option, Some, None, MatchOption, is_none, count_by, map, reverse, flat_map}
-use Rattle.std.specs.Option.{option_to_list}
+use Rattle.std.specs.Prelude.{Option, Some, None, MatchOption, is_none, count_by, map}
 use Rattle.arc_data.specs.declared.event.Event.TheVariants.{Tick}
 use Rattle.arc_doors.specs.Pulses.{Moments, HasNoMoment}
 use Rattle.centre_core.specs.declared.hall.Stop.{Stop}
@@ -53,13 +52,12 @@ abbrev pub EndsTicking : Option Stop → Terms → PassSeen → Option Moments �
 EndsTicking None t q pulse refused ticks = HasNoMoment pulse × (refused ≡ missed_in ticks)
 EndsTicking (Some stop) t q pulse refused ticks = IsTickStopped t q stop refused ticks
 
--- What a ticker did, from the pass p and the pulse as they were handed in, to the pass q and the pulse as they then are. What the pass
--- made are Ticks alone, in order, one for each moment but those that were refused memory and the one that was stopped.
+-- What a ticker did, from the pass p and the pulse as they were handed in, to the pass q and the pulse as they then are. That the pass made
+-- these Ticks alone, in order, one for each moment but those that were refused memory and the one that was stopped, follows: `law_one_caller`.
 pub record WorksTicks (t : Terms) (p q : PassSeen) (pulse pulse' : Option Moments) (ticked : Ticked) : Type 0 where
   pub ticks : List Ticking
   pub each : InTurn (IsTicked t) p q ticks
   pub moments : Moves (MovesMoments ticks) pulse pulse'
-  pub made : q.made ≡ reverse (flat_map (λ s. option_to_list s.entry) ticks) ++ p.made
   pub ended : EndsTicking ticked.stop t q pulse' ticked.refused ticks
 
 -- what one call made of a moment

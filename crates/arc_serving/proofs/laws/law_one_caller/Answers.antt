@@ -1,6 +1,6 @@
 use Rattle.arc_serving.proofs.AtGates.{makes_in_order}
 use Rattle.arc_serving.proofs.Links.{kept_in_turn, no_count_falls}
-use Rattle.arc_serving.proofs.Moments.{ticks_later}
+use Rattle.arc_serving.proofs.Moments.{ticks_later, ticks_made}
 use Rattle.arc_serving.specs.Served.{IsServed}
 use Rattle.arc_serving.specs.Ticks.{IsTicked}
 use Rattle.line_gate.specs.Passes.{IsPass}
@@ -14,6 +14,9 @@ returns-clause-made g c side p q served pass w b base from = makes_in_order side
 
 pub returns-clause-ticked : goal.returns-clause-ticked
 returns-clause-ticked g c p q ticks w = ticks_later g.N.GateName.terms p q ticks w
+
+pub returns-clause-ticks_made : goal.returns-clause-ticks_made
+returns-clause-ticks_made g c p q ticks w = ticks_made g.N.GateName.terms p q ticks w
 
 pub returns-clause-pass : goal.returns-clause-pass
 returns-clause-pass g c p q pass =
