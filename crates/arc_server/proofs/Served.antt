@@ -159,7 +159,7 @@ gathered_whole {D} {seen} came store last crew status closed {r} {r'} {p} {aroun
 broken_shows : {D : Type 0} {seen : D → DiskSeen} (came : Result CameSeen Memory) (first : Stored D) (crew : Crew) (around around' : StationSeen)
     (disk : D) (at_open now : ℕ) (b : Summary) (h : List Entry) → StoreStands seen b first h
     → Gathered seen first crew around around' came (Broken disk at_open now) → (now ≡ (seen disk).faults) × Rose at_open now
-broken_shows {D} {seen} (Ok came) first crew around around' disk at_open now b h stood s = (s.served.serves.0, s.served.serves.1.rose)
+broken_shows {D} {seen} (Ok came) first crew around around' disk at_open now b h stood s = (s.served.serves.0, s.served.serves.2)
 broken_shows {D} {seen} (Err none) first crew around around' disk at_open now b h stood s = s.refused b h stood
 
 -- and at one with groups whose disk came back alone

@@ -22,14 +22,14 @@ use Rattle.line_gate.specs.Blanks.{BlankSeen, terms_of}
 use Rattle.line_gate.specs.Entries.{Entry, Extends}
 use Rattle.line_gate.specs.Passes.{PassSeen, IsPass}
 use Rattle.line_gate.specs.Terms.{Terms}
-use Rattle.line_gate.specs.Groups.{IsClosed, IsClosedBroken, ClosesGroup}
+use Rattle.line_gate.specs.Groups.{IsClosed, ClosesGroup}
 use Rattle.line_gate.specs.declared.closed.GroupClosed.{GroupClosed}
 use Rattle.line_gate.specs.declared.closed.GroupClosed.TheVariants.{Whole, Broken}
 use Rattle.arc_serving.specs.Closing.{ServesSeated}
 use Rattle.arc_serving.specs.Jobs.{JobSeen, AreRising, AreSeated, HasTaken, AreUnseated, doors_in, numbers_in, worked_in}
 use Rattle.arc_serving.specs.Ran.{IsFresh, WorkerRan, IsSideServed}
 use Rattle.arc_serving.specs.Seen.{StationSeen, CameSeen}
-use Rattle.arc_serving.specs.Serving.{ServesWhole, ServesStore, ServesBroken, ServesAt, RanBefore, GathersStore, GoesOnFrom, GoesOnAt, IsKeptOf, StandsForAll, all_ended}
+use Rattle.arc_serving.specs.Serving.{ServesWhole, ServesStore, ServesAt, RanBefore, GathersStore, GoesOnFrom, GoesOnAt, IsKeptOf, StandsForAll, all_ended}
 use Rattle.arc_serving.specs.declared.station.Crew.{Crew}
 use Rattle.arc_serving.proofs.Lists.{rising_both, rising_increases}
 use Rattle.arc_serving.proofs.Moments.{ticks_later}
@@ -118,21 +118,18 @@ serves seen t last crew before after came s closed w = record {
       (all_ended w.all.ran) w.taken;
 }
 
-serves_broken : {D : Type 0} (seen : D → DiskSeen) (t : Terms) (last : PassSeen) (crew : Crew) (before after : StationSeen) (came : CameSeen) (disk : D) (at_open now : ℕ)
-    → IsClosedBroken seen t last disk at_open now → RanBefore t last crew before after came → ServesBroken t crew before after came at_open now
-serves_broken seen t last crew before after came disk at_open now closed w = record {
-  all = w.all;
-  at_open_is = closed.at_open_is;
-  rose = closed.rose;
-  all_told = All-weaker (λ (p : PassSeen). HasTaken last p) (λ (p : PassSeen). p.told ≤ now) (λ p v. let a = v.told in let b = closed.told_is in omega arith)
-      (all_ended w.all.ran) w.taken;
-}
-
 pub serves_at : {D : Type 0} (seen : D → DiskSeen) (t : Terms) (last : PassSeen) (crew : Crew) (before after : StationSeen) (came : CameSeen) (c : GroupClosed D)
     → ClosesGroup seen t last c → RanBefore t last crew before after came → ServesAt seen t crew before after came c
 serves_at seen t last crew before after came (Whole s) closed w = (serves seen t last crew before after came s closed.closed w, closed.up)
 serves_at seen t last crew before after came (Broken disk at_open now) closed w =
-    (closed.now_is, serves_broken seen t last crew before after came disk at_open now closed w)
+    (
+      closed.now_is,
+      closed.at_open_is,
+      closed.rose,
+      w.all,
+      All-weaker (λ (p : PassSeen). HasTaken last p) (λ (p : PassSeen). p.told ≤ now) (λ p v. let a = v.told in let b = closed.told_is in omega arith)
+          (all_ended w.all.ran) w.taken,
+    )
 
 pub goes_on_at : {D : Type 0} (seen : D → DiskSeen) (t : Terms) (last : PassSeen) (c : GroupClosed D)
     → ClosesGroup seen t last c → (b : Summary) (base : List Entry) → t.stood b base → GoesOnAt seen b base c

@@ -75,21 +75,13 @@ pub record RanBefore (t : Terms) (last : PassSeen) (crew : Crew) (before after :
   pub all : RanAll t crew before after came
   pub taken : All (λ p. HasTaken last p) (all_ended all.ran)
 
--- The callers ran so at a gate with groups, and the disk of the store failed since the opening, as often at least as any of them was told,
--- by its counts of faults at the opening and now. The store was let go.
-pub record ServesBroken
-    (t : Terms) (crew : Crew) (before after : StationSeen) (came : CameSeen) (at_open now : ℕ) : Type 0 where
-  pub all : RanAll t crew before after came
-  pub at_open_is : at_open ≡ t.at_open
-  pub rose : Rose at_open now
-  pub all_told : All (λ p. p.told ≤ now) (all_ended all.ran)
-
--- What serving at a gate with groups gives: the store where its disk has not failed, else that disk with the counts of its faults at the
--- opening and now.
+-- What serving at a gate with groups gives: the store where its disk has not failed. Else the store was let go, and its disk comes back with
+-- the counts of its faults at the opening and now: it failed since the opening, as often at least as any of the callers was told.
 abbrev pub ServesAt : {D : Type 0} → (D → DiskSeen) → Terms → Crew → StationSeen → StationSeen → CameSeen → GroupClosed D → Type 0
 ServesAt seen t crew before after came (Whole s) = ServesWhole seen t crew before after came s × (HasFailed seen s → ⊥)
 ServesAt seen t crew before after came (Broken disk at_open now) =
-    (now ≡ (seen disk).faults) × ServesBroken t crew before after came at_open now
+    (now ≡ (seen disk).faults) × (at_open ≡ t.at_open) × Rose at_open now
+    × (all : RanAll t crew before after came) × All (λ p. p.told ≤ now) (all_ended all.ran)
 
 -- Where all were refused memory before the first began: a store goes on from what it was, also if its disk had failed before.
 abbrev pub GoesOnAt : {D : Type 0} → (D → DiskSeen) → Summary → List Entry → GroupClosed D → Type 0
