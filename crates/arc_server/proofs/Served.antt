@@ -6,7 +6,7 @@ use Rattle.arc_io.specs.Causes.{Rose}
 use Rattle.arc_io.specs.Disks.{DiskSeen}
 use Rattle.arc_io.specs.Seen.{PortSeen}
 use Rattle.arc_serving.specs.Seen.{StationSeen, CameSeen}
-use Rattle.arc_serving.specs.Serving.{ServesWhole, ServesStore, GathersStore, GoesOnFrom, GoesOnAt, IsKeptOf, all_ended}
+use Rattle.arc_serving.specs.Serving.{ServesWhole, ServesAt, AtSomeGate, GoesOnFrom, GoesOnAt, IsKeptOf, all_ended}
 use Rattle.arc_serving.specs.declared.station.Crew.{Crew}
 use Rattle.centre_rules.specs.Summary.{Summary}
 use Rattle.centre_rules.specs.History.{Entry}
@@ -81,7 +81,7 @@ serves_none {D} {seen} groups none last crew status {r} {r'} {p} {around} {aroun
 -- What is said of a call that served callers of this store at a gate without groups.
 pub record Served {D : Type 0} (seen : D → DiskSeen)
     (store : Stored D) (crew : Crew) (around around' : StationSeen) (came : Result CameSeen Memory) (last : Stored D) : Type 0 where
-  pub served : IfOk came (λ came. ServesStore seen store crew around around' came last)
+  pub served : IfOk came (λ came. AtSomeGate seen false store (λ t. ServesWhole seen t crew around around' came last))
   pub refused : OnErr came ((b : Summary) (h : List Entry) → StoreStands seen b store h → GoesOnFrom seen b h last)
   pub untouched : OnErr came (around' ≡ around)
   pub at_open : last.at_open ≡ store.at_open
@@ -89,7 +89,7 @@ pub record Served {D : Type 0} (seen : D → DiskSeen)
 -- and at one with groups
 pub record Gathered {D : Type 0} (seen : D → DiskSeen)
     (store : Stored D) (crew : Crew) (around around' : StationSeen) (came : Result CameSeen Memory) (closed : GroupClosed D) : Type 0 where
-  pub served : IfOk came (λ came. GathersStore seen store crew around around' came closed)
+  pub served : IfOk came (λ came. AtSomeGate seen true store (λ t. ServesAt seen t crew around around' came closed))
   pub refused : OnErr came ((b : Summary) (h : List Entry) → StoreStands seen b store h → GoesOnAt seen b h closed)
   pub untouched : OnErr came (around' ≡ around)
   pub kept : IsKeptOf store closed
@@ -178,7 +178,7 @@ gathers_broken {D} {seen} came crew status at_open now {r} {r'} {around} {around
     let rose : Rose first.at_open end = subst (λ (n : ℕ). Rose first.at_open n) counts.0 (subst (λ (n : ℕ). Rose n now) s.kept counts.1) in record {
       begun = begun;
       came = came;
-      served = subst (λ (k : GroupClosed D). IfOk came (λ w. GathersStore seen first crew around around' w k)) closed s.served;
+      served = subst (λ (k : GroupClosed D). IfOk came (λ w. AtSomeGate seen true first (λ t. ServesAt seen t crew around around' w k))) closed s.served;
       untouched = s.untouched;
       rose = rose_from (seen r.disk).faults first.at_open end begun.later rose;
       status_is = is;

@@ -8,7 +8,7 @@ use Rattle.arc_io.specs.Seen.{PortSeen}
 use Rattle.arc_io.specs.Told.{Puts}
 use Rattle.arc_io.specs.declared.traits.Failed.{Failed}
 use Rattle.arc_serving.specs.Seen.{StationSeen, CameSeen}
-use Rattle.arc_serving.specs.Serving.{ServesStore, GathersStore, StandsForAll, all_ended}
+use Rattle.arc_serving.specs.Serving.{AtSomeGate, ServesAt, ServesWhole, StandsForAll, all_ended}
 use Rattle.arc_serving.specs.declared.station.Crew.{Crew}
 use Rattle.centre_rules.specs.Summary.{Summary}
 use Rattle.centre_rules.specs.Sums.{summary_of}
@@ -41,9 +41,9 @@ abbrev pub HasServed : {D : Type 0} → (D → DiskSeen)
     → Bool → Stored D → Crew → StationSeen × StationSeen → Result CameSeen Memory → Stored D → List PassSeen → Type 0
 HasServed seen groups first crew (around, around') (Err refused) last passes = (around' ≡ around) × (passes ≡ [])
 HasServed seen false first crew (around, around') (Ok came) last passes =
-    (served : ServesStore seen first crew around around' came last) × (passes ≡ all_ended served.serves.all.ran)
+    (served : AtSomeGate seen false first (λ t. ServesWhole seen t crew around around' came last)) × (passes ≡ all_ended served.serves.all.ran)
 HasServed seen true first crew (around, around') (Ok came) last passes =
-    (served : GathersStore seen first crew around around' came (Whole last)) × (passes ≡ all_ended served.serves.0.all.ran)
+    (served : AtSomeGate seen true first (λ t. ServesAt seen t crew around around' came (Whole last))) × (passes ≡ all_ended served.serves.0.all.ran)
 
 -- A run began, with a port that told p then, and from there all callers were served. It leaves the store with a history that begins with
 -- the begun one and has all that any of them has seen. One line of it was written, or a front of it, and the status is the first of all
@@ -69,8 +69,8 @@ pub record GathersBroken {D : Type 0} (seen : D → DiskSeen)
     (crew : Crew) (status : Status) (r r' : Handed D) (around around' : StationSeen) : Type 0 where
   pub begun : HasBegun seen r r'.setup r'.port
   pub came : Result CameSeen Memory
-  pub served : IfOk came (λ came. GathersStore seen begun.first crew around around' came
-      (Broken r'.disk begun.first.at_open (seen r'.disk).faults))
+  pub served : IfOk came (λ came. AtSomeGate seen true begun.first (λ t. ServesAt seen t crew around around' came
+      (Broken r'.disk begun.first.at_open (seen r'.disk).faults)))
   pub untouched : OnErr came (around' ≡ around)
   pub rose : Rose (seen r.disk).faults (seen r'.disk).faults
   pub status_is : status ≡ DiskFault (seen r.disk).faults (seen r'.disk).faults

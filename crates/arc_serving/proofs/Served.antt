@@ -3,7 +3,7 @@ use Rattle.std.proofs.Common.{◌≡◌, ◌≤◌, ◌<◌, ℕ, List, [], ◌�
 use Rattle.std.proofs.lemmas.List.{map-append}
 use Rattle.std.proofs.lemmas.List.Elements.{All-nil, All-cons, All-append, All-weaker}
 use Rattle.std.specs.List.Sorted.{IsStrictlyIncreasing}
-use Rattle.std.specs.Prelude.{All, Result, Ok, Err, IfOk, OnErr, true, false, map, reverse}
+use Rattle.std.specs.Prelude.{All, Bool, Result, Ok, Err, IfOk, OnErr, map, reverse}
 use Rattle.alarm_rules.specs.Setups.{meaning}
 use Rattle.arc_doors.specs.Doors.{DoorSeen}
 use Rattle.arc_io.specs.Disks.{DiskSeen}
@@ -29,7 +29,7 @@ use Rattle.arc_serving.specs.Closing.{ServesSeated}
 use Rattle.arc_serving.specs.Jobs.{JobSeen, AreRising, AreSeated, HasTaken, AreUnseated, doors_in, numbers_in, worked_in}
 use Rattle.arc_serving.specs.Ran.{IsFresh, WorkerRan, IsSideServed}
 use Rattle.arc_serving.specs.Seen.{StationSeen, CameSeen}
-use Rattle.arc_serving.specs.Serving.{ServesWhole, ServesStore, ServesAt, RanBefore, GathersStore, GoesOnFrom, GoesOnAt, IsKeptOf, StandsForAll, all_ended}
+use Rattle.arc_serving.specs.Serving.{ServesWhole, AtSomeGate, ServesAt, RanBefore, GoesOnFrom, GoesOnAt, IsKeptOf, StandsForAll, all_ended}
 use Rattle.arc_serving.specs.declared.station.Crew.{Crew}
 use Rattle.arc_serving.proofs.Lists.{rising_both, rising_increases}
 use Rattle.arc_serving.proofs.Moments.{ticks_later}
@@ -121,15 +121,14 @@ serves seen t last crew before after came s closed w = record {
 pub serves_at : {D : Type 0} (seen : D → DiskSeen) (t : Terms) (last : PassSeen) (crew : Crew) (before after : StationSeen) (came : CameSeen) (c : GroupClosed D)
     → ClosesGroup seen t last c → RanBefore t last crew before after came → ServesAt seen t crew before after came c
 serves_at seen t last crew before after came (Whole s) closed w = (serves seen t last crew before after came s closed.closed w, closed.up)
-serves_at seen t last crew before after came (Broken disk at_open now) closed w =
-    (
-      closed.now_is,
-      closed.at_open_is,
-      closed.rose,
-      w.all,
-      All-weaker (λ (p : PassSeen). HasTaken last p) (λ (p : PassSeen). p.told ≤ now) (λ p v. let a = v.told in let b = closed.told_is in omega arith)
-          (all_ended w.all.ran) w.taken,
-    )
+serves_at seen t last crew before after came (Broken disk at_open now) closed w = (
+  closed.now_is,
+  closed.at_open_is,
+  closed.rose,
+  w.all,
+  All-weaker (λ (p : PassSeen). HasTaken last p) (λ (p : PassSeen). p.told ≤ now) (λ p v. let a = v.told in let b = closed.told_is in omega arith)
+      (all_ended w.all.ran) w.taken,
+)
 
 pub goes_on_at : {D : Type 0} (seen : D → DiskSeen) (t : Terms) (last : PassSeen) (c : GroupClosed D)
     → ClosesGroup seen t last c → (b : Summary) (base : List Entry) → t.stood b base → GoesOnAt seen b base c
@@ -146,19 +145,12 @@ pub if_ok : {A E : Type 0} (P Q : A → Type 0) (r : Result A E) → ((x : A) �
 if_ok P Q (Ok x) f w = f x w
 if_ok P Q (Err e) f w = tt
 
--- at the gate that was before the store
-pub of_store : {D E : Type 0} (seen : D → DiskSeen) (gate : BlankSeen D) (from : Stored D) (crew : Crew) (before after : StationSeen)
-    (s : Stored D) (r : Result CameSeen E) → gate.store ≡ from → IfOk r (λ came. ServesWhole seen (terms_of false seen gate) crew before after came s)
-    → IfOk r (λ came. ServesStore seen from crew before after came s)
-of_store seen gate from crew before after s (Ok came) is w = record { gate = gate; from_is = is; serves = w }
-of_store seen gate from crew before after s (Err e) is w = tt
-
 pub on_err : {A E : Type 0} (r : Result A E) (P : Type 0) → P → OnErr r P
 on_err (Ok x) P w = tt
 on_err (Err e) P w = w
 
-pub of_group : {D E : Type 0} (seen : D → DiskSeen) (gate : BlankSeen D) (from : Stored D) (crew : Crew) (before after : StationSeen)
-    (c : GroupClosed D) (r : Result CameSeen E) → gate.store ≡ from → IfOk r (λ came. ServesAt seen (terms_of true seen gate) crew before after came c)
-    → IfOk r (λ came. GathersStore seen from crew before after came c)
-of_group seen gate from crew before after c (Ok came) is w = record { gate = gate; from_is = is; serves = w }
-of_group seen gate from crew before after c (Err e) is w = tt
+-- at the gate that was before the store
+pub at_some : {D E : Type 0} (seen : D → DiskSeen) (groups : Bool) (gate : BlankSeen D) (from : Stored D) (IsSo : Terms → CameSeen → Type 0)
+    (r : Result CameSeen E) → gate.store ≡ from → IfOk r (IsSo (terms_of groups seen gate)) → IfOk r (λ came. AtSomeGate seen groups from (λ t. IsSo t came))
+at_some seen groups gate from IsSo (Ok came) is w = record { gate = gate; from_is = is; serves = w }
+at_some seen groups gate from IsSo (Err e) is w = tt

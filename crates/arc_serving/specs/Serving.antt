@@ -1,5 +1,5 @@
 -- What serving makes of a store and of what stood around it.
-use Rattle.std.specs.Prelude.{◌≡◌, ◌≤◌, ℕ, List, [], ◌∷◌, ◌++◌, true, false, Some, All, map}
+use Rattle.std.specs.Prelude.{◌≡◌, ◌≤◌, ℕ, List, [], ◌∷◌, ◌++◌, Bool, Some, All, map}
 use Rattle.std.specs.List.Sorted.{IsStrictlyIncreasing}
 use Rattle.alarm_rules.specs.Setups.{meaning}
 use Rattle.arc_io.specs.Causes.{Rose}
@@ -63,12 +63,11 @@ pub record ServesWhole {D : Type 0} (seen : D → DiskSeen)
   pub stands : (b : Summary) (base : List Entry) → t.stood b base → StandsForAll seen b base (all_ended all.ran) s
   pub all_told : All (λ p. p.told ≤ (seen s.journal.disk).faults) (all_ended all.ran)
 
--- The callers ran at some gate before the store. Its bases are just the histories for which the store stood.
-pub record ServesStore {D : Type 0} (seen : D → DiskSeen)
-    (from : Stored D) (crew : Crew) (before after : StationSeen) (came : CameSeen) (s : Stored D) : Type 0 where
+-- This is so of some gate before the store, with groups or without. Its bases are just the histories for which the store stood.
+pub record AtSomeGate {D : Type 0} (seen : D → DiskSeen) (groups : Bool) (from : Stored D) (IsSo : Terms → Type 0) : Type 0 where
   pub gate : BlankSeen D
   pub from_is : gate.store ≡ from
-  pub serves : ServesWhole seen (terms_of false seen gate) crew before after came s
+  pub serves : IsSo (terms_of groups seen gate)
 
 -- The callers ran so, and this pass has taken in those of all.
 pub record RanBefore (t : Terms) (last : PassSeen) (crew : Crew) (before after : StationSeen) (came : CameSeen) : Type 0 where
@@ -87,13 +86,6 @@ ServesAt seen t crew before after came (Broken disk at_open now) =
 abbrev pub GoesOnAt : {D : Type 0} → (D → DiskSeen) → Summary → List Entry → GroupClosed D → Type 0
 GoesOnAt seen b base (Whole s) = GoesOnFrom seen b base s
 GoesOnAt seen b base (Broken disk at_open now) = (now ≡ (seen disk).faults) × Rose at_open now
-
--- The callers ran at some gate with groups before the store.
-pub record GathersStore {D : Type 0} (seen : D → DiskSeen)
-    (from : Stored D) (crew : Crew) (before after : StationSeen) (came : CameSeen) (c : GroupClosed D) : Type 0 where
-  pub gate : BlankSeen D
-  pub from_is : gate.store ≡ from
-  pub serves : ServesAt seen (terms_of true seen gate) crew before after came c
 
 -- what comes back was opened at the count of faults that this store has, and a store has its limits
 abbrev pub IsKeptOf : {D : Type 0} → Stored D → GroupClosed D → Type 0

@@ -6,7 +6,7 @@ ghost use Rattle.centre_rules.specs.Summary.{Summary};
 ghost use Rattle.centre_store.specs.Stores.{StoreStands};
 ghost use Rattle.line_gate.specs.Blanks.{Names};
 ghost use Rattle.line_gate.specs.Passes.{IsPass};
-ghost use Rattle.arc_serving.specs.Serving.{GoesOnFrom, ServesWhole, ServesStore, RanBefore, GathersStore, ServesAt, GoesOnAt, IsKeptOf};
+ghost use Rattle.arc_serving.specs.Serving.{GoesOnFrom, ServesWhole, AtSomeGate, RanBefore, ServesAt, GoesOnAt, IsKeptOf};
 
 use crate::bench::{Room, make_room, seat};
 use crate::beside::Ticking;
@@ -45,7 +45,8 @@ pub fn serve_store<
     requires begun { IsSetting store.state.sum.text }
     requires lines { crew.lines ≤ length station.lines }
     requires desks { crew.desks ≤ length station.desks }
-    ensures served { IfOk result.came (λ came. ServesStore D.seen store crew station result.station came result.store) }
+    ensures served { IfOk result.came (λ came. AtSomeGate D.seen false store
+        (λ t. ServesWhole D.seen t crew station result.station came result.store)) }
     ensures refused { OnErr result.came ((b : Summary) (h : List Entry) → StoreStands D.seen b store h
         → GoesOnFrom D.seen b h result.store) }
     ensures untouched { OnErr result.came (result.station ≡ station) }
@@ -78,7 +79,8 @@ pub fn gather_store<
     requires begun { IsSetting store.state.sum.text }
     requires lines { crew.lines ≤ length station.lines }
     requires desks { crew.desks ≤ length station.desks }
-    ensures served { IfOk result.came (λ came. GathersStore D.seen store crew station result.station came result.closed) }
+    ensures served { IfOk result.came (λ came. AtSomeGate D.seen true store
+        (λ t. ServesAt D.seen t crew station result.station came result.closed)) }
     ensures refused { OnErr result.came ((b : Summary) (h : List Entry) → StoreStands D.seen b store h
         → GoesOnAt D.seen b h result.closed) }
     ensures untouched { OnErr result.came (result.station ≡ station) }

@@ -20,8 +20,7 @@ returns-clause-ticks_made g c p q ticks w = ticks_made g.N.GateName.terms p q ti
 
 pub returns-clause-pass : goal.returns-clause-pass
 returns-clause-pass g c p q pass =
-    let t = g.N.GateName.terms in
-    (
+    let t = g.N.GateName.terms in (
       λ side served w. kept_in_turn (IsServed side t) (IsPass t) p q served pass (λ m n s one. one.pass) w,
       λ ticks w. kept_in_turn (IsTicked t) (IsPass t) p q ticks pass (λ m n s one. one.pass) w,
     )

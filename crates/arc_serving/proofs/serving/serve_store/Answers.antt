@@ -1,17 +1,20 @@
 use Rattle.std.proofs.Common.{[], refl, sym, subst, List}
-use Rattle.std.specs.Prelude.{OnErr}
+use Rattle.std.specs.Prelude.{OnErr, false}
 use Rattle.std.proofs.lemmas.List.Elements.{All-nil}
 use Rattle.centre_core.specs.Runs.{IsSubmitted}
 use Rattle.centre_rules.specs.History.{Entry}
 use Rattle.centre_rules.specs.Summary.{Summary}
 use Rattle.centre_store.specs.Stores.{Stored, StoreStands}
-use Rattle.arc_serving.specs.Serving.{GoesOnFrom}
-use Rattle.arc_serving.proofs.Served.{of_store}
+use Rattle.arc_serving.specs.Serving.{GoesOnFrom, ServesWhole}
+use Rattle.arc_serving.proofs.Served.{at_some}
 use Rattle.arc_serving.proofs.serving.serve_store.Goals as goal
 
 pub returns-in-Ok-clause-served : goal.returns-in-Ok-clause-served
-returns-in-Ok-clause-served g c = of_store g.D.Disk.seen c.in-Ok.blank c.args.store c.args.crew c.args.station c.serve_blank.result.station
-    c.serve_blank.result.store c.serve_blank.result.came c.in-Ok.ensures.ok c.serve_blank.ensures.served
+returns-in-Ok-clause-served g c =
+    let seen = g.D.Disk.seen in
+    let all = c.serve_blank.result in
+    at_some seen false c.in-Ok.blank c.args.store (λ t came. ServesWhole seen t c.args.crew c.args.station all.station came all.store) all.came c.in-Ok.ensures.ok
+    c.serve_blank.ensures.served
 
 -- the bases of the gate are the histories for which the store stood
 pub returns-in-Ok-clause-refused : goal.returns-in-Ok-clause-refused
