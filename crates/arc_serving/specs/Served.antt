@@ -52,6 +52,15 @@ pub record IsServed (side : Side) (t : Terms) (p q : PassSeen) (s : Served) : Ty
   pub told : p.told ≤ q.told
   pub pass : IsPass t q
 
+-- what the pass q made since it was p, the earliest first
+abbrev pub made_between : PassSeen → PassSeen → List Entry
+made_between p q = reverse (take (length q.made - length p.made) q.made)
+
+-- The same of a link that told these when the door gave it and when it got it back, and of all that the pass made between p and q.
+abbrev pub ServesLink : Side → Terms → PassSeen → PassSeen → PortSeen → PortSeen → SessionEnd → Type 0
+ServesLink side t p q given back end =
+    IsServed side t p q (record { given = given; back = back; end = end; entries = made_between p q })
+
 -- these were done in turn, the first of them from p on, the last to q
 abbrev pub InTurn : {P S : Type 0} → (P → P → S → Type 0) → P → P → List S → Type 0
 InTurn done p q [] = q ≡ p
@@ -89,7 +98,3 @@ pub record MakesEntries (side : Side) (p q : PassSeen) (entries : List Entry) : 
   pub made : q.made ≡ reverse entries ++ p.made
   pub only : All (λ e. IsSubmittedBy side e.event) entries
   pub seen : Extends p.since q.since
-
--- what the pass q made since it was p, the earliest first
-abbrev pub made_between : PassSeen → PassSeen → List Entry
-made_between p q = reverse (take (length q.made - length p.made) q.made)

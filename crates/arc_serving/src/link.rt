@@ -3,7 +3,7 @@ ghost use Rattle.std.specs.Prelude.{◌≡◌, true, false};
 ghost use Rattle.arc_serving.specs.Sessions.{ShowsEnd};
 ghost use Rattle.line_gate.specs.AtGates.{gate_seen};
 ghost use Rattle.line_gate.specs.Passes.{IsPass};
-ghost use Rattle.arc_serving.specs.Served.{tcp as tcp_name, IsServed, IsSingle, made_between};
+ghost use Rattle.arc_serving.specs.Served.{tcp as tcp_name, IsSingle, ServesLink};
 ghost use Rattle.arc_serving.specs.Next.{ServesNext};
 
 use crate::session::{SessionEnd, end_of_line, serve};
@@ -54,48 +54,15 @@ fn serve_link<'a, P: Port, D: Disk, R: Wait, N: GateName>(
 ) -> (Pass<N>, SessionEnd)
     requires not_ended { (P.seen link.old).ended ≡ false }
     ensures pass { IsPass N.terms result.0 }
-    ensures served { IsServed side N.terms pass result.0 (record {
-      given = P.seen link.old;
-      back = P.seen link.new;
-      end = result.1;
-      entries = made_between pass result.0;
-    }) }
+    ensures served { ServesLink side N.terms pass result.0 (P.seen link.old) (P.seen link.new) result.1 }
     ensures stop { ShowsEnd result.1 (gate_seen N.terms result.0) }
 {
     match side {
-        Side::Lines => serve_line(rt, alloc, gate, pass, link),
+        Side::Lines => match gate {
+            StationGate::Single(single) => serve_at_gate(side, rt, alloc, single.gate, pass, link),
+            StationGate::Group(group) => serve_at_group(rt, alloc, group, pass, link),
+        },
         Side::Desks => serve_at_gate(side, rt, alloc, gate.gate(), pass, link),
-    }
-}
-
-// Serves a link as a line as the caller of the pass.
-fn serve_line<'a, P: Port, D: Disk, R: Wait, N: GateName>(
-    rt: &R,
-    alloc: Global,
-    gate: &StationGate<'a, D, N>,
-    pass: Pass<N>,
-    link: &mut P,
-) -> (Pass<N>, SessionEnd)
-    requires not_ended { (P.seen link.old).ended ≡ false }
-    ensures pass { IsPass N.terms result.0 }
-    ensures served { IsServed Side.Lines N.terms pass result.0 (record {
-      given = P.seen link.old;
-      back = P.seen link.new;
-      end = result.1;
-      entries = made_between pass result.0;
-    }) }
-    ensures stop { ShowsEnd result.1 (gate_seen N.terms result.0) }
-{
-    match gate {
-        StationGate::Single(single) => serve_at_gate(
-            Side::Lines,
-            rt,
-            alloc,
-            single.gate,
-            pass,
-            link,
-        ),
-        StationGate::Group(group) => serve_at_group(rt, alloc, group, pass, link),
     }
 }
 
@@ -111,12 +78,7 @@ fn serve_at_gate<P: Port, D: Disk, R: Wait, N: GateName>(
     requires single { IsSingle side N.terms.groups }
     requires not_ended { (P.seen link.old).ended ≡ false }
     ensures pass { IsPass N.terms result.0 }
-    ensures served { IsServed side N.terms pass result.0 (record {
-      given = P.seen link.old;
-      back = P.seen link.new;
-      end = result.1;
-      entries = made_between pass result.0;
-    }) }
+    ensures served { ServesLink side N.terms pass result.0 (P.seen link.old) (P.seen link.new) result.1 }
     ensures stop { ShowsEnd result.1 (gate_seen N.terms result.0) }
 {
     let mut hall = AtGate { rt, gate, pass };
@@ -137,12 +99,7 @@ fn serve_at_group<P: Port, D: Disk, R: Wait, N: GateName>(
     requires named { N.terms.groups ≡ true }
     requires not_ended { (P.seen link.old).ended ≡ false }
     ensures pass { IsPass N.terms result.0 }
-    ensures served { IsServed Side.Lines N.terms pass result.0 (record {
-      given = P.seen link.old;
-      back = P.seen link.new;
-      end = result.1;
-      entries = made_between pass result.0;
-    }) }
+    ensures served { ServesLink Side.Lines N.terms pass result.0 (P.seen link.old) (P.seen link.new) result.1 }
     ensures stop { ShowsEnd result.1 (gate_seen N.terms result.0) }
 {
     let mut hall = AtGroup { rt, gate, pass };
