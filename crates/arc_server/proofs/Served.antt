@@ -1,5 +1,6 @@
 -- What a run shows that began and served all callers.
 use Rattle.std.proofs.Common.{◌≡◌, ◌≤◌, ◌++◌, ℕ, List, [], Bool, true, false, Result, Ok, Err, IfOk, OnErr, refl, sym, subst, ap, ◌∙◌}
+use Rattle.std.proofs.lemmas.Bool.{true≢false}
 use Rattle.std.proofs.lemmas.List.Elements.{All-nil}
 use Rattle.arc_data.specs.declared.blob.Memory.{Memory}
 use Rattle.arc_io.specs.Causes.{Rose}
@@ -105,7 +106,8 @@ serves_first {D} {seen} (Ok came) last crew status {r} {r'} {p} {around} {around
     let served = s.served in
     let stood : StoreStands seen begun.asked.base served.gate.store begun.history =
     subst (λ (s : Stored D). StoreStands seen begun.asked.base s begun.history) (sym served.from_is) begun.stands.stands in
-    serves_ran false (terms_of false seen served.gate) came last crew status begun served.serves stood (served, refl) limits handed s.at_open e
+    serves_ran false (terms_of false seen served.gate) came last crew status begun served.serves stood
+    (served, refl, λ is failed. true≢false (sym is)) limits handed s.at_open e
 serves_first {D} {seen} (Err none) last crew status {r} {r'} {p} {around} {around'} begun s limits handed e =
     serves_none false none last crew status begun (s.refused begun.asked.base begun.history begun.stands.stands) (s.untouched, refl) limits handed
     s.at_open e
@@ -131,7 +133,10 @@ gathers_whole {D} {seen} (Ok came) last crew status {r} {r'} {p} {around} {aroun
     let served = s.served in
     let stood : StoreStands seen begun.asked.base served.gate.store begun.history =
     subst (λ (s : Stored D). StoreStands seen begun.asked.base s begun.history) (sym served.from_is) begun.stands.stands in
-    serves_ran true (terms_of true seen served.gate) came last crew status begun served.serves.0 stood (served, refl) (s.kept.1 ∙ limits) handed
+    let whole : AtSomeGate seen true begun.first (λ t. ServesWhole seen t crew around around' came last) =
+    record { gate = served.gate; from_is = served.from_is; serves = served.serves.0 } in
+    serves_ran true (terms_of true seen served.gate) came last crew status begun served.serves.0 stood (whole, refl, λ is. served.serves.1)
+    (s.kept.1 ∙ limits) handed
     s.kept.0 e
 gathers_whole {D} {seen} (Err none) last crew status {r} {r'} {p} {around} {around'} begun s limits handed e =
     serves_none true none last crew status begun (s.refused begun.asked.base begun.history begun.stands.stands) (s.untouched, refl)

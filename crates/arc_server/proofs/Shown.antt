@@ -389,15 +389,10 @@ may_come : {D : Type 0} (seen : D → DiskSeen) (groups : Bool) (first last : St
     (came : Result CameSeen Memory) (passes : List PassSeen) (entry : ℕ) (disk' : D)
     → HasServed seen groups first crew (around, around') came last passes → entry ≤ first.at_open → disk' ≡ last.journal.disk
     → (Rose entry (seen disk').faults → ⊥) → MayCome came
-may_come seen false first last crew around around' (Err refused) passes entry disk' served since handed up = tt
-may_come seen true first last crew around around' (Err refused) passes entry disk' served since handed up = tt
-may_come {D} seen false first last crew around around' (Ok came) passes entry disk' served since handed up =
+may_come seen groups first last crew around around' (Err refused) passes entry disk' served since handed up = tt
+may_come {D} seen groups first last crew around around' (Ok came) passes entry disk' served since handed up =
     let s = served.0 in
-    all_may (terms_of false seen s.gate) crew around around' came last entry disk' s.serves
-    (subst (λ (at : Stored D). entry ≤ at.at_open) (sym s.from_is) since) handed up
-may_come {D} seen true first last crew around around' (Ok came) passes entry disk' served since handed up =
-    let s = served.0 in
-    all_may (terms_of true seen s.gate) crew around around' came last entry disk' s.serves.0
+    all_may (terms_of groups seen s.gate) crew around around' came last entry disk' s.serves
     (subst (λ (at : Stored D). entry ≤ at.at_open) (sym s.from_is) since) handed up
 
 -- what the status of a run shows

@@ -1,5 +1,5 @@
 -- What a run of `serve` or `gather` did.
-use Rattle.std.specs.Prelude.{◌≡◌, ℕ, List, [], ◌++◌, Bool, true, false, codes, decimal, length, is_err}
+use Rattle.std.specs.Prelude.{◌≡◌, ℕ, List, [], ◌++◌, Bool, true, codes, decimal, length, is_err}
 use Rattle.std.specs.Prelude.{Result, Ok, Err, IfOk, OnErr}
 use Rattle.arc_data.specs.declared.blob.Memory.{Memory}
 use Rattle.arc_io.specs.Causes.{Rose}
@@ -12,9 +12,9 @@ use Rattle.arc_serving.specs.Serving.{AtSomeGate, ServesAt, ServesWhole, StandsF
 use Rattle.arc_serving.specs.declared.station.Crew.{Crew}
 use Rattle.centre_rules.specs.Summary.{Summary}
 use Rattle.centre_rules.specs.Sums.{summary_of}
-use Rattle.centre_store.specs.Stores.{Stored}
+use Rattle.centre_store.specs.Stores.{Stored, HasFailed}
 use Rattle.line_gate.specs.Passes.{PassSeen}
-use Rattle.line_gate.specs.declared.closed.GroupClosed.TheVariants.{Whole, Broken}
+use Rattle.line_gate.specs.declared.closed.GroupClosed.TheVariants.{Broken}
 use Rattle.arc_server.specs.Beginnings.{HasBegun}
 use Rattle.arc_server.specs.Handed.{Handed}
 use Rattle.arc_server.specs.Leaving.{LeavesStore}
@@ -40,10 +40,9 @@ pub record EndsServing (before : ℕ) (p p' : PortSeen) (now : ℕ) (sum : Summa
 abbrev pub HasServed : {D : Type 0} → (D → DiskSeen)
     → Bool → Stored D → Crew → StationSeen × StationSeen → Result CameSeen Memory → Stored D → List PassSeen → Type 0
 HasServed seen groups first crew (around, around') (Err refused) last passes = (around' ≡ around) × (passes ≡ [])
-HasServed seen false first crew (around, around') (Ok came) last passes =
-    (served : AtSomeGate seen false first (λ t. ServesWhole seen t crew around around' came last)) × (passes ≡ all_ended served.serves.all.ran)
-HasServed seen true first crew (around, around') (Ok came) last passes =
-    (served : AtSomeGate seen true first (λ t. ServesAt seen t crew around around' came (Whole last))) × (passes ≡ all_ended served.serves.0.all.ran)
+HasServed seen groups first crew (around, around') (Ok came) last passes =
+    (served : AtSomeGate seen groups first (λ t. ServesWhole seen t crew around around' came last)) × (passes ≡ all_ended served.serves.all.ran)
+    × (groups ≡ true → HasFailed seen last → ⊥)
 
 -- A run began, with a port that told p then, and from there all callers were served. It leaves the store with a history that begins with
 -- the begun one and has all that any of them has seen. One line of it was written, or a front of it, and the status is the first of all
