@@ -1,5 +1,5 @@
 -- What one session over a hall and a port did, by its kind and its end.
-use Rattle.std.specs.Prelude.{ℕ, List, Bool, true, false, Option, Some, None, MatchOption}
+use Rattle.std.specs.Prelude.{ℕ, List, Bool, true, Option, Some, None, MatchOption}
 use Rattle.arc_io.specs.Seen.{PortSeen}
 use Rattle.centre_core.specs.Halls.{HallSeen}
 use Rattle.centre_rules.specs.Summary.{Summary}
@@ -47,8 +47,7 @@ Serves Desks name end read b w c = ServesDesk (desk_end end) read b w c.hall c.h
 -- The same at a gate: of one with groups, a line's frames that stand complete in one piece are taken together.
 abbrev pub ServesBy : Bool → Side → List ℕ → SessionEnd → List ℕ → Summary → Way → Change → Type 0
 ServesBy true Lines name end read b w c = MatchOption (line_end end) ⊥ (λ e. ServesGroup name e read b w c)
-ServesBy true Desks name end read b w c = Serves Desks name end read b w c
-ServesBy false side name end read b w c = Serves side name end read b w c
+ServesBy groups side name end read b w c = Serves side name end read b w c
 
 -- a session that a stop ended: the hall showed it for some event, or memory was wanted, whatever is known of the hall's history
 abbrev pub ShowsEnd : SessionEnd → HallSeen → Type 0
