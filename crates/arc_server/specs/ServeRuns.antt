@@ -41,8 +41,8 @@ abbrev pub HasServed : {D : Type 0} → (D → DiskSeen)
     → Bool → Stored D → Crew → StationSeen × StationSeen → Result CameSeen Memory → Stored D → List PassSeen → Type 0
 HasServed seen groups first crew (around, around') (Err refused) last passes = (around' ≡ around) × (passes ≡ [])
 HasServed seen groups first crew (around, around') (Ok came) last passes =
-    (served : AtSomeGate seen groups first (λ t. ServesWhole seen t crew around around' came last)) × (passes ≡ all_ended served.serves.all.ran)
-    × (groups ≡ true → HasFailed seen last → ⊥)
+    (served : AtSomeGate seen groups first (λ t. ServesWhole seen t crew around around' came last))
+    × (passes ≡ all_ended served.serves.all.ran) × (groups ≡ true → HasFailed seen last → ⊥)
 
 -- A run began, with a port that told p then, and from there all callers were served. It leaves the store with a history that begins with
 -- the begun one and has all that any of them has seen. One line of it was written, or a front of it, and the status is the first of all

@@ -74,8 +74,8 @@ pub record RanBefore (t : Terms) (last : PassSeen) (crew : Crew) (before after :
   pub all : RanAll t crew before after came
   pub taken : All (λ p. HasTaken last p) (all_ended all.ran)
 
--- What serving at a gate with groups gives: the store where its disk has not failed. Else the store was let go, and its disk comes back with
--- the counts of its faults at the opening and now: it failed since the opening, as often at least as any of the callers was told.
+-- What serving at a gate with groups gives: the store where its disk has not failed. Else the store was let go, and its disk comes back
+-- with the counts of its faults at the opening and now: it failed since the opening, as often at least as any of the callers was told.
 abbrev pub ServesAt : {D : Type 0} → (D → DiskSeen) → Terms → Crew → StationSeen → StationSeen → CameSeen → GroupClosed D → Type 0
 ServesAt seen t crew before after came (Whole s) = ServesWhole seen t crew before after came s × (HasFailed seen s → ⊥)
 ServesAt seen t crew before after came (Broken disk at_open now) =

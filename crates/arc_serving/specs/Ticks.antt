@@ -52,8 +52,9 @@ abbrev pub EndsTicking : Option Stop → Terms → PassSeen → Option Moments �
 EndsTicking None t q pulse refused ticks = HasNoMoment pulse × (refused ≡ missed_in ticks)
 EndsTicking (Some stop) t q pulse refused ticks = IsTickStopped t q stop refused ticks
 
--- What a ticker did, from the pass p and the pulse as they were handed in, to the pass q and the pulse as they then are. That the pass made
--- these Ticks alone, in order, one for each moment but those that were refused memory and the one that was stopped, follows: `law_one_caller`.
+-- What a ticker did, from the pass p and the pulse as they were handed in, to the pass q and the pulse as they then are. That the pass
+-- made these Ticks alone, in order, one for each moment but those that were refused memory and the one that was stopped, follows:
+-- `law_one_caller`.
 pub record WorksTicks (t : Terms) (p q : PassSeen) (pulse pulse' : Option Moments) (ticked : Ticked) : Type 0 where
   pub ticks : List Ticking
   pub each : InTurn (IsTicked t) p q ticks
